@@ -1,0 +1,4 @@
+pub mod Code
+pub mod Effect
+pub mod Step
+pub mod Worked

@@ -1,0 +1,108 @@
+-- One slot of a node.
+use Rattle.std.specs.Prelude.{ℕ, Bool, not, if◌then◌else◌, Option, Some, None, List, [], ◌∷◌, ◌++◌, map, slice_set, replicate}
+use Rattle.xs_model.specs.declared.thread.Thread.{Thread}
+use Rattle.xs_model.specs.declared.thread.Run.{Run}
+use Rattle.xs_model.specs.declared.thread.Run.TheVariants.{Going, Paused, Halted}
+use Rattle.xs_model.specs.declared.event.Event.{Event}
+use Rattle.xs_model.specs.declared.event.Happen.{Happen}
+use Rattle.xs_model.specs.declared.event.Happen.TheVariants as happen
+use Rattle.xs_model.specs.declared.outside.Arrivals.{Arrivals}
+use Rattle.xs_model.specs.declared.outside.PinView.{PinView}
+use Rattle.xs_model.specs.Record.{CoreRec, NodeRec, thread_of, with_thread}
+use Rattle.xs_model.specs.Outside.{Emitted, emitted_events}
+use Rattle.xs_model.specs.Picks.{picked}
+use Rattle.xs_model.specs.Entry.{trapped}
+use Rattle.xs_instructions.specs.declared.instr.Instr.{Instr}
+use Rattle.step_model.specs.Code.{Fixed, is_code_place, code_at}
+use Rattle.step_model.specs.Effect.{Effect, Done, Pause, Trap, Gone, effect}
+
+-- the core after an issue, and what happened
+pub record Issued : Type 0 where
+  pub core : CoreRec
+  pub happened : List Happen
+
+abbrev pub quietly : CoreRec → Issued
+quietly core = record { core = core; happened = [] }
+
+-- a pause ends with the issue
+abbrev pub resumed : Run → Run
+resumed (Paused wait) = Going
+resumed run = run
+
+-- a thread halts where no code stands at its pc
+abbrev pub halt_unless : Bool → ℕ → Thread → List Happen → CoreRec → Issued
+halt_unless code_stands k th happened core =
+    if code_stands
+    then record { core = with_thread core k th; happened = happened }
+    else record { core = with_thread core k (record th { run = Halted }); happened = happened ++ (happen.Halt k ∷ []) }
+
+-- thread k traps, to return to next
+abbrev pub trap : List Instr → CoreRec → ℕ → ℕ → ℕ → ℕ → Issued
+trap code core k number value next =
+    let th = trapped (thread_of core k) number value next in
+    halt_unless (is_code_place code th.pc) k th (happen.Trap k number next value ∷ []) core
+
+-- what the issue by thread k leaves, from what its instruction does
+abbrev pub settled : List Instr → CoreRec → ℕ → Effect → Issued
+settled code core k (Done after) = quietly after
+settled code core k (Pause after wait) = quietly (with_thread after k (record (thread_of after k) { run = Paused wait }))
+settled code core k (Trap number value) = trap code core k number value (thread_of core k).pc
+settled code core k (Gone after) = quietly after
+
+-- no code stands where the thread is
+abbrev pub illegal_pc : ℕ
+illegal_pc = 2
+
+-- the instruction at the thread's pc is executed, or none stands there
+abbrev pub executed : List Instr → CoreRec → ℕ → Option Instr → Issued
+executed code core k None = trap code core k illegal_pc (thread_of core k).pc (thread_of core k).pc
+executed code core k (Some ins) = settled code core k (effect core k ins)
+
+-- the slot is thread k's last issue now, and its pause is over
+abbrev pub begun : CoreRec → ℕ → ℕ → CoreRec
+begun core slot k =
+    with_thread (record core { last = slice_set core.last k (Some slot) }) k
+    (record (thread_of core k) { run = resumed (thread_of core k).run })
+
+abbrev pub issued_by : Fixed → CoreRec → ℕ → Option ℕ → Issued
+issued_by fixed core slot None = quietly core
+issued_by fixed core slot (Some k) =
+    let core' = begun core slot k in
+    executed fixed.code core' k (code_at fixed.code (thread_of core' k).pc)
+
+-- phase 4: at most one issue, by the thread that is picked
+abbrev pub issued : Fixed → CoreRec → ℕ → Issued
+issued fixed core slot = issued_by fixed core slot (picked core slot)
+
+-- phase 1: what arrives by the link ends. No link end is built yet, and what arrives for one that isn't there
+-- is dropped.
+abbrev pub arrived : NodeRec → ℕ → Arrivals → NodeRec
+arrived rec slot arrivals = rec
+
+-- phase 2: the edges of the ports' clocks. No port is built yet.
+abbrev pub clocked : NodeRec → ℕ → PinView → NodeRec
+clocked rec slot pins = rec
+
+-- phase 3: the switch's 40 inputs. No channel end and no link end is built yet.
+abbrev pub switched : Fixed → NodeRec → ℕ → NodeRec
+switched fixed rec slot = rec
+
+-- a node after a slot, and what the slot gave to the outside
+pub record Stepped : Type 0 where
+  pub rec : NodeRec
+  pub emitted : Emitted
+
+abbrev pub in_slot : ℕ → Happen → Event
+in_slot slot what = record { slot = slot; what = what }
+
+abbrev pub step_done : NodeRec → ℕ → Issued → Stepped
+step_done rec slot after = record {
+  rec = record rec { core = after.core };
+  emitted = emitted_events (map (in_slot slot) after.happened);
+}
+
+-- one slot of a node: arrivals, ports, switch, and at most one issue
+unfoldable pub node_step : Fixed → NodeRec → ℕ → Arrivals → PinView → Stepped
+node_step fixed rec slot arrivals pins =
+    let before = switched fixed (clocked (arrived rec slot arrivals) slot pins) slot in
+    step_done before slot (issued fixed before.core slot)
