@@ -1,1 +1,2 @@
 pub mod Instr
+pub mod Image

@@ -1,0 +1,107 @@
+-- Images: what a source stands for.
+use Rattle.std.specs.Prelude.{ℕ, ◌≡◌, ◌+◌, ◌-◌, ◌*◌, ◌%◌, ◌<◌, ◌≤◌, Bool, true, false, ◌||◌, ◌&&◌, not, ◌==◌, nat_le, nat_lt, if◌then◌else◌, List, [], ◌∷◌, length, codes, Option, Some, None, IsTrue, IfSome, AllByRecursion}
+use Rattle.std.specs.List.{list_any}
+use Rattle.xs_text.specs.Tokens.{is_name}
+use Rattle.xs_instructions.specs.declared.instr.Instr.{Instr}
+use Rattle.xs_instructions.specs.Instr.{InRange, label_of}
+
+-- a name and the address that it stands for
+abbrev pub Symbol : Type 0
+Symbol = List ℕ × ℕ
+
+-- code, the bytes of both data sections, where the second of them begins, and the labels in the order of
+-- their definition
+pub record ImageRec : Type 0 where
+  pub code : List Instr
+  pub bytes : List ℕ
+  pub cp_at : ℕ
+  pub symbols : List Symbol
+
+-- whether two names are the same, byte for byte
+abbrev pub same_name : List ℕ → List ℕ → Bool
+same_name [] [] = true
+same_name [] (d ∷ ds) = false
+same_name (c ∷ cs) [] = false
+same_name (c ∷ cs) (d ∷ ds) = (c == d) && same_name cs ds
+
+-- the address of a name, by the first symbol of that name
+abbrev pub address_of : List Symbol → List ℕ → Option ℕ
+address_of [] name = None
+address_of (s ∷ symbols) name = if same_name s.0 name then Some s.1 else address_of symbols name
+
+-- names that the assembly language keeps for itself
+abbrev pub reserved_names : List (List ℕ)
+reserved_names =
+    codes "r0" ∷ codes "r1" ∷ codes "r2" ∷ codes "r3" ∷ codes "r4" ∷ codes "r5" ∷ codes "r6" ∷ codes "r7" ∷ codes "r8"
+    ∷ codes "r9" ∷ codes "r10" ∷ codes "r11" ∷ codes "cp" ∷ codes "dp" ∷ codes "sp" ∷ codes "lr" ∷ codes "pc" ∷ codes "sr"
+    ∷ codes "spc" ∷ codes "ssr" ∷ codes "et" ∷ codes "ed" ∷ codes "sed" ∷ codes "kep" ∷ codes "ksp" ∷ codes "id"
+    ∷ codes "res" ∷ codes "t" ∷ []
+
+abbrev pub is_reserved : List ℕ → Bool
+is_reserved name = list_any (λ r. same_name r name) reserved_names
+
+-- whether a label may have the name
+abbrev pub may_be_label : List ℕ → Bool
+may_be_label name = is_name name && not (is_reserved name)
+
+abbrev pub code_start : ℕ
+code_start = 0x00040000
+
+abbrev pub data_start : ℕ
+data_start = 0x00010000
+
+-- the address of the instruction at a place, counted from 0
+abbrev pub place_address : ℕ → ℕ
+place_address place = code_start + 4 * place
+
+-- whether some symbol has the address
+abbrev pub has_symbol_at : List Symbol → ℕ → Bool
+has_symbol_at symbols at = list_any (λ (s : Symbol). s.1 == at) symbols
+
+-- the name is a label's, and no symbol after it has it
+abbrev pub AreLabels : List Symbol → Type 0
+AreLabels [] = Unit {0}
+AreLabels (s ∷ symbols) = IsTrue (may_be_label s.0) × (address_of symbols s.0 ≡ None) × AreLabels symbols
+
+-- whether a symbol may stand right after one before it: addresses rise in each group, and code comes before data
+abbrev pub may_follow : ℕ → ℕ → Bool
+may_follow before after =
+    if nat_le code_start before
+    then nat_lt after code_start || nat_le before after
+    else nat_lt after code_start && nat_le before after
+
+abbrev pub AreInOrder : List Symbol → Type 0
+AreInOrder [] = Unit {0}
+AreInOrder (s ∷ []) = Unit {0}
+AreInOrder (s ∷ t ∷ symbols) = IsTrue (may_follow s.1 t.1) × AreInOrder (t ∷ symbols)
+
+-- an address that a label of the image may have: that of an instruction or the code's end, that of a byte or
+-- the bytes' end, or where the second data section begins
+abbrev pub is_place : ℕ → ℕ → ℕ → ℕ → Bool
+is_place code_length bytes_length cp_at at =
+    if nat_le code_start at
+    then nat_le at (place_address code_length) && (at % 4 == 0)
+    else (at == cp_at) || (nat_le data_start at && nat_le at (data_start + bytes_length))
+
+-- what every image keeps
+pub record IsImage (image : ImageRec) : Type 0 where
+  pub code_fits : length image.code ≤ 16384
+  pub bytes_fit : length image.bytes ≤ 65536
+  pub operands : AllByRecursion InRange image.code
+  -- each label that an instruction names has a symbol
+  pub targets : AllByRecursion (λ ins. IfSome (label_of ins) (λ place. IsTrue (has_symbol_at image.symbols (place_address place)))) image.code
+  pub names : AreLabels image.symbols
+  pub order : AreInOrder image.symbols
+  pub places : AllByRecursion (λ (s : Symbol). IsTrue (is_place (length image.code) (length image.bytes) image.cp_at s.1)) image.symbols
+  pub cp_aligned : image.cp_at % 4 ≡ 0
+  pub cp_in_data : data_start ≤ image.cp_at
+  -- the bytes end past it, or less than a word before it
+  pub cp_near_end : image.cp_at < data_start + length image.bytes + 4
+
+-- where thread 0 begins: at the code label main, or at the first place where there is none
+abbrev pub entry_from : Option ℕ → ℕ
+entry_from None = code_start
+entry_from (Some at) = if nat_le code_start at then at else code_start
+
+abbrev pub entry_of : ImageRec → ℕ
+entry_of image = entry_from (address_of image.symbols (codes "main"))
