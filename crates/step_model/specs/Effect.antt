@@ -17,7 +17,7 @@ use Rattle.xs_instructions.specs.declared.instr.FlowIns.{FlowIns}
 use Rattle.xs_instructions.specs.declared.instr.FlowIns.TheVariants as flow
 use Rattle.xs_instructions.specs.declared.instr.ThreadIns.{ThreadIns}
 use Rattle.xs_instructions.specs.declared.instr.ThreadIns.TheVariants as threads
-use Rattle.step_model.specs.Code.{code_address}
+use Rattle.xs_instructions.specs.Code.{place_address}
 
 -- how the issue of one instruction ends
 pub data Effect : Type 0 where
@@ -66,9 +66,9 @@ memory_row core k (memory.StwDp g u) =
 
 -- the rows on the flow of control set pc alone
 abbrev pub flow_row : Thread → FlowIns → Thread
-flow_row th (flow.Bt s l) = if not (register th s == 0) then record th { pc = code_address l } else after_it th
-flow_row th (flow.Bf s l) = if register th s == 0 then record th { pc = code_address l } else after_it th
-flow_row th (flow.Bu l) = record th { pc = code_address l }
+flow_row th (flow.Bt s l) = if not (register th s == 0) then record th { pc = place_address l } else after_it th
+flow_row th (flow.Bf s l) = if register th s == 0 then record th { pc = place_address l } else after_it th
+flow_row th (flow.Bu l) = record th { pc = place_address l }
 
 abbrev pub threads_row : CoreRec → ℕ → ThreadIns → Effect
 threads_row core k threads.Freet = Gone (with_thread core k (record (after_it (thread_of core k)) { run = Free }))

@@ -1,4 +1,4 @@
-pub mod Code
+pub mod Fixed
 pub mod Effect
 pub mod Step
 pub mod Worked

@@ -13,7 +13,8 @@ use Rattle.xs_model.specs.Outside.{Emitted, emitted_events}
 use Rattle.xs_model.specs.Picks.{picked}
 use Rattle.xs_model.specs.Entry.{trapped}
 use Rattle.xs_instructions.specs.declared.instr.Instr.{Instr}
-use Rattle.step_model.specs.Code.{Fixed, is_code_place, code_at}
+use Rattle.xs_instructions.specs.Code.{is_code_place, code_at}
+use Rattle.step_model.specs.Fixed.{Fixed}
 use Rattle.step_model.specs.Effect.{Effect, Done, Pause, Trap, Gone, effect}
 
 -- the core after an issue, and what happened

@@ -1,9 +1,10 @@
 -- Images: what a source stands for.
-use Rattle.std.specs.Prelude.{ℕ, ◌≡◌, ◌+◌, ◌-◌, ◌*◌, ◌%◌, ◌<◌, ◌≤◌, Bool, true, false, ◌||◌, ◌&&◌, not, ◌==◌, nat_le, nat_lt, if◌then◌else◌, List, [], ◌∷◌, length, codes, Option, Some, None, IsTrue, IfSome, AllByRecursion}
-use Rattle.std.specs.List.{list_any}
+use Rattle.std.specs.Prelude.{ℕ, ◌≡◌, ◌+◌, ◌-◌, ◌*◌, ◌%◌, ◌<◌, ◌≤◌, Bool, true, false, ◌||◌, ◌&&◌, not, ◌==◌, nat_le, nat_lt, if◌then◌else◌, List, [], ◌∷◌, length, codes, Option, Some, None, IsTrue, IfSome}
+use Rattle.std.specs.List.{list_any, AllByRecursion}
 use Rattle.xs_text.specs.Tokens.{is_name}
 use Rattle.xs_instructions.specs.declared.instr.Instr.{Instr}
 use Rattle.xs_instructions.specs.Instr.{InRange, label_of}
+use Rattle.xs_instructions.specs.Code.{code_start, place_address}
 
 -- a name and the address that it stands for
 abbrev pub Symbol : Type 0
@@ -44,15 +45,8 @@ is_reserved name = list_any (λ r. same_name r name) reserved_names
 abbrev pub may_be_label : List ℕ → Bool
 may_be_label name = is_name name && not (is_reserved name)
 
-abbrev pub code_start : ℕ
-code_start = 0x00040000
-
 abbrev pub data_start : ℕ
 data_start = 0x00010000
-
--- the address of the instruction at a place, counted from 0
-abbrev pub place_address : ℕ → ℕ
-place_address place = code_start + 4 * place
 
 -- whether some symbol has the address
 abbrev pub has_symbol_at : List Symbol → ℕ → Bool

@@ -1,2 +1,3 @@
 pub mod Instr
+pub mod Code
 pub mod Image
