@@ -1,13 +1,40 @@
-// A library with one function.
+//! What a system text stands for, what a run of it leaves, and what the program answers: definitions alone, with
+//! the plain types that they speak of. See docs/DEFINITIONS.md.
 #![tactic(auto)]
 
-ghost use Rattle.std.specs.Prelude.{◌≡◌};
-ghost use Rattle.system_model.specs.Echo.{echo_of};
+ghost use Rattle.system_model.specs.Worked.{WorkedAnswers};
 
-// The `ensures` clause is the contract: what `echo` returns is `echo_of` of its argument, a definition
-// in `specs/Echo.antt`, which a caller's clause can cite too.
-pub fn echo(x: usize) -> usize
-    ensures { result ≡ echo_of x }
-{
-    x
+/// Why a system text is refused.
+#[derive(Clone, Copy, PartialEq, Eq, Debug)]
+pub enum SysKind {
+    /// S2: a line that has no known form.
+    BadLine,
+    /// S10: more than 4,194,304 bytes.
+    TooLong,
 }
+
+/// How the program ends.
+#[derive(Clone, Copy, PartialEq, Eq, Debug)]
+pub enum Status {
+    /// The words, the input and the run were taken whole.
+    Done,
+    /// Memory was wanting; nothing was written.
+    Memory,
+    /// The words are none of the forms.
+    Usage,
+    /// The frame of the system text was refused.
+    SystemFault,
+    /// A node's source was refused.
+    SourceFault,
+    /// The pin script was refused.
+    ScriptFault,
+    /// The input could not be read; nothing was written.
+    ReadFault,
+    /// The text could not be written whole.
+    WriteFault,
+}
+
+/// The definitions give what was worked out by hand.
+pub fn worked_answers()
+    ensures { WorkedAnswers }
+{}

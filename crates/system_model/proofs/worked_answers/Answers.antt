@@ -1,0 +1,43 @@
+use Rattle.std.proofs.Common.{refl}
+use Rattle.std.specs.Fmt.{digits}
+use Rattle.system_model.specs.Run.{ran}
+use Rattle.system_model.specs.Words.{without_comment, parted}
+use Rattle.system_model.specs.System.{next_words, node_line, source_line, section_of, framed, system_of}
+use Rattle.system_model.specs.Trace.{halted_lines, memory_lines, trace_text}
+use Rattle.system_model.specs.Top.{form_of, answer}
+use Rattle.xs_text.specs.Lines.{lines_of}
+use Rattle.xs_text.specs.Tokens.{tokens_after}
+use Rattle.xs_model.specs.Picks.{pick_from}
+use Rattle.xs_model.specs.Memory.{words_of}
+use Rattle.step_model.specs.Step.{node_step}
+use Rattle.trace_lines.specs.Lines.{hex_word}
+use Rattle.source_model.specs.Statement.{three_registers, register_and_short, register_and_dp, register_and_label, lone_label, instruction, statement}
+use Rattle.source_model.specs.Source.{labels_from, are_labels, code_of, assembled_lines}
+use Rattle.system_model.proofs.worked_answers.Goals as goal
+
+pub returns : goal.returns
+unfolding digits ran without_comment parted next_words node_line source_line section_of framed system_of halted_lines memory_lines trace_text form_of answer lines_of tokens_after pick_from words_of node_step hex_word three_registers register_and_short register_and_dp register_and_label lone_label instruction statement labels_from are_labels code_of assembled_lines
+returns c = record {
+  nothing = refl;
+  sum = refl;
+  before_the_store = refl;
+  no_code = refl;
+  countdown = refl;
+  countdown_cut = refl;
+  bad_address = refl;
+  no_form = refl;
+  no_mode = refl;
+  too_many_slots = refl;
+  eleven_digits = refl;
+  leading_zeros = refl;
+  no_input = refl;
+  other_node = refl;
+  open_section = refl;
+  comments = refl;
+  unknown_name = refl;
+  not_built = refl;
+  label_twice = refl;
+  no_such_label = refl;
+  two_labels = refl;
+  too_wide = refl;
+}

@@ -1,0 +1,83 @@
+-- What the program answers to its words and its input.
+use Rattle.std.specs.Prelude.{ℕ, ◌+◌, Bool, ◌&&◌, nat_le, min, if◌then◌else◌, Option, Some, None, option_and_then, List, [], ◌∷◌, ◌++◌, length, codes, decimal}
+use Rattle.std.specs.List.{list_all}
+use Rattle.std.specs.Char.{is_ascii_digit}
+use Rattle.std.specs.Str.Parse.{digits_value}
+use Rattle.xs_instructions.specs.Image.{same_name}
+use Rattle.source_model.specs.Numbers.{at_most, value_in}
+use Rattle.source_model.specs.declared.AsmKind.{AsmKind}
+use Rattle.source_model.specs.declared.AsmKind.TheVariants.{UnknownName}
+use Rattle.system_model.specs.declared.SysKind.{SysKind}
+use Rattle.system_model.specs.declared.SysKind.TheVariants.{BadLine, TooLong}
+use Rattle.system_model.specs.declared.Status.{Status}
+use Rattle.system_model.specs.declared.Status.TheVariants as status
+use Rattle.system_model.specs.System.{System, Plan, Frame, Source, system_of, longest_input}
+use Rattle.system_model.specs.Trace.{trace_text}
+
+-- the forms of the command words
+pub data Form : Type 0 where
+  -- `run SLOTS`
+  Run : (slots : ℕ) → Form
+
+-- one to ten decimal digits, of a value of at most a limit
+abbrev pub count_of : ℕ → List ℕ → Option ℕ
+count_of limit word = if nat_le (length word) 10 then at_most limit (value_in 10 is_ascii_digit word) else None
+
+abbrev pub most_slots : ℕ
+most_slots = 1000000
+
+-- the form of the words, if they have one
+unfoldable pub form_of : List (List ℕ) → Option Form
+form_of (a ∷ n ∷ []) =
+    if same_name (codes "run") a then option_and_then (λ slots. Some (Run slots)) (count_of most_slots n) else None
+form_of _ = None
+
+-- what is written, and how the program ends
+pub record Answer : Type 0 where
+  pub text : List ℕ
+  pub status : Status
+
+abbrev pub usage_text : List ℕ
+usage_text = codes "usage: xs1 run SLOTS [serial|free|rounds] | play SLOTS | make NUMBER | check\n"
+
+abbrev pub text_of_sys_kind : SysKind → List ℕ
+text_of_sys_kind BadLine = codes "S2 bad line"
+text_of_sys_kind TooLong = codes "S10 input too long"
+
+abbrev pub text_of_asm_kind : AsmKind → List ℕ
+text_of_asm_kind UnknownName = codes "A2 unknown name"
+
+-- `system line L: KIND TEXT`
+abbrev pub frame_text : ℕ → SysKind → List ℕ
+frame_text line kind = codes "system line " ++ (decimal line ++ (codes ": " ++ (text_of_sys_kind kind ++ (10 ∷ []))))
+
+-- `source N line L: KIND TEXT`
+abbrev pub source_text : ℕ → ℕ → AsmKind → List ℕ
+source_text node line kind =
+    codes "source " ++ (decimal node ++ (codes " line " ++ (decimal line ++ (codes ": " ++ (text_of_asm_kind kind ++ (10 ∷ []))))))
+
+-- what a form answers to a system
+abbrev pub answer_to : Form → System → Answer
+answer_to (Run slots) (Plan plan) = record { text = trace_text plan slots; status = status.Done }
+answer_to form (Frame line kind) = record { text = frame_text line kind; status = status.SystemFault }
+answer_to form (Source node line kind) = record { text = source_text node line kind; status = status.SourceFault }
+
+abbrev pub usage_answer : Answer
+usage_answer = record { text = usage_text; status = status.Usage }
+
+abbrev pub answer_of_form : Option Form → List ℕ → Answer
+answer_of_form None bytes = usage_answer
+answer_of_form (Some form) bytes = answer_to form (system_of bytes)
+
+-- what the program answers to its words and the bytes of its input
+unfoldable pub answer : List (List ℕ) → List ℕ → Answer
+answer words bytes = answer_of_form (form_of words) bytes
+
+-- how many bytes of the input a form takes: all, or one past the longest input
+abbrev pub taken_by : Option Form → List ℕ → ℕ
+taken_by None bytes = 0
+taken_by (Some form) bytes = min (length bytes) (longest_input + 1)
+
+-- how many bytes of the input are taken
+abbrev pub taken : List (List ℕ) → List ℕ → ℕ
+taken words bytes = taken_by (form_of words) bytes
