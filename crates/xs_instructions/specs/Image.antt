@@ -1,5 +1,6 @@
 -- Images: what a source stands for.
-use Rattle.std.specs.Prelude.{ℕ, ◌≡◌, ◌+◌, ◌-◌, ◌*◌, ◌%◌, ◌<◌, ◌≤◌, Bool, true, false, ◌||◌, ◌&&◌, not, ◌==◌, nat_le, nat_lt, if◌then◌else◌, List, [], ◌∷◌, length, codes, Option, Some, None, IsTrue, IfSome}
+use Rattle.std.specs.Prelude.{ℕ, ◌≡◌, ◌+◌, ◌-◌, ◌*◌, ◌%◌, ◌<◌, ◌≤◌, Bool, true, false, ◌||◌, ◌&&◌, not, ◌==◌, nat_le, nat_lt, if◌then◌else◌, List, [], ◌∷◌, length, codes, Option, Some, None, IsTrue, IfSome, slice_get, String, string_bytes}
+use denote.Ref.{Bor}
 use Rattle.std.specs.List.{list_any, AllByRecursion}
 use Rattle.xs_text.specs.Tokens.{is_name}
 use Rattle.xs_instructions.specs.declared.instr.Instr.{Instr}
@@ -9,6 +10,18 @@ use Rattle.xs_instructions.specs.Code.{code_start, place_address}
 -- a name and the address that it stands for
 abbrev pub Symbol : Type 0
 Symbol = List ℕ × ℕ
+
+-- an entry of a map from names to addresses, as a symbol
+abbrev pub symbol_of_entry : {A : Type 0} → String A × ℕ → Symbol
+symbol_of_entry entry = (string_bytes entry.0, entry.1)
+
+-- a name that is lent, with its address, as a symbol
+abbrev pub symbol_of_pair : Bor (List ℕ) × ℕ → Symbol
+symbol_of_pair pair = (pair.0.now, pair.1)
+
+-- the symbol with a number in the order of definition, from 0, and None exactly past the last
+abbrev pub symbol_at : ℕ → List Symbol → Option Symbol
+symbol_at k symbols = slice_get symbols k
 
 -- code, the bytes of both data sections, where the second of them begins, and the labels in the order of
 -- their definition

@@ -2,7 +2,11 @@
 #![tactic(auto)]
 
 mod code;
+mod image;
 mod instr;
+mod symbols;
 
 pub use code::{MOST_CODE, instr_at};
+pub use image::Image;
 pub use instr::{FlowIns, Instr, MemIns, ThreadIns, WordIns};
+pub use symbols::{Symbols, is_reserved};

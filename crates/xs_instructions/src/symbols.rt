@@ -1,0 +1,83 @@
+ghost use Rattle.std.specs.Prelude.{◌≡◌, ◌<◌, ◌↔◌, [], ◌∷◌, ◌++◌, length, None, IsTrue, OnOk, OnErr, option_map};
+ghost use Rattle.xs_text.specs.Tokens.{is_name};
+ghost use Rattle.xs_instructions.specs.Image.{address_of, is_reserved, symbol_at, symbol_of_pair};
+
+use indexmap::IndexMap;
+use std::alloc::{AllocError, Global};
+use std::marker::Model;
+
+/// The labels of a source with their addresses, in the order of their definition. Contracts see the list of pairs
+/// of a name's bytes and its address.
+#[derive(Drop)]
+pub struct Symbols {
+    addresses: IndexMap<String, u32>,
+}
+
+impl Model for Symbols {
+    ghost use Rattle.std.specs.Prelude.{List, map};
+    ghost use Rattle.xs_instructions.specs.Image.{Symbol, symbol_of_entry};
+
+    ghost Value = { List Symbol };
+
+    ghost view = { λ s. map symbol_of_entry s.addresses.entries };
+}
+
+impl Symbols {
+    /// No labels. It takes no memory.
+    pub fn new(alloc: Global) -> Symbols
+        ensures empty { result ≡ [] }
+    {
+        Symbols {
+            addresses: IndexMap::new(alloc),
+        }
+    }
+
+    /// Puts a label at the end, which is not there yet. The error is want of memory, and changes nothing.
+    pub fn define(&mut self, alloc: Global, name: &[u8], at: u32) -> Result<(), AllocError>
+        requires name { IsTrue (is_name name.now) }
+        requires new { address_of self.old name.now ≡ None }
+        ensures ok { OnOk result (self.new ≡ self.old ++ (name.now, at) ∷ []) }
+        ensures err { OnErr result (self.new ≡ self.old) }
+    {
+        let Ok(text) = str::from_utf8(name) else {
+            prove!(false);
+            return Ok(());
+        };
+        let key = String::from_str(alloc, text)?;
+        self.addresses.insert(key, at)?;
+        Ok(())
+    }
+
+    /// The address of a label, or None exactly where there is none of this name.
+    pub fn address(&self, name: &[u8]) -> Option<u32>
+        ensures value { result ≡ address_of self.now name.now }
+    {
+        match str::from_utf8(name) {
+            Ok(text) => self.addresses.get(text).copied(),
+            // Each label is text, so other bytes are no label's.
+            Err(_) => None,
+        }
+    }
+
+    /// The label with the number `k` in the order of definition, from 0, with its address. None comes exactly past
+    /// the last.
+    pub fn at(&self, k: usize) -> Option<(&str, u32)>
+        ensures value { option_map symbol_of_pair result ≡ symbol_at k self.now }
+    {
+        let (name, at) = self.addresses.get_index(k)?;
+        Some((name.as_str(), *at))
+    }
+}
+
+/// Whether the assembly language keeps a name for itself, so that no label has it.
+pub fn is_reserved(name: &[u8]) -> bool
+    ensures value { result ≡ is_reserved name.now }
+{
+    match name {
+        b"r0" | b"r1" | b"r2" | b"r3" | b"r4" | b"r5" | b"r6"
+        | b"r7" | b"r8" | b"r9" | b"r10" | b"r11" | b"cp" | b"dp"
+        | b"sp" | b"lr" | b"pc" | b"sr" | b"spc" | b"ssr" | b"et"
+        | b"ed" | b"sed" | b"kep" | b"ksp" | b"id" | b"res" | b"t" => true,
+        _ => false,
+    }
+}
