@@ -10,7 +10,7 @@ use std::marker::Model;
 /// `Breaking`: the bytes not yet read, how many it still gives, and how often a read has failed.
 #[derive(Drop)]
 pub struct FailingSource {
-    source: ListSource,
+    list: ListSource,
     allowed: usize,
     faults: u64,
 }
@@ -20,7 +20,7 @@ impl Model for FailingSource {
 
     ghost Value = { Breaking };
 
-    ghost view = { λ it. record { left = it.source; allowed = it.allowed; faults = it.faults } };
+    ghost view = { λ source. record { left = source.list; allowed = source.allowed; faults = source.faults } };
 }
 
 impl FailingSource {
@@ -31,7 +31,7 @@ impl FailingSource {
         ensures faults { result.faults ≡ 0 }
     {
         FailingSource {
-            source: ListSource::new(bytes),
+            list: ListSource::new(bytes),
             allowed: after,
             faults: 0,
         }
@@ -39,9 +39,9 @@ impl FailingSource {
 }
 
 impl Source for FailingSource {
-    ghost left = { λ it. Some it.left };
+    ghost left = { λ source. Some source.left };
 
-    ghost faults = { λ it. it.faults };
+    ghost faults = { λ source. source.faults };
 
     /// Reads as many bytes as are left, are still given and fit in `buf`. `Failed` comes exactly where
     /// no more are given, at an empty `buf` too.
@@ -60,7 +60,7 @@ impl Source for FailingSource {
             return Err(Failed);
         }
         let most = buf.len().min(self.allowed);
-        let count = self.source.give(&mut buf[..most]);
+        let count = self.list.give(&mut buf[..most]);
         self.allowed -= count;
         Ok(count)
     }
@@ -70,7 +70,7 @@ impl Source for FailingSource {
 /// `Store`, as they see a `ListSink`.
 #[derive(Drop)]
 pub struct FailingSink {
-    sink: ListSink,
+    list: ListSink,
 }
 
 impl Model for FailingSink {
@@ -78,18 +78,18 @@ impl Model for FailingSink {
 
     ghost Value = { Store };
 
-    ghost view = { λ it. it.sink };
+    ghost view = { λ sink. sink.list };
 }
 
 impl FailingSink {
     /// An empty sink that takes `after` bytes before it fails. `AllocError` comes where memory runs out.
     pub fn new(alloc: Global, after: usize) -> Result<FailingSink, AllocError>
-        ensures written { IfOk result (λ it. it.written ≡ []) }
-        ensures room { IfOk result (λ it. it.room ≡ after) }
-        ensures faults { IfOk result (λ it. it.faults ≡ 0) }
+        ensures written { IfOk result (λ sink. sink.written ≡ []) }
+        ensures room { IfOk result (λ sink. sink.room ≡ after) }
+        ensures faults { IfOk result (λ sink. sink.faults ≡ 0) }
     {
         Ok(FailingSink {
-            sink: ListSink::with_room(alloc, after)?,
+            list: ListSink::with_room(alloc, after)?,
         })
     }
 
@@ -97,14 +97,14 @@ impl FailingSink {
     pub fn bytes(&self) -> &[u8]
         ensures { result.now ≡ self.now.written }
     {
-        self.sink.bytes()
+        self.list.bytes()
     }
 }
 
 impl Sink for FailingSink {
-    ghost written = { λ it. Some it.written };
+    ghost written = { λ sink. Some sink.written };
 
-    ghost faults = { λ it. it.faults };
+    ghost faults = { λ sink. sink.faults };
 
     /// Writes as many bytes as fit. `Failed` comes exactly where none fits, at an empty `piece` too;
     /// nothing is written then.
@@ -118,10 +118,10 @@ impl Sink for FailingSink {
         ensures written { IfOk result (λ n. self.new.written ≡ self.old.written ++ take n piece.now) }
         ensures room { IfOk result (λ n. self.new.room + n ≡ self.old.room) }
     {
-        if self.sink.is_full() {
-            self.sink.fail();
+        if self.list.is_full() {
+            self.list.fail();
             return Err(Failed);
         }
-        Ok(self.sink.take(piece))
+        Ok(self.list.take(piece))
     }
 }

@@ -32,7 +32,8 @@ impl Source for StdSource {
 
     ghost faults = { λ source. source };
 
-    /// One read of the system. `Failed` comes where it fails.
+    /// One read of the system. Where `buf` isn't empty, 0 is the end of the input. `Failed` comes where
+    /// the read fails, also where a signal cut it short.
     fn read(&mut self, buf: &mut [u8]) -> Result<usize, Failed> {
         match Read::read(&mut self.from, buf) {
             Ok(count) => Ok(count),
@@ -71,7 +72,8 @@ impl Sink for StdSink {
 
     ghost faults = { λ sink. sink };
 
-    /// One write of the system. `Failed` comes where it fails, or takes no byte of a piece that isn't empty.
+    /// One write of the system. `Failed` comes where it fails, also where a signal cut it short, and
+    /// where it takes no byte of a piece that isn't empty.
     fn put(&mut self, piece: &[u8]) -> Result<usize, Failed> {
         match Write::write(&mut self.to, piece) {
             Ok(count) if count > 0 || piece.is_empty() => Ok(count),
