@@ -13,9 +13,7 @@ const MOST_EVENTS: usize = 112;
 // What stands in the places that hold no event.
 const BLANK: Event = Event {
     slot: 0,
-    what: Happen::Halt {
-        thread: 0,
-    },
+    what: Happen::Halt { thread: 0 },
 };
 
 /// What one slot of a node gives: at most 112 events in their order, and for each link end 0 to 7 at most one token

@@ -6,6 +6,8 @@ mod emitted;
 mod kept;
 mod lines;
 mod numerals;
+#[cfg(test)]
+mod tests;
 mod worked;
 
 pub use emitted::Emissions;

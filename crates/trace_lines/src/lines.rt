@@ -37,29 +37,12 @@ fn append_happening(line: &mut Text, what: Happen) -> Result<(), AllocError>
     ensures { OnOk result (line.new ≡ line.old ++ happening_text what) }
 {
     match what {
-        Happen::Drive {
-            port,
-            value,
-        } => append_drive(line, port, value),
-        Happen::Float {
-            port,
-        } => append_float(line, port),
-        Happen::Chan {
-            chan,
-            token,
-        } => append_chan(line, chan, token),
-        Happen::Lost {
-            id,
-        } => append_lost(line, id),
-        Happen::Trap {
-            thread,
-            et,
-            pc,
-            ed,
-        } => append_trap(line, thread, et, pc, ed),
-        Happen::Halt {
-            thread,
-        } => append_halt(line, thread),
+        Happen::Drive { port, value } => append_drive(line, port, value),
+        Happen::Float { port } => append_float(line, port),
+        Happen::Chan { chan, token } => append_chan(line, chan, token),
+        Happen::Lost { id } => append_lost(line, id),
+        Happen::Trap { thread, et, pc, ed } => append_trap(line, thread, et, pc, ed),
+        Happen::Halt { thread } => append_halt(line, thread),
     }
 }
 
