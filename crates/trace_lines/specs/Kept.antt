@@ -1,5 +1,5 @@
 -- What is kept of a node's events: the first 262,144, and the count of the rest.
-use Rattle.std.specs.Prelude.{ℕ, ◌≡◌, ◌-◌, List, length, take}
+use Rattle.std.specs.Prelude.{ℕ, ◌≡◌, ◌-◌, ◌<◌, ◌≤◌, List, length, take}
 use Rattle.xs_model.specs.declared.event.Event.{Event}
 
 abbrev pub kept_at_most : ℕ
@@ -21,3 +21,7 @@ left_out all = length all - kept_at_most
 pub record Keeps (kept : KeptEvents) (all : List Event) : Type 0 where
   pub first : kept.events ≡ first_events all
   pub rest : kept.more ≡ left_out all
+
+-- there is room for n events, unless as many are kept as are to be
+abbrev pub HasRoom : ℕ → KeptEvents → Type 0
+HasRoom n kept = length kept.events < kept_at_most → n ≤ kept.spare

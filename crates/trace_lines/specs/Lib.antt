@@ -1,2 +1,5 @@
 pub mod Lines
 pub mod Kept
+pub mod Places
+pub mod Room
+pub mod Worked

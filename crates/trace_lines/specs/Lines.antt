@@ -10,7 +10,7 @@ use Rattle.xs_model.specs.declared.event.Happen.TheVariants as happen
 abbrev pub hex_digit : ℕ → ℕ
 hex_digit n = if nat_lt n 10 then 48 + n else 87 + n
 
--- the lowest count hex digits of n, the most significant first
+-- the hex digit of n at this unit, a power of 16
 abbrev pub hex_digit_at : ℕ → ℕ → ℕ
 hex_digit_at unit n = hex_digit (n / unit % 16)
 
@@ -34,15 +34,33 @@ abbrev pub token_text : Token → List ℕ
 token_text (Byte b) = codes "dt " ++ decimal b
 token_text (Ctrl c) = codes "ct " ++ decimal c
 
--- what a line says after its slot and node
-abbrev pub happening_text : Happen → List ℕ
-happening_text (happen.Drive port value) = codes " pin " ++ (port_name port ++ (codes " " ++ hex_word value))
-happening_text (happen.Float port) = codes " pin " ++ (port_name port ++ codes " float")
-happening_text (happen.Chan chan token) = codes " chan " ++ (decimal chan ++ (codes " " ++ token_text token))
-happening_text (happen.Lost id) = codes " lost " ++ hex_word id
-happening_text (happen.Trap thread et pc ed) =
+-- what a line says after its slot and node, for each kind of happening
+abbrev pub drive_text : ℕ → ℕ → List ℕ
+drive_text port value = codes " pin " ++ (port_name port ++ (codes " " ++ hex_word value))
+
+abbrev pub float_text : ℕ → List ℕ
+float_text port = codes " pin " ++ (port_name port ++ codes " float")
+
+abbrev pub chan_text : ℕ → Token → List ℕ
+chan_text chan token = codes " chan " ++ (decimal chan ++ (codes " " ++ token_text token))
+
+abbrev pub lost_text : ℕ → List ℕ
+lost_text id = codes " lost " ++ hex_word id
+
+abbrev pub trap_text : ℕ → ℕ → ℕ → ℕ → List ℕ
+trap_text thread et pc ed =
     codes ".t" ++ (decimal thread ++ (codes " trap " ++ (decimal et ++ (codes " pc " ++ (hex_word pc ++ (codes " data " ++ hex_word ed))))))
-happening_text (happen.Halt thread) = codes ".t" ++ (decimal thread ++ codes " halt")
+
+abbrev pub halt_text : ℕ → List ℕ
+halt_text thread = codes ".t" ++ (decimal thread ++ codes " halt")
+
+abbrev pub happening_text : Happen → List ℕ
+happening_text (happen.Drive port value) = drive_text port value
+happening_text (happen.Float port) = float_text port
+happening_text (happen.Chan chan token) = chan_text chan token
+happening_text (happen.Lost id) = lost_text id
+happening_text (happen.Trap thread et pc ed) = trap_text thread et pc ed
+happening_text (happen.Halt thread) = halt_text thread
 
 -- the line of an event of a node
 abbrev pub event_line : ℕ → Event → List ℕ

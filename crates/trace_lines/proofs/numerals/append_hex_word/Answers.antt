@@ -1,0 +1,8 @@
+-- The text ends in the ten characters, each of which is a digit of the word.
+use Rattle.std.proofs.Common.{rules}
+use Rattle.trace_lines.specs.Lines.{hex_word}
+use Rattle.trace_lines.proofs.numerals.append_hex_word.Goals as goal
+
+pub returns-clause-ok : goal.returns-clause-ok
+unfolding hex_word
+returns-clause-ok c = search rules

@@ -1,0 +1,52 @@
+//! The numbers of the trace's lines.
+ghost use Rattle.std.specs.Prelude.{◌≡◌, ◌<◌, ◌++◌, OnOk, OnErr, decimal};
+ghost use Rattle.trace_lines.specs.Lines.{hex_word, hex_digit_at};
+
+use itoa::Buffer;
+use std::alloc::AllocError;
+use xs_base::Text;
+
+/// Puts a number at the end of the text, in decimal. The error is want of memory, and leaves the text as it was.
+/// See docs/OUTPUT.md.
+pub fn append_decimal(out: &mut Text, n: u64) -> Result<(), AllocError>
+    ensures ok { OnOk result (out.new ≡ out.old ++ decimal n) }
+    ensures err { OnErr result (out.new ≡ out.old) }
+{
+    let mut buffer = Buffer::new();
+    out.append(buffer.format(n).as_bytes())
+}
+
+/// Puts a word at the end of the text: `0x` and eight lower-case hex digits. The error is want of memory, and leaves
+/// the text as it was. See docs/OUTPUT.md.
+pub fn append_hex_word(out: &mut Text, w: u32) -> Result<(), AllocError>
+    ensures ok { OnOk result (out.new ≡ out.old ++ hex_word w) }
+    ensures err { OnErr result (out.new ≡ out.old) }
+{
+    let digits = [
+        b'0',
+        b'x',
+        digit_at(0x1000_0000, w),
+        digit_at(0x100_0000, w),
+        digit_at(0x10_0000, w),
+        digit_at(0x1_0000, w),
+        digit_at(0x1000, w),
+        digit_at(0x100, w),
+        digit_at(0x10, w),
+        digit_at(1, w),
+    ];
+    out.append(&digits)
+}
+
+// The hex digit at this unit, a power of 16.
+#[inline]
+fn digit_at(unit: u32, w: u32) -> u8
+    requires { 0 < unit }
+    ensures { result ≡ hex_digit_at unit w }
+{
+    let digit = (w / unit % 16) as u8;
+    if digit < 10 {
+        b'0' + digit
+    } else {
+        b'a' + (digit - 10)
+    }
+}
