@@ -1,13 +1,11 @@
-// A library with one function.
+//! One node's core: boot, and one slot after another. See docs/MACHINE.md.
 #![tactic(auto)]
 
-ghost use Rattle.std.specs.Prelude.{◌≡◌};
-ghost use Rattle.core_step.specs.Echo.{echo_of};
+mod core;
+mod execute;
 
-// The `ensures` clause is the contract: what `echo` returns is `echo_of` of its argument, a definition
-// in `specs/Echo.antt`, which a caller's clause can cite too.
-pub fn echo(x: usize) -> usize
-    ensures { result ≡ echo_of x }
-{
-    x
-}
+pub use core::Core;
+pub use core_memory::BadAddress;
+pub use sys_plan::NodePlan;
+pub use trace_lines::{Emissions, Event, Happen};
+pub use xs_model::{Arrivals, Outcome, PinView, Run, Thread, Wait};

@@ -1,0 +1,17 @@
+-- What a core's fields stand for.
+use Rattle.std.specs.Prelude.{ℕ, ◌≡◌, ◌≤◌, List, length}
+use Rattle.std.specs.List.{AllByRecursion}
+use Rattle.xs_model.specs.Record.{core_with}
+use Rattle.xs_instructions.specs.Instr.{InRange}
+use Rattle.core_step.specs.Core.{CoreValue}
+use Rattle.core_step.specs.declared.core.Core.TheInside.{Inside}
+
+abbrev pub value_of : Inside → CoreValue
+value_of c = record {
+  fixed = record { id = c.id; code = c.code.items; ways = c.ways; gaps = c.gaps };
+  core = core_with c.threads c.slots c.ram
+}
+
+-- every instruction's operands are in range
+abbrev pub IsCore : Inside → Type 0
+IsCore c = AllByRecursion InRange c.code.items

@@ -1,0 +1,119 @@
+//! `Core`, one node's core.
+ghost use Rattle.std.specs.Prelude.{◌≡◌, ◌<◌, ◌≤◌, ◌+◌, ◌↔◌, ℕ, Option, Some, None, Bool, false, List, [], ◌∷◌, ◌++◌, length, map, slice_index, slice_index_or, slice_set, replicate, IfOk, IfSome, IsErr, MatchResult};
+ghost use Rattle.std.specs.Result.{result_ok};
+ghost use Rattle.std.specs.List.{AllByRecursion};
+ghost use Rattle.xs_model.specs.Record.{NodeRec, CoreRec, thread_of, first_node};
+ghost use Rattle.xs_model.specs.Memory.{load_word, is_word_address, memory_size};
+ghost use Rattle.xs_model.specs.Picks.{is_ready, picked};
+ghost use Rattle.xs_model.specs.Outside.{LevelsFit, emitted_events};
+ghost use Rattle.xs_instructions.specs.Instr.{InRange, MemoryInRange};
+ghost use Rattle.xs_instructions.specs.Image.{entry_of};
+ghost use Rattle.step_model.specs.Effect.{effect, memory_row};
+ghost use Rattle.step_model.specs.Step.{node_step, resumed, trap, executed, issued_by, issued, in_slot, Issued};
+ghost use Rattle.core_step.specs.Core.{CoreValue, StandsFor, SlotsBefore, fixed_with, Ends};
+ghost use Rattle.thread_slots.specs.Able.{is_able};
+
+use crate::execute::{flow, go_on, words};
+use core_memory::{BadAddress, Ram};
+use std::alloc::{AllocError, Global};
+use std::marker::Model;
+use sys_plan::NodePlan;
+use thread_slots::Slots;
+use trace_lines::Emissions;
+use xs_instructions::{Instr, MemIns, ThreadIns, instr_at};
+use xs_model::{Arrivals, Event, Happen, INK, KEPT_IN_A_TRAP, Outcome, PinView, Run, Status, Thread};
+
+/// The number of the trap where no code stands at a thread's pc.
+const ILLEGAL_PC: u32 = 2;
+
+/// The number of the trap of a load or a store.
+const BAD_ADDRESS: u32 = 5;
+
+/// A node's core. Contracts see what it keeps of its node's plan, and the core record.
+#[derive(Drop)]
+pub struct Core {
+    id: u16,
+    ways: [u8; 16],
+    gaps: [u32; 8],
+    code: Vec<Instr>,
+    ram: Ram,
+    slots: Slots,
+    threads: [Thread; 8],
+}
+
+impl Model for Core {
+    ghost use Rattle.core_step.specs.Core.{CoreValue};
+
+    ghost Value = { CoreValue };
+
+    ghost use Rattle.core_step.specs.Inside.{value_of, IsCore};
+
+    ghost view = { value_of };
+
+    ghost invariant = { IsCore };
+}
+
+impl Core {
+    /// What a thread does.
+    pub fn run_of(&self, th: u8) -> Run
+        requires { th < 8 }
+        ensures value { result ≡ (thread_of self.now.core th).run }
+    {
+        self.threads[th as usize].run
+    }
+
+    /// The word of the memory at an address. `BadAddress` comes exactly where the address is outside the memory,
+    /// 0x0001_0000 to 0x0001_ffff, or no multiple of 4.
+    pub fn word(&self, at: u32) -> Result<u32, BadAddress>
+        ensures value { result_ok result ≡ load_word self.now.core.memory at }
+        ensures err { IsErr result ↔ is_word_address at ≡ false }
+    {
+        self.ram.load32(at)
+    }
+
+    /// One slot of the node: what arrives by the link ends, the edges of the ports' clocks, the switch, and at most
+    /// one issue. `out` is emptied first, and then holds what the slot gives. See docs/MACHINE.md.
+    pub fn slot(&mut self, slot: u32, _arrivals: &Arrivals, _pins: &PinView, out: &mut Emissions)
+        requires before { SlotsBefore self.old slot }
+        requires levels { LevelsFit _pins.now.level }
+
+        ensures fixed { self.new.fixed ≡ self.old.fixed }
+        ensures step { (rec : NodeRec) → StandsFor self.old rec →
+            StandsFor self.new (node_step self.old.fixed rec slot _arrivals.now _pins.now).rec }
+        ensures emissions { (rec : NodeRec) → StandsFor self.old rec →
+            out.new ≡ (node_step self.old.fixed rec slot _arrivals.now _pins.now).emitted }
+        ensures after { SlotsBefore self.new (slot + 1) }
+    {
+        out.clear();
+        if let Some(k) = self.slots.pick(self.able(), slot) {
+            self.issue(k, slot, out);
+        }
+    }
+
+    // The threads that may issue but for the four slots of rest: bit k for thread k.
+    fn able(&self) -> u8
+        ensures { (k : ℕ) → k < 8 → is_ready (thread_of self.now.core k).run ≡ is_able result k }
+    {
+        able_of(&self.threads)
+    }
+
+    // Thread k issues.
+    fn issue(&mut self, k: u8, slot: u32, out: &mut Emissions)
+        requires thread { k < 8 }
+        requires empty { out.old ≡ emitted_events [] }
+        ensures fixed { self.new.fixed ≡ self.old.fixed }
+        ensures core { self.new.core ≡ (issued_by self.old.fixed self.old.core slot (Some k)).core }
+        ensures events { out.new ≡ emitted_events (map (in_slot slot) (issued_by self.old.fixed self.old.core slot (Some k)).happened) }
+    {
+        self.begin(k, slot);
+        let pc = self.threads[k as usize].pc;
+        match instr_at(&self.code, pc) {
+            None => self.trap(k, ILLEGAL_PC, pc, slot, out),
+            Some(ins) => {
+                if let Outcome::Trap { et, ed } = self.execute(k, ins) {
+                    self.trap(k, et, ed, slot, out);
+                }
+            }
+        }
+    }
+}

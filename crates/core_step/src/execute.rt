@@ -1,0 +1,71 @@
+//! What the instructions do to a thread's registers.
+ghost use Rattle.std.specs.Prelude.{◌≡◌, Bool, if◌then◌else◌};
+ghost use Rattle.xs_instructions.specs.Code.{place_address};
+ghost use Rattle.xs_instructions.specs.Instr.{WordsInRange, FlowInRange};
+ghost use Rattle.step_model.specs.Effect.{after_it, words_row, flow_row};
+
+use xs_instructions::{FlowIns, WordIns};
+use xs_model::Thread;
+
+/// The address of the first instruction.
+const CODE_START: u32 = 0x0004_0000;
+
+// Goes on to the next instruction.
+pub(crate) fn go_on(thread: &mut Thread)
+    ensures { thread.new ≡ after_it thread.old }
+{
+    thread.pc = thread.pc.wrapping_add(4);
+}
+
+// The rows on words.
+pub(crate) fn words(thread: &mut Thread, ins: WordIns)
+    requires { WordsInRange ins }
+    ensures { thread.new ≡ after_it (words_row thread.old ins) }
+{
+    match ins {
+        WordIns::Add(d, x, y) => {
+            let sum = thread.reg(x).wrapping_add(thread.reg(y));
+            thread.set_reg(d, sum);
+        }
+        WordIns::Sub(d, x, y) => {
+            let difference = thread.reg(x).wrapping_sub(thread.reg(y));
+            thread.set_reg(d, difference);
+        }
+        WordIns::Eq(d, x, y) => {
+            let equal = u32::from(thread.reg(x) == thread.reg(y));
+            thread.set_reg(d, equal);
+        }
+        WordIns::Ldc(d, u) => thread.set_reg(d, u32::from(u)),
+        WordIns::Nop => {}
+    }
+    go_on(thread);
+}
+
+// Goes to a place in the code if the branch is taken, and else on.
+fn branch(thread: &mut Thread, taken: bool, place: u16)
+    ensures { thread.new ≡ (if taken then record thread.old { pc = place_address place } else after_it thread.old) }
+{
+    if taken {
+        thread.pc = CODE_START + 4 * u32::from(place);
+    } else {
+        go_on(thread);
+    }
+}
+
+// The rows on the flow of control.
+pub(crate) fn flow(thread: &mut Thread, ins: FlowIns)
+    requires { FlowInRange ins }
+    ensures { thread.new ≡ flow_row thread.old ins }
+{
+    match ins {
+        FlowIns::Bt(s, place) => {
+            let taken = thread.reg(s) != 0;
+            branch(thread, taken, place);
+        }
+        FlowIns::Bf(s, place) => {
+            let taken = thread.reg(s) == 0;
+            branch(thread, taken, place);
+        }
+        FlowIns::Bu(place) => branch(thread, true, place),
+    }
+}
