@@ -1,5 +1,5 @@
 -- Where a word stands in the memory.
-use Rattle.std.specs.Prelude.{ℕ, ◌≡◌, ◌+◌, ◌*◌, ◌<◌, true, List, slice_index}
+use Rattle.std.specs.Prelude.{ℕ, ◌≡◌, ◌+◌, ◌*◌, ◌<◌, true, List, [], ◌∷◌, slice_index}
 use Rattle.xs_model.specs.Memory.{memory_base, is_word_address}
 
 -- the address is that of word number `place` of the memory
@@ -8,7 +8,7 @@ pub record IsPlaceOf (at place : ℕ) : Type 0 where
   pub address : at ≡ memory_base + 4 * place
   pub within : place < 16384
 
--- the word that four bytes make, the least significant first; bytes past the end are 0
-abbrev pub word_at : List ℕ → ℕ → ℕ
-word_at bytes first =
-    slice_index bytes first + 256 * (slice_index bytes (first + 1) + 256 * (slice_index bytes (first + 2) + 256 * slice_index bytes (first + 3)))
+-- four bytes of an image, the first at this place; bytes past its end are 0
+abbrev pub four_bytes : List ℕ → ℕ → List ℕ
+four_bytes image first =
+    slice_index image first ∷ slice_index image (first + 1) ∷ slice_index image (first + 2) ∷ slice_index image (first + 3) ∷ []

@@ -1,11 +1,11 @@
 //! The node's memory: 65,536 bytes from 0x00010000 on, little-endian. See docs/MACHINE.md.
 #![tactic(auto)]
 
-ghost use Rattle.std.specs.Prelude.{◌≡◌, ◌<◌, ◌≤◌, ◌↔◌, false, Some, None, length, slice_index, IfOk, OnOk, OnErr, IsErr, MatchOption, MatchResult};
+ghost use Rattle.std.specs.Prelude.{◌≡◌, ◌^◌, ◌<◌, ◌≤◌, ◌↔◌, false, Some, None, length, slice_index, IfOk, OnOk, OnErr, IsErr, MatchOption, MatchResult};
 ghost use Rattle.std.specs.Result.{result_ok};
-ghost use Rattle.xs_model.specs.Memory.{memory_size, is_word_address, load_word, store_word, first_memory};
+ghost use Rattle.xs_model.specs.Memory.{memory_size, is_word_address, load_word, store_word, bytes_of_word, first_memory};
 ghost use Rattle.core_memory.specs.Bytes.{bytes_of_words};
-ghost use Rattle.core_memory.specs.Places.{IsPlaceOf, word_at};
+ghost use Rattle.core_memory.specs.Places.{IsPlaceOf, four_bytes};
 ghost use Rattle.core_memory.specs.Order.{WordsInOrder, NextWord, NoWordsLeft};
 
 use std::alloc::{AllocError, Global};
@@ -61,10 +61,11 @@ impl Ram {
         ensures err { IsErr result ↔ is_word_address at ≡ false }
         ensures size { length self.now ≡ memory_size }
     {
-        match word_place(at) {
-            Some(place) => Ok(self.words[place]),
-            None => Err(BadAddress),
-        }
+        let words = self.words.as_slice();
+        let Some(place) = word_place(at) else {
+            return Err(BadAddress);
+        };
+        Ok(word_of(words, place))
     }
 
     /// Puts a word at an address. `BadAddress` comes exactly where the address is outside the memory or no
@@ -100,6 +101,16 @@ fn word_place(at: u32) -> Option<usize>
     }
 }
 
+/// The word at a place.
+#[inline]
+fn word_of(words: &[u32], place: usize) -> u32
+    requires { place < length words.now }
+    ensures value { result ≡ slice_index words.now place }
+    ensures range { result < 2 ^ 32 }
+{
+    words[place]
+}
+
 /// The words that the memory starts with. The error is want of memory.
 fn words_of_image(alloc: Global, bytes: &[u8]) -> Result<Vec<u32>, AllocError>
     requires { length bytes.now ≤ 65536 }
@@ -116,7 +127,7 @@ fn words_of_image(alloc: Global, bytes: &[u8]) -> Result<Vec<u32>, AllocError>
 /// The word that four bytes of an image make, the least significant first.
 fn word_at_place(bytes: &[u8], first: usize) -> u32
     requires { first < 65536 }
-    ensures { result ≡ word_at bytes.now first }
+    ensures { bytes_of_word result ≡ four_bytes bytes.now first }
 {
     let low = byte_at(bytes, first) + 256 * byte_at(bytes, first + 1);
     let high = byte_at(bytes, first + 2) + 256 * byte_at(bytes, first + 3);
@@ -142,5 +153,50 @@ pub fn words_in_order()
     ensures at { WordsInOrder }
     ensures next { NextWord }
     ensures end { NoWordsLeft }
-{
+{}
+
+#[cfg(test)]
+mod tests {
+    use super::*;
+    use std::test::Fail;
+
+    #[test]
+    fn bytes_make_words_least_significant_first(rt: HostRuntime) -> Result<(), Fail> {
+        let ram = Ram::new(rt.alloc(), &[1, 2, 3, 4])?;
+        assert_eq!(rt; ram.load32(0x00010000)?, 0x04030201);
+        assert_eq!(rt; ram.load32(0x00010004)?, 0);
+        assert_eq!(rt; ram.load32(0x0001fffc)?, 0);
+        Ok(())
+    }
+
+    #[test]
+    fn an_image_may_end_inside_a_word(rt: HostRuntime) -> Result<(), Fail> {
+        let ram = Ram::new(rt.alloc(), &[0xaa, 0xbb, 0xcc, 0xdd, 0xee])?;
+        assert_eq!(rt; ram.load32(0x00010000)?, 0xddccbbaa);
+        assert_eq!(rt; ram.load32(0x00010004)?, 0x000000ee);
+        Ok(())
+    }
+
+    #[test]
+    fn a_store_changes_one_word(rt: HostRuntime) -> Result<(), Fail> {
+        let mut ram = Ram::new(rt.alloc(), &[1, 2, 3, 4])?;
+        ram.store32(0x0001fffc, 0x89abcdef)?;
+        assert_eq!(rt; ram.load32(0x0001fffc)?, 0x89abcdef);
+        assert_eq!(rt; ram.load32(0x0001fff8)?, 0);
+        assert_eq!(rt; ram.load32(0x00010000)?, 0x04030201);
+        Ok(())
+    }
+
+    #[test]
+    fn bad_addresses_are_refused(rt: HostRuntime) -> Result<(), Fail> {
+        let mut ram = Ram::new(rt.alloc(), &[1, 2, 3, 4])?;
+        for at in [
+            0x00010001, 0x00010002, 0x0000ffff, 0x0000fffc, 0x00020000, 0xfffffffc,
+        ] {
+            assert_eq!(rt; ram.load32(at), Err(BadAddress));
+            assert_eq!(rt; ram.store32(at, 7), Err(BadAddress));
+        }
+        assert_eq!(rt; ram.load32(0x00010000)?, 0x04030201);
+        Ok(())
+    }
 }

@@ -67,9 +67,6 @@ impl Slots {
         ensures lowest { IfSome result (λ k. (j : ℕ) → j < k → may_issue able self.now slot j ≡ true → is_earlier (slice_index_or self.now k None) (slice_index_or self.now j None) ≡ true) }
         ensures threads { length self.now ≡ 8 }
     {
-        if able == 0 {
-            return None;
-        }
         match best_of(&self.issues, able, slot) {
             Some((thread, _)) => Some(thread),
             None => None,
@@ -78,7 +75,15 @@ impl Slots {
 }
 
 /// The best of the threads that are able and rested, with its last issue.
+#[inline]
 fn best_of(issues: &[Option<u32>; 8], able: u8, slot: u32) -> Option<(u8, Option<u32>)>
+    ensures { result ≡ pick_from (is_able able) slot 0 issues.now }
+{
+    if able == 0 { None } else { best_of_eight(issues, able, slot) }
+}
+
+/// The same, by a look at each of the eight.
+fn best_of_eight(issues: &[Option<u32>; 8], able: u8, slot: u32) -> Option<(u8, Option<u32>)>
     ensures { result ≡ pick_from (is_able able) slot 0 issues.now }
 {
     let mut best = None;
