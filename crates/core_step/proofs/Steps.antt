@@ -24,7 +24,7 @@ pub stepped : (before after : CoreValue) (rec : NodeRec) (slot : ℕ) (arrivals 
 unfolding node_step
 stepped before after rec slot arrivals pins e s = record {
   core = e ∙ ap (λ (core : CoreRec). (issued before.fixed core slot).core) s.core;
-  links = s.links
+  links = s.links;
 }
 
 -- and it gave what the step gives

@@ -5,7 +5,7 @@ ghost use Rattle.std.specs.List.{AllByRecursion};
 ghost use Rattle.xs_model.specs.Record.{NodeRec, thread_of, first_node};
 ghost use Rattle.xs_model.specs.Threads.{fresh_thread};
 ghost use Rattle.xs_model.specs.Memory.{load_word, is_word_address, memory_size};
-ghost use Rattle.xs_model.specs.Picks.{is_ready, picked};
+ghost use Rattle.xs_model.specs.Picks.{may_issue};
 ghost use Rattle.xs_model.specs.Outside.{LevelsFit, emitted_events};
 ghost use Rattle.xs_instructions.specs.Instr.{InRange, MemoryInRange};
 ghost use Rattle.xs_instructions.specs.Image.{entry_of};
@@ -17,6 +17,7 @@ ghost use Rattle.thread_slots.specs.Able.{is_able};
 
 use crate::execute::{flow, free, go_on, words};
 use crate::traps::{enter_trap, stands_at};
+use crate::waits::able_of;
 use core_memory::{BadAddress, Ram};
 use std::alloc::{AllocError, Global};
 use std::marker::Model;
@@ -89,14 +90,15 @@ impl Core {
         ensures after { SlotsBefore self.new (slot + 1) }
     {
         out.clear();
-        if let Some(k) = self.slots.pick(self.able(), slot) {
+        let able = self.able(slot);
+        if let Some(k) = self.slots.pick(able, slot) {
             self.issue(k, slot, out);
         }
     }
 
     // The threads that may issue but for the four slots of rest: bit k for thread k.
-    fn able(&self) -> u8
-        ensures { (k : ℕ) → k < 8 → is_ready (thread_of self.now.core k).run ≡ is_able result k }
+    fn able(&self, slot: u32) -> u8
+        ensures { (k : ℕ) → k < 8 → may_issue self.now.core slot k ≡ is_able result k }
     {
         able_of(&self.threads)
     }
@@ -242,34 +244,6 @@ impl Core {
             });
         }
     }
-}
-
-// The threads that may issue but for the four slots of rest: bit k for thread k.
-fn able_of(threads: &[Thread; 8]) -> u8
-    ensures { (k : ℕ) → k < 8 → is_ready (slice_index_or threads.now k fresh_thread).run ≡ is_able result k }
-{
-    let mut able = 0u8;
-    for k in 0..8u8 {
-        let thread = &threads[k as usize];
-        able = with_bit(able, k, is_ready(thread.run));
-    }
-    able
-}
-
-// The set with bit k set if the thread is ready.
-fn with_bit(set: u8, k: u8, ready: bool) -> u8
-    requires bit { k < 8 }
-    requires clear { bit_at set k ≡ 0 }
-    ensures same { is_able result k ≡ ready }
-    ensures others { (j : ℕ) → j ≢ k → bit_at result j ≡ bit_at set j }
-{
-    if ready { set | 1 << k } else { set }
-}
-
-fn is_ready(run: Run) -> bool
-    ensures { result ≡ is_ready run }
-{
-    matches!(run, Run::Going)
 }
 
 // A pause ends with an issue.

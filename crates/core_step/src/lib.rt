@@ -4,6 +4,7 @@
 mod core;
 mod execute;
 mod traps;
+mod waits;
 
 pub use core::Core;
 pub use core_memory::BadAddress;

@@ -1,19 +1,60 @@
 -- Which thread issues in a slot.
-use Rattle.std.specs.Prelude.{ℕ, suc, ◌+◌, Bool, true, false, ◌&&◌, nat_le, nat_lt, if◌then◌else◌, Option, Some, None, List, [], ◌∷◌, slice_index_or}
+use Rattle.std.specs.Prelude.{ℕ, suc, ◌+◌, ◌-◌, ◌/◌, ◌%◌, ◌^◌, Bool, true, false, ◌&&◌, ◌||◌, not, nat_le, nat_lt, if◌then◌else◌, Option, Some, None, is_some, is_none, List, [], ◌∷◌, length, take}
+use Rattle.std.specs.List.{list_any, list_all}
+use Rattle.xs_base.specs.declared.Token.{Token}
+use Rattle.xs_base.specs.declared.Token.TheVariants.{Byte, Ctrl}
 use Rattle.xs_model.specs.declared.thread.Run.{Run}
-use Rattle.xs_model.specs.declared.thread.Run.TheVariants.{Going}
-use Rattle.xs_model.specs.declared.thread.Thread.{Thread}
-use Rattle.xs_model.specs.Record.{CoreRec, thread_of}
+use Rattle.xs_model.specs.declared.thread.Run.TheVariants.{Unstarted, AtSync, Going, Paused}
+use Rattle.xs_model.specs.declared.thread.Wait.{Wait}
+use Rattle.xs_model.specs.declared.thread.Wait.TheVariants.{Room, Tokens, PortFull, PortEmpty, PortIdle, Timer, Lock, Slaves, Choice}
+use Rattle.xs_model.specs.Record.{CoreRec, thread_of, chan_of, timer_of, sync_of, lock_of, port_of}
 
 -- four slots lie between two issues of one thread
 abbrev pub is_rested : Option ℕ → ℕ → Bool
 is_rested None slot = true
 is_rested (Some last) slot = nat_le (last + 4) slot
 
--- whether a thread would issue if no other did; what pauses a thread is not built yet
-abbrev pub is_ready : Run → Bool
-is_ready Going = true
-is_ready _ = false
+abbrev pub is_control : Token → Bool
+is_control (Byte b) = false
+is_control (Ctrl c) = true
+
+-- whether there are k tokens, or a control token among the first k
+abbrev pub has_tokens : ℕ → List Token → Bool
+has_tokens k tokens = nat_le k (length tokens) || list_any is_control (take k tokens)
+
+-- what timers show: a step every four slots
+abbrev pub time_at : ℕ → ℕ
+time_at slot = slot / 4 % 2 ^ 32
+
+-- whether a time is after another, by less than half of all times
+abbrev pub is_after : ℕ → ℕ → Bool
+is_after x time = let passed = (time + (2 ^ 32 - x)) % 2 ^ 32 in nat_lt 0 passed && nat_lt passed (2 ^ 31)
+
+-- whether a slave is where its synchroniser waits for it
+abbrev pub is_in : Run → Bool
+is_in Unstarted = true
+is_in AtSync = true
+is_in _ = false
+
+-- whether what pauses a thread holds
+abbrev pub holds : CoreRec → ℕ → Wait → Bool
+holds core slot (Room chan count) = nat_le (length (chan_of core chan).output) (8 - count)
+holds core slot (Tokens chan count) = has_tokens count (chan_of core chan).input
+holds core slot (PortFull port) = is_some (port_of core port).transfer
+holds core slot (PortEmpty port) = is_none (port_of core port).transfer
+holds core slot (PortIdle port) =
+    not ((port_of core port).output && (is_some (port_of core port).transfer || nat_lt 0 (length (port_of core port).shift)))
+holds core slot (Timer timer) = not (timer_of core timer).after || is_after (timer_of core timer).value (time_at slot)
+holds core slot (Lock lock) = is_none (lock_of core lock).owner
+holds core slot (Slaves sync) = list_all (λ k. is_in (thread_of core k).run) (sync_of core sync).slaves
+holds core slot Choice = false
+
+-- whether a thread would issue if it were rested and no other did: it is going, or what pauses it holds. That a
+-- paused thread may take an event is not built yet.
+abbrev pub is_ready : CoreRec → ℕ → Run → Bool
+is_ready core slot Going = true
+is_ready core slot (Paused wait) = holds core slot wait
+is_ready core slot _ = false
 
 -- never is before every slot
 abbrev pub is_earlier : Option ℕ → Option ℕ → Bool
@@ -43,10 +84,10 @@ number_of_pick (Some best) = Some best.0
 abbrev pub pick : (ℕ → Bool) → List (Option ℕ) → ℕ → Option ℕ
 pick able last slot = number_of_pick (pick_from able slot 0 last)
 
--- whether a thread may issue in the slot: it is going, and it is rested
-abbrev pub is_eligible : CoreRec → ℕ → ℕ → Bool
-is_eligible core slot k = is_ready (thread_of core k).run && is_rested (slice_index_or core.last k None) slot
+-- whether thread k would issue if it were rested and no other did
+abbrev pub may_issue : CoreRec → ℕ → ℕ → Bool
+may_issue core slot k = is_ready core slot (thread_of core k).run
 
--- the thread that issues in a slot: the eligible one with the earliest last issue
+-- the thread that issues in a slot: of those that are ready and rested the one with the earliest last issue
 abbrev pub picked : CoreRec → ℕ → Option ℕ
-picked core slot = pick (λ k. is_ready (thread_of core k).run) core.last slot
+picked core slot = pick (may_issue core slot) core.last slot

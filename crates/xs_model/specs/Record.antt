@@ -176,5 +176,20 @@ first_node entry cp_at bytes = record {
 abbrev pub thread_of : CoreRec → ℕ → Thread
 thread_of core k = slice_index_or core.threads k fresh_thread
 
+abbrev pub chan_of : CoreRec → ℕ → ChanRec
+chan_of core n = slice_index_or core.chans n unused_chan
+
+abbrev pub timer_of : CoreRec → ℕ → TimerRec
+timer_of core n = slice_index_or core.timers n unused_timer
+
+abbrev pub sync_of : CoreRec → ℕ → SyncRec
+sync_of core n = slice_index_or core.syncs n unused_sync
+
+abbrev pub lock_of : CoreRec → ℕ → LockRec
+lock_of core n = slice_index_or core.locks n unused_lock
+
+abbrev pub port_of : CoreRec → ℕ → PortRec
+port_of core n = slice_index_or core.ports n off_port
+
 abbrev pub with_thread : CoreRec → ℕ → Thread → CoreRec
 with_thread core k th = record core { threads = slice_set core.threads k th }

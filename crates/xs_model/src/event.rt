@@ -40,3 +40,13 @@ pub struct Event {
     pub slot: u32,
     pub what: Happen,
 }
+
+impl Default for Event {
+    /// What stands in a place that holds no event.
+    fn default() -> Event {
+        Event {
+            slot: 0,
+            what: Happen::Halt { thread: 0 },
+        }
+    }
+}
