@@ -22,7 +22,7 @@ same_pick_from able other slot k [] h = refl
 same_pick_from able other slot k (last ∷ rest) h =
     let here : able k ≡ other k = h k (omega arith) (omega arith) in
     let others : pick_from able slot (suc k) rest ≡ pick_from other slot (suc k) rest =
-        same_pick_from able other slot (suc k) rest (λ j low high. h j (omega arith) (omega arith))
+    same_pick_from able other slot (suc k) rest (λ j low high. h j (omega arith) (omega arith))
     in
     ap (λ a. with_thread (λ _. a) slot k last (pick_from able slot (suc k) rest)) here ∙ ap (λ o. with_thread other slot k last o) others
 
@@ -181,7 +181,7 @@ at_zero able slot lasts j = let p : 0 + j ≡ j = omega arith in ap (λ i. able 
 picked_at : (able slot : ℕ) (lasts : List (Option ℕ)) (i : ℕ) (last : Option ℕ) → length lasts ≡ 8 → IsBestAt (is_able able) slot 0 lasts i last → IsPicked able slot lasts i
 picked_at able slot lasts i last n b =
     let may : (is_able able i ≡ true) × (is_rested (get_or lasts i None) slot ≡ true) =
-        and_parts _ _ (sym (at_zero (is_able able) slot lasts i) ∙ b.may)
+    and_parts _ _ (sym (at_zero (is_able able) slot lasts i) ∙ b.may)
     in
     let rank_is : rank last ≡ rank (get_or lasts i None) = ap rank b.its in
     record {

@@ -79,7 +79,11 @@ impl Slots {
 fn best_of(issues: &[Option<u32>; 8], able: u8, slot: u32) -> Option<(u8, Option<u32>)>
     ensures { result ≡ pick_from (is_able able) slot 0 issues.now }
 {
-    if able == 0 { None } else { best_of_eight(issues, able, slot) }
+    if able == 0 {
+        None
+    } else {
+        best_of_eight(issues, able, slot)
+    }
 }
 
 /// The same, by a look at each of the eight.
@@ -95,11 +99,17 @@ fn best_of_eight(issues: &[Option<u32>; 8], able: u8, slot: u32) -> Option<(u8, 
 
 /// The best of a thread and of those after it.
 #[inline]
-fn best_with(k: u8, last: Option<u32>, able: u8, slot: u32, others: Option<(u8, Option<u32>)>) -> Option<(u8, Option<u32>)>
+fn best_with(
+    k: u8,
+    last: Option<u32>,
+    able: u8,
+    slot: u32,
+    others: Option<(u8, Option<u32>)>,
+) -> Option<(u8, Option<u32>)>
     requires { k < 8 }
     ensures { result ≡ with_thread (is_able able) slot k last others }
 {
-    if (able >> k) % 2 == 0 || !is_rested(last, slot) {
+    if (able >> k) & 1 == 0 || !is_rested(last, slot) {
         return others;
     }
     match others {
@@ -128,5 +138,80 @@ fn is_earlier(one: Option<u32>, other: Option<u32>) -> bool
         (_, None) => false,
         (None, Some(_)) => true,
         (Some(a), Some(b)) => a < b,
+    }
+}
+
+#[cfg(test)]
+mod tests {
+    use super::*;
+    use std::process::Abort;
+
+    /// Picks in each of these slots with the same threads able, and marks the issue of each that is picked.
+    fn picks(rt: &impl Abort, able: u8, wanted: &[(u32, Option<u8>)]) {
+        let mut slots = Slots::new();
+        for &(slot, want) in wanted {
+            let picked = slots.pick(able, slot);
+            assert_eq!(rt; picked, want, "in slot {slot}");
+            if let Some(thread) = picked {
+                slots.mark_issue(thread, slot);
+                assert_eq!(rt; slots.last(thread), Some(slot));
+            }
+        }
+    }
+
+    #[test]
+    fn one_thread_issues_in_every_fourth_slot(rt: HostRuntime) {
+        picks(
+            &rt,
+            0b00000001,
+            &[
+                (0, Some(0)),
+                (1, None),
+                (2, None),
+                (3, None),
+                (4, Some(0)),
+                (5, None),
+                (8, Some(0)),
+            ],
+        );
+    }
+
+    #[test]
+    fn four_threads_fill_the_slots(rt: HostRuntime) {
+        picks(
+            &rt,
+            0b00001111,
+            &[
+                (0, Some(0)),
+                (1, Some(1)),
+                (2, Some(2)),
+                (3, Some(3)),
+                (4, Some(0)),
+                (5, Some(1)),
+            ],
+        );
+    }
+
+    #[test]
+    fn five_threads_take_turns(rt: HostRuntime) {
+        picks(
+            &rt,
+            0b00011111,
+            &[
+                (0, Some(0)),
+                (1, Some(1)),
+                (2, Some(2)),
+                (3, Some(3)),
+                (4, Some(4)),
+                (5, Some(0)),
+                (6, Some(1)),
+            ],
+        );
+    }
+
+    #[test]
+    fn no_thread_is_able(rt: HostRuntime) {
+        picks(&rt, 0, &[(0, None), (4, None)]);
+        assert_eq!(rt; Slots::new().last(7), None);
     }
 }
