@@ -13,15 +13,7 @@ use Rattle.core_memory.specs.Places.{IsPlaceOf, four_bytes}
 pub word_from_bytes : (w : ℕ) → w < 2 ^ 32 → w % 256 + 256 * (w / 256 % 256 + 256 * (w / 65536 % 256 + 256 * (w / 16777216 % 256))) ≡ w
 word_from_bytes w h = omega (arith, div-div-eq-div-mul w 256 256, div-div-eq-div-mul w 65536 256)
 
--- the bytes of a word that is made of four
-pub bytes_from_word : (a b c d : ℕ) → a < 256 → b < 256 → c < 256 → d < 256 → bytes_of_word (a + 256 * (b + 256 * (c + 256 * d))) ≡ a ∷ b ∷ c ∷ d ∷ []
-bytes_from_word a b c d ha hb hc hd =
-    let e0 : (a + 256 * (b + 256 * (c + 256 * d))) % 256 ≡ a = omega arith in
-    let e1 : (a + 256 * (b + 256 * (c + 256 * d))) / 256 % 256 ≡ b = omega arith in
-    let e2 : (a + 256 * (b + 256 * (c + 256 * d))) / 65536 % 256 ≡ c = omega arith in
-    let e3 : (a + 256 * (b + 256 * (c + 256 * d))) / 16777216 % 256 ≡ d = omega arith in
-    cc
-
+-- the bytes of one list of words after another
 pub bytes_of_words-append : (xs ys : List ℕ) → bytes_of_words (xs ++ ys) ≡ bytes_of_words xs ++ bytes_of_words ys
 unfolding bytes_of_words
 bytes_of_words-append [] ys = refl

@@ -1,7 +1,7 @@
 -- The pick among the threads from one number on: step by step, by threads that agree, and what it is of them.
 use Rattle.std.proofs.Common.{ℕ, zero, suc, ◌≡◌, ◌+◌, ◌<◌, ◌≤◌, Bool, true, false, ◌&&◌, cond, eqb, Option, Some, None, List, [], ◌∷◌, length, get_or, drop, refl, ap, sym, subst, ◌∙◌, add-one, arith}
 use Rattle.std.proofs.lemmas.List.{drop_more, drop_all}
-use Rattle.std.proofs.lemmas.Bool.{cond-true, cond-false, and_parts, and_from, ltb-true, ltb-false, lt-ltb, le-ltb, both_ways}
+use Rattle.std.proofs.lemmas.Bool.{and_parts, and_from, ltb-true, ltb-false, lt-ltb, le-ltb, both_ways}
 use Rattle.std.proofs.lemmas.Nat.Bits.{bit_at-zero}
 use Rattle.xs_model.specs.Picks.{is_rested, is_earlier, earliest, pick_from, number_of_pick, pick}
 use Rattle.thread_slots.specs.Able.{is_able, may_issue, with_thread}

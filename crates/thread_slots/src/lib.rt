@@ -2,7 +2,7 @@
 //! See docs/MACHINE.md.
 #![tactic(auto)]
 
-ghost use Rattle.std.specs.Prelude.{◌≡◌, ◌<◌, ◌↔◌, ℕ, Bool, true, false, List, Option, Some, None, length, replicate, slice_index_or, slice_set, IfSome};
+ghost use Rattle.std.specs.Prelude.{◌≡◌, ◌≢◌, ◌<◌, ◌↔◌, ℕ, Bool, true, false, List, Option, Some, None, length, replicate, slice_index_or, slice_set, IfSome};
 ghost use Rattle.xs_model.specs.Picks.{is_rested, is_earlier, pick, pick_from};
 ghost use Rattle.thread_slots.specs.Able.{is_able, may_issue, with_thread};
 
@@ -72,6 +72,23 @@ impl Slots {
             None => None,
         }
     }
+}
+
+/// The set of threads with no thread in it, for `Slots::pick`.
+pub fn no_threads() -> u8
+    ensures { (k : ℕ) → is_able result k ≡ false }
+{
+    0
+}
+
+/// A set of threads with thread `th`, 0 to 7, in it as well, for `Slots::pick`.
+#[inline]
+pub fn with_able(able: u8, th: u8) -> u8
+    requires { th < 8 }
+    ensures added { is_able result th ≡ true }
+    ensures others { (k : ℕ) → k ≢ th → is_able result k ≡ is_able able k }
+{
+    able | (1 << th)
 }
 
 /// The best of the threads that are able and rested, with its last issue.

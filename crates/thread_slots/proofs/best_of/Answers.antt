@@ -1,4 +1,4 @@
-use Rattle.std.proofs.Common.{ℕ, ◌≡◌, ◌∙◌, ap, sym, arith}
+use Rattle.std.proofs.Common.{sym}
 use Rattle.thread_slots.proofs.Best.{no_pick_from, none_able}
 use Rattle.thread_slots.proofs.best_of.Goals as goal
 

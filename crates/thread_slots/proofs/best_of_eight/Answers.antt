@@ -1,4 +1,4 @@
-use Rattle.std.proofs.Common.{ℕ, ◌≡◌, ◌+◌, ◌-◌, ◌∙◌, None, ap, sym, arith, drop, get_or}
+use Rattle.std.proofs.Common.{◌≡◌, ◌+◌, ◌-◌, ◌∙◌, None, ap, sym, arith, drop, get_or}
 use Rattle.xs_model.specs.Picks.{pick_from}
 use Rattle.thread_slots.specs.Able.{is_able, with_thread}
 use Rattle.thread_slots.proofs.Best.{pick_from_none, pick_from_more}

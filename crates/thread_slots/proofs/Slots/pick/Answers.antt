@@ -1,5 +1,4 @@
-use Rattle.std.proofs.Common.{ℕ, ◌≡◌, ◌∙◌, Option, Some, None, List, length, subst, sym, true, false, refl}
-use Rattle.std.proofs.lemmas.Bool.{and_from, both_ways}
+use Rattle.std.proofs.Common.{Some, None, subst, sym, refl}
 use Rattle.std.proofs.lemmas.Option.{none-some}
 use Rattle.thread_slots.proofs.Best.{pick_by, picked, no_thread, IsPicked, some_issues}
 use Rattle.thread_slots.proofs.Slots.pick.Goals as goal
