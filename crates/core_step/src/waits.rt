@@ -1,13 +1,13 @@
 //! Which threads may issue. No channel end, timer, synchroniser, lock or port is built yet: each is as it was at
 //! the start, so what a thread waits for says alone whether it holds.
-ghost use Rattle.std.specs.Prelude.{◌≡◌, ◌≢◌, ℕ, ◌<◌, List, Option, slice_index_or};
-ghost use Rattle.std.specs.Int.{bit_at};
+ghost use Rattle.std.specs.Prelude.{◌≡◌, ℕ, ◌<◌, List, Option, slice_index_or};
 ghost use Rattle.thread_slots.specs.Able.{is_able};
 ghost use Rattle.xs_model.specs.declared.thread.Thread.{Thread};
 ghost use Rattle.xs_model.specs.Threads.{fresh_thread};
 ghost use Rattle.xs_model.specs.Record.{core_with};
 ghost use Rattle.xs_model.specs.Picks.{holds, is_ready};
 
+use thread_slots::{no_threads, with_able};
 use xs_model::{Run, Thread, Wait};
 
 // Whether what pauses a thread holds.
@@ -37,20 +37,12 @@ pub(crate) fn able_of(threads: &[Thread; 8]) -> u8
     ensures { (last : List (Option ℕ)) (memory : List ℕ) (slot k : ℕ) → k < 8 →
         is_ready (core_with threads.now last memory) slot (slice_index_or threads.now k fresh_thread).run ≡ is_able result k }
 {
-    let mut able = 0u8;
+    let mut able = no_threads();
     for k in 0..8u8 {
         let thread = &threads[k as usize];
-        able = with_bit(able, k, is_ready(thread.run));
+        if is_ready(thread.run) {
+            able = with_able(able, k);
+        }
     }
     able
-}
-
-// The set with bit k set if the thread is ready.
-fn with_bit(set: u8, k: u8, ready: bool) -> u8
-    requires bit { k < 8 }
-    requires clear { bit_at set k ≡ 0 }
-    ensures same { ready ≡ is_able result k }
-    ensures others { (j : ℕ) → j ≢ k → bit_at result j ≡ bit_at set j }
-{
-    if ready { set | 1 << k } else { set }
 }

@@ -1,6 +1,5 @@
-use Rattle.std.proofs.Common.{◌≡◌, ℕ, ◌<◌, ◌≤◌, List, Option}
+use Rattle.std.proofs.Common.{◌≡◌, ℕ, ◌<◌, ◌≤◌, List, Option, false}
 use Rattle.std.specs.Prelude.{slice_index_or}
-use Rattle.std.specs.Int.{bit_at}
 use Rattle.xs_model.specs.Picks.{is_ready}
 use Rattle.xs_model.specs.Record.{core_with}
 use Rattle.xs_model.specs.Threads.{fresh_thread}
@@ -10,5 +9,5 @@ use Rattle.core_step.proofs.waits.able_of.Given as goal
 abbrev pub invariant-loop-k : goal.invariant-loop-k
 invariant-loop-k l = record {
   told : (last : List (Option ℕ)) (memory : List ℕ) (slot j : ℕ) → j < l.k → is_ready (core_with l.threads last memory) slot (slice_index_or l.threads j fresh_thread).run ≡ is_able l.able j;
-  clear : (j : ℕ) → l.k ≤ j → bit_at l.able j ≡ 0;
+  clear : (j : ℕ) → l.k ≤ j → is_able l.able j ≡ false;
 }
