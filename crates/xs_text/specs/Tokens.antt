@@ -1,8 +1,7 @@
 -- Tokens of a line. Blanks part them, and a comment runs from `//` or `#` to the line's end.
-use Rattle.std.specs.Prelude.{◌≡◌, ℕ, ◌+◌, Bool, false, ◌||◌, ◌&&◌, ◌==◌, if◌then◌else◌, List, [], ◌∷◌, ◌++◌, length, take, codes}
+use Rattle.std.specs.Prelude.{◌≡◌, ℕ, zero, suc, Bool, true, false, not, ◌||◌, ◌&&◌, ◌==◌, if◌then◌else◌, List, [], ◌∷◌, ◌++◌, length, take, codes}
 use Rattle.std.specs.List.{slice_range, list_all, list_any, prefix_len}
 use Rattle.std.specs.Char.{is_ascii_digit, is_ascii_alphanumeric, is_ascii_hexdigit}
-use Rattle.std.specs.Int.{is_in_range}
 use Rattle.xs_text.specs.Bytes.{is_blank, is_name_start, is_name_byte, begins_with}
 use Rattle.xs_text.specs.declared.token_reader.TokKind.{TokKind}
 use Rattle.xs_text.specs.declared.token_reader.TokKind.TheVariants.{Name, Number, Mark, Stray}
@@ -19,8 +18,7 @@ is_name (b ∷ rest) = is_name_start b && list_all is_name_byte rest
 
 -- one or more bytes that pass
 abbrev pub is_run : (ℕ → Bool) → List ℕ → Bool
-is_run passes [] = false
-is_run passes (b ∷ rest) = list_all passes (b ∷ rest)
+is_run passes bytes = not (length bytes == 0) && list_all passes bytes
 
 -- `0`, the letter of a base, and one or more of its digits
 abbrev pub is_based : ℕ → (ℕ → Bool) → List ℕ → Bool
@@ -28,11 +26,15 @@ is_based letter is_digit [] = false
 is_based letter is_digit (b ∷ []) = false
 is_based letter is_digit (b ∷ c ∷ rest) = (b == 48) && ((c == letter) && is_run is_digit rest)
 
+-- `0` or `1`
+abbrev pub is_binary_digit : ℕ → Bool
+is_binary_digit b = (b == 48) || (b == 49)
+
 -- a number as a whole: decimal digits, or `0x` and hex digits, or `0b` and binary digits
 abbrev pub is_number : List ℕ → Bool
 is_number bytes =
     is_run is_ascii_digit bytes
-    || (is_based 120 is_ascii_hexdigit bytes || is_based 98 (is_in_range 48 49) bytes)
+    || (is_based 120 is_ascii_hexdigit bytes || is_based 98 is_binary_digit bytes)
 
 -- one of the bytes `,`, `:`, `[`, `]` and `-`
 abbrev pub is_mark_byte : ℕ → Bool
@@ -88,12 +90,12 @@ tokens_of bytes = tokens_after 0 bytes
 abbrev pub token_in : List ℕ → Tok → Token
 token_in text token = record { kind = token.kind; bytes = slice_range text token.from token.to }
 
--- each kind but stray says that the token as a whole has its form
-abbrev pub HasForm : Token → Type 0
-HasForm token = FormOf token.kind token.bytes
-
+-- what the kind of a token says of its bytes
 abbrev pub FormOf : TokKind → List ℕ → Type 0
 FormOf Name bytes = is_name bytes ≡ true
 FormOf Number bytes = is_number bytes ≡ true
 FormOf Mark bytes = is_mark bytes ≡ true
 FormOf Stray bytes = Unit {0}
+
+abbrev pub HasForm : Token → Type 0
+HasForm token = FormOf token.kind token.bytes

@@ -21,6 +21,7 @@ pub struct Lines<'a> {
 }
 
 impl<'a> Model for Lines<'a> {
+    ghost use Rattle.std.specs.Prelude.{◌≤◌, ◌<◌, ◌^◌, length};
     ghost use Rattle.xs_text.specs.Lines.{Reading};
 
     ghost Value = { Reading };
@@ -87,6 +88,7 @@ fn is_line_end(bytes: &[u8], at: usize) -> bool
 }
 
 // How many bytes the first line has, without its end.
+#[tactic(auto, using(crate::proofs::FirstLine::line_steps))]
 fn line_length(bytes: &[u8]) -> usize
     ensures length { result ≡ line_length bytes.now }
     ensures within { result ≤ length bytes.now }

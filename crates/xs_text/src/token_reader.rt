@@ -1,9 +1,8 @@
 ghost use Rattle.std.specs.Prelude.{◌≡◌, ◌+◌, ◌<◌, ◌≤◌, ◌↔◌, ◌∷◌, [], length, take, drop, IsNone, IfSome};
-ghost use Rattle.std.specs.List.{slice_range, prefix_len};
+ghost use Rattle.std.specs.List.{slice_range, prefix_len, list_all};
 ghost use Rattle.std.specs.Char.{is_ascii_digit, is_ascii_hexdigit, is_ascii_alphanumeric};
-ghost use Rattle.std.specs.Int.{is_in_range};
 ghost use Rattle.xs_text.specs.Bytes.{is_blank, is_name_byte};
-ghost use Rattle.xs_text.specs.Tokens.{tokens_of, token_of, token_in, tail_length, begins_comment, kind_of, is_name, is_number, is_run, is_based, is_mark, is_mark_byte, HasForm};
+ghost use Rattle.xs_text.specs.Tokens.{tokens_of, token_of, token_in, tail_length, begins_comment, kind_of, is_name, is_number, is_run, is_based, is_binary_digit, is_mark, is_mark_byte, HasForm};
 
 use crate::byte_tests::{is_blank, is_name_byte, is_name_start};
 use crate::line_reader::Line;
@@ -33,10 +32,7 @@ pub struct Tok {
 pub fn is_name(bytes: &[u8]) -> bool
     ensures { result ≡ is_name bytes.now }
 {
-    match bytes {
-        [] => false,
-        [first, rest @ ..] => is_name_start(*first) && rest.iter().all(|b| is_name_byte(*b)),
-    }
+    !bytes.is_empty() && is_name_start(bytes[0]) && all_name_bytes(&bytes[1..])
 }
 
 /// Whether the bytes as a whole are a number: decimal digits, or `0x` and one or more hex digits, or
@@ -47,32 +43,46 @@ pub fn is_number(bytes: &[u8]) -> bool
     is_decimal(bytes) || is_hex(bytes) || is_binary(bytes)
 }
 
+fn all_name_bytes(bytes: &[u8]) -> bool
+    ensures { result ≡ list_all is_name_byte bytes.now }
+{
+    bytes.iter().all(|b| is_name_byte(*b))
+}
+
+fn all_digits(bytes: &[u8]) -> bool
+    ensures { result ≡ list_all is_ascii_digit bytes.now }
+{
+    bytes.iter().all(|b| b.is_ascii_digit())
+}
+
+fn all_hex_digits(bytes: &[u8]) -> bool
+    ensures { result ≡ list_all is_ascii_hexdigit bytes.now }
+{
+    bytes.iter().all(|b| b.is_ascii_hexdigit())
+}
+
+fn all_binary_digits(bytes: &[u8]) -> bool
+    ensures { result ≡ list_all is_binary_digit bytes.now }
+{
+    bytes.iter().all(|b| *b == b'0' || *b == b'1')
+}
+
 fn is_decimal(bytes: &[u8]) -> bool
     ensures { result ≡ is_run is_ascii_digit bytes.now }
 {
-    !bytes.is_empty() && bytes.iter().all(|b| b.is_ascii_digit())
+    !bytes.is_empty() && all_digits(bytes)
 }
 
 fn is_hex(bytes: &[u8]) -> bool
     ensures { result ≡ is_based 120 is_ascii_hexdigit bytes.now }
 {
-    match bytes {
-        [b'0', b'x', digits @ ..] => {
-            !digits.is_empty() && digits.iter().all(|b| b.is_ascii_hexdigit())
-        }
-        _ => false,
-    }
+    bytes.len() > 2 && bytes[0] == b'0' && bytes[1] == b'x' && all_hex_digits(&bytes[2..])
 }
 
 fn is_binary(bytes: &[u8]) -> bool
-    ensures { result ≡ is_based 98 (is_in_range 48 49) bytes.now }
+    ensures { result ≡ is_based 98 is_binary_digit bytes.now }
 {
-    match bytes {
-        [b'0', b'b', digits @ ..] => {
-            !digits.is_empty() && digits.iter().all(|b| *b == b'0' || *b == b'1')
-        }
-        _ => false,
-    }
+    bytes.len() > 2 && bytes[0] == b'0' && bytes[1] == b'b' && all_binary_digits(&bytes[2..])
 }
 
 // Whether the byte is `,`, `:`, `[`, `]` or `-`.
@@ -105,7 +115,8 @@ fn kind_of(bytes: &[u8]) -> TokKind
 
 // How many bytes the blanks at the front are.
 fn blank_length(bytes: &[u8]) -> usize
-    ensures { result ≡ prefix_len is_blank bytes.now }
+    ensures length { result ≡ prefix_len is_blank bytes.now }
+    ensures within { result ≤ length bytes.now }
 {
     bytes.iter().take_while(|b| is_blank(**b)).count()
 }
