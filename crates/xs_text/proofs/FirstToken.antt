@@ -1,14 +1,14 @@
 -- What stands first among the tokens of a line.
 use Rattle.std.proofs.Common.{◌≡◌, ℕ, zero, suc, ◌+◌, ◌-◌, ◌<◌, ◌≤◌, Bool, true, false, ◌==◌, List, [], ◌∷◌, ◌++◌, length, take, drop, get_or, refl, ap, sym, ◌∙◌, subst, inl, inr, arith}
 use Rattle.std.specs.Prelude.{if◌then◌else◌}
-use Rattle.std.specs.List.{slice_range, prefix_len}
+use Rattle.std.specs.List.{list_all, slice_range, prefix_len}
 use Rattle.std.specs.Char.{is_ascii_digit}
-use Rattle.std.proofs.lemmas.Bool.{cond-true, cond-false, cases_Bool, cond_both, or_cases, or_from, or_right, eqb-true}
+use Rattle.std.proofs.lemmas.Bool.{and_from, and_left, and_parts, cond-true, cond-false, cases_Bool, cond_both, or_cases, or_from, or_right, eqb-true}
 use Rattle.std.proofs.lemmas.Bool.Decides.{nat_tests}
 use Rattle.std.proofs.lemmas.List.{drop_all, drop-drop, drop-take, take-take, take_rest, length-drop, length-take-le}
 use Rattle.std.proofs.lemmas.List.Sums.{prefix_len-le-length}
-use Rattle.xs_text.specs.Bytes.{is_blank, is_name_start}
-use Rattle.xs_text.specs.Tokens.{Token, tokens_of, tokens_after, token_of, token_at, token_in, skip_at, tail_length, begins_comment, kind_of, is_name, is_number, is_mark, FormOf, HasForm}
+use Rattle.xs_text.specs.Bytes.{is_blank, is_name_byte, is_name_start}
+use Rattle.xs_text.specs.Tokens.{Token, tokens_of, tokens_after, token_of, token_at, token_in, skip_at, tail_length, begins_comment, kind_of, is_name, is_number, is_mark, FormOf, HasForm, BeginsAsName}
 use Rattle.xs_text.specs.declared.token_reader.TokKind.{TokKind}
 use Rattle.xs_text.specs.declared.token_reader.TokKind.TheVariants.{Name, Number, Mark, Stray}
 
@@ -164,3 +164,48 @@ first_is text at to b n kind h k l e first fits kind_is =
     let word_long : length (slice_range text (at + b) to) ≡ to - (at + b) = length-slice_range text (at + b) to (omega arith) k in
     let same_length = ap length is_word in
     first_in text _ at to (at + b) n kind is_word (tokens_of-word text at to b h k e) first (omega arith) kind_is
+
+name_bytes : (xs : List ℕ) → list_all is_name_byte (take (prefix_len is_name_byte xs) xs) ≡ true
+name_bytes [] = refl
+name_bytes (b ∷ rest) =
+    let one : 1 + prefix_len is_name_byte rest ≡ suc (prefix_len is_name_byte rest) = omega arith in
+    let P : ℕ → Type 0 = λ n. list_all is_name_byte (take n (b ∷ rest)) ≡ true in
+    elim (cases_Bool (is_name_byte b)) [
+      | inl t ↦ subst P (sym (cond-true (is_name_byte b) (1 + prefix_len is_name_byte rest) 0 t ∙ one)) (and_from _ _ t (name_bytes rest))
+      | inr f ↦ subst P (sym (cond-false (is_name_byte b) (1 + prefix_len is_name_byte rest) 0 f)) refl
+    ]
+
+-- a token that begins as a name is one as a whole
+pub whole_name : (xs : List ℕ) (n : ℕ) → n ≡ 1 + tail_length (get_or xs 0 0) (drop 1 xs) → BeginsAsName xs → is_name (take n xs) ≡ true
+whole_name [] n e h = absurd h
+whole_name (b ∷ rest) n e h =
+    let one : 1 + tail_length b rest ≡ suc (tail_length b rest) = omega arith in
+    let tail : tail_length b rest ≡ prefix_len is_name_byte rest = cond-true _ _ _ h in
+    let P : ℕ → Type 0 = λ n. is_name (take n (b ∷ rest)) ≡ true in
+    subst P (sym (e ∙ (one ∙ ap suc tail))) (and_from _ _ h (name_bytes rest))
+
+pub none_begins : (xs : List ℕ) → length xs ≡ 0 → BeginsAsName xs → is_name (take 0 xs) ≡ true
+none_begins [] h e = absurd e
+none_begins (b ∷ rest) h e = absurd (omega arith)
+
+-- a comment begins as no name
+comment_first_byte : (b : ℕ) (rest : List ℕ) → begins_comment b rest ≡ true → is_name_start b ≡ false
+comment_first_byte b rest e =
+    let P : ℕ → Type 0 = λ b. is_name_start b ≡ false in
+    elim (or_cases (b == 35) _ e) [
+      | inl t ↦ subst P (sym (eqb-true b 35 t)) refl
+      | inr t ↦ subst P (sym (eqb-true b 47 (and_parts (b == 47) _ t).0)) refl
+    ]
+
+pub comment_begins : (xs : List ℕ) → begins_comment (get_or xs 0 0) (drop 1 xs) ≡ true → BeginsAsName xs → is_name (take 0 xs) ≡ true
+comment_begins [] e h = absurd h
+comment_begins (b ∷ rest) e h = let f = comment_first_byte b rest e in cc
+
+-- a word that begins as no name is none
+pub begins_as_name : (xs : List ℕ) → is_name_start (get_or xs 0 0) ≡ true → 0 < length xs → BeginsAsName xs
+begins_as_name [] e h = absurd (omega arith)
+begins_as_name (b ∷ rest) e h = e
+
+pub no_name : (xs : List ℕ) → is_name_start (get_or xs 0 0) ≡ false → 0 < length xs → is_name xs ≡ false
+no_name [] e h = absurd (omega arith)
+no_name (b ∷ rest) e h = and_left _ _ e

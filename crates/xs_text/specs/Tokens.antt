@@ -16,6 +16,11 @@ abbrev pub is_name : List ℕ → Bool
 is_name [] = false
 is_name (b ∷ rest) = is_name_start b && list_all is_name_byte rest
 
+-- whether a name begins the bytes
+abbrev pub BeginsAsName : List ℕ → Type 0
+BeginsAsName [] = ⊥
+BeginsAsName (b ∷ rest) = is_name_start b ≡ true
+
 -- one or more bytes that pass
 abbrev pub is_run : (ℕ → Bool) → List ℕ → Bool
 is_run passes bytes = not (length bytes == 0) && list_all passes bytes

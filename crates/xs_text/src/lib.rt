@@ -4,6 +4,8 @@
 mod byte_tests;
 mod examples;
 mod line_reader;
+#[cfg(test)]
+mod tests;
 mod token_reader;
 
 pub use byte_tests::{all_allowed, is_allowed};

@@ -53,7 +53,8 @@ impl<'a> Lines<'a> {
         ensures line { IfSome result (λ line. lines_of (bytes_left self.old) ≡ line_bytes self.old.text line ∷ lines_of (bytes_left self.new)) }
         ensures begins { IfSome result (λ line. line.from ≡ self.old.at) }
         ensures ordered { IfSome result (λ line. line.from ≤ line.to) }
-        ensures in_text { IfSome result (λ line. line.to ≤ self.new.at) }
+        ensures in_text { IfSome result (λ line. line.to ≤ length self.old.text) }
+        ensures passed { IfSome result (λ line. line.to ≤ self.new.at) }
         ensures numbered { IfSome result (λ line. line.number ≡ self.old.number + 1) }
         ensures counted { IfSome result (λ line. self.new.number ≡ line.number) }
         ensures progress { IfSome result (λ _. self.old.at < self.new.at) }

@@ -1,8 +1,8 @@
-ghost use Rattle.std.specs.Prelude.{◌≡◌, ◌+◌, ◌<◌, ◌≤◌, ◌↔◌, ◌∷◌, [], length, take, drop, IsNone, IfSome};
+ghost use Rattle.std.specs.Prelude.{◌≡◌, true, ◌+◌, ◌<◌, ◌≤◌, ◌↔◌, ◌∷◌, [], length, take, drop, IsNone, IfSome};
 ghost use Rattle.std.specs.List.{slice_range, prefix_len, list_all};
 ghost use Rattle.std.specs.Char.{is_ascii_digit, is_ascii_hexdigit, is_ascii_alphanumeric};
 ghost use Rattle.xs_text.specs.Bytes.{is_blank, is_name_byte};
-ghost use Rattle.xs_text.specs.Tokens.{tokens_of, token_of, token_in, tail_length, begins_comment, kind_of, is_name, is_number, is_run, is_based, is_binary_digit, is_mark, is_mark_byte, HasForm};
+ghost use Rattle.xs_text.specs.Tokens.{tokens_of, token_of, token_in, tail_length, begins_comment, kind_of, is_name, is_number, is_run, is_based, is_binary_digit, is_mark, is_mark_byte, HasForm, BeginsAsName};
 
 use crate::byte_tests::{is_blank, is_name_byte, is_name_start};
 use crate::line_reader::Line;
@@ -98,11 +98,13 @@ fn is_mark(bytes: &[u8]) -> bool
     bytes.len() == 1 && is_mark_byte(bytes[0])
 }
 
-// What the bytes of one token make.
+// What the bytes of one token make. The first byte of a name tells it, so no other is read again.
 fn kind_of(bytes: &[u8]) -> TokKind
+    requires some { 0 < length bytes.now }
+    requires whole { BeginsAsName bytes.now → is_name bytes.now ≡ true }
     ensures { result ≡ kind_of bytes.now }
 {
-    if is_name(bytes) {
+    if is_name_start(bytes[0]) {
         TokKind::Name
     } else if is_number(bytes) {
         TokKind::Number
@@ -163,6 +165,7 @@ fn token_length(bytes: &[u8]) -> usize
     requires { prefix_len is_blank bytes.now ≡ 0 }
     ensures within { result ≤ length bytes.now }
     ensures none { result ≡ 0 → tokens_of bytes.now ≡ [] }
+    ensures whole { BeginsAsName bytes.now → is_name (take result bytes.now) ≡ true }
     ensures some { 0 < result → tokens_of bytes.now ≡ token_of (take result bytes.now) ∷ tokens_of (drop result bytes.now) }
 {
     if bytes.is_empty() {

@@ -1,6 +1,6 @@
 use Rattle.std.proofs.Common.{◌≡◌, ◌≤◌, ◌+◌, length, drop, get_or, ap, sym, ◌∙◌, arith, rules}
 use Rattle.xs_text.specs.Tokens.{tail_length}
-use Rattle.xs_text.proofs.FirstToken.{tokens_of-nothing, tokens_of-comment, tokens_of-token, some_bytes, begins_comment-rest, tail_length-rest, token_fits}
+use Rattle.xs_text.proofs.FirstToken.{tokens_of-nothing, tokens_of-comment, tokens_of-token, some_bytes, begins_comment-rest, tail_length-rest, token_fits, none_begins, comment_begins, whole_name}
 use Rattle.std.proofs.lemmas.Bool.Decides.{nat_tests}
 use Rattle.xs_text.proofs.token_reader.token_length.Goals as goal
 
@@ -29,3 +29,13 @@ returns-clause-some c = λ _.
     tokens_of-token _ _ (some_bytes _ _ c.is_empty.ensures c.if-is_empty.false) c.requires
     (sym (c.begins_comment.ensures ∙ begins_comment-rest (get_or c.args.bytes.now 0 0) c.args.bytes.now) ∙ c.if-begins_comment.false)
     (ap (λ n. 1 + n) (length_is c))
+
+pub returns-then-is_empty-clause-whole : goal.returns-then-is_empty-clause-whole
+returns-then-is_empty-clause-whole c = none_begins _ (grind (arith, nat_tests))
+
+pub returns-then-begins_comment-clause-whole : goal.returns-then-begins_comment-clause-whole
+returns-then-begins_comment-clause-whole c =
+    comment_begins _ (sym (c.begins_comment.ensures ∙ begins_comment-rest (get_or c.args.bytes.now 0 0) c.args.bytes.now) ∙ c.if-begins_comment.true)
+
+pub returns-clause-whole : goal.returns-clause-whole
+returns-clause-whole c = whole_name _ _ (ap (λ n. 1 + n) (length_is c))
