@@ -7,7 +7,7 @@ use Rattle.std.proofs.lemmas.Bool.{and_from, and_left, and_parts, cond-true, con
 use Rattle.std.proofs.lemmas.Bool.Decides.{nat_tests}
 use Rattle.std.proofs.lemmas.List.{drop_all, drop-drop, drop-take, take-take, take_rest, length-drop, length-take-le}
 use Rattle.std.proofs.lemmas.List.Sums.{prefix_len-le-length}
-use Rattle.xs_text.specs.Bytes.{is_blank, is_name_byte, is_name_start}
+use Rattle.xs_text.specs.Bytes.{all_blank, is_blank, is_name_byte, is_name_start}
 use Rattle.xs_text.specs.Tokens.{Token, tokens_of, tokens_after, token_of, token_at, token_in, skip_at, tail_length, begins_comment, kind_of, is_name, is_number, is_mark, FormOf, HasForm, BeginsAsName}
 use Rattle.xs_text.specs.declared.token_reader.TokKind.{TokKind}
 use Rattle.xs_text.specs.declared.token_reader.TokKind.TheVariants.{Name, Number, Mark, Stray}
@@ -165,15 +165,22 @@ first_is text at to b n kind h k l e first fits kind_is =
     let same_length = ap length is_word in
     first_in text _ at to (at + b) n kind is_word (tokens_of-word text at to b h k e) first (omega arith) kind_is
 
-name_bytes : (xs : List ℕ) → list_all is_name_byte (take (prefix_len is_name_byte xs) xs) ≡ true
-name_bytes [] = refl
-name_bytes (b ∷ rest) =
-    let one : 1 + prefix_len is_name_byte rest ≡ suc (prefix_len is_name_byte rest) = omega arith in
-    let P : ℕ → Type 0 = λ n. list_all is_name_byte (take n (b ∷ rest)) ≡ true in
-    elim (cases_Bool (is_name_byte b)) [
-      | inl t ↦ subst P (sym (cond-true (is_name_byte b) (1 + prefix_len is_name_byte rest) 0 t ∙ one)) (and_from _ _ t (name_bytes rest))
-      | inr f ↦ subst P (sym (cond-false (is_name_byte b) (1 + prefix_len is_name_byte rest) 0 f)) refl
-    ]
+-- the bytes that are counted pass
+run_passes : (passes : ℕ → Bool) (xs : List ℕ) → list_all passes (take (prefix_len passes xs) xs) ≡ true
+run_passes passes [] = refl
+run_passes passes (b ∷ rest) =
+    let one : 1 + prefix_len passes rest ≡ suc (prefix_len passes rest) = omega arith in
+    let P : ℕ → Type 0 = λ n. list_all passes (take n (b ∷ rest)) ≡ true in
+    elim (cases_Bool (passes b))
+    [ inl t ↦ subst P (sym (cond-true (passes b) (1 + prefix_len passes rest) 0 t ∙ one)) (and_from _ _ t (run_passes passes rest))
+    | inr f ↦ subst P (sym (cond-false (passes b) (1 + prefix_len passes rest) 0 f)) refl ]
+
+-- the blanks at the front of a part of the text
+pub blanks_first : (text : List ℕ) (at to b : ℕ) → at ≤ to → to ≤ length text → b ≤ length (slice_range text at to) → b ≡ prefix_len is_blank (slice_range text at to) → all_blank (slice_range text at (at + b)) ≡ true
+blanks_first text at to b h k l e =
+    let part : slice_range text at (at + b) ≡ take (prefix_len is_blank (slice_range text at to)) (slice_range text at to) =
+        sym (slice_range-take text at to b (omega (arith, length-slice_range text at to h k))) ∙ ap (λ n. take n (slice_range text at to)) e in
+    ap (λ l. all_blank l) part ∙ run_passes is_blank (slice_range text at to)
 
 -- a token that begins as a name is one as a whole
 pub whole_name : (xs : List ℕ) (n : ℕ) → n ≡ 1 + tail_length (get_or xs 0 0) (drop 1 xs) → BeginsAsName xs → is_name (take n xs) ≡ true
@@ -182,7 +189,7 @@ whole_name (b ∷ rest) n e h =
     let one : 1 + tail_length b rest ≡ suc (tail_length b rest) = omega arith in
     let tail : tail_length b rest ≡ prefix_len is_name_byte rest = cond-true _ _ _ h in
     let P : ℕ → Type 0 = λ n. is_name (take n (b ∷ rest)) ≡ true in
-    subst P (sym (e ∙ (one ∙ ap suc tail))) (and_from _ _ h (name_bytes rest))
+    subst P (sym (e ∙ (one ∙ ap suc tail))) (and_from _ _ h (run_passes is_name_byte rest))
 
 pub none_begins : (xs : List ℕ) → length xs ≡ 0 → BeginsAsName xs → is_name (take 0 xs) ≡ true
 none_begins [] h e = absurd e

@@ -1,7 +1,7 @@
-ghost use Rattle.std.specs.Prelude.{◌≡◌, true, ◌+◌, ◌<◌, ◌≤◌, ◌↔◌, ◌∷◌, [], length, take, drop, IsNone, IfSome};
+ghost use Rattle.std.specs.Prelude.{◌≡◌, ◌+◌, ◌<◌, ◌≤◌, ◌↔◌, ◌∷◌, [], length, take, drop, IsNone, IfSome, IsTrue};
 ghost use Rattle.std.specs.List.{slice_range, prefix_len, list_all};
 ghost use Rattle.std.specs.Char.{is_ascii_digit, is_ascii_hexdigit, is_ascii_alphanumeric};
-ghost use Rattle.xs_text.specs.Bytes.{is_blank, is_name_byte};
+ghost use Rattle.xs_text.specs.Bytes.{all_blank, is_blank, is_name_byte};
 ghost use Rattle.xs_text.specs.Tokens.{tokens_of, token_of, token_in, tail_length, begins_comment, kind_of, is_name, is_number, is_run, is_based, is_binary_digit, is_mark, is_mark_byte, HasForm, BeginsAsName};
 
 use crate::byte_tests::{is_blank, is_name_byte, is_name_start};
@@ -101,7 +101,7 @@ fn is_mark(bytes: &[u8]) -> bool
 // What the bytes of one token make. The first byte of a name tells it, so no other is read again.
 fn kind_of(bytes: &[u8]) -> TokKind
     requires some { 0 < length bytes.now }
-    requires whole { BeginsAsName bytes.now → is_name bytes.now ≡ true }
+    requires whole { BeginsAsName bytes.now → IsTrue (is_name bytes.now) }
     ensures { result ≡ kind_of bytes.now }
 {
     if is_name_start(bytes[0]) {
@@ -165,7 +165,7 @@ fn token_length(bytes: &[u8]) -> usize
     requires { prefix_len is_blank bytes.now ≡ 0 }
     ensures within { result ≤ length bytes.now }
     ensures none { result ≡ 0 → tokens_of bytes.now ≡ [] }
-    ensures whole { BeginsAsName bytes.now → is_name (take result bytes.now) ≡ true }
+    ensures whole { BeginsAsName bytes.now → IsTrue (is_name (take result bytes.now)) }
     ensures some { 0 < result → tokens_of bytes.now ≡ token_of (take result bytes.now) ∷ tokens_of (drop result bytes.now) }
 {
     if bytes.is_empty() {
@@ -188,6 +188,7 @@ pub fn next_tok(text: &[u8], line: Line, at: usize) -> Option<Tok>
     ensures token { IfSome result (λ tok. tokens_of (slice_range text.now at line.to) ≡ token_in text.now tok ∷ tokens_of (slice_range text.now tok.to line.to)) }
     ensures well_formed { IfSome result (λ tok. HasForm (token_in text.now tok)) }
     ensures begins { IfSome result (λ tok. at ≤ tok.from) }
+    ensures past_blanks { IfSome result (λ tok. IsTrue (all_blank (slice_range text.now at tok.from))) }
     ensures not_empty { IfSome result (λ tok. tok.from < tok.to) }
     ensures in_line { IfSome result (λ tok. tok.to ≤ line.to) }
 {

@@ -2,4 +2,4 @@ use Rattle.std.proofs.Common.{◌≤◌, length}
 use Rattle.xs_text.proofs.tests.expect_tokens.Given as goal
 
 abbrev pub invariant-loop-kind : goal.invariant-loop-kind
-invariant-loop-kind l = l.at ≤ length l.text
+invariant-loop-kind g l = l.at ≤ length l.text

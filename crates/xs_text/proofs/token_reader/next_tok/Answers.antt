@@ -2,7 +2,7 @@ use Rattle.std.proofs.Common.{◌≡◌, ◌+◌, [], drop, ap, ◌∙◌, refl,
 use Rattle.std.specs.List.{slice_range, prefix_len}
 use Rattle.xs_text.specs.Bytes.{is_blank}
 use Rattle.xs_text.specs.Tokens.{tokens_of}
-use Rattle.xs_text.proofs.FirstToken.{IsFirst, first_is, tokens_of-word, blanks_end}
+use Rattle.xs_text.proofs.FirstToken.{IsFirst, first_is, tokens_of-word, blanks_end, blanks_first}
 use Rattle.std.proofs.lemmas.List.{take_rest}
 use Rattle.xs_text.proofs.token_reader.next_tok.Goals as goal
 
@@ -29,3 +29,6 @@ returns-clause-token c = (first c).token
 
 pub returns-clause-well_formed : goal.returns-clause-well_formed
 returns-clause-well_formed c = (first c).form
+
+pub returns-clause-past_blanks : goal.returns-clause-past_blanks
+returns-clause-past_blanks c = blanks_first _ _ _ _ c.requires.to c.requires.in_text c.blank_length-blanks.ensures.within c.blank_length-blanks.ensures.length
