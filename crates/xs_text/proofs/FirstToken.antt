@@ -171,15 +171,16 @@ run_passes passes [] = refl
 run_passes passes (b ∷ rest) =
     let one : 1 + prefix_len passes rest ≡ suc (prefix_len passes rest) = omega arith in
     let P : ℕ → Type 0 = λ n. list_all passes (take n (b ∷ rest)) ≡ true in
-    elim (cases_Bool (passes b))
-    [ inl t ↦ subst P (sym (cond-true (passes b) (1 + prefix_len passes rest) 0 t ∙ one)) (and_from _ _ t (run_passes passes rest))
-    | inr f ↦ subst P (sym (cond-false (passes b) (1 + prefix_len passes rest) 0 f)) refl ]
+    elim (cases_Bool (passes b)) [
+      | inl t ↦ subst P (sym (cond-true (passes b) (1 + prefix_len passes rest) 0 t ∙ one)) (and_from _ _ t (run_passes passes rest))
+      | inr f ↦ subst P (sym (cond-false (passes b) (1 + prefix_len passes rest) 0 f)) refl
+    ]
 
 -- the blanks at the front of a part of the text
 pub blanks_first : (text : List ℕ) (at to b : ℕ) → at ≤ to → to ≤ length text → b ≤ length (slice_range text at to) → b ≡ prefix_len is_blank (slice_range text at to) → all_blank (slice_range text at (at + b)) ≡ true
 blanks_first text at to b h k l e =
     let part : slice_range text at (at + b) ≡ take (prefix_len is_blank (slice_range text at to)) (slice_range text at to) =
-        sym (slice_range-take text at to b (omega (arith, length-slice_range text at to h k))) ∙ ap (λ n. take n (slice_range text at to)) e in
+    sym (slice_range-take text at to b (omega (arith, length-slice_range text at to h k))) ∙ ap (λ n. take n (slice_range text at to)) e in
     ap (λ l. all_blank l) part ∙ run_passes is_blank (slice_range text at to)
 
 -- a token that begins as a name is one as a whole
