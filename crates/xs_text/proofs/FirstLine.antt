@@ -139,7 +139,7 @@ cut_left text xs at n e is_left h n_is e_is =
     }
 
 -- the same, as `&text[at..]` and a part of it are written
-pub cut_is : (text : List ℕ) (at n e : ℕ) → at ≤ length text → (at ≡ length text → ⊥) → n ≡ line_length (take (length text - at) (drop at text)) → e ≡ end_length (take (length (take (length text - at) (drop at text)) - n) (drop n (take (length text - at) (drop at text)))) → IsCut text at n e
-cut_is text at n e h ne n_is e_is =
+pub cut_is : (text : List ℕ) (at n e : ℕ) → at < length text → n ≡ line_length (take (length text - at) (drop at text)) → e ≡ end_length (take (length (take (length text - at) (drop at text)) - n) (drop n (take (length text - at) (drop at text)))) → IsCut text at n e
+cut_is text at n e h n_is e_is =
     let left = take (length text - at) (drop at text) in
-    cut_left text left at n e (take_rest text at) (omega arith) n_is (e_is ∙ ap end_length (take_rest left n))
+    cut_left text left at n e (take_rest text at) h n_is (e_is ∙ ap end_length (take_rest left n))
