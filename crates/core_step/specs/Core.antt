@@ -43,3 +43,10 @@ Ends (outcome.Trap et ed) old new (Trap number value) = (et ≡ number) × (ed �
 Ends (outcome.Trap et ed) old new _ = ⊥
 Ends outcome.Gone old new (Gone after) = new ≡ after
 Ends outcome.Gone old new _ = ⊥
+
+-- the effect of an outcome, when this is the core after it
+abbrev pub effect_of : Outcome → CoreRec → Effect
+effect_of outcome.Done core = Done core
+effect_of (outcome.Pause wait) core = Pause core wait
+effect_of (outcome.Trap et ed) core = Trap et ed
+effect_of outcome.Gone core = Gone core

@@ -9,7 +9,7 @@ use Rattle.core_step.specs.declared.core.Core.TheInside.{Inside}
 abbrev pub value_of : Inside → CoreValue
 value_of c = record {
   fixed = record { id = c.id; code = c.code.items; ways = c.ways; gaps = c.gaps };
-  core = core_with c.threads c.slots c.ram
+  core = core_with c.threads c.slots c.ram;
 }
 
 -- every instruction's operands are in range

@@ -2,18 +2,20 @@
 ghost use Rattle.std.specs.Prelude.{◌≡◌, ◌<◌, ◌≤◌, ◌+◌, ◌↔◌, ℕ, Option, Some, None, Bool, false, List, [], ◌∷◌, ◌++◌, length, map, slice_index, slice_index_or, slice_set, replicate, IfOk, IfSome, IsErr, MatchResult};
 ghost use Rattle.std.specs.Result.{result_ok};
 ghost use Rattle.std.specs.List.{AllByRecursion};
-ghost use Rattle.xs_model.specs.Record.{NodeRec, CoreRec, thread_of, first_node};
+ghost use Rattle.xs_model.specs.Record.{NodeRec, thread_of, first_node};
+ghost use Rattle.xs_model.specs.Threads.{fresh_thread};
 ghost use Rattle.xs_model.specs.Memory.{load_word, is_word_address, memory_size};
 ghost use Rattle.xs_model.specs.Picks.{is_ready, picked};
 ghost use Rattle.xs_model.specs.Outside.{LevelsFit, emitted_events};
 ghost use Rattle.xs_instructions.specs.Instr.{InRange, MemoryInRange};
 ghost use Rattle.xs_instructions.specs.Image.{entry_of};
 ghost use Rattle.step_model.specs.Effect.{effect, memory_row};
-ghost use Rattle.step_model.specs.Step.{node_step, resumed, trap, executed, issued_by, issued, in_slot, Issued};
-ghost use Rattle.core_step.specs.Core.{CoreValue, StandsFor, SlotsBefore, fixed_with, Ends};
+ghost use Rattle.step_model.specs.Step.{node_step, resumed, begun, settled, trap, issued_by, in_slot};
+ghost use Rattle.core_step.specs.Core.{CoreValue, StandsFor, SlotsBefore, fixed_with, Ends, effect_of};
 ghost use Rattle.thread_slots.specs.Able.{is_able};
 
-use crate::execute::{flow, go_on, words};
+use crate::execute::{flow, free, go_on, words};
+use crate::traps::{enter_trap, stands_at};
 use core_memory::{BadAddress, Ram};
 use std::alloc::{AllocError, Global};
 use std::marker::Model;
@@ -21,7 +23,7 @@ use sys_plan::NodePlan;
 use thread_slots::Slots;
 use trace_lines::Emissions;
 use xs_instructions::{Instr, MemIns, ThreadIns, instr_at};
-use xs_model::{Arrivals, Event, Happen, INK, KEPT_IN_A_TRAP, Outcome, PinView, Run, Status, Thread};
+use xs_model::{Arrivals, Event, Happen, Outcome, PinView, Run, Thread};
 
 /// The number of the trap where no code stands at a thread's pc.
 const ILLEGAL_PC: u32 = 2;
@@ -110,10 +112,161 @@ impl Core {
         match instr_at(&self.code, pc) {
             None => self.trap(k, ILLEGAL_PC, pc, slot, out),
             Some(ins) => {
-                if let Outcome::Trap { et, ed } = self.execute(k, ins) {
-                    self.trap(k, et, ed, slot, out);
-                }
+                let outcome = self.execute(k, ins);
+                self.settle(k, outcome, slot, out);
             }
         }
+    }
+
+    // The slot is thread k's last issue now, and its pause is over.
+    fn begin(&mut self, k: u8, slot: u32)
+        requires thread { k < 8 }
+        ensures fixed { self.new.fixed ≡ self.old.fixed }
+        ensures core { self.new.core ≡ begun self.old.core slot k }
+    {
+        self.slots.mark_issue(k, slot);
+        let thread = &mut self.threads[k as usize];
+        thread.run = resumed(thread.run);
+    }
+
+    // What an instruction does when thread k issues it.
+    fn execute(&mut self, k: u8, ins: Instr) -> Outcome
+        requires thread { k < 8 }
+        requires range { InRange ins }
+        ensures fixed { self.new.fixed ≡ self.old.fixed }
+        ensures row { Ends result self.old.core self.new.core (effect self.old.core k ins) }
+    {
+        match ins {
+            Instr::Words(ins) => {
+                words(&mut self.threads[k as usize], ins);
+                Outcome::Done
+            }
+            Instr::Memory(MemIns::LdwDp(g, u)) => self.load(k, g, u),
+            Instr::Memory(MemIns::StwDp(g, u)) => self.store(k, g, u),
+            Instr::Flow(ins) => {
+                flow(&mut self.threads[k as usize], ins);
+                Outcome::Done
+            }
+            Instr::Threads(ThreadIns::Freet) => {
+                free(&mut self.threads[k as usize]);
+                Outcome::Gone
+            }
+        }
+    }
+
+    // `ldw g, dp[u]`
+    fn load(&mut self, k: u8, g: u8, u: u16) -> Outcome
+        requires thread { k < 8 }
+        requires register { g < 16 }
+        ensures fixed { self.new.fixed ≡ self.old.fixed }
+        ensures row { Ends result self.old.core self.new.core (memory_row self.old.core k (MemIns.LdwDp g u)) }
+    {
+        let thread = &mut self.threads[k as usize];
+        let at = thread.dp.wrapping_add(4 * u32::from(u));
+        match self.ram.load32(at) {
+            Ok(w) => {
+                thread.set_reg(g, w);
+                go_on(thread);
+                Outcome::Done
+            }
+            Err(_) => Outcome::Trap {
+                et: BAD_ADDRESS,
+                ed: at,
+            },
+        }
+    }
+
+    // `stw g, dp[u]`
+    fn store(&mut self, k: u8, g: u8, u: u16) -> Outcome
+        requires thread { k < 8 }
+        requires register { g < 16 }
+        ensures fixed { self.new.fixed ≡ self.old.fixed }
+        ensures row { Ends result self.old.core self.new.core (memory_row self.old.core k (MemIns.StwDp g u)) }
+    {
+        let thread = &mut self.threads[k as usize];
+        let at = thread.dp.wrapping_add(4 * u32::from(u));
+        match self.ram.store32(at, thread.reg(g)) {
+            Ok(()) => {
+                go_on(thread);
+                Outcome::Done
+            }
+            Err(_) => Outcome::Trap {
+                et: BAD_ADDRESS,
+                ed: at,
+            },
+        }
+    }
+
+    // What the outcome of its instruction makes of thread k.
+    fn settle(&mut self, k: u8, outcome: Outcome, slot: u32, out: &mut Emissions)
+        requires thread { k < 8 }
+        requires empty { out.old ≡ emitted_events [] }
+        ensures fixed { self.new.fixed ≡ self.old.fixed }
+        ensures core { self.new.core ≡ (settled self.old.fixed.code self.old.core k (effect_of outcome self.old.core)).core }
+        ensures events { out.new ≡ emitted_events (map (in_slot slot) (settled self.old.fixed.code self.old.core k (effect_of outcome self.old.core)).happened) }
+    {
+        match outcome {
+            Outcome::Done | Outcome::Gone => {}
+            Outcome::Pause(wait) => self.threads[k as usize].run = Run::Paused(wait),
+            Outcome::Trap { et, ed } => self.trap(k, et, ed, slot, out),
+        }
+    }
+
+    // Thread k traps, to return to its pc.
+    fn trap(&mut self, k: u8, et: u32, ed: u32, slot: u32, out: &mut Emissions)
+        requires thread { k < 8 }
+        requires empty { out.old ≡ emitted_events [] }
+        ensures fixed { self.new.fixed ≡ self.old.fixed }
+        ensures core { self.new.core ≡ (trap self.old.fixed.code self.old.core k et ed (thread_of self.old.core k).pc).core }
+        ensures events { out.new ≡ emitted_events (map (in_slot slot) (trap self.old.fixed.code self.old.core k et ed (thread_of self.old.core k).pc).happened) }
+    {
+        let thread = &mut self.threads[k as usize];
+        let pc = thread.pc;
+        enter_trap(thread, et, ed, pc);
+        out.add_event(Event {
+            slot,
+            what: Happen::Trap {
+                thread: k,
+                et,
+                pc,
+                ed,
+            },
+        });
+        if !stands_at(&self.code, thread.kep) {
+            thread.run = Run::Halted;
+            out.add_event(Event {
+                slot,
+                what: Happen::Halt { thread: k },
+            });
+        }
+    }
+}
+
+// The threads that may issue but for the four slots of rest: bit k for thread k.
+fn able_of(threads: &[Thread; 8]) -> u8
+    ensures { (k : ℕ) → k < 8 → is_ready (slice_index_or threads.now k fresh_thread).run ≡ is_able result k }
+{
+    let mut able = 0u8;
+    for (k, thread) in threads.iter().enumerate() {
+        if is_ready(thread.run) {
+            able |= 1 << k;
+        }
+    }
+    able
+}
+
+fn is_ready(run: Run) -> bool
+    ensures { result ≡ is_ready run }
+{
+    matches!(run, Run::Going)
+}
+
+// A pause ends with an issue.
+fn resumed(run: Run) -> Run
+    ensures { result ≡ resumed run }
+{
+    match run {
+        Run::Paused(_) => Run::Going,
+        other => other,
     }
 }

@@ -5,7 +5,7 @@ ghost use Rattle.xs_instructions.specs.Instr.{WordsInRange, FlowInRange};
 ghost use Rattle.step_model.specs.Effect.{after_it, words_row, flow_row};
 
 use xs_instructions::{FlowIns, WordIns};
-use xs_model::Thread;
+use xs_model::{Run, Thread};
 
 /// The address of the first instruction.
 const CODE_START: u32 = 0x0004_0000;
@@ -68,4 +68,12 @@ pub(crate) fn flow(thread: &mut Thread, ins: FlowIns)
         }
         FlowIns::Bu(place) => branch(thread, true, place),
     }
+}
+
+// The thread is free.
+pub(crate) fn free(thread: &mut Thread)
+    ensures { thread.new ≡ record (after_it thread.old) { run = Run.Free } }
+{
+    go_on(thread);
+    thread.run = Run::Free;
 }

@@ -3,6 +3,7 @@
 
 mod core;
 mod execute;
+mod traps;
 
 pub use core::Core;
 pub use core_memory::BadAddress;
