@@ -12,6 +12,7 @@ value_of c = record {
   core = core_with c.threads c.slots c.ram;
 }
 
--- every instruction's operands are in range
-abbrev pub IsCore : Inside → Type 0
-IsCore c = AllByRecursion InRange c.code.items
+-- there are eight threads, and every instruction has its operands in range
+pub record IsCore (c : Inside) : Type 0 where
+  pub eight : length c.threads ≡ 8
+  pub operands : AllByRecursion InRange c.code.items

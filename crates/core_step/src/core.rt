@@ -1,5 +1,5 @@
 //! `Core`, one node's core.
-ghost use Rattle.std.specs.Prelude.{◌≡◌, ◌<◌, ◌≤◌, ◌+◌, ◌↔◌, ℕ, Option, Some, None, Bool, false, List, [], ◌∷◌, ◌++◌, length, map, slice_index, slice_index_or, slice_set, replicate, IfOk, IfSome, IsErr, MatchResult};
+ghost use Rattle.std.specs.Prelude.{◌≡◌, ◌≢◌, ◌<◌, ◌≤◌, ◌+◌, ◌↔◌, ℕ, Option, Some, None, Bool, false, List, [], ◌∷◌, ◌++◌, length, map, slice_index, slice_index_or, slice_set, replicate, IfOk, IfSome, IsErr, MatchResult};
 ghost use Rattle.std.specs.Result.{result_ok};
 ghost use Rattle.std.specs.List.{AllByRecursion};
 ghost use Rattle.xs_model.specs.Record.{NodeRec, thread_of, first_node};
@@ -12,6 +12,7 @@ ghost use Rattle.xs_instructions.specs.Image.{entry_of};
 ghost use Rattle.step_model.specs.Effect.{effect, memory_row};
 ghost use Rattle.step_model.specs.Step.{node_step, resumed, begun, settled, trap, issued_by, in_slot};
 ghost use Rattle.core_step.specs.Core.{CoreValue, StandsFor, SlotsBefore, fixed_with, Ends, effect_of};
+ghost use Rattle.std.specs.Int.{bit_at};
 ghost use Rattle.thread_slots.specs.Able.{is_able};
 
 use crate::execute::{flow, free, go_on, words};
@@ -61,7 +62,8 @@ impl Core {
         requires { th < 8 }
         ensures value { result ≡ (thread_of self.now.core th).run }
     {
-        self.threads[th as usize].run
+        let thread = &self.threads[th as usize];
+        thread.run
     }
 
     /// The word of the memory at an address. `BadAddress` comes exactly where the address is outside the memory,
@@ -247,12 +249,21 @@ fn able_of(threads: &[Thread; 8]) -> u8
     ensures { (k : ℕ) → k < 8 → is_ready (slice_index_or threads.now k fresh_thread).run ≡ is_able result k }
 {
     let mut able = 0u8;
-    for (k, thread) in threads.iter().enumerate() {
-        if is_ready(thread.run) {
-            able |= 1 << k;
-        }
+    for k in 0..8u8 {
+        let thread = &threads[k as usize];
+        able = with_bit(able, k, is_ready(thread.run));
     }
     able
+}
+
+// The set with bit k set if the thread is ready.
+fn with_bit(set: u8, k: u8, ready: bool) -> u8
+    requires bit { k < 8 }
+    requires clear { bit_at set k ≡ 0 }
+    ensures same { is_able result k ≡ ready }
+    ensures others { (j : ℕ) → j ≢ k → bit_at result j ≡ bit_at set j }
+{
+    if ready { set | 1 << k } else { set }
 }
 
 fn is_ready(run: Run) -> bool

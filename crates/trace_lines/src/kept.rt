@@ -1,8 +1,8 @@
 //! `NodeEvents`, a node's events of a run.
-ghost use Rattle.std.specs.Prelude.{◌≡◌, ◌+◌, ◌-◌, ◌^◌, ◌<◌, ◌≤◌, List, [], ◌∷◌, ◌++◌, length, OnOk, OnErr, All};
+ghost use Rattle.std.specs.Prelude.{ℕ, ◌≡◌, ◌+◌, ◌-◌, ◌^◌, ◌<◌, ◌≤◌, List, [], ◌∷◌, ◌++◌, length, OnOk, OnErr, All};
 ghost use Rattle.xs_model.specs.declared.event.Event.{Event};
 ghost use Rattle.xs_model.specs.Events.{IsWithinCounts};
-ghost use Rattle.trace_lines.specs.Kept.{Keeps, HasRoom};
+ghost use Rattle.trace_lines.specs.Kept.{Keeps, HasRoom, kept_at_most};
 
 use std::alloc::{AllocError, Global};
 use std::marker::Model;
@@ -50,6 +50,7 @@ impl NodeEvents {
     pub fn events(&self) -> &[Event]
         ensures value { result.now ≡ self.now.events }
         ensures within { All IsWithinCounts result.now }
+        ensures bound { length result.now ≤ kept_at_most }
     {
         self.events.as_slice()
     }
@@ -85,6 +86,7 @@ impl NodeEvents {
         requires count { self.old.more < 2 ^ 64 - 1 }
         requires within { IsWithinCounts e }
         ensures keeps { (all : List Event) → Keeps self.old all → Keeps self.new (all ++ e ∷ []) }
+        ensures room { (n : ℕ) → HasRoom (n + 1) self.old → HasRoom n self.new }
         ensures spare { self.old.spare ≤ self.new.spare + 1 }
         ensures more { self.new.more ≤ self.old.more + 1 }
     {

@@ -1,0 +1,56 @@
+use Rattle.std.proofs.Common.{◌≡◌, ℕ, ◌+◌, List, Option, Some, None, ap, sym, ◌∙◌, subst}
+use Rattle.std.specs.Prelude.{map}
+use Rattle.xs_model.specs.Record.{CoreRec, thread_of}
+use Rattle.xs_model.specs.Picks.{is_ready, pick, picked}
+use Rattle.xs_model.specs.Outside.{emitted_events}
+use Rattle.step_model.specs.Step.{issued_by, in_slot}
+use Rattle.core_step.specs.Core.{CoreValue, AreBefore}
+use Rattle.core_step.proofs.Steps.{stepped, gave, still_before, issue_before, issued_last}
+use Rattle.core_step.proofs.core.Core.slot.Goals as goal
+use Rattle.core_step.proofs.core.Core.slot.Goals.{In-Some, In_default}
+
+-- the thread that the code picks is the one that the definition picks
+picked_some : (c : In-Some) → picked c.args.self.now.core c.args.slot ≡ Some c.in-Some.k
+picked_some c =
+    let able_by = λ (k : ℕ). is_ready (thread_of c.args.self.now.core k).run in
+    ap (λ (last : List (Option ℕ)). pick able_by last c.args.slot) (sym (ap (λ (v : CoreValue). v.core.last) c.self.view_is))
+    ∙ sym (c.pick.ensures.value able_by c.able.ensures) ∙ c.in-Some.is
+
+pub returns-in-Some-clause-step : goal.returns-in-Some-clause-step
+returns-in-Some-clause-step c =
+    let s = (goal.at.returns-in-Some-clause-step c).In-Some in
+    λ rec h. stepped c.args.self.now c.issue.new.self rec c.args.slot _ _
+        (c.issue.ensures.core ∙ ap (λ (p : Option ℕ). (issued_by c.args.self.now.fixed c.args.self.now.core c.args.slot p).core) (sym (picked_some s))) h
+
+pub returns-in-Some-clause-emissions : goal.returns-in-Some-clause-emissions
+returns-in-Some-clause-emissions c =
+    let s = (goal.at.returns-in-Some-clause-emissions c).In-Some in
+    λ rec h. gave c.args.self.now c.issue.new.out rec c.args.slot _ _
+        (c.issue.ensures.events ∙ ap (λ (p : Option ℕ). emitted_events (map (in_slot c.args.slot) (issued_by c.args.self.now.fixed c.args.self.now.core c.args.slot p).happened)) (sym (picked_some s))) h
+
+pub returns-in-Some-clause-after : goal.returns-in-Some-clause-after
+returns-in-Some-clause-after c =
+    let e = ap (λ (core : CoreRec). core.last) c.issue.ensures.core ∙ issued_last c.args.self.now.fixed c.args.self.now.core c.args.slot c.in-Some.k in
+    subst (AreBefore (c.args.slot + 1)) (sym e) (issue_before c.args.slot c.in-Some.k c.args.self.now.core.last c.requires.before)
+
+-- none is picked where the definition picks none
+picked_none : (c : In_default) → c.pick.result ≡ None → picked c.args.self.now.core c.args.slot ≡ None
+picked_none c none =
+    let able_by = λ (k : ℕ). is_ready (thread_of c.args.self.now.core k).run in
+    ap (λ (last : List (Option ℕ)). pick able_by last c.args.slot) (sym (ap (λ (v : CoreValue). v.core.last) c.self.view_is))
+    ∙ sym (c.pick.ensures.value able_by c.able.ensures) ∙ none
+
+pub returns-in_default-clause-step : goal.returns-in_default-clause-step
+returns-in_default-clause-step c =
+    let s = (goal.at.returns-in_default-clause-step c).In_default in
+    λ rec h. stepped c.args.self.now c.args.self.now rec c.args.slot _ _
+        (ap (λ (p : Option ℕ). (issued_by c.args.self.now.fixed c.args.self.now.core c.args.slot p).core) (sym (picked_none s ?))) h
+
+pub returns-in_default-clause-emissions : goal.returns-in_default-clause-emissions
+returns-in_default-clause-emissions c =
+    let s = (goal.at.returns-in_default-clause-emissions c).In_default in
+    λ rec h. gave c.args.self.now c.clear.new.self rec c.args.slot _ _
+        (c.clear.ensures ∙ ap (λ (p : Option ℕ). emitted_events (map (in_slot c.args.slot) (issued_by c.args.self.now.fixed c.args.self.now.core c.args.slot p).happened)) (sym (picked_none s ?))) h
+
+pub returns-in_default-clause-after : goal.returns-in_default-clause-after
+returns-in_default-clause-after c = still_before c.args.slot c.args.self.now.core.last c.requires.before
