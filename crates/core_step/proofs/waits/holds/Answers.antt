@@ -1,5 +1,5 @@
 use Rattle.std.proofs.Common.{◌≡◌, refl}
-use Rattle.core_step.proofs.Waits.{holds-start}
+use Rattle.core_step.proofs.AtStart.{holds-start}
 use Rattle.core_step.proofs.waits.holds.Goals as goal
 
 pub returns-in-Tokens : goal.returns-in-Tokens
