@@ -1,5 +1,5 @@
 -- The names of labels: what a map's look-up says of `address_of`, and that a name's bytes are text.
-use Rattle.std.proofs.Common.{◌≡◌, ℕ, ◌<◌, ◌≤◌, Bool, true, false, ◌&&◌, List, [], ◌∷◌, ◌++◌, map, length, Option, None, refl, sym, ◌∙◌, ap, subst, IsTrue, arith, rules, nat_lt}
+use Rattle.std.proofs.Common.{◌≡◌, ℕ, ◌<◌, ◌≤◌, true, false, List, [], ◌∷◌, ◌++◌, map, length, None, refl, sym, ◌∙◌, ap, subst, IsTrue, arith, rules, nat_lt}
 use Rattle.std.specs.Prelude.{String, string_bytes, bytes_eq, IsUtf8, IsAscii, string_eq}
 use Rattle.std.specs.Bool.{Decides}
 use Rattle.std.specs.List.{list_all, list_any}
