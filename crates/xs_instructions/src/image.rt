@@ -8,8 +8,8 @@ use crate::instr::Instr;
 use crate::symbols::Symbols;
 use std::marker::Model;
 
-/// What a source stands for: code, the bytes of its data, where the constants begin, and its labels. See
-/// docs/MACHINE.md and the record `IsImage` for what every image keeps.
+/// What a source stands for (docs/ASSEMBLY.md): code, the bytes of its data, where the constants begin, and its
+/// labels. The record `IsImage` says what every image keeps.
 #[derive(Drop)]
 pub struct Image {
     code: Vec<Instr>,
@@ -29,7 +29,7 @@ impl Model for Image {
 }
 
 impl Image {
-    /// The image of these parts. It takes no memory. Only a reader of source text calls it.
+    /// The image of these parts. It takes no memory.
     pub fn of(code: Vec<Instr>, bytes: Vec<u8>, cp_at: u32, symbols: Symbols) -> Image
         requires parts { IsImage (record { code = code.items; bytes = bytes.items; cp_at = cp_at; symbols = symbols }) }
         ensures value { result ≡ record { code = code.items; bytes = bytes.items; cp_at = cp_at; symbols = symbols } }
@@ -42,7 +42,7 @@ impl Image {
         }
     }
 
-    /// The instruction at an address, or None exactly where none stands there.
+    /// The instruction at an address, with its operands in range, or None exactly where none stands there.
     pub fn at(&self, pc: u32) -> Option<Instr>
         ensures value { result ≡ code_at self.now.code pc }
         ensures in_range { IfSome result InRange }
@@ -50,7 +50,7 @@ impl Image {
         instr_at(self.code(), pc)
     }
 
-    /// The instructions in order, each with its operands in range.
+    /// The instructions in order, at most 16 384.
     pub fn code(&self) -> &[Instr]
         ensures value { result.now ≡ self.now.code }
         ensures image { IsImage self.now }
@@ -58,7 +58,7 @@ impl Image {
         self.code.as_slice()
     }
 
-    /// The bytes of the data, from address 0x0001_0000 on.
+    /// The bytes of the data, from address 0x0001_0000 on, at most 65 536.
     pub fn bytes(&self) -> &[u8]
         ensures value { result.now ≡ self.now.bytes }
         ensures image { IsImage self.now }
@@ -66,7 +66,7 @@ impl Image {
         self.bytes.as_slice()
     }
 
-    /// The address from which cp counts.
+    /// The address from which cp counts, a multiple of 4.
     pub fn cp_at(&self) -> u32
         ensures value { result ≡ self.now.cp_at }
         ensures image { IsImage self.now }

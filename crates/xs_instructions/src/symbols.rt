@@ -1,4 +1,4 @@
-ghost use Rattle.std.specs.Prelude.{◌≡◌, ◌<◌, ◌↔◌, [], ◌∷◌, ◌++◌, length, None, IsTrue, OnOk, OnErr, option_map};
+ghost use Rattle.std.specs.Prelude.{◌≡◌, [], ◌∷◌, ◌++◌, None, IsTrue, OnOk, OnErr, option_map};
 ghost use Rattle.xs_text.specs.Tokens.{is_name};
 ghost use Rattle.xs_instructions.specs.Image.{address_of, is_reserved, symbol_at, symbol_of_pair};
 
@@ -6,8 +6,8 @@ use indexmap::IndexMap;
 use std::alloc::{AllocError, Global};
 use std::marker::Model;
 
-/// The labels of a source with their addresses, in the order of their definition. Contracts see the list of pairs
-/// of a name's bytes and its address.
+/// The labels of a source with their addresses, in the order of their definition (docs/ASSEMBLY.md). Contracts see
+/// the list of pairs of a name's bytes and its address.
 #[derive(Drop)]
 pub struct Symbols {
     addresses: IndexMap<String, u32>,
@@ -32,7 +32,7 @@ impl Symbols {
         }
     }
 
-    /// Puts a label at the end, which is not there yet. The error is want of memory, and changes nothing.
+    /// Puts a label at the end, for a name that is no label's yet. The error is want of memory, and changes nothing.
     pub fn define(&mut self, alloc: Global, name: &[u8], at: u32) -> Result<(), AllocError>
         requires name { IsTrue (is_name name.now) }
         requires new { address_of self.old name.now ≡ None }
@@ -45,7 +45,7 @@ impl Symbols {
         Ok(())
     }
 
-    /// The address of a label, or None exactly where there is none of this name.
+    /// The address of the label with this name, or None exactly where there is none. Any bytes may be asked for.
     pub fn address(&self, name: &[u8]) -> Option<u32>
         ensures value { result ≡ address_of self.now name.now }
     {
@@ -66,7 +66,8 @@ impl Symbols {
     }
 }
 
-/// Whether the assembly language keeps a name for itself, so that no label has it.
+/// Whether the assembly language keeps a name for itself, so that no label has it: the registers, `t` and `res`. See
+/// docs/ASSEMBLY.md.
 #[tactic(auto, using(crate::proofs::Names::is_reserved_long))]
 pub fn is_reserved(name: &[u8]) -> bool
     ensures value { result ≡ is_reserved name.now }
