@@ -4,7 +4,6 @@ use Rattle.std.specs.List.{AllByRecursion}
 use Rattle.xs_model.specs.Record.{CoreRec, NodeRec, LinkRec}
 use Rattle.xs_model.specs.declared.thread.Outcome.{Outcome}
 use Rattle.xs_model.specs.declared.thread.Outcome.TheVariants as outcome
-use Rattle.sys_plan.specs.declared.NodePlan.{NodePlan}
 use Rattle.step_model.specs.Fixed.{Fixed}
 use Rattle.step_model.specs.Effect.{Effect, Done, Pause, Trap, Gone}
 
@@ -28,10 +27,6 @@ AreBefore slot last = AllByRecursion (λ l. IfSome l (λ issued. issued < slot))
 
 abbrev pub SlotsBefore : CoreValue → ℕ → Type 0
 SlotsBefore value slot = AreBefore slot value.core.last
-
--- what a core keeps of its node's plan, with the gaps of its link ends
-abbrev pub fixed_with : NodePlan → List ℕ → Fixed
-fixed_with plan gaps = record { id = plan.id; code = plan.image.code; ways = plan.ways; gaps = gaps }
 
 -- the outcome of an instruction, and the core after it, are what its effect says
 abbrev pub Ends : Outcome → CoreRec → CoreRec → Effect → Type 0

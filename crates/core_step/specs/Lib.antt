@@ -1,2 +1,3 @@
+pub mod AtStart
 pub mod Core
 pub mod Inside

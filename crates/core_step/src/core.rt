@@ -2,16 +2,16 @@
 ghost use Rattle.std.specs.Prelude.{◌≡◌, ◌≢◌, ◌<◌, ◌≤◌, ◌+◌, ◌↔◌, ℕ, Option, Some, None, Bool, false, List, [], ◌∷◌, ◌++◌, length, map, slice_index, slice_index_or, slice_set, replicate, IfOk, IfSome, IsErr, MatchResult};
 ghost use Rattle.std.specs.Result.{result_ok};
 ghost use Rattle.std.specs.List.{AllByRecursion};
-ghost use Rattle.xs_model.specs.Record.{NodeRec, thread_of, first_node};
+ghost use Rattle.xs_model.specs.Record.{NodeRec, thread_of, free_thread};
 ghost use Rattle.xs_model.specs.Threads.{fresh_thread};
 ghost use Rattle.xs_model.specs.Memory.{load_word, is_word_address, memory_size};
 ghost use Rattle.xs_model.specs.Picks.{may_issue};
 ghost use Rattle.xs_model.specs.Outside.{LevelsFit, emitted_events};
 ghost use Rattle.xs_instructions.specs.Instr.{InRange, MemoryInRange};
-ghost use Rattle.xs_instructions.specs.Image.{entry_of};
+ghost use Rattle.step_model.specs.Start.{fixed_of, node_of, WaysHaveGaps};
 ghost use Rattle.step_model.specs.Effect.{effect, memory_row};
 ghost use Rattle.step_model.specs.Step.{node_step, resumed, begun, settled, trap, issued_by, in_slot};
-ghost use Rattle.core_step.specs.Core.{CoreValue, StandsFor, SlotsBefore, fixed_with, Ends, effect_of};
+ghost use Rattle.core_step.specs.Core.{CoreValue, StandsFor, SlotsBefore, Ends, effect_of};
 ghost use Rattle.std.specs.Int.{bit_at};
 ghost use Rattle.thread_slots.specs.Able.{is_able};
 
@@ -58,6 +58,29 @@ impl Model for Core {
 }
 
 impl Core {
+    /// The core of a node as it starts. `gaps` has the gap of each link end in slots, 0 where there is none; each
+    /// link end in the plan's `ways` has one. The error is want of memory.
+    pub fn boot(alloc: Global, plan: &NodePlan, gaps: &[u32; 8]) -> Result<Core, AllocError>
+        requires gaps { WaysHaveGaps plan.now.ways gaps.now }
+        ensures fixed { IfOk result (λ core. core.fixed ≡ fixed_of plan.now gaps.now) }
+        ensures start { IfOk result (λ core. StandsFor core (node_of plan.now)) }
+        ensures before { IfOk result (λ core. SlotsBefore core 0) }
+    {
+        let code = Vec::from_slice(alloc, plan.image.code())?;
+        let ram = Ram::new(alloc, plan.image.bytes())?;
+        let mut threads = [free_thread(); 8];
+        threads[0] = Thread::first(plan.image.entry(), plan.image.cp_at());
+        Ok(Core {
+            id: plan.id,
+            ways: plan.ways,
+            gaps: *gaps,
+            code,
+            ram,
+            slots: Slots::new(),
+            threads,
+        })
+    }
+
     /// What a thread does.
     pub fn run_of(&self, th: u8) -> Run
         requires { th < 8 }
@@ -244,6 +267,15 @@ impl Core {
             });
         }
     }
+}
+
+// A thread that is not there.
+fn free_thread() -> Thread
+    ensures { result ≡ free_thread }
+{
+    let mut thread = Thread::fresh();
+    thread.run = Run::Free;
+    thread
 }
 
 // A pause ends with an issue.

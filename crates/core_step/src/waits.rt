@@ -1,18 +1,16 @@
 //! Which threads may issue. No channel end, timer, synchroniser, lock or port is built yet: each is as it was at
 //! the start, so what a thread waits for says alone whether it holds.
-ghost use Rattle.std.specs.Prelude.{◌≡◌, ℕ, ◌<◌, List, Option, slice_index_or};
+ghost use Rattle.std.specs.Prelude.{◌≡◌, ℕ, ◌<◌, slice_index_or};
 ghost use Rattle.thread_slots.specs.Able.{is_able};
-ghost use Rattle.xs_model.specs.declared.thread.Thread.{Thread};
 ghost use Rattle.xs_model.specs.Threads.{fresh_thread};
-ghost use Rattle.xs_model.specs.Record.{core_with};
-ghost use Rattle.xs_model.specs.Picks.{holds, is_ready};
+ghost use Rattle.core_step.specs.AtStart.{holds_at_start, ready_at_start};
 
 use thread_slots::{no_threads, with_able};
 use xs_model::{Run, Thread, Wait};
 
 // Whether what pauses a thread holds.
 fn holds(wait: Wait) -> bool
-    ensures { (threads : List Thread) (last : List (Option ℕ)) (memory : List ℕ) (slot : ℕ) → holds (core_with threads last memory) slot wait ≡ result }
+    ensures { result ≡ holds_at_start wait }
 {
     match wait {
         Wait::Tokens { count, .. } => count == 0,
@@ -23,7 +21,7 @@ fn holds(wait: Wait) -> bool
 
 // Whether a thread would issue if it were rested and no other did.
 fn is_ready(run: Run) -> bool
-    ensures { (threads : List Thread) (last : List (Option ℕ)) (memory : List ℕ) (slot : ℕ) → is_ready (core_with threads last memory) slot run ≡ result }
+    ensures { result ≡ ready_at_start run }
 {
     match run {
         Run::Going => true,
@@ -34,8 +32,7 @@ fn is_ready(run: Run) -> bool
 
 // The threads that may issue but for the four slots of rest: bit k for thread k.
 pub(crate) fn able_of(threads: &[Thread; 8]) -> u8
-    ensures { (last : List (Option ℕ)) (memory : List ℕ) (slot k : ℕ) → k < 8 →
-        is_ready (core_with threads.now last memory) slot (slice_index_or threads.now k fresh_thread).run ≡ is_able result k }
+    ensures { (k : ℕ) → k < 8 → ready_at_start (slice_index_or threads.now k fresh_thread).run ≡ is_able result k }
 {
     let mut able = no_threads();
     for k in 0..8u8 {

@@ -1,4 +1,5 @@
 pub mod Fixed
 pub mod Effect
+pub mod Start
 pub mod Step
 pub mod Worked

@@ -25,18 +25,18 @@ abbrev pub ◌>>=◌ : {A B : Type 0} → Option A → (A → Option B) → Opti
 o >>= f = option_and_then f o
 
 -- the first line with words, and the lines after it
-pub record Taken : Type 0 where
+pub record NextLine : Type 0 where
   pub words : List (List ℕ)
   pub rest : List (List ℕ)
 
 -- the words of a line, if it has some, with the lines after it; else what those lines give
-abbrev pub words_or : List (List ℕ) → List (List ℕ) → Option Taken → Option Taken
+abbrev pub words_or : List (List ℕ) → List (List ℕ) → Option NextLine → Option NextLine
 words_or [] rest others = others
 words_or (w ∷ ws) rest others = Some (record { words = w ∷ ws; rest = rest })
 
 -- The next line with words: lines without words are passed over. None where a byte before that line's end is
 -- not allowed. At the end of the text there are no words.
-unfoldable pub next_words : List (List ℕ) → Option Taken
+unfoldable pub next_words : List (List ℕ) → Option NextLine
 next_words [] = Some (record { words = []; rest = [] })
 next_words (l ∷ ls) = if all_allowed l then words_or (words_of_line l) ls (next_words ls) else None
 

@@ -9,7 +9,7 @@ use Rattle.xs_model.specs.Memory.{memory_base, words_of}
 use Rattle.trace_lines.specs.Lines.{event_line, hex_word}
 use Rattle.trace_lines.specs.Kept.{first_events, left_out}
 use Rattle.sys_plan.specs.declared.NodePlan.{NodePlan}
-use Rattle.system_model.specs.Run.{Ran, ran}
+use Rattle.system_model.specs.Run.{LoneNode, lone_node}
 
 -- the line of each event
 abbrev pub event_lines : ℕ → List Event → List ℕ
@@ -51,7 +51,7 @@ abbrev pub end_line : ℕ → List ℕ
 end_line slots = codes "end " ++ (decimal slots ++ (10 ∷ []))
 
 -- the text of a node that ran so many slots
-abbrev pub node_text : ℕ → ℕ → Ran → List ℕ
+abbrev pub node_text : ℕ → ℕ → LoneNode → List ℕ
 node_text node slots after =
     event_lines node (first_events after.events)
     ++ (more_line node (left_out after.events)
@@ -62,4 +62,4 @@ node_text node slots after =
 -- the trace of a run: its events in order, what of them was left out, the halted threads, the words of the memory
 -- that aren't 0, and the end
 unfoldable pub trace_text : NodePlan → ℕ → List ℕ
-trace_text plan slots = node_text plan.number slots (ran plan slots)
+trace_text plan slots = node_text plan.number slots (lone_node plan slots)

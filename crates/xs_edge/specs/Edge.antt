@@ -1,10 +1,10 @@
 -- What one read takes from a source, what one write adds to a sink, and how a count of faults rises.
-use Rattle.std.specs.Prelude.{◌≡◌, ◌<◌, ◌≤◌, ℕ, ◌-◌, ◌^◌, List, ◌++◌, Option, Some, None}
+use Rattle.std.specs.Prelude.{◌≡◌, ◌≢◌, ◌<◌, ◌≤◌, ℕ, ◌-◌, ◌^◌, List, ◌++◌, Option, Some, None}
 
--- the count rose; one that stands at its last value, 2^64 - 1, may stay
+-- the count rose, or it stands at its last value, 2^64 - 1
 pub record HasRisen (old new : ℕ) : Type 0 where
   pub never_falls : old ≤ new
-  pub rises : new < 2 ^ 64 - 1 → old < new
+  pub rises : new ≢ 2 ^ 64 - 1 → old < new
 
 -- the piece was the front of what was left; telling what is left stays telling, and not telling stays not telling
 abbrev pub Took : Option (List ℕ) → Option (List ℕ) → List ℕ → Type 0

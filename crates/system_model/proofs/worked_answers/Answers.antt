@@ -1,6 +1,6 @@
 use Rattle.std.proofs.Common.{refl}
 use Rattle.std.specs.Fmt.{digits}
-use Rattle.system_model.specs.Run.{ran}
+use Rattle.system_model.specs.Run.{lone_node}
 use Rattle.system_model.specs.Words.{without_comment, parted}
 use Rattle.system_model.specs.System.{next_words, node_line, source_line, section_of, framed, system_of}
 use Rattle.system_model.specs.Trace.{halted_lines, memory_lines, trace_text}
@@ -16,7 +16,7 @@ use Rattle.source_model.specs.Source.{labels_from, are_labels, code_of, assemble
 use Rattle.system_model.proofs.worked_answers.Goals as goal
 
 pub returns : goal.returns
-unfolding digits ran without_comment parted next_words node_line source_line section_of framed system_of halted_lines memory_lines trace_text form_of answer lines_of tokens_after pick_from words_of node_step hex_word three_registers register_and_short register_and_dp register_and_label lone_label instruction statement labels_from are_labels code_of assembled_lines
+unfolding digits lone_node without_comment parted next_words node_line source_line section_of framed system_of halted_lines memory_lines trace_text form_of answer lines_of tokens_after pick_from words_of node_step hex_word three_registers register_and_short register_and_dp register_and_label lone_label instruction statement labels_from are_labels code_of assembled_lines
 returns c = record {
   nothing = refl;
   sum = refl;

@@ -14,7 +14,7 @@ picked_some : (c : In-Some) → picked c.args.self.now.core c.args.slot ≡ Some
 picked_some c =
     let able_by = may_issue c.args.self.now.core c.args.slot in
     ap (λ (last : List (Option ℕ)). pick able_by last c.args.slot) (sym (ap (λ (v : CoreValue). v.core.last) c.self.view_is))
-    ∙ sym (c.pick.ensures.value able_by c.able.ensures) ∙ c.in-Some.is
+    ∙ sym (c.pick.ensures.value able_by c.able-able.ensures) ∙ c.in-Some.is
 
 pub returns-in-Some-clause-step : goal.returns-in-Some-clause-step
 returns-in-Some-clause-step c =
@@ -38,7 +38,7 @@ picked_none : (c : In_default) → c.pick.result ≡ None → picked c.args.self
 picked_none c none =
     let able_by = may_issue c.args.self.now.core c.args.slot in
     ap (λ (last : List (Option ℕ)). pick able_by last c.args.slot) (sym (ap (λ (v : CoreValue). v.core.last) c.self.view_is))
-    ∙ sym (c.pick.ensures.value able_by c.able.ensures) ∙ none
+    ∙ sym (c.pick.ensures.value able_by c.able-able.ensures) ∙ none
 
 pub returns-in_default-clause-step : goal.returns-in_default-clause-step
 returns-in_default-clause-step c =
