@@ -85,6 +85,7 @@ impl Core {
     pub fn run_of(&self, th: u8) -> Run
         requires { th < 8 }
         ensures value { result ≡ (thread_of self.now.core th).run }
+        ensures threads { length self.now.core.threads ≡ 8 }
     {
         let thread = &self.threads[th as usize];
         thread.run
@@ -94,6 +95,7 @@ impl Core {
     /// 0x0001_0000 to 0x0001_ffff, or no multiple of 4.
     pub fn word(&self, at: u32) -> Result<u32, BadAddress>
         ensures value { result_ok result ≡ load_word self.now.core.memory at }
+        ensures size { length self.now.core.memory ≡ memory_size }
         ensures err { IsErr result ↔ is_word_address at ≡ false }
     {
         self.ram.load32(at)

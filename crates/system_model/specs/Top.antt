@@ -9,15 +9,13 @@ use Rattle.source_model.specs.declared.AsmKind.{AsmKind}
 use Rattle.source_model.specs.declared.AsmKind.TheVariants.{UnknownName}
 use Rattle.system_model.specs.declared.SysKind.{SysKind}
 use Rattle.system_model.specs.declared.SysKind.TheVariants.{BadLine, TooLong}
+use Rattle.system_model.specs.declared.Form.{Form}
+use Rattle.system_model.specs.declared.Form.TheVariants.{Run}
+use Rattle.system_model.specs.declared.Answer.{Answer}
 use Rattle.system_model.specs.declared.Status.{Status}
 use Rattle.system_model.specs.declared.Status.TheVariants as status
 use Rattle.system_model.specs.System.{System, Plan, Frame, Source, system_of, longest_input}
 use Rattle.system_model.specs.Trace.{trace_text}
-
--- the forms of the command words
-pub data Form : Type 0 where
-  -- `run SLOTS`
-  Run : (slots : ℕ) → Form
 
 -- one to ten decimal digits, of a value of at most a limit
 abbrev pub count_of : ℕ → List ℕ → Option ℕ
@@ -31,11 +29,6 @@ unfoldable pub form_of : List (List ℕ) → Option Form
 form_of (a ∷ n ∷ []) =
     if same_name (codes "run") a then option_and_then (λ slots. Some (Run slots)) (count_of most_slots n) else None
 form_of _ = None
-
--- what is written, and how the program ends
-pub record Answer : Type 0 where
-  pub text : List ℕ
-  pub status : Status
 
 abbrev pub usage_text : List ℕ
 usage_text = codes "usage: xs1 run SLOTS [serial|free|rounds] | play SLOTS | make NUMBER | check\n"

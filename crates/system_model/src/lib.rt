@@ -4,6 +4,8 @@
 
 ghost use Rattle.system_model.specs.Worked.{WorkedAnswers};
 
+use xs_base::Text;
+
 /// Why a system text is refused.
 #[derive(Clone, Copy, PartialEq, Eq, Debug)]
 pub enum SysKind {
@@ -11,6 +13,13 @@ pub enum SysKind {
     BadLine,
     /// S10: more than 4,194,304 bytes.
     TooLong,
+}
+
+/// The forms of the command words. See docs/OUTPUT.md.
+#[derive(Clone, Copy)]
+pub enum Form {
+    /// `run SLOTS`: a run of so many slots.
+    Run(u32),
 }
 
 /// How the program ends.
@@ -32,6 +41,13 @@ pub enum Status {
     ReadFault,
     /// The text could not be written whole.
     WriteFault,
+}
+
+/// What is written, and how the program ends.
+#[derive(Drop)]
+pub struct Answer {
+    pub text: Text,
+    pub status: Status,
 }
 
 /// The definitions give what was worked out by hand.
