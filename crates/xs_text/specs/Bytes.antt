@@ -15,6 +15,9 @@ all_allowed bytes = list_all is_allowed bytes
 abbrev pub is_blank : ℕ → Bool
 is_blank b = (b == 9) || (b == 32)
 
+abbrev pub all_blank : List ℕ → Bool
+all_blank bytes = list_all is_blank bytes
+
 -- a letter, `.` or `_`
 abbrev pub is_name_start : ℕ → Bool
 is_name_start b = is_ascii_alphabetic b || ((b == 46) || (b == 95))

@@ -1,5 +1,5 @@
 -- Worked examples of lines and tokens, which the proof computes.
-use Rattle.std.specs.Prelude.{◌≡◌, ℕ, List, [], ◌∷◌, ◌++◌, codes}
+use Rattle.std.specs.Prelude.{◌≡◌, ℕ, List, [], ◌∷◌, codes}
 use Rattle.xs_text.specs.Lines.{lines_of}
 use Rattle.xs_text.specs.Tokens.{Token, tokens_of}
 use Rattle.xs_text.specs.declared.token_reader.TokKind.{TokKind}

@@ -1,7 +1,7 @@
 -- Lines. Each ends with a line feed (10), which the last line of a text may lack. A text that ends
 -- with a line feed has no empty line after it, and the empty text has no line. One carriage return
 -- (13) directly before a line feed is dropped; any other stays in its line.
-use Rattle.std.specs.Prelude.{ℕ, ◌+◌, Bool, ◌||◌, ◌&&◌, ◌==◌, if◌then◌else◌, List, [], ◌∷◌, length, drop, true}
+use Rattle.std.specs.Prelude.{ℕ, ◌+◌, Bool, ◌||◌, ◌&&◌, ◌==◌, if◌then◌else◌, List, [], ◌∷◌, drop}
 use Rattle.std.specs.List.{slice_range}
 use Rattle.xs_text.specs.Bytes.{begins_with}
 use Rattle.xs_text.specs.declared.line_reader.Line.{Line}

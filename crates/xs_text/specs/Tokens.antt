@@ -1,5 +1,5 @@
 -- Tokens of a line. Blanks part them, and a comment runs from `//` or `#` to the line's end.
-use Rattle.std.specs.Prelude.{◌≡◌, ℕ, zero, suc, ◌+◌, Bool, true, false, not, ◌||◌, ◌&&◌, ◌==◌, if◌then◌else◌, List, [], ◌∷◌, ◌++◌, length, take, codes}
+use Rattle.std.specs.Prelude.{ℕ, zero, suc, Bool, false, IsTrue, not, ◌||◌, ◌&&◌, ◌==◌, if◌then◌else◌, List, [], ◌∷◌, ◌++◌, length, take, codes}
 use Rattle.std.specs.List.{slice_range, list_all, list_any, prefix_len}
 use Rattle.std.specs.Char.{is_ascii_digit, is_ascii_alphanumeric, is_ascii_hexdigit}
 use Rattle.xs_text.specs.Bytes.{is_blank, is_name_start, is_name_byte, begins_with}
@@ -15,6 +15,11 @@ pub record Token : Type 0 where
 abbrev pub is_name : List ℕ → Bool
 is_name [] = false
 is_name (b ∷ rest) = is_name_start b && list_all is_name_byte rest
+
+-- whether a name begins the bytes
+abbrev pub BeginsAsName : List ℕ → Type 0
+BeginsAsName [] = ⊥
+BeginsAsName (b ∷ rest) = IsTrue (is_name_start b)
 
 -- one or more bytes that pass
 abbrev pub is_run : (ℕ → Bool) → List ℕ → Bool
@@ -92,9 +97,9 @@ token_in text token = record { kind = token.kind; bytes = slice_range text token
 
 -- what the kind of a token says of its bytes
 abbrev pub FormOf : TokKind → List ℕ → Type 0
-FormOf Name bytes = is_name bytes ≡ true
-FormOf Number bytes = is_number bytes ≡ true
-FormOf Mark bytes = is_mark bytes ≡ true
+FormOf Name bytes = IsTrue (is_name bytes)
+FormOf Number bytes = IsTrue (is_number bytes)
+FormOf Mark bytes = IsTrue (is_mark bytes)
 FormOf Stray bytes = Unit {0}
 
 abbrev pub HasForm : Token → Type 0

@@ -1,8 +1,13 @@
 //! Lines and tokens of a text, a byte slice. Nothing here takes memory.
 #![tactic(auto)]
 
+mod byte_tests;
+mod examples;
 mod line_reader;
+#[cfg(test)]
+mod tests;
 mod token_reader;
 
+pub use byte_tests::{all_allowed, is_allowed};
 pub use line_reader::{Line, Lines};
-pub use token_reader::{Tok, TokKind};
+pub use token_reader::{Tok, TokKind, is_name, is_number, next_tok};
