@@ -35,7 +35,7 @@ pub address_of-other_bytes : {A : Type 0} (name : List ℕ) → (IsUtf8 name →
 address_of-other_bytes name other [] = refl
 address_of-other_bytes name other (e ∷ es) =
     let differs : same_name (string_bytes e.0) name ≡ false =
-        false_from_ne_true _ (λ t. other (subst IsUtf8 ((same_name-Decides (string_bytes e.0) name).0 t) (IsUtf8-string_bytes e.0))) in
+    false_from_ne_true _ (λ t. other (subst IsUtf8 ((same_name-Decides (string_bytes e.0) name).0 t) (IsUtf8-string_bytes e.0))) in
     rw differs (address_of-other_bytes name other es)
 
 name_start_ascii : (b : ℕ) → is_name_start b ≡ true → b < 128
@@ -62,7 +62,7 @@ pub insert_entry-define : {A S : Type 0} (labels : IndexMap (String A) ℕ S) (k
     → map symbol_of_entry (insert_entry string_eq labels.entries key at) ≡ map symbol_of_entry labels.entries ++ (name, at) ∷ []
 insert_entry-define labels key at name is new =
     let absent : get string_eq labels key ≡ None =
-        sym (address_of-entries (string_bytes key) labels.entries) ∙ rw is new in
+    sym (address_of-entries (string_bytes key) labels.entries) ∙ rw is new in
     let last = insert_entry-new string_eq labels key at absent in
     rw (last, map-append, is) refl
 
@@ -79,5 +79,5 @@ none_of_shorter n name long (r ∷ names) h =
     rw (same_name-longer r name shorter, none_of_shorter n name long names parts.1) refl
 
 -- no reserved name has four bytes
-pub is_reserved-long : (name : List ℕ) → 4 ≤ length name → is_reserved name ≡ false
-is_reserved-long name long = none_of_shorter 4 name long reserved_names refl
+pub is_reserved_long : (name : List ℕ) → 4 ≤ length name → is_reserved name ≡ false
+is_reserved_long name long = none_of_shorter 4 name long reserved_names refl

@@ -1,5 +1,4 @@
-ghost use Rattle.std.specs.Prelude.{◌≡◌, option_map};
-ghost use Rattle.std.specs.List.{AllByRecursion};
+ghost use Rattle.std.specs.Prelude.{◌≡◌, IfSome, option_map};
 ghost use Rattle.xs_instructions.specs.Code.{code_at};
 ghost use Rattle.xs_instructions.specs.Instr.{InRange};
 ghost use Rattle.xs_instructions.specs.Image.{IsImage, entry_of, symbol_at, symbol_of_pair};
@@ -46,6 +45,7 @@ impl Image {
     /// The instruction at an address, or None exactly where none stands there.
     pub fn at(&self, pc: u32) -> Option<Instr>
         ensures value { result ≡ code_at self.now.code pc }
+        ensures in_range { IfSome result InRange }
     {
         instr_at(self.code(), pc)
     }
@@ -69,6 +69,7 @@ impl Image {
     /// The address from which cp counts.
     pub fn cp_at(&self) -> u32
         ensures value { result ≡ self.now.cp_at }
+        ensures image { IsImage self.now }
     {
         self.cp_at
     }

@@ -10,3 +10,6 @@ pub use code::{MOST_CODE, instr_at};
 pub use image::Image;
 pub use instr::{FlowIns, Instr, MemIns, ThreadIns, WordIns};
 pub use symbols::{Symbols, is_reserved};
+
+#[cfg(test)]
+mod tests;

@@ -39,11 +39,8 @@ impl Symbols {
         ensures ok { OnOk result (self.new ≡ self.old ++ (name.now, at) ∷ []) }
         ensures err { OnErr result (self.new ≡ self.old) }
     {
-        let Ok(text) = str::from_utf8(name) else {
-            prove!(false);
-            return Ok(());
-        };
-        let key = String::from_str(alloc, text)?;
+        // A name is ASCII, so nothing in it is replaced.
+        let key = String::from_utf8_lossy(alloc, name)?;
         self.addresses.insert(key, at)?;
         Ok(())
     }
@@ -70,14 +67,39 @@ impl Symbols {
 }
 
 /// Whether the assembly language keeps a name for itself, so that no label has it.
+#[tactic(auto, using(crate::proofs::Names::is_reserved_long))]
 pub fn is_reserved(name: &[u8]) -> bool
     ensures value { result ≡ is_reserved name.now }
 {
     match name {
-        b"r0" | b"r1" | b"r2" | b"r3" | b"r4" | b"r5" | b"r6"
-        | b"r7" | b"r8" | b"r9" | b"r10" | b"r11" | b"cp" | b"dp"
-        | b"sp" | b"lr" | b"pc" | b"sr" | b"spc" | b"ssr" | b"et"
-        | b"ed" | b"sed" | b"kep" | b"ksp" | b"id" | b"res" | b"t" => true,
+        b"r0"
+        | b"r1"
+        | b"r2"
+        | b"r3"
+        | b"r4"
+        | b"r5"
+        | b"r6"
+        | b"r7"
+        | b"r8"
+        | b"r9"
+        | b"r10"
+        | b"r11"
+        | b"cp"
+        | b"dp"
+        | b"sp"
+        | b"lr"
+        | b"pc"
+        | b"sr"
+        | b"spc"
+        | b"ssr"
+        | b"et"
+        | b"ed"
+        | b"sed"
+        | b"kep"
+        | b"ksp"
+        | b"id"
+        | b"res"
+        | b"t" => true,
         _ => false,
     }
 }
