@@ -10,7 +10,7 @@ use Rattle.xs_instructions.specs.declared.instr.WordIns.TheVariants as words
 use Rattle.xs_instructions.specs.declared.instr.MemIns.TheVariants as memory
 use Rattle.xs_instructions.specs.declared.instr.FlowIns.TheVariants as flow
 use Rattle.xs_instructions.specs.declared.instr.ThreadIns.TheVariants as threads
-use Rattle.source_model.specs.Numbers.{source_number_of, at_most}
+use Rattle.xs_text.specs.Numbers.{source_number_of, at_most}
 
 infixl 10 ◌>>=◌
 abbrev pub ◌>>=◌ : {A B : Type 0} → Option A → (A → Option B) → Option B

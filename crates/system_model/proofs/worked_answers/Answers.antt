@@ -1,7 +1,7 @@
 use Rattle.std.proofs.Common.{refl}
 use Rattle.std.specs.Fmt.{digits}
 use Rattle.system_model.specs.Run.{ran}
-use Rattle.system_model.specs.Words.{without_comment, parted}
+use Rattle.xs_text.specs.Words.{without_comment, parted}
 use Rattle.system_model.specs.System.{next_words, node_line, source_line, section_of, framed, system_of}
 use Rattle.system_model.specs.Trace.{halted_lines, memory_lines, trace_text}
 use Rattle.system_model.specs.Top.{form_of, answer}
