@@ -1,4 +1,4 @@
-ghost use Rattle.std.specs.Prelude.{◌≡◌, ◌≤◌, Some};
+ghost use Rattle.std.specs.Prelude.{◌≡◌, ◌≤◌, Some, IfSome};
 ghost use Rattle.std.specs.Char.{digit_value};
 ghost use Rattle.std.specs.Str.Parse.{digits_value};
 ghost use Rattle.xs_text.specs.Numbers.{at_most, number_of, source_number_of};
@@ -8,7 +8,8 @@ use crate::token_reader::{is_binary, is_decimal, is_hex};
 /// The number that the bytes are as a whole, in decimal digits or as `0x` and hex digits, with any count of
 /// leading zeros. None where they are no number, or one past the limit.
 pub fn number(bytes: &[u8], limit: u32) -> Option<u32>
-    ensures { result ≡ at_most limit (number_of bytes.now) }
+    ensures value { result ≡ at_most limit (number_of bytes.now) }
+    ensures limit { IfSome result (λ n. n ≤ limit) }
 {
     if is_decimal(bytes) {
         value_at_most(bytes, 10, limit)
@@ -21,7 +22,8 @@ pub fn number(bytes: &[u8], limit: u32) -> Option<u32>
 
 /// The same where `0b` and binary digits are a number too, as in sources.
 pub fn source_number(bytes: &[u8], limit: u32) -> Option<u32>
-    ensures { result ≡ at_most limit (source_number_of bytes.now) }
+    ensures value { result ≡ at_most limit (source_number_of bytes.now) }
+    ensures limit { IfSome result (λ n. n ≤ limit) }
 {
     if is_decimal(bytes) {
         value_at_most(bytes, 10, limit)
@@ -40,7 +42,8 @@ pub fn source_number(bytes: &[u8], limit: u32) -> Option<u32>
 fn value_at_most(digits: &[u8], base: u64, limit: u32) -> Option<u32>
     requires some { 1 ≤ base }
     requires low { base ≤ 16 }
-    ensures { result ≡ at_most limit (Some (digits_value base digits.now)) }
+    ensures value { result ≡ at_most limit (Some (digits_value base digits.now)) }
+    ensures limit { IfSome result (λ n. n ≤ limit) }
 {
     let past = u64::from(limit) + 1;
     let mut value = 0;

@@ -1,0 +1,21 @@
+-- A line's label and what comes after it.
+use Rattle.std.proofs.Common.{◌≡◌, true, false, List, [], ◌∷◌, Some, None, refl, rules, inl, inr}
+use Rattle.xs_text.specs.Tokens.{Token}
+use Rattle.source_model.specs.Source.{LineRec, line_rec}
+use Rattle.source_model.specs.Statement.{is_of_kind_name, is_the_mark, mark_first}
+
+abbrev pub parts_at : Option (List Token) → List Token → List ℕ → LineRec
+parts_at None toks name = record { label = None; tokens = toks }
+parts_at (Some after) toks name = record { label = Some name; tokens = after }
+
+-- a name at the front is a label where a colon follows
+pub line_rec-named : (t : Token) (toks : List Token) → is_of_kind_name t.kind ≡ true → line_rec (t ∷ toks) ≡ parts_at (mark_first 58 toks) (t ∷ toks) t.bytes
+unfolding mark_first
+line_rec-named t [] e = refl
+line_rec-named t (c ∷ toks) e = ?
+
+pub line_rec-other : (t : Token) (toks : List Token) → is_of_kind_name t.kind ≡ false → line_rec (t ∷ toks) ≡ record { label = None; tokens = t ∷ toks }
+line_rec-other t [] e = refl
+line_rec-other t (c ∷ toks) e = ?
+
+pub ruleset label_of_line = (line_rec-named, line_rec-other)
