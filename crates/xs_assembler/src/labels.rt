@@ -2,6 +2,7 @@ ghost use Rattle.std.specs.Prelude.{◌≡◌, ◌+◌, ◌^◌, ◌<◌, ◌≤
 ghost use Rattle.xs_text.specs.Lines.{lines_of};
 ghost use Rattle.xs_text.specs.Tokens.{tokens_of};
 ghost use Rattle.xs_text.specs.Numbers.{at_most};
+ghost use Rattle.xs_instructions.specs.Image.{may_be_label};
 ghost use Rattle.source_model.specs.Source.{assembled, are_labels, size_of_line, symbol_of_label};
 ghost use Rattle.xs_assembler.specs.Labels.{AreLabelsOf};
 ghost use Rattle.xs_assembler.specs.Assembles.{RefusesWhere, RefusedLabels};
@@ -31,8 +32,14 @@ pub fn read_labels(alloc: Global, text: &[u8]) -> Result<Symbols, AsmError>
     Ok(symbols)
 }
 
+#[tactic(auto, using(crate::proofs::LabelPass::define_steps))]
 // Puts a line's label to the symbols, if it has one.
-fn define(alloc: Global, symbols: &mut Symbols, label: Option<&[u8]>, place: u32) -> Result<(), AsmError>
+fn define(
+    alloc: Global,
+    symbols: &mut Symbols,
+    label: Option<&[u8]>,
+    place: u32,
+) -> Result<(), AsmError>
     requires { place ≤ 16384 }
     ensures ok { OnOk result (symbols.new ≡ symbols.old ++ symbol_of_label place (option_copied label.entry)) }
     ensures labels { OnOk result (are_labels symbols.old ≡ true → are_labels symbols.new ≡ true) }
@@ -41,11 +48,22 @@ fn define(alloc: Global, symbols: &mut Symbols, label: Option<&[u8]>, place: u32
     let Some(name) = label else {
         return Ok(());
     };
-    if !is_name(name) || is_reserved(name) || symbols.address(name).is_some() {
+    if !may_be_label(name) {
         return Err(refusal());
     }
-    symbols.define(alloc, name, 0x0004_0000 + 4 * place)?;
-    Ok(())
+    match symbols.address(name) {
+        Some(_) => Err(refusal()),
+        None => {
+            symbols.define(alloc, name, 0x0004_0000 + 4 * place)?;
+            Ok(())
+        }
+    }
+}
+
+fn may_be_label(name: &[u8]) -> bool
+    ensures { result ≡ may_be_label name.now }
+{
+    is_name(name) && !is_reserved(name)
 }
 
 // The place after the statement, if there is one. None where it is past 16,384 instructions.

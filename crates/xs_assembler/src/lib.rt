@@ -1,8 +1,8 @@
 //! The assembler: reads a source text and gives the image that it stands for. See docs/ASSEMBLY.md.
 #![tactic(auto)]
 
-mod assembler;
 mod asm_error;
+mod assembler;
 mod code;
 mod labels;
 mod line_parts;

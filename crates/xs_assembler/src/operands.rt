@@ -13,22 +13,54 @@ use xs_text::{TokKind, source_number};
 fn register_number(name: &[u8]) -> Option<u8>
     ensures { result ≡ register_number name.now }
 {
-    if same_name(b"r0", name) { return Some(0); }
-    if same_name(b"r1", name) { return Some(1); }
-    if same_name(b"r2", name) { return Some(2); }
-    if same_name(b"r3", name) { return Some(3); }
-    if same_name(b"r4", name) { return Some(4); }
-    if same_name(b"r5", name) { return Some(5); }
-    if same_name(b"r6", name) { return Some(6); }
-    if same_name(b"r7", name) { return Some(7); }
-    if same_name(b"r8", name) { return Some(8); }
-    if same_name(b"r9", name) { return Some(9); }
-    if same_name(b"r10", name) { return Some(10); }
-    if same_name(b"r11", name) { return Some(11); }
-    if same_name(b"cp", name) { return Some(12); }
-    if same_name(b"dp", name) { return Some(13); }
-    if same_name(b"sp", name) { return Some(14); }
-    if same_name(b"lr", name) { return Some(15); }
+    if same_name(b"r0", name) {
+        return Some(0);
+    }
+    if same_name(b"r1", name) {
+        return Some(1);
+    }
+    if same_name(b"r2", name) {
+        return Some(2);
+    }
+    if same_name(b"r3", name) {
+        return Some(3);
+    }
+    if same_name(b"r4", name) {
+        return Some(4);
+    }
+    if same_name(b"r5", name) {
+        return Some(5);
+    }
+    if same_name(b"r6", name) {
+        return Some(6);
+    }
+    if same_name(b"r7", name) {
+        return Some(7);
+    }
+    if same_name(b"r8", name) {
+        return Some(8);
+    }
+    if same_name(b"r9", name) {
+        return Some(9);
+    }
+    if same_name(b"r10", name) {
+        return Some(10);
+    }
+    if same_name(b"r11", name) {
+        return Some(11);
+    }
+    if same_name(b"cp", name) {
+        return Some(12);
+    }
+    if same_name(b"dp", name) {
+        return Some(13);
+    }
+    if same_name(b"sp", name) {
+        return Some(14);
+    }
+    if same_name(b"lr", name) {
+        return Some(15);
+    }
     None
 }
 
@@ -39,7 +71,11 @@ fn register_first(line: &[u8], limit: u8) -> Option<(u8, &[u8])>
 {
     let (name, rest) = name_first(line)?;
     let number = register_number(name)?;
-    if number <= limit { Some((number, rest)) } else { None }
+    if number <= limit {
+        Some((number, rest))
+    } else {
+        None
+    }
 }
 
 // r0 to r11.

@@ -4,7 +4,9 @@ ghost use Rattle.source_model.specs.Source.{places_of};
 ghost use Rattle.source_model.specs.Statement.{instruction, statement};
 ghost use Rattle.xs_assembler.specs.Labels.{HavePlaces};
 
-use crate::operands::{lone_label, register_and_dp, register_and_label, register_and_short, three_registers};
+use crate::operands::{
+    lone_label, register_and_dp, register_and_label, register_and_short, three_registers,
+};
 use crate::tokens::{ended, name_first, same_name};
 use xs_instructions::{FlowIns, Instr, MemIns, Symbols, ThreadIns, WordIns};
 

@@ -8,7 +8,8 @@ use xs_instructions::{FlowIns, Instr, MemIns, ThreadIns, WordIns};
 
 #[test]
 fn sum(rt: HostRuntime) -> Result<(), Fail> {
-    let text = b"main: ldc r0, 5\n  ldc r1, 0x7\n  add r2, r0, r1 // 12\r\n  stw lr, dp[0b11]\n  freet\n";
+    let text =
+        b"main: ldc r0, 5\n  ldc r1, 0x7\n  add r2, r0, r1 // 12\r\n  stw lr, dp[0b11]\n  freet\n";
     let image = assemble(rt.alloc(), text)?;
     let code = image.code();
     assert_eq!(rt; code.len(), 5);

@@ -44,7 +44,11 @@ pub fn mark_first(line: &[u8], mark: u8) -> Option<&[u8]>
     ensures { option_map (λ rest. tokens_of rest.now) result ≡ mark_first mark (tokens_of line.now) }
 {
     let (_, bytes, rest) = first_token(line)?;
-    if same_name(&[mark], bytes) { Some(rest) } else { None }
+    if same_name(&[mark], bytes) {
+        Some(rest)
+    } else {
+        None
+    }
 }
 
 // The value, if no token is left.

@@ -1,7 +1,5 @@
-use Rattle.std.proofs.Common.{◌≡◌, ◌+◌, ◌-◌, ◌≤◌, ◌++◌, true, length}
+use Rattle.std.proofs.Common.{◌≡◌, ◌-◌, length}
 use Rattle.xs_text.specs.Lines.{lines_of, bytes_left}
-use Rattle.source_model.specs.Source.{labels_of, labels_from, are_labels}
-use Rattle.xs_assembler.specs.Labels.{size_of_lines}
 use Rattle.xs_assembler.proofs.LabelPass.{LabelsSoFar}
 use Rattle.xs_assembler.proofs.labels.read_labels.Given as goal
 
