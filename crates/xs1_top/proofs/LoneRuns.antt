@@ -37,7 +37,7 @@ module _ (plan : NodePlan) (slot : ℕ) (fixed : Fixed) (same : fixed ≡ fixed_
   pub keeps_at_next : (kept : KeptEvents) (out : Emitted) (emitted : List Event) → out ≡ (node_step fixed (lone_node plan slot).rec slot no_arrivals no_pins).emitted → emitted ≡ out.events → Keeps kept ((lone_node plan slot).events ++ emitted) → Keeps kept (lone_node plan (slot + 1)).events
   keeps_at_next kept out emitted gave told h =
       let step : emitted ≡ (node_step (fixed_of plan no_gaps) (lone_node plan slot).rec slot no_arrivals no_pins).emitted.events =
-          told ∙ (ap (λ (o : Emitted). o.events) gave ∙ ap (λ (f : Fixed). (node_step f (lone_node plan slot).rec slot no_arrivals no_pins).emitted.events) same) in
+      told ∙ (ap (λ (o : Emitted). o.events) gave ∙ ap (λ (f : Fixed). (node_step f (lone_node plan slot).rec slot no_arrivals no_pins).emitted.events) same) in
       subst (Keeps kept) (ap (λ (es : List Event). (lone_node plan slot).events ++ es) step ∙ sym (ap (λ (n : LoneNode). n.events) (lone_node-next plan slot))) h
 
 -- room that is made changes nothing that is kept

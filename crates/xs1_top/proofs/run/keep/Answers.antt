@@ -1,4 +1,4 @@
-use Rattle.std.proofs.Common.{◌+◌, ◌-◌, List, [], ◌∷◌, ◌++◌, length, take, ap, sym, ◌∙◌, subst, arith, append_assoc}
+use Rattle.std.proofs.Common.{◌+◌, ◌-◌, List, ◌++◌, length, take, ap, sym, ◌∙◌, subst, arith, append_assoc}
 use Rattle.std.proofs.lemmas.List.{take_more}
 use Rattle.xs_model.specs.declared.event.Event.{Event}
 use Rattle.trace_lines.specs.Kept.{Keeps}

@@ -1,4 +1,4 @@
-use Rattle.std.proofs.Common.{◌++◌, length, ◌≤◌, arith}
+use Rattle.std.proofs.Common.{length, ◌≤◌, arith}
 use Rattle.xs_model.specs.Threads.{fresh_thread}
 use Rattle.xs1_top.proofs.TraceLines.{one_more, none_left, halted_lines-next, halted_lines-end}
 use Rattle.xs1_top.proofs.trace.append_halted_lines.Goals as goal

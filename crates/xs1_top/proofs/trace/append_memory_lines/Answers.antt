@@ -21,5 +21,5 @@ returns c =
     let memory = c.args.core.now.core.memory in
     let all_words : c.loop-k.k ≡ 16384 = omega arith in
     let none : words_of (drop (4 * c.loop-k.k) memory) ≡ [] =
-        ap (λ (k : ℕ). words_of (drop (4 * k) memory)) all_words ∙ c.words_in_order.ensures.end memory (c.loop-k.invariant.size (omega arith)) in
+    ap (λ (k : ℕ). words_of (drop (4 * k) memory)) all_words ∙ c.words_in_order.ensures.end memory (c.loop-k.invariant.size (omega arith)) in
     none_left _ _ _ (memory_lines-end c.args.node (memory_base + 4 * c.loop-k.k) _ none) c.loop-k.invariant.lines
