@@ -1,0 +1,3 @@
+pub mod LoneRuns
+pub mod TraceLines
+pub mod WholeTrace
