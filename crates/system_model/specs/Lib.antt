@@ -1,4 +1,3 @@
-pub mod Words
 pub mod System
 pub mod Run
 pub mod Trace
