@@ -1,0 +1,33 @@
+-- Resource identifiers of channel ends, and the way to them.
+use Rattle.std.specs.Prelude.{ℕ, zero, suc, ◌+◌, ◌*◌, ◌/◌, ◌%◌, Bool, ◌==◌, if◌then◌else◌, Option, Some, None, List, slice_index}
+use Rattle.std.specs.Int.{bit_at}
+
+-- channel end n of the node with this id
+abbrev pub chan_id : ℕ → ℕ → ℕ
+chan_id node n = node * 65536 + n * 256 + 2
+
+-- the id of the node that a destination is on
+abbrev pub node_of_dest : ℕ → ℕ
+node_of_dest dest = dest / 65536
+
+-- the number of the channel end there
+abbrev pub chan_of_dest : ℕ → ℕ
+chan_of_dest dest = dest / 256 % 256
+
+-- the highest of the lowest count bits in which two ids differ
+unfoldable pub first_difference : ℕ → ℕ → ℕ → Option ℕ
+first_difference zero a b = None
+first_difference (suc k) a b = if bit_at a k == bit_at b k then first_difference k a b else Some k
+
+-- where a destination lies from a node: on the node itself, or behind some of these link ends, as a mask
+pub data Way : Type 0 where
+  Here : Way
+  Behind : (ends : ℕ) → Way
+
+abbrev pub way_at : List ℕ → Option ℕ → Way
+way_at ways None = Here
+way_at ways (Some bit) = Behind (slice_index ways bit)
+
+-- the link ends of the highest bit in which the ids differ lead on
+abbrev pub way_to : ℕ → List ℕ → ℕ → Way
+way_to id ways dest = way_at ways (first_difference 16 id (node_of_dest dest))

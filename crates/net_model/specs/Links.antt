@@ -1,0 +1,47 @@
+-- Link ends: what arrives at them, and when they may send. They count lists of slots.
+use Rattle.std.specs.Prelude.{ℕ, ◌+◌, Bool, true, ◌&&◌, nat_le, nat_lt, if◌then◌else◌, Option, Some, None, List, [], ◌∷◌, ◌++◌, length, filter, slice_index_or}
+use Rattle.xs_base.specs.declared.Token.{Token}
+use Rattle.xs_model.specs.Record.{NodeRec, LinkRec}
+
+-- how many tokens fit into a link end's buffer, and how many may be on their way to it
+abbrev pub window : ℕ
+window = 8
+
+-- a token that arrives is put into the buffer, where it has room; else it is dropped
+abbrev pub token_arrives : Option Token → LinkRec → LinkRec
+token_arrives None link = link
+token_arrives (Some t) link = if nat_lt (length link.buffer) window then record link { buffer = link.buffer ++ t ∷ [] } else link
+
+-- a credit that arrives is counted, where some token that was sent is outstanding; else it is dropped
+abbrev pub credit_arrives : ℕ → Bool → LinkRec → LinkRec
+credit_arrives slot credit link =
+    if credit && nat_lt (length link.credited) (length link.sent) then record link { credited = link.credited ++ slot ∷ [] } else link
+
+-- what arrives in a slot at a link end: the token, then the credit; where there is no link end it is dropped
+abbrev pub link_after_arrivals : ℕ → Option Token → Bool → Option LinkRec → Option LinkRec
+link_after_arrivals slot token credit None = None
+link_after_arrivals slot token credit (Some link) = Some (credit_arrives slot credit (token_arrives token link))
+
+-- the link ends from number end on, after what arrives in a slot
+unfoldable pub links_after_arrivals : ℕ → List (Option Token) → List Bool → ℕ → List (Option LinkRec) → List (Option LinkRec)
+links_after_arrivals slot tokens credits end [] = []
+links_after_arrivals slot tokens credits end (link ∷ links) =
+    link_after_arrivals slot (slice_index_or tokens end None) (slice_index_or credits end true) link
+    ∷ links_after_arrivals slot tokens credits (end + 1) links
+
+-- the last slot of a list that rises
+abbrev pub latest : List ℕ → Option ℕ
+latest [] = None
+latest (s ∷ []) = Some s
+latest (s ∷ r ∷ rest) = latest (r ∷ rest)
+
+abbrev pub gap_is_over : ℕ → ℕ → Option ℕ → Bool
+gap_is_over gap slot None = true
+gap_is_over gap slot (Some last) = nat_le (last + gap) slot
+
+-- A link end may send in a slot where of the tokens that it sent before fewer than 8 are without a credit so far,
+-- and its last token was sent a gap ago or longer, or never.
+abbrev pub may_send : ℕ → ℕ → LinkRec → Bool
+may_send gap slot link =
+    nat_lt (length (filter (λ s. nat_lt s slot) link.sent)) (window + length (filter (λ s. nat_le s slot) link.credited))
+    && gap_is_over gap slot (latest link.sent)
