@@ -1,4 +1,6 @@
 pub mod Ids
+pub mod Chans
 pub mod Links
 pub mod Switch
 pub mod Quiet
+pub mod Worked
