@@ -1,3 +1,7 @@
 //! The program's one call: it reads its words and its input, runs the system, and writes the trace. See
 //! docs/OUTPUT.md.
 #![tactic(auto)]
+
+mod input;
+mod output;
+mod words;

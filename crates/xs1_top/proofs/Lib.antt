@@ -1,0 +1,4 @@
+mod Decimal
+mod FormOfWords
+mod Pieces
+mod RowsOfReads
