@@ -10,7 +10,7 @@ use Rattle.xs_instructions.specs.declared.instr.WordIns.TheVariants as words
 use Rattle.xs_instructions.specs.declared.instr.MemIns.TheVariants as memory
 use Rattle.xs_instructions.specs.declared.instr.FlowIns.TheVariants as flow
 use Rattle.xs_instructions.specs.declared.instr.ThreadIns.TheVariants as threads
-use Rattle.source_model.specs.Numbers.{source_number_of, at_most}
+use Rattle.xs_text.specs.Numbers.{source_number_of, at_most}
 
 infixl 10 ◌>>=◌
 abbrev pub ◌>>=◌ : {A B : Type 0} → Option A → (A → Option B) → Option B
@@ -35,16 +35,16 @@ is_the_mark mark t = same_name (mark ∷ []) t.bytes
 -- Each of these takes one token from the front: what it stands for, and the tokens after it.
 
 -- a name
-abbrev pub name_first : List Token → Option (List ℕ × List Token)
+unfoldable pub name_first : List Token → Option (List ℕ × List Token)
 name_first [] = None
 name_first (t ∷ rest) = if is_of_kind_name t.kind then Some (t.bytes, rest) else None
 
-abbrev pub mark_first : ℕ → List Token → Option (List Token)
+unfoldable pub mark_first : ℕ → List Token → Option (List Token)
 mark_first mark [] = None
 mark_first mark (t ∷ rest) = if is_the_mark mark t then Some rest else None
 
 -- the number of a register by its name: 0 to 11 for r0 to r11, then cp, dp, sp and lr
-abbrev pub register_number : List ℕ → Option ℕ
+unfoldable pub register_number : List ℕ → Option ℕ
 register_number name =
     if same_name (codes "r0") name then Some 0 else (
     if same_name (codes "r1") name then Some 1 else (
@@ -64,7 +64,7 @@ register_number name =
     if same_name (codes "lr") name then Some 15 else None)))))))))))))))
 
 -- a register whose number is at most the limit
-abbrev pub register_first : ℕ → List Token → Option (ℕ × List Token)
+unfoldable pub register_first : ℕ → List Token → Option (ℕ × List Token)
 register_first limit toks = do
   name ← name_first toks
   number ← at_most limit (register_number name.0)
@@ -78,7 +78,7 @@ abbrev pub any_first : List Token → Option (ℕ × List Token)
 any_first toks = register_first 15 toks
 
 -- a number of at most 65,535
-abbrev pub short_first : List Token → Option (ℕ × List Token)
+unfoldable pub short_first : List Token → Option (ℕ × List Token)
 short_first [] = None
 short_first (t ∷ rest) =
     if is_of_kind_number t.kind
@@ -95,7 +95,7 @@ abbrev pub Places : Type 0
 Places = List ℕ → Option ℕ
 
 -- a label that has a place
-abbrev pub label_first : Places → List Token → Option (ℕ × List Token)
+unfoldable pub label_first : Places → List Token → Option (ℕ × List Token)
 label_first places toks = do
   name ← name_first toks
   place ← places name.0

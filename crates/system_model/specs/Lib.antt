@@ -1,6 +1,6 @@
-pub mod Words
 pub mod System
 pub mod Run
 pub mod Trace
 pub mod Top
 pub mod Worked
+pub mod WorkedEdges

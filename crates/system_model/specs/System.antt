@@ -3,12 +3,12 @@ use Rattle.std.specs.Prelude.{ℕ, Bool, true, false, ◌&&◌, ◌==◌, nat_lt
 use Rattle.xs_text.specs.Bytes.{all_allowed}
 use Rattle.xs_text.specs.Lines.{lines_of}
 use Rattle.xs_instructions.specs.Image.{ImageRec, same_name}
-use Rattle.source_model.specs.Numbers.{number_of, at_most}
+use Rattle.xs_text.specs.Numbers.{number_of, at_most}
 use Rattle.source_model.specs.Source.{assembled_lines}
 use Rattle.source_model.specs.declared.AsmKind.{AsmKind}
 use Rattle.source_model.specs.declared.AsmKind.TheVariants.{UnknownName}
 use Rattle.sys_plan.specs.declared.NodePlan.{NodePlan}
-use Rattle.system_model.specs.Words.{words_of_line}
+use Rattle.xs_text.specs.Words.{words_of_line}
 use Rattle.system_model.specs.declared.SysKind.{SysKind}
 use Rattle.system_model.specs.declared.SysKind.TheVariants.{BadLine, TooLong}
 

@@ -4,7 +4,7 @@ use Rattle.std.specs.List.{list_all}
 use Rattle.std.specs.Char.{is_ascii_digit}
 use Rattle.std.specs.Str.Parse.{digits_value}
 use Rattle.xs_instructions.specs.Image.{same_name}
-use Rattle.source_model.specs.Numbers.{at_most, value_in}
+use Rattle.xs_text.specs.Numbers.{at_most, value_in}
 use Rattle.source_model.specs.declared.AsmKind.{AsmKind}
 use Rattle.source_model.specs.declared.AsmKind.TheVariants.{UnknownName}
 use Rattle.system_model.specs.declared.SysKind.{SysKind}

@@ -3,6 +3,7 @@
 #![tactic(auto)]
 
 ghost use Rattle.system_model.specs.Worked.{WorkedAnswers};
+ghost use Rattle.system_model.specs.WorkedEdges.{WorkedFrames, WorkedSources, WorkedRuns};
 
 use xs_base::Text;
 
@@ -53,4 +54,19 @@ pub struct Answer {
 /// The definitions give what was worked out by hand.
 pub fn worked_answers()
     ensures { WorkedAnswers }
+{}
+
+/// The same at the frame of a system text.
+pub fn worked_frames()
+    ensures { WorkedFrames }
+{}
+
+/// The same at the lines of a source.
+pub fn worked_sources()
+    ensures { WorkedSources }
+{}
+
+/// The same at runs.
+pub fn worked_runs()
+    ensures { WorkedRuns }
 {}

@@ -3,26 +3,17 @@ ghost use Rattle.std.specs.Prelude.{◌≡◌, ◌<◌, ◌≤◌, [], ◌∷◌
 ghost use Rattle.xs_model.specs.Outside.{emitted_events};
 ghost use Rattle.xs_model.specs.Events.{IsWithinCounts};
 
+use arrayvec::ArrayVec;
 use std::marker::Model;
 use xs_base::Token;
-use xs_model::{Event, Happen};
-
-// How many events one slot can have at most.
-const MOST_EVENTS: usize = 112;
-
-// What stands in the places that hold no event.
-const BLANK: Event = Event {
-    slot: 0,
-    what: Happen::Halt { thread: 0 },
-};
+use xs_model::Event;
 
 /// What one slot of a node gives: at most 112 events in their order, and for each link end 0 to 7 at most one token
 /// and one credit that leave by it. Contracts see it as an `Emitted` of `Rattle.xs_model.specs.Outside`. It takes
 /// no memory beyond its own. See docs/MACHINE.md.
 #[derive(Drop)]
 pub struct Emissions {
-    events: [Event; 112],
-    count: usize,
+    events: ArrayVec<Event, 112>,
     tokens: [Option<Token>; 8],
     credits: [bool; 8],
     // Whether a token or a credit was set since all were cleared.
@@ -47,8 +38,7 @@ impl Emissions {
         ensures { result ≡ emitted_events [] }
     {
         Emissions {
-            events: [BLANK; 112],
-            count: 0,
+            events: ArrayVec::new(),
             tokens: [None; 8],
             credits: [false; 8],
             links_used: false,
@@ -59,7 +49,7 @@ impl Emissions {
     pub fn clear(&mut self)
         ensures { self.new ≡ emitted_events [] }
     {
-        self.count = 0;
+        self.events.clear();
         if self.links_used {
             self.tokens = [None; 8];
             self.credits = [false; 8];
@@ -73,8 +63,7 @@ impl Emissions {
         requires within { IsWithinCounts e }
         ensures { self.new ≡ record self.old { events = self.old.events ++ e ∷ [] } }
     {
-        self.events[self.count] = e;
-        self.count += 1;
+        self.events.push(e);
     }
 
     /// Says that this token leaves by this link end, in place of one that was set before.
@@ -101,7 +90,7 @@ impl Emissions {
         ensures within { All IsWithinCounts result.now }
         ensures bound { length result.now ≤ 112 }
     {
-        &self.events[..self.count]
+        self.events.as_slice()
     }
 
     /// The token that leaves by this link end, or `None` where none was set.

@@ -1,7 +1,7 @@
 -- Lines. Each ends with a line feed (10), which the last line of a text may lack. A text that ends
 -- with a line feed has no empty line after it, and the empty text has no line. One carriage return
 -- (13) directly before a line feed is dropped; any other stays in its line.
-use Rattle.std.specs.Prelude.{ℕ, ◌+◌, Bool, ◌||◌, ◌&&◌, ◌==◌, if◌then◌else◌, List, [], ◌∷◌, drop}
+use Rattle.std.specs.Prelude.{◌≡◌, ◌≤◌, ℕ, ◌+◌, Bool, ◌||◌, ◌&&◌, ◌==◌, if◌then◌else◌, List, [], ◌∷◌, length, drop}
 use Rattle.std.specs.List.{slice_range}
 use Rattle.xs_text.specs.Bytes.{begins_with}
 use Rattle.xs_text.specs.declared.line_reader.Line.{Line}
@@ -56,3 +56,9 @@ line_length (b ∷ rest) = if is_line_end b rest then 0 else 1 + line_length res
 abbrev pub end_length : List ℕ → ℕ
 end_length [] = 0
 end_length (b ∷ rest) = if b == 10 then 1 else 2
+
+-- A part of the text that begins at `from`, and ends at `after` or past it, begins with the line. Its other lines
+-- are those of the part from `after` on.
+abbrev pub IsLineOfParts : List ℕ → Line → ℕ → ℕ → Type 0
+IsLineOfParts text line from after =
+    (end : ℕ) → after ≤ end → end ≤ length text → lines_of (slice_range text from end) ≡ line_bytes text line ∷ lines_of (slice_range text after end)

@@ -1,5 +1,5 @@
 ghost use Rattle.std.specs.Prelude.{◌≡◌, ◌+◌, ◌^◌, ◌<◌, ◌≤◌, ◌↔◌, ◌∷◌, [], length, drop, slice_index, IsNone, IfNone, IfSome};
-ghost use Rattle.xs_text.specs.Lines.{lines_of, line_bytes, bytes_left, start_of, is_line_end, line_length, end_length};
+ghost use Rattle.xs_text.specs.Lines.{lines_of, line_bytes, bytes_left, start_of, is_line_end, line_length, end_length, IsLineOfParts};
 
 use std::marker::Model;
 
@@ -51,6 +51,8 @@ impl<'a> Lines<'a> {
         ensures end_stays { IfNone result (self.new ≡ self.old) }
 
         ensures line { IfSome result (λ line. lines_of (bytes_left self.old) ≡ line_bytes self.old.text line ∷ lines_of (bytes_left self.new)) }
+        // The same of each part of the text that begins here and ends past the line.
+        ensures part { IfSome result (λ line. IsLineOfParts self.old.text line self.old.at self.new.at) }
         ensures begins { IfSome result (λ line. line.from ≡ self.old.at) }
         ensures ordered { IfSome result (λ line. line.from ≤ line.to) }
         ensures in_text { IfSome result (λ line. line.to ≤ length self.old.text) }

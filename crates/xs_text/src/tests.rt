@@ -1,7 +1,7 @@
 ghost use Rattle.std.specs.Prelude.{◌<◌, ◌^◌, length};
 
 use crate::TokKind::{Mark, Name, Number, Stray};
-use crate::{Line, Lines, TokKind, next_tok};
+use crate::{Line, Lines, TokKind, next_tok, next_word, number, source_number};
 use std::process::Abort;
 
 // Asserts that the text has the expected lines: the number, from and to of each.
@@ -83,5 +83,45 @@ fn tokens(rt: HostRuntime) {
             (Stray, 3, 4),
             (Stray, 4, 5),
         ],
+    );
+}
+
+// Asserts that the line has the expected words.
+fn expect_words(rt: &impl Abort, line: &[u8], expected: &[&[u8]]) {
+    let mut rest = line;
+    for word in expected {
+        match next_word(rest) {
+            Some((found, after)) => {
+                assert_eq!(rt; found, *word);
+                rest = after;
+            }
+            None => assert!(rt; false, "a word is missing"),
+        }
+    }
+    assert!(rt; next_word(rest).is_none());
+}
+
+#[test]
+fn words(rt: HostRuntime) {
+    expect_words(&rt, b" \t// x", &[]);
+    expect_words(&rt, b"node 07\tid 0xFf", &[b"node", b"07", b"id", b"0xFf"]);
+    expect_words(&rt, b"a/b c#d e", &[b"a/b", b"c"]);
+}
+
+#[test]
+fn numbers(rt: HostRuntime) {
+    assert_eq!(rt; number(b"65535", 65_535), Some(65_535));
+    assert_eq!(rt; number(b"65536", 65_535), None);
+    assert_eq!(rt; number(b"0xfF", 255), Some(255));
+    assert_eq!(rt; number(b"0b1", 9), None);
+    assert_eq!(rt; number(b"", 9), None);
+    assert_eq!(rt; source_number(b"0b101", 5), Some(5));
+    assert_eq!(rt;
+        source_number(b"0x00000000000000000000000000000000000005", 5),
+        Some(5)
+    );
+    assert_eq!(rt;
+        source_number(b"100000000000000000000000000000000000000", u32::MAX),
+        None
     );
 }

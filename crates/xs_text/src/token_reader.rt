@@ -67,19 +67,19 @@ fn all_binary_digits(bytes: &[u8]) -> bool
     bytes.iter().all(|b| *b == b'0' || *b == b'1')
 }
 
-fn is_decimal(bytes: &[u8]) -> bool
+pub fn is_decimal(bytes: &[u8]) -> bool
     ensures { result ≡ is_run is_ascii_digit bytes.now }
 {
     !bytes.is_empty() && all_digits(bytes)
 }
 
-fn is_hex(bytes: &[u8]) -> bool
+pub fn is_hex(bytes: &[u8]) -> bool
     ensures { result ≡ is_based 120 is_ascii_hexdigit bytes.now }
 {
     bytes.len() > 2 && bytes[0] == b'0' && bytes[1] == b'x' && all_hex_digits(&bytes[2..])
 }
 
-fn is_binary(bytes: &[u8]) -> bool
+pub fn is_binary(bytes: &[u8]) -> bool
     ensures { result ≡ is_based 98 is_binary_digit bytes.now }
 {
     bytes.len() > 2 && bytes[0] == b'0' && bytes[1] == b'b' && all_binary_digits(&bytes[2..])
@@ -116,7 +116,7 @@ fn kind_of(bytes: &[u8]) -> TokKind
 }
 
 // How many bytes the blanks at the front are.
-fn blank_length(bytes: &[u8]) -> usize
+pub fn blank_length(bytes: &[u8]) -> usize
     ensures length { result ≡ prefix_len is_blank bytes.now }
     ensures within { result ≤ length bytes.now }
 {
@@ -153,7 +153,7 @@ fn tail_length(first: u8, rest: &[u8]) -> usize
     }
 }
 
-fn begins_comment(first: u8, rest: &[u8]) -> bool
+pub fn begins_comment(first: u8, rest: &[u8]) -> bool
     ensures { result ≡ begins_comment first rest.now }
 {
     first == b'#' || (first == b'/' && !rest.is_empty() && rest[0] == b'/')

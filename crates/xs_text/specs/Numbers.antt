@@ -1,10 +1,8 @@
 -- Numbers as they are written: decimal digits, or 0x and hex digits, or, in sources alone, 0b and binary digits.
-use Rattle.std.specs.Prelude.{ℕ, Bool, ◌&&◌, ◌==◌, nat_le, if◌then◌else◌, Option, Some, None, option_and_then, List, [], ◌∷◌}
-use Rattle.std.specs.List.{list_all}
+use Rattle.std.specs.Prelude.{ℕ, Bool, ◌&&◌, ◌==◌, nat_le, if◌then◌else◌, Option, Some, None, option_and_then, List, ◌∷◌}
 use Rattle.std.specs.Char.{is_ascii_digit, is_ascii_hexdigit}
 use Rattle.std.specs.Str.Parse.{digits_value}
-use Rattle.std.specs.Int.{is_in_range}
-use Rattle.xs_text.specs.Tokens.{is_run}
+use Rattle.xs_text.specs.Tokens.{is_run, is_binary_digit}
 
 -- the bytes after `0` and the letter of a base, if they begin so
 abbrev pub after_base : ℕ → List ℕ → Option (List ℕ)
@@ -26,7 +24,7 @@ number_of bytes =
 
 -- the same in sources
 abbrev pub source_number_of : List ℕ → Option ℕ
-source_number_of bytes = or_else (number_of bytes) (option_and_then (value_in 2 (is_in_range 48 49)) (after_base 98 bytes))
+source_number_of bytes = or_else (number_of bytes) (option_and_then (value_in 2 is_binary_digit) (after_base 98 bytes))
 
 -- a number of at most a limit
 abbrev pub at_most : ℕ → Option ℕ → Option ℕ

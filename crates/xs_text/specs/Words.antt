@@ -1,5 +1,5 @@
 -- Words of a line: blanks part them, and a comment ends the line.
-use Rattle.std.specs.Prelude.{ℕ, Bool, true, false, ◌&&◌, not, if◌then◌else◌, List, [], ◌∷◌}
+use Rattle.std.specs.Prelude.{ℕ, ◌+◌, Bool, false, ◌||◌, if◌then◌else◌, List, [], ◌∷◌}
 use Rattle.xs_text.specs.Bytes.{is_blank}
 use Rattle.xs_text.specs.Lines.{put_in_front}
 use Rattle.xs_text.specs.Tokens.{begins_comment}
@@ -25,3 +25,12 @@ parted (b ∷ rest) = if is_blank b then parted rest else onto_words b rest (par
 -- the words of a line
 abbrev pub words_of_line : List ℕ → List (List ℕ)
 words_of_line bytes = parted (without_comment bytes)
+
+-- whether a word ends before b
+abbrev pub ends_word : ℕ → List ℕ → Bool
+ends_word b rest = is_blank b || begins_comment b rest
+
+-- how many bytes the word has that begins here
+unfoldable pub word_length : List ℕ → ℕ
+word_length [] = 0
+word_length (b ∷ rest) = if ends_word b rest then 0 else 1 + word_length rest

@@ -1,0 +1,31 @@
+//! The program `xs1`: its words, standard input and standard output go to the one call `top`, and it ends with that
+//! call's status. See docs/OUTPUT.md.
+#![tactic(auto)]
+
+use std::env;
+use std::io;
+use std::process::ExitCode;
+use xs_edge::{OpenGate, StdSink, StdSource};
+use xs1_top::{Status, top};
+
+fn main(rt: HostRuntime) -> ExitCode {
+    let status = match words(&rt) {
+        Ok(words) => {
+            let mut source = StdSource::new(rt.stdin());
+            let mut sink = StdSink::new(rt.stdout());
+            top(rt.alloc(), &words, &mut source, &mut sink, &OpenGate)
+        }
+        Err(_) => Status::Memory,
+    };
+    ExitCode::from(status.number())
+}
+
+// The words after the program's name. The error is want of memory. Words that are no text have no form, as no words
+// have none.
+fn words(rt: &HostRuntime) -> io::Result<Vec<String>> {
+    match env::args(rt) {
+        Ok(all) => Ok(all.skip(1).collect(rt.alloc())?),
+        Err(error) if error.kind() == io::ErrorKind::OutOfMemory => Err(error),
+        Err(_) => Ok(Vec::new(rt.alloc())),
+    }
+}

@@ -1,0 +1,188 @@
+ghost use Rattle.std.specs.Prelude.{◌≡◌, ◌≤◌, option_map};
+ghost use Rattle.xs_text.specs.Tokens.{tokens_of};
+ghost use Rattle.source_model.specs.Source.{places_of, place_of};
+ghost use Rattle.source_model.specs.Statement.{register_number, register_first, common_first, any_first, short_first, label_first, three_registers, register_and_short, register_and_dp, register_and_label, lone_label};
+ghost use Rattle.xs_assembler.specs.Labels.{HavePlaces};
+
+use crate::tokens::{ended, first_token, mark_first, name_first, same_name};
+use xs_instructions::Symbols;
+use xs_text::{TokKind, source_number};
+
+// The number of a register: 0 to 11 for r0 to r11, then cp, dp, sp and lr.
+#[tactic(auto, unfolding(source_model::specs::Statement::register_number))]
+fn register_number(name: &[u8]) -> Option<u8>
+    ensures { result ≡ register_number name.now }
+{
+    if same_name(b"r0", name) {
+        return Some(0);
+    }
+    if same_name(b"r1", name) {
+        return Some(1);
+    }
+    if same_name(b"r2", name) {
+        return Some(2);
+    }
+    if same_name(b"r3", name) {
+        return Some(3);
+    }
+    if same_name(b"r4", name) {
+        return Some(4);
+    }
+    if same_name(b"r5", name) {
+        return Some(5);
+    }
+    if same_name(b"r6", name) {
+        return Some(6);
+    }
+    if same_name(b"r7", name) {
+        return Some(7);
+    }
+    if same_name(b"r8", name) {
+        return Some(8);
+    }
+    if same_name(b"r9", name) {
+        return Some(9);
+    }
+    if same_name(b"r10", name) {
+        return Some(10);
+    }
+    if same_name(b"r11", name) {
+        return Some(11);
+    }
+    if same_name(b"cp", name) {
+        return Some(12);
+    }
+    if same_name(b"dp", name) {
+        return Some(13);
+    }
+    if same_name(b"sp", name) {
+        return Some(14);
+    }
+    if same_name(b"lr", name) {
+        return Some(15);
+    }
+    None
+}
+
+// A register whose number is at most the limit.
+#[tactic(auto, unfolding(source_model::specs::Statement::register_first))]
+fn register_first(line: &[u8], limit: u8) -> Option<(u8, &[u8])>
+    ensures { option_map (λ x. (x.0, tokens_of x.1.now)) result ≡ register_first limit (tokens_of line.now) }
+{
+    let (name, rest) = name_first(line)?;
+    let number = register_number(name)?;
+    if number <= limit {
+        Some((number, rest))
+    } else {
+        None
+    }
+}
+
+// r0 to r11.
+fn common_first(line: &[u8]) -> Option<(u8, &[u8])>
+    ensures { option_map (λ x. (x.0, tokens_of x.1.now)) result ≡ common_first (tokens_of line.now) }
+{
+    register_first(line, 11)
+}
+
+// r0 to r11, cp, dp, sp or lr.
+fn any_first(line: &[u8]) -> Option<(u8, &[u8])>
+    ensures { option_map (λ x. (x.0, tokens_of x.1.now)) result ≡ any_first (tokens_of line.now) }
+{
+    register_first(line, 15)
+}
+
+// A number of at most 65,535.
+#[tactic(auto, unfolding(source_model::specs::Statement::short_first))]
+fn short_first(line: &[u8]) -> Option<(u16, &[u8])>
+    ensures { option_map (λ x. (x.0, tokens_of x.1.now)) result ≡ short_first (tokens_of line.now) }
+{
+    let (kind, bytes, rest) = first_token(line)?;
+    match kind {
+        TokKind::Number => Some((source_number(bytes, 65_535)? as u16, rest)),
+        _ => None,
+    }
+}
+
+// Where a label leads, if there is one of this name.
+fn place_of(symbols: &Symbols, name: &[u8]) -> Option<u16>
+    requires { HavePlaces symbols.now }
+    ensures { result ≡ places_of symbols.now name.now }
+{
+    let at = symbols.address(name)?;
+    Some((at.saturating_sub(0x0004_0000) / 4) as u16)
+}
+
+// A label that has a place.
+#[tactic(auto, unfolding(source_model::specs::Statement::label_first))]
+fn label_first<'a>(symbols: &Symbols, line: &'a [u8]) -> Option<(u16, &'a [u8])>
+    requires { HavePlaces symbols.now }
+    ensures { option_map (λ x. (x.0, tokens_of x.1.now)) result ≡ label_first (places_of symbols.now) (tokens_of line.now) }
+{
+    let (name, rest) = name_first(line)?;
+    let place = place_of(symbols, name)?;
+    Some((place, rest))
+}
+
+// `d, x, y`
+#[tactic(auto, unfolding(source_model::specs::Statement::three_registers))]
+pub fn three_registers(line: &[u8]) -> Option<(u8, u8, u8)>
+    ensures { result ≡ three_registers (tokens_of line.now) }
+{
+    let (d, rest) = common_first(line)?;
+    let rest = mark_first(rest, b',')?;
+    let (x, rest) = common_first(rest)?;
+    let rest = mark_first(rest, b',')?;
+    let (y, rest) = common_first(rest)?;
+    ended(rest, (d, x, y))
+}
+
+// `d, u`
+#[tactic(auto, unfolding(source_model::specs::Statement::register_and_short))]
+pub fn register_and_short(line: &[u8]) -> Option<(u8, u16)>
+    ensures { result ≡ register_and_short (tokens_of line.now) }
+{
+    let (d, rest) = common_first(line)?;
+    let rest = mark_first(rest, b',')?;
+    let (u, rest) = short_first(rest)?;
+    ended(rest, (d, u))
+}
+
+// `g, dp[u]`
+#[tactic(auto, unfolding(source_model::specs::Statement::register_and_dp))]
+pub fn register_and_dp(line: &[u8]) -> Option<(u8, u16)>
+    ensures { result ≡ register_and_dp (tokens_of line.now) }
+{
+    let (g, rest) = any_first(line)?;
+    let rest = mark_first(rest, b',')?;
+    let (base, rest) = name_first(rest)?;
+    if !same_name(b"dp", base) {
+        return None;
+    }
+    let rest = mark_first(rest, b'[')?;
+    let (u, rest) = short_first(rest)?;
+    let rest = mark_first(rest, b']')?;
+    ended(rest, (g, u))
+}
+
+// `s, L`
+#[tactic(auto, unfolding(source_model::specs::Statement::register_and_label))]
+pub fn register_and_label(symbols: &Symbols, line: &[u8]) -> Option<(u8, u16)>
+    requires { HavePlaces symbols.now }
+    ensures { result ≡ register_and_label (places_of symbols.now) (tokens_of line.now) }
+{
+    let (s, rest) = common_first(line)?;
+    let rest = mark_first(rest, b',')?;
+    let (l, rest) = label_first(symbols, rest)?;
+    ended(rest, (s, l))
+}
+
+// `L`
+#[tactic(auto, unfolding(source_model::specs::Statement::lone_label))]
+pub fn lone_label(symbols: &Symbols, line: &[u8]) -> Option<u16>
+    requires { HavePlaces symbols.now }
+    ensures { result ≡ lone_label (places_of symbols.now) (tokens_of line.now) }
+{
+    let (l, rest) = label_first(symbols, line)?;
+    ended(rest, l)
+}
