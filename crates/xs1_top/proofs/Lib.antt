@@ -1,4 +1,3 @@
-mod Decimal
 mod FormOfWords
 mod Pieces
 mod RowsOfReads

@@ -34,13 +34,17 @@ pub Took-nothing : (a : Option (List ℕ)) → Took a a []
 Took-nothing None = tt
 Took-nothing (Some xs) = refl
 
-pub Took-joined : (a b c : Option (List ℕ)) (x y : List ℕ) → Took a b x → Took b c y → Took a c (x ++ y)
+Took-joined : (a b c : Option (List ℕ)) (x y : List ℕ) → Took a b x → Took b c y → Took a c (x ++ y)
 Took-joined (Some a) (Some b) (Some c) x y p q = p ∙ (ap (λ t. x ++ t) q ∙ sym (append_assoc x y c))
 Took-joined (Some a) (Some b) None x y p q = absurd q
 Took-joined (Some a) None c x y p q = absurd p
 Took-joined None (Some b) c x y p q = absurd p
 Took-joined None None (Some c) x y p q = absurd q
 Took-joined None None None x y p q = tt
+
+-- what was taken so far, with one more piece at its end
+pub Took-longer : (a b c : Option (List ℕ)) (x y xy : List ℕ) → Took a b x → Took b c y → xy ≡ x ++ y → Took a c xy
+Took-longer a b c x y xy p q e = subst (Took a c) (sym e) (Took-joined a b c x y p q)
 
 -- so many bytes were taken
 pub taken_full : (most : ℕ) (old new : Option (List ℕ)) (piece : List ℕ) → Took old new piece → length piece ≡ most → IfSome old (λ bytes. piece ≡ take most bytes)

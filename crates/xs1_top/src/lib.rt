@@ -4,4 +4,5 @@
 
 mod input;
 mod output;
+mod refusals;
 mod words;

@@ -1,12 +1,13 @@
 //! The forms of the program's words.
-ghost use Rattle.std.specs.Prelude.{◌≡◌, ◌≤◌, length, map, string_bytes, IsTrue};
+ghost use Rattle.std.specs.Prelude.{◌≡◌, ◌≤◌, map, string_bytes, IfSome};
 ghost use Rattle.std.specs.List.{list_all};
 ghost use Rattle.std.specs.Char.{is_ascii_digit};
-ghost use Rattle.std.specs.Str.Parse.{digits_value};
 ghost use Rattle.xs_text.specs.Tokens.{is_run};
 ghost use Rattle.system_model.specs.Top.{count_of, form_of};
+ghost use Rattle.xs1_top.specs.Call.{HasFewSlots};
 
 use system_model::Form;
+use xs_text::number;
 
 // The most slots that a run may have.
 const MOST_SLOTS: u32 = 1_000_000;
@@ -17,7 +18,8 @@ const MOST_DIGITS: usize = 10;
 /// The form of the program's words, without the program's name. `run SLOTS` is one: SLOTS is one to ten decimal
 /// digits with a value of at most 1,000,000. None comes exactly where the words are of no form. See docs/OUTPUT.md.
 pub fn form_of(words: &[String]) -> Option<Form>
-    ensures { result ≡ form_of (map string_bytes words.now) }
+    ensures value { result ≡ form_of (map string_bytes words.now) }
+    ensures few { IfSome result HasFewSlots }
 {
     let [command, slots] = words else {
         return None;
@@ -31,17 +33,13 @@ pub fn form_of(words: &[String]) -> Option<Form>
 
 // The value of one to ten decimal digits, if it is at most the limit.
 fn count(word: &[u8], limit: u32) -> Option<u32>
-    ensures { result ≡ count_of limit word.now }
+    ensures value { result ≡ count_of limit word.now }
+    ensures limit { IfSome result (λ n. n ≤ limit) }
 {
     if word.len() > MOST_DIGITS || !is_decimal(word) {
         return None;
     }
-    let value = value_of(word);
-    if value <= u64::from(limit) {
-        Some(value as u32)
-    } else {
-        None
-    }
+    number(word, limit)
 }
 
 fn is_decimal(word: &[u8]) -> bool
@@ -54,16 +52,4 @@ fn all_digits(bytes: &[u8]) -> bool
     ensures { result ≡ list_all is_ascii_digit bytes.now }
 {
     bytes.iter().all(|b| b.is_ascii_digit())
-}
-
-fn value_of(digits: &[u8]) -> u64
-    requires decimal { IsTrue (list_all is_ascii_digit digits.now) }
-    requires few { length digits.now ≤ 10 }
-    ensures { result ≡ digits_value 10 digits.now }
-{
-    let mut value = 0;
-    for digit in digits {
-        value = value * 10 + u64::from(*digit - b'0');
-    }
-    value
 }
