@@ -1,3 +1,6 @@
 mod FormOfWords
+pub mod LoneRuns
 mod Pieces
 mod RowsOfReads
+pub mod TraceLines
+pub mod WholeTrace

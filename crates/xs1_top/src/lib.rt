@@ -5,4 +5,6 @@
 mod input;
 mod output;
 mod refusals;
+pub mod run;
+pub mod trace;
 mod words;
