@@ -6,5 +6,10 @@ mod input;
 mod output;
 mod refusals;
 pub mod run;
+#[cfg(test)]
+mod tests;
+pub mod top;
 pub mod trace;
 mod words;
+
+pub use system_model::Status;
