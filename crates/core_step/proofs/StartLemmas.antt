@@ -1,7 +1,7 @@
 -- What holds of a core on which nothing but threads and memory is built.
 use Rattle.std.specs.Prelude.{not, ◌&&◌, ◌||◌, nat_lt, is_some, is_none}
 use Rattle.std.specs.List.{list_all}
-use Rattle.std.proofs.Common.{length, ◌≡◌, ℕ, zero, suc, ◌-◌, ◌≤◌, Bool, true, false, List, [], ◌∷◌, Option, Some, None, refl, ap, sym, ◌∙◌, arith, replicate, get_or, eqb, leb}
+use Rattle.std.proofs.Common.{length, ◌≡◌, ℕ, zero, suc, ◌-◌, true, List, [], Option, refl, ap, ◌∙◌, arith, replicate, get_or, eqb, leb}
 use Rattle.std.proofs.lemmas.Bool.Decides.{nat_tests}
 use Rattle.xs_model.specs.declared.thread.Thread.{Thread}
 use Rattle.xs_model.specs.declared.thread.Run.{Run}

@@ -1,6 +1,6 @@
 -- From an issue to a node step, and the slots that a core keeps.
-use Rattle.std.proofs.Common.{◌≡◌, ℕ, zero, suc, ◌+◌, ◌<◌, Bool, true, false, List, [], ◌∷◌, Option, Some, None, refl, ap, sym, ◌∙◌, arith, add-one}
-use Rattle.std.specs.Prelude.{slice_set, map, IfSome}
+use Rattle.std.proofs.Common.{◌≡◌, ℕ, zero, suc, ◌+◌, Bool, true, false, List, [], ◌∷◌, Option, Some, None, refl, ap, ◌∙◌, arith}
+use Rattle.std.specs.Prelude.{slice_set, map}
 use Rattle.xs_model.specs.declared.thread.Thread.{Thread}
 use Rattle.xs_model.specs.declared.outside.Arrivals.{Arrivals}
 use Rattle.xs_model.specs.declared.outside.PinView.{PinView}
@@ -11,11 +11,9 @@ use Rattle.xs_instructions.specs.declared.instr.Instr.{Instr}
 use Rattle.xs_instructions.specs.declared.instr.Instr.TheVariants.{Words, Memory, Flow, Threads}
 use Rattle.xs_instructions.specs.declared.instr.MemIns.{MemIns}
 use Rattle.xs_instructions.specs.declared.instr.MemIns.TheVariants.{LdwDp, StwDp}
-use Rattle.xs_instructions.specs.declared.instr.ThreadIns.{ThreadIns}
 use Rattle.xs_instructions.specs.declared.instr.ThreadIns.TheVariants.{Freet}
-use Rattle.xs_instructions.specs.Code.{code_at}
 use Rattle.step_model.specs.Fixed.{Fixed}
-use Rattle.step_model.specs.Effect.{Effect, Done, Pause, Trap, Gone, effect, memory_row, loaded, stored}
+use Rattle.step_model.specs.Effect.{effect, memory_row, loaded, stored}
 use Rattle.step_model.specs.Step.{node_step, issued, issued_by, begun, executed, settled, trap, halt_unless, in_slot}
 use Rattle.core_step.specs.Core.{CoreValue, StandsFor, AreBefore}
 

@@ -1,5 +1,5 @@
 -- What contracts see of a core.
-use Rattle.std.specs.Prelude.{ℕ, ◌≡◌, ◌<◌, List, [], ◌∷◌, Option, Some, None, replicate, IfSome}
+use Rattle.std.specs.Prelude.{ℕ, ◌≡◌, ◌<◌, List, Option, None, replicate, IfSome}
 use Rattle.std.specs.List.{AllByRecursion}
 use Rattle.xs_model.specs.Record.{CoreRec, NodeRec, LinkRec}
 use Rattle.xs_model.specs.declared.thread.Outcome.{Outcome}

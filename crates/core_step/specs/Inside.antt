@@ -1,10 +1,10 @@
 -- What a core's fields stand for.
-use Rattle.std.specs.Prelude.{ℕ, ◌≡◌, ◌≤◌, List, length}
+use Rattle.std.specs.Prelude.{◌≡◌, length}
 use Rattle.std.specs.List.{AllByRecursion}
 use Rattle.xs_model.specs.Record.{core_with}
 use Rattle.xs_instructions.specs.Instr.{InRange}
 use Rattle.core_step.specs.Core.{CoreValue}
-use Rattle.core_step.specs.declared.core.Core.TheInside.{Inside}
+use Rattle.core_step.specs.declared.node_core.Core.TheInside.{Inside}
 
 abbrev pub value_of : Inside → CoreValue
 value_of c = record {

@@ -2,13 +2,16 @@
 ghost use Rattle.std.specs.Prelude.{◌≡◌, Bool, if◌then◌else◌};
 ghost use Rattle.xs_instructions.specs.Code.{place_address};
 ghost use Rattle.xs_instructions.specs.Instr.{WordsInRange, FlowInRange};
-ghost use Rattle.step_model.specs.Effect.{after_it, words_row, flow_row};
+ghost use Rattle.step_model.specs.Effect.{after_it, words_row, flow_row, dp_address, bad_address};
 
 use xs_instructions::{FlowIns, WordIns};
-use xs_model::{Run, Thread};
+use xs_model::{Outcome, Run, Thread};
 
 /// The address of the first instruction.
 const CODE_START: u32 = 0x0004_0000;
+
+/// The number of the trap of a load or a store.
+const BAD_ADDRESS: u32 = 5;
 
 // Goes on to the next instruction.
 pub(crate) fn go_on(thread: &mut Thread)
@@ -67,6 +70,23 @@ pub(crate) fn flow(thread: &mut Thread, ins: FlowIns)
             branch(thread, taken, place);
         }
         FlowIns::Bu(place) => branch(thread, true, place),
+    }
+}
+
+// The address of the u-th word from dp on.
+pub(crate) fn dp_address(thread: &Thread, u: u16) -> u32
+    ensures { result ≡ dp_address thread.now u }
+{
+    thread.dp.wrapping_add(4 * u32::from(u))
+}
+
+// What becomes of a load or a store whose address is refused.
+pub(crate) fn refused(address: u32) -> Outcome
+    ensures { result ≡ Outcome.Trap bad_address address }
+{
+    Outcome::Trap {
+        et: BAD_ADDRESS,
+        ed: address,
     }
 }
 

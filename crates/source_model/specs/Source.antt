@@ -1,7 +1,6 @@
 -- What a source text stands for. A line is at most one label and then at most one instruction. Every refusal is
 -- of one kind so far, and names no line.
-use Rattle.std.specs.Prelude.{ℕ, ◌+◌, ◌-◌, ◌/◌, Bool, true, false, ◌&&◌, not, is_none, nat_le, if◌then◌else◌, Option, Some, None, option_and_then, List, [], ◌∷◌, ◌++◌, length, map}
-use Rattle.std.specs.List.{list_all, flat_map}
+use Rattle.std.specs.Prelude.{ℕ, ◌+◌, ◌-◌, ◌/◌, Bool, true, ◌&&◌, is_none, nat_le, if◌then◌else◌, Option, Some, None, option_and_then, List, [], ◌∷◌, ◌++◌, length}
 use Rattle.xs_text.specs.Bytes.{all_allowed}
 use Rattle.xs_text.specs.Lines.{lines_of}
 use Rattle.xs_text.specs.Tokens.{Token, tokens_of}

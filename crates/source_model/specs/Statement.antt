@@ -1,8 +1,8 @@
 -- What a line of a source says: at most one label, and then at most one instruction.
-use Rattle.std.specs.Prelude.{ℕ, ◌+◌, ◌-◌, ◌/◌, Bool, true, false, ◌&&◌, ◌==◌, not, if◌then◌else◌, Option, Some, None, option_and_then, List, [], ◌∷◌, codes}
-use Rattle.xs_text.specs.Tokens.{Token, is_mark}
+use Rattle.std.specs.Prelude.{ℕ, Bool, true, false, ◌&&◌, if◌then◌else◌, Option, Some, None, option_and_then, List, [], ◌∷◌, codes}
+use Rattle.xs_text.specs.Tokens.{Token}
 use Rattle.xs_text.specs.declared.token_reader.TokKind.{TokKind}
-use Rattle.xs_text.specs.declared.token_reader.TokKind.TheVariants.{Name, Number, Mark, Stray}
+use Rattle.xs_text.specs.declared.token_reader.TokKind.TheVariants.{Name, Number}
 use Rattle.xs_instructions.specs.Image.{same_name}
 use Rattle.xs_instructions.specs.declared.instr.Instr.{Instr}
 use Rattle.xs_instructions.specs.declared.instr.Instr.TheVariants.{Words, Memory, Flow, Threads}

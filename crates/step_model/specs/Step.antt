@@ -1,5 +1,5 @@
 -- One slot of a node.
-use Rattle.std.specs.Prelude.{ℕ, Bool, not, if◌then◌else◌, Option, Some, None, List, [], ◌∷◌, ◌++◌, map, slice_set, replicate}
+use Rattle.std.specs.Prelude.{ℕ, Bool, if◌then◌else◌, Option, Some, None, List, [], ◌∷◌, ◌++◌, map, slice_set}
 use Rattle.xs_model.specs.declared.thread.Thread.{Thread}
 use Rattle.xs_model.specs.declared.thread.Run.{Run}
 use Rattle.xs_model.specs.declared.thread.Run.TheVariants.{Going, Paused, Halted}

@@ -1,5 +1,212 @@
--- Slots worked out by hand.
-use Rattle.std.specs.Prelude.{ℕ, ◌≡◌}
+-- Slots worked out by hand: what a node keeps after its first slots, for small code.
+use Rattle.std.specs.Prelude.{ℕ, zero, suc, ◌≡◌, false, Some, None, List, [], ◌∷◌, take, drop, replicate}
+use Rattle.xs_model.specs.declared.thread.Thread.{Thread}
+use Rattle.xs_model.specs.declared.thread.Run.TheVariants.{Free, Paused, Halted}
+use Rattle.xs_model.specs.declared.thread.Wait.TheVariants.{Tokens, Choice}
+use Rattle.xs_model.specs.declared.event.Event.{Event}
+use Rattle.xs_model.specs.declared.event.Happen.{Happen}
+use Rattle.xs_model.specs.declared.event.Happen.TheVariants as happen
+use Rattle.xs_model.specs.declared.outside.Arrivals.{Arrivals}
+use Rattle.xs_model.specs.declared.outside.PinView.{PinView}
+use Rattle.xs_model.specs.Threads.{first_thread}
+use Rattle.xs_model.specs.Record.{NodeRec, first_node, free_thread, thread_of, with_thread}
+use Rattle.xs_model.specs.Outside.{emitted_events}
+use Rattle.xs_instructions.specs.declared.instr.Instr.{Instr}
+use Rattle.xs_instructions.specs.declared.instr.Instr.TheVariants.{Words, Memory, Flow, Threads}
+use Rattle.xs_instructions.specs.declared.instr.WordIns.TheVariants as words
+use Rattle.xs_instructions.specs.declared.instr.MemIns.TheVariants as memory
+use Rattle.xs_instructions.specs.declared.instr.FlowIns.{FlowIns}
+use Rattle.xs_instructions.specs.declared.instr.FlowIns.TheVariants as flow
+use Rattle.xs_instructions.specs.declared.instr.ThreadIns.TheVariants as threads
+use Rattle.step_model.specs.Fixed.{Fixed}
+use Rattle.step_model.specs.Step.{Stepped, node_step}
 
-pub record WorkedSlots : Type 0 where
-  pub two : ◌≡◌ {A = ℕ} 1 1
+-- a node of this code, with no network
+abbrev pub node_of_code : List Instr → Fixed
+node_of_code code = record { id = 0; code = code; ways = replicate 16 0; gaps = replicate 8 0 }
+
+-- nothing comes from outside
+abbrev pub no_arrivals : Arrivals
+no_arrivals = record { tokens = replicate 8 None; credits = replicate 8 false }
+
+abbrev pub low_pins : PinView
+low_pins = record { level = replicate 29 0 }
+
+-- what one slot leaves and gives
+abbrev pub slot_of : List Instr → NodeRec → ℕ → Stepped
+slot_of code rec slot = node_step (node_of_code code) rec slot no_arrivals low_pins
+
+-- the node after so many slots, from slot 0 on
+abbrev pub after_slots : List Instr → NodeRec → ℕ → NodeRec
+after_slots code rec zero = rec
+after_slots code rec (suc slot) = (slot_of code (after_slots code rec slot) slot).rec
+
+-- a slot that changes nothing and gives nothing
+abbrev pub idle : NodeRec → Stepped
+idle rec = record { rec = rec; emitted = emitted_events [] }
+
+-- a node as it starts, with no data: thread 0 is at the first instruction
+abbrev pub start : NodeRec
+start = first_node 0x00040000 0x00010000 []
+
+abbrev pub first : Thread
+first = first_thread 0x00040000 0x00010000
+
+-- the same node with this for thread 0, and with this for thread 1
+abbrev pub start_as : Thread → NodeRec
+start_as th = record start { core = with_thread start.core 0 th }
+
+abbrev pub start_two : Thread → NodeRec
+start_two th = record start { core = with_thread start.core 1 th }
+
+-- thread 0 after so many slots
+abbrev pub thread_after : List Instr → NodeRec → ℕ → Thread
+thread_after code rec slots = thread_of (after_slots code rec slots).core 0
+
+abbrev pub events_of : List Instr → NodeRec → ℕ → List Event
+events_of code rec slot = (slot_of code (after_slots code rec slot) slot).emitted.events
+
+abbrev pub happened : ℕ → Happen → Event
+happened slot what = record { slot = slot; what = what }
+
+-- r0 to r11: these three and zeros
+abbrev pub three_and_zeros : ℕ → ℕ → ℕ → List ℕ
+three_and_zeros a b c = a ∷ b ∷ c ∷ replicate 9 0
+
+-- thread 0 with these in r0 to r2
+abbrev pub with_three : ℕ → ℕ → ℕ → Thread
+with_three a b c = record first { r = three_and_zeros a b c }
+
+-- A lone thread issues in slot 0 and then rests for three slots.
+abbrev pub constants : List Instr
+constants = Words (words.Ldc 0 5) ∷ Words (words.Ldc 11 65535) ∷ []
+
+pub record WorkedIssues : Type 0 where
+  pub threads : (after_slots constants start 1).core.threads ≡ record first { r = 5 ∷ replicate 11 0; pc = 0x00040004 } ∷ replicate 7 free_thread
+  pub last : (after_slots constants start 1).core.last ≡ Some 0 ∷ replicate 7 None
+  pub no_event : events_of constants start 0 ≡ []
+  pub rests_in_slot_1 : slot_of constants (after_slots constants start 1) 1 ≡ idle (after_slots constants start 1)
+  pub rests_in_slot_2 : slot_of constants (after_slots constants start 2) 2 ≡ idle (after_slots constants start 1)
+  pub rests_in_slot_3 : slot_of constants (after_slots constants start 3) 3 ≡ idle (after_slots constants start 1)
+  pub next : thread_after constants start 5 ≡ record first { r = 5 ∷ 0 ∷ 0 ∷ 0 ∷ 0 ∷ 0 ∷ 0 ∷ 0 ∷ 0 ∷ 0 ∷ 0 ∷ 65535 ∷ []; pc = 0x00040008 }
+  pub last_next : (after_slots constants start 5).core.last ≡ Some 4 ∷ replicate 7 None
+  -- two threads that go issue in turn, thread 0 first
+  pub two_threads : (after_slots constants (start_two first) 2).core.last ≡ Some 0 ∷ Some 1 ∷ replicate 6 None
+  pub second_thread : thread_of (after_slots constants (start_two first) 2).core 1 ≡ record first { r = 5 ∷ replicate 11 0; pc = 0x00040004 }
+  -- from slot 4 on again: thread 0 has waited longer
+  pub turns : (after_slots constants (start_two first) 5).core.last ≡ Some 4 ∷ Some 1 ∷ replicate 6 None
+  -- a pause that holds ends with the issue: no token is wanted
+  pub pause_over : thread_after constants (start_as (record first { run = Paused (Tokens 0 0) })) 1 ≡ record first { r = 5 ∷ replicate 11 0; pc = 0x00040004 }
+  -- a token is wanted and none is there; an event is wanted and none comes
+  pub pause_for_token : slot_of constants (start_as (record first { run = Paused (Tokens 0 1) })) 0 ≡ idle (start_as (record first { run = Paused (Tokens 0 1) }))
+  pub pause_for_event : slot_of constants (start_as (record first { run = Paused Choice })) 0 ≡ idle (start_as (record first { run = Paused Choice }))
+  pub no_operation : thread_after (Words words.Nop ∷ []) start 1 ≡ record first { pc = 0x00040004 }
+
+-- what one instruction at 0x00040000 makes of r0 to r2
+abbrev pub three_after : Instr → ℕ → ℕ → ℕ → List ℕ
+three_after ins a b c = (thread_after (ins ∷ []) (start_as (with_three a b c)) 1).r
+
+pub record WorkedWords : Type 0 where
+  pub add : three_after (Words (words.Add 2 0 1)) 5 7 9 ≡ three_and_zeros 5 7 12
+  pub add_wraps : three_after (Words (words.Add 2 0 1)) 0xffffffff 3 9 ≡ three_and_zeros 0xffffffff 3 2
+  pub add_to_itself : three_after (Words (words.Add 0 0 0)) 0x80000001 7 9 ≡ three_and_zeros 2 7 9
+  pub sub : three_after (Words (words.Sub 2 0 1)) 7 5 9 ≡ three_and_zeros 7 5 2
+  pub sub_wraps : three_after (Words (words.Sub 2 0 1)) 0 1 9 ≡ three_and_zeros 0 1 0xffffffff
+  pub sub_of_zero : three_after (Words (words.Sub 0 1 2)) 9 7 0 ≡ three_and_zeros 7 7 0
+  pub equal : three_after (Words (words.Eq 2 0 1)) 7 7 9 ≡ three_and_zeros 7 7 1
+  pub not_equal : three_after (Words (words.Eq 2 0 1)) 7 8 9 ≡ three_and_zeros 7 8 0
+  pub next : (thread_after (Words (words.Eq 2 0 1) ∷ []) start 1).pc ≡ 0x00040004
+
+-- where thread 0 is after one instruction at 0x00040000, with this in r0
+abbrev pub place_after : FlowIns → ℕ → ℕ
+place_after ins a = (thread_after (Flow ins ∷ []) (start_as (with_three a 0 0)) 1).pc
+
+pub record WorkedBranches : Type 0 where
+  pub bt_taken : place_after (flow.Bt 0 5) 0x80000000 ≡ 0x00040014
+  pub bt_not_taken : place_after (flow.Bt 0 5) 0 ≡ 0x00040004
+  pub bf_taken : place_after (flow.Bf 0 5) 0 ≡ 0x00040014
+  pub bf_not_taken : place_after (flow.Bf 0 5) 1 ≡ 0x00040004
+  pub bu : place_after (flow.Bu 16383) 7 ≡ 0x0004fffc
+  pub bu_to_itself : place_after (flow.Bu 0) 7 ≡ 0x00040000
+  -- a branch changes pc alone
+  pub registers : thread_after (Flow (flow.Bt 1 2) ∷ []) (start_as (with_three 5 7 9)) 1 ≡ record first { r = three_and_zeros 5 7 9; pc = 0x00040008 }
+
+-- so many bytes of the memory from a place on, after so many slots
+abbrev pub bytes_after : List Instr → NodeRec → ℕ → ℕ → ℕ → List ℕ
+bytes_after code rec slots place count = take count (drop place (after_slots code rec slots).core.memory)
+
+abbrev pub store_and_load : List Instr
+store_and_load = Memory (memory.StwDp 0 1) ∷ Memory (memory.LdwDp 2 1) ∷ Memory (memory.LdwDp 14 0) ∷ []
+
+pub record WorkedMemory : Type 0 where
+  -- the least significant byte stands first
+  pub stored : bytes_after store_and_load (start_as (with_three 0x04030201 7 9)) 1 0 12 ≡ 0 ∷ 0 ∷ 0 ∷ 0 ∷ 1 ∷ 2 ∷ 3 ∷ 4 ∷ 0 ∷ 0 ∷ 0 ∷ 0 ∷ []
+  pub store_goes_on : thread_after store_and_load (start_as (with_three 0x04030201 7 9)) 1 ≡ record (with_three 0x04030201 7 9) { pc = 0x00040004 }
+  pub loaded : thread_after store_and_load (start_as (with_three 0x04030201 7 9)) 5 ≡ record (with_three 0x04030201 7 0x04030201) { pc = 0x00040008 }
+  -- register 14 is sp
+  pub loaded_sp : thread_after store_and_load (start_as (with_three 0x04030201 7 9)) 9 ≡ record (with_three 0x04030201 7 0x04030201) { sp = 0; pc = 0x0004000c }
+  -- register 12 is cp
+  pub stored_cp : bytes_after (Memory (memory.StwDp 12 0) ∷ []) start 1 0 4 ≡ 0 ∷ 0 ∷ 1 ∷ 0 ∷ []
+  pub first_bytes : (thread_after (Memory (memory.LdwDp 0 0) ∷ []) (first_node 0x00040000 0x00010000 (0xdd ∷ 0xcc ∷ 0xbb ∷ 0xaa ∷ [])) 1).r ≡ 0xaabbccdd ∷ replicate 11 0
+  -- dp[16383] is the memory's last word
+  pub last_word : bytes_after (Memory (memory.StwDp 0 16383) ∷ []) (start_as (with_three 1 0 0)) 1 65532 5 ≡ 1 ∷ 0 ∷ 0 ∷ 0 ∷ []
+
+-- thread 0 halted in a trap at pc 0x00040000
+abbrev pub halted : Thread → ℕ → ℕ → Thread
+halted th number value = record th {
+  spc = 0x00040000;
+  ssr = record { bits = 0 };
+  sed = 0;
+  et = number;
+  ed = value;
+  sr = record { bits = 0x10 };
+  pc = 0;
+  run = Halted;
+}
+
+abbrev pub trap_and_halt : ℕ → ℕ → List Event
+trap_and_halt number value = happened 0 (happen.Trap 0 number 0x00040000 value) ∷ happened 0 (happen.Halt 0) ∷ []
+
+-- thread 0 past the code's end, with a handler at the first instruction
+abbrev pub handled : Thread
+handled = record first { pc = 0x00040004; kep = 0x00040000; ksp = 8; sr = record { bits = 0xc7 }; ed = 6; et = 7; spc = 4 }
+
+abbrev pub one_nop : List Instr
+one_nop = Words words.Nop ∷ []
+
+abbrev pub load_at_1 : List Instr
+load_at_1 = Memory (memory.LdwDp 3 1) ∷ []
+
+abbrev pub store_at_1 : List Instr
+store_at_1 = Memory (memory.StwDp 3 1) ∷ []
+
+abbrev pub dp_at : ℕ → Thread
+dp_at at = record first { dp = at }
+
+pub record WorkedTraps : Type 0 where
+  pub no_code : after_slots [] start 1 ≡ record (start_as (halted first 2 0x00040000)) { core = record (start_as (halted first 2 0x00040000)).core { last = Some 0 ∷ replicate 7 None } }
+  pub no_code_events : (slot_of [] start 0).emitted ≡ emitted_events (trap_and_halt 2 0x00040000)
+  pub halted_stays : slot_of [] (after_slots [] start 4) 4 ≡ idle (after_slots [] start 1)
+  -- 0xfffffffc + 4 is 0
+  pub bad_load : thread_after load_at_1 (start_as (dp_at 0xfffffffc)) 1 ≡ halted (dp_at 0xfffffffc) 5 0
+  pub bad_load_events : events_of load_at_1 (start_as (dp_at 0xfffffffc)) 0 ≡ trap_and_halt 5 0
+  pub bad_store : after_slots store_at_1 (start_as (dp_at 0x0001fffc)) 1 ≡ record (start_as (halted (dp_at 0x0001fffc) 5 0x00020000)) { core = record (start_as (halted (dp_at 0x0001fffc) 5 0x00020000)).core { last = Some 0 ∷ replicate 7 None } }
+  pub bad_store_events : events_of store_at_1 (start_as (dp_at 0x0001fffc)) 0 ≡ trap_and_halt 5 0x00020000
+  pub unaligned : events_of load_at_1 (start_as (dp_at 0x00010002)) 0 ≡ trap_and_halt 5 0x00010006
+  pub below : events_of store_at_1 (start_as (dp_at 0x0000fff8)) 0 ≡ trap_and_halt 5 0x0000fffc
+  -- eeble, ieble and waiting are cleared, ink is set; the handler goes on
+  pub handler : thread_after one_nop (start_as handled) 1 ≡ record handled { spc = 0x00040004; ssr = record { bits = 0xc7 }; sed = 6; et = 2; ed = 0x00040004; sr = record { bits = 0x94 }; pc = 0x00040000 }
+  pub handler_event : events_of one_nop (start_as handled) 0 ≡ happened 0 (happen.Trap 0 2 0x00040004 0x00040004) ∷ []
+  pub handler_goes_on : (thread_after one_nop (start_as handled) 5).pc ≡ 0x00040004
+  -- an address between two instructions is no place of one
+  pub between : events_of (Words words.Nop ∷ one_nop) (start_as (record first { pc = 0x00040002 })) 0 ≡ happened 0 (happen.Trap 0 2 0x00040002 0x00040002) ∷ happened 0 (happen.Halt 0) ∷ []
+  -- in the slot in which it happens
+  pub in_slot_4 : events_of one_nop start 4 ≡ happened 4 (happen.Trap 0 2 0x00040004 0x00040004) ∷ happened 4 (happen.Halt 0) ∷ []
+
+abbrev pub free_at_once : List Instr
+free_at_once = Threads threads.Freet ∷ []
+
+pub record WorkedEnd : Type 0 where
+  pub free : thread_after free_at_once start 1 ≡ record first { pc = 0x00040004; run = Free }
+  pub no_event : events_of free_at_once start 0 ≡ []
+  pub stays : slot_of free_at_once (after_slots free_at_once start 4) 4 ≡ idle (after_slots free_at_once start 1)

@@ -1,9 +1,14 @@
 //! What each instruction does, and one slot of a node: definitions alone. See docs/DEFINITIONS.md.
 #![tactic(auto)]
 
-ghost use Rattle.step_model.specs.Worked.{WorkedSlots};
+ghost use Rattle.step_model.specs.Worked.{WorkedIssues, WorkedWords, WorkedBranches, WorkedMemory, WorkedTraps, WorkedEnd};
 
-/// The definitions give what was worked out by hand: what a node keeps after its first slots, for small sources.
+/// The definitions give what was worked out by hand: what a node keeps after its first slots, for small code.
 pub fn worked_slots()
-    ensures { WorkedSlots }
+    ensures issues { WorkedIssues }
+    ensures words { WorkedWords }
+    ensures branches { WorkedBranches }
+    ensures memory { WorkedMemory }
+    ensures traps { WorkedTraps }
+    ensures end { WorkedEnd }
 {}

@@ -1,6 +1,6 @@
 -- What a run of a node leaves.
 use Prim.Native.Nat.{zero, suc}
-use Rattle.std.specs.Prelude.{ℕ, Bool, false, List, [], ◌++◌, Option, None, replicate}
+use Rattle.std.specs.Prelude.{ℕ, false, List, [], ◌++◌, None, replicate}
 use Rattle.xs_model.specs.declared.event.Event.{Event}
 use Rattle.xs_model.specs.declared.outside.Arrivals.{Arrivals}
 use Rattle.xs_model.specs.declared.outside.PinView.{PinView}

@@ -1,8 +1,6 @@
 -- What the program answers to its words and its input.
-use Rattle.std.specs.Prelude.{ℕ, ◌+◌, Bool, ◌&&◌, nat_le, min, if◌then◌else◌, Option, Some, None, option_and_then, List, [], ◌∷◌, ◌++◌, length, codes, decimal}
-use Rattle.std.specs.List.{list_all}
+use Rattle.std.specs.Prelude.{ℕ, ◌+◌, nat_le, min, if◌then◌else◌, Option, Some, None, option_and_then, List, [], ◌∷◌, ◌++◌, length, codes, decimal}
 use Rattle.std.specs.Char.{is_ascii_digit}
-use Rattle.std.specs.Str.Parse.{digits_value}
 use Rattle.xs_instructions.specs.Image.{same_name}
 use Rattle.xs_text.specs.Numbers.{at_most, value_in}
 use Rattle.source_model.specs.declared.AsmKind.{AsmKind}
@@ -12,7 +10,6 @@ use Rattle.system_model.specs.declared.SysKind.TheVariants.{BadLine, TooLong}
 use Rattle.system_model.specs.declared.Form.{Form}
 use Rattle.system_model.specs.declared.Form.TheVariants.{Run}
 use Rattle.system_model.specs.declared.Answer.{Answer}
-use Rattle.system_model.specs.declared.Status.{Status}
 use Rattle.system_model.specs.declared.Status.TheVariants as status
 use Rattle.system_model.specs.System.{System, Plan, Frame, Source, system_of, longest_input}
 use Rattle.system_model.specs.Trace.{trace_text}

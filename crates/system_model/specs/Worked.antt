@@ -1,7 +1,6 @@
 -- Answers worked out by hand: what the program writes for small systems.
 use Rattle.std.specs.Prelude.{ℕ, ◌≡◌, List, [], ◌∷◌, ◌++◌, codes}
 use Rattle.system_model.specs.declared.Answer.{Answer}
-use Rattle.system_model.specs.declared.Status.{Status}
 use Rattle.system_model.specs.declared.Status.TheVariants.{Done, Usage, SystemFault, SourceFault}
 use Rattle.system_model.specs.Top.{answer, usage_text}
 

@@ -1,5 +1,5 @@
 -- Answers at the edges, worked out by hand.
-use Rattle.std.specs.Prelude.{ℕ, ◌≡◌, List, [], ◌∷◌, ◌++◌, codes}
+use Rattle.std.specs.Prelude.{◌≡◌, [], ◌∷◌, ◌++◌, codes}
 use Rattle.system_model.specs.Top.{answer}
 use Rattle.system_model.specs.Worked.{lone, run_for, done, frame_refused, source_refused, no_usage}
 

@@ -1,4 +1,4 @@
-use crate::top::top;
+use crate::top;
 use std::alloc::{AllocError, Global};
 use std::test::Fail;
 use system_model::Status;

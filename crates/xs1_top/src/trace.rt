@@ -130,3 +130,59 @@ fn append_end_line(out: &mut Text, slots: u32) -> Result<(), AllocError>
     append_decimal(out, u64::from(slots))?;
     out.append(b"\n")
 }
+
+#[cfg(test)]
+mod tests {
+    use super::*;
+    use std::test::Fail;
+    use xs_instructions::{Image, Instr, Symbols, ThreadIns};
+
+    // The bytes of two words, and one byte more.
+    const BYTES: [u8; 9] = [1, 0, 0, 0, 0, 0, 0, 0, 0xff];
+
+    fn node_seven(image: Image) -> NodePlan
+        ensures { result.ways ≡ no_ways }
+    {
+        NodePlan {
+            number: 7,
+            id: 0,
+            image,
+            ways: [0; 16],
+        }
+    }
+
+    #[test]
+    fn a_node_with_no_code_halts(rt: HostRuntime) -> Result<(), Fail> {
+        let alloc = rt.alloc();
+        let bytes = Vec::from_slice(alloc, &BYTES)?;
+        let image = Image::of(Vec::new(alloc), bytes, 0x0001_0000, Symbols::new(alloc));
+        let text = trace(alloc, &node_seven(image), 3)?;
+        let expected = "\
+0 n7.t0 trap 2 pc 0x00040000 data 0x00040000
+0 n7.t0 halt
+n7.t0 halted
+n7 mem 0x00010000 0x00000001
+n7 mem 0x00010008 0x000000ff
+end 3
+";
+        assert_eq!(rt; text.bytes(), expected.as_bytes());
+        Ok(())
+    }
+
+    #[test]
+    fn a_freed_thread_has_no_line(rt: HostRuntime) -> Result<(), Fail> {
+        let alloc = rt.alloc();
+        let mut code = Vec::new(alloc);
+        code.push(Instr::Threads(ThreadIns::Freet))?;
+        let bytes = Vec::from_slice(alloc, &BYTES)?;
+        let image = Image::of(code, bytes, 0x0001_0000, Symbols::new(alloc));
+        let text = trace(alloc, &node_seven(image), 20)?;
+        let expected = "\
+n7 mem 0x00010000 0x00000001
+n7 mem 0x00010008 0x000000ff
+end 20
+";
+        assert_eq!(rt; text.bytes(), expected.as_bytes());
+        Ok(())
+    }
+}

@@ -1,5 +1,5 @@
 -- The numbers that an event names.
-use Rattle.std.specs.Prelude.{ℕ, ◌<◌, List}
+use Rattle.std.specs.Prelude.{◌<◌}
 use Rattle.xs_model.specs.declared.event.Event.{Event}
 use Rattle.xs_model.specs.declared.event.Happen.{Happen}
 use Rattle.xs_model.specs.declared.event.Happen.TheVariants as happen

@@ -1,5 +1,5 @@
 -- What a node's slot takes from outside and gives to it.
-use Rattle.std.specs.Prelude.{ℕ, ◌<◌, ◌^◌, Bool, true, false, List, [], ◌∷◌, ◌++◌, Option, Some, None, replicate}
+use Rattle.std.specs.Prelude.{ℕ, ◌<◌, ◌^◌, Bool, false, List, [], ◌∷◌, ◌++◌, Option, None, replicate}
 use Rattle.xs_base.specs.declared.Token.{Token}
 use Rattle.xs_model.specs.declared.event.Event.{Event}
 

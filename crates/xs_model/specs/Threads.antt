@@ -1,5 +1,5 @@
 -- A thread's registers by their numbers, and how threads begin.
-use Rattle.std.specs.Prelude.{ℕ, List, if◌then◌else◌, ◌==◌, slice_index, slice_set, replicate}
+use Rattle.std.specs.Prelude.{ℕ, if◌then◌else◌, ◌==◌, slice_index, slice_set, replicate}
 use Rattle.xs_model.specs.declared.thread.Thread.{Thread}
 use Rattle.xs_model.specs.declared.thread.Status.{Status}
 use Rattle.xs_model.specs.declared.thread.Run.TheVariants.{Unstarted, Going}

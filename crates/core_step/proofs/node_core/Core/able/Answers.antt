@@ -4,7 +4,7 @@ use Rattle.xs_model.specs.Threads.{fresh_thread}
 use Rattle.xs_model.specs.Picks.{may_issue}
 use Rattle.core_step.specs.Core.{CoreValue}
 use Rattle.core_step.proofs.StartLemmas.{ready-start}
-use Rattle.core_step.proofs.core.Core.able.Goals as goal
+use Rattle.core_step.proofs.node_core.Core.able.Goals as goal
 
 pub returns : goal.returns
 returns c = λ k below.

@@ -5,7 +5,7 @@ use Rattle.system_model.specs.declared.Status.TheVariants as status
 use Rattle.xs1_top.specs.Call.{IsFrame, IsSource, IsPlan}
 use Rattle.xs1_top.proofs.Systems.{told}
 use Rattle.xs1_top.proofs.Calls.{Answers-usage, AnswersInPart-usage, Answers-form, AnswersInPart-form, TookInput-form, frame-ended, ended-frame, source-ended, ended-source, plan-ended}
-use Rattle.xs1_top.proofs.top.top.Goals as goal
+use Rattle.xs1_top.proofs.call.top.Goals as goal
 
 pub returns-in_default-clause-answered : goal.returns-in_default-clause-answered
 returns-in_default-clause-answered g c = λ whole.

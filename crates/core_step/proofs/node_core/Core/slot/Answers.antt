@@ -6,8 +6,8 @@ use Rattle.xs_model.specs.Outside.{emitted_events}
 use Rattle.step_model.specs.Step.{issued_by, in_slot}
 use Rattle.core_step.specs.Core.{CoreValue, AreBefore}
 use Rattle.core_step.proofs.Steps.{stepped, gave, still_before, issue_before, issued_last}
-use Rattle.core_step.proofs.core.Core.slot.Goals as goal
-use Rattle.core_step.proofs.core.Core.slot.Goals.{In-Some, In_default}
+use Rattle.core_step.proofs.node_core.Core.slot.Goals as goal
+use Rattle.core_step.proofs.node_core.Core.slot.Goals.{In-Some, In_default}
 
 -- the thread that the code picks is the one that the definition picks
 picked_some : (c : In-Some) → picked c.args.self.now.core c.args.slot ≡ Some c.in-Some.k

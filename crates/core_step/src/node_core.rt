@@ -15,7 +15,7 @@ ghost use Rattle.core_step.specs.Core.{CoreValue, StandsFor, SlotsBefore, Ends, 
 ghost use Rattle.std.specs.Int.{bit_at};
 ghost use Rattle.thread_slots.specs.Able.{is_able};
 
-use crate::execute::{flow, free, go_on, words};
+use crate::execute::{dp_address, flow, free, go_on, refused, words};
 use crate::traps::{enter_trap, stands_at};
 use crate::waits::able_of;
 use core_memory::{BadAddress, Ram};
@@ -29,9 +29,6 @@ use xs_model::{Arrivals, Event, Happen, Outcome, PinView, Run, Thread};
 
 /// The number of the trap where no code stands at a thread's pc.
 const ILLEGAL_PC: u32 = 2;
-
-/// The number of the trap of a load or a store.
-const BAD_ADDRESS: u32 = 5;
 
 /// A node's core. Contracts see what it keeps of its node's plan, and the core record.
 #[derive(Drop)]
@@ -191,17 +188,14 @@ impl Core {
         ensures row { Ends result self.old.core self.new.core (memory_row self.old.core k (MemIns.LdwDp g u)) }
     {
         let thread = &mut self.threads[k as usize];
-        let at = thread.dp.wrapping_add(4 * u32::from(u));
-        match self.ram.load32(at) {
+        let address = dp_address(thread, u);
+        match self.ram.load32(address) {
             Ok(w) => {
                 thread.set_reg(g, w);
                 go_on(thread);
                 Outcome::Done
             }
-            Err(_) => Outcome::Trap {
-                et: BAD_ADDRESS,
-                ed: at,
-            },
+            Err(_) => refused(address),
         }
     }
 
@@ -213,16 +207,13 @@ impl Core {
         ensures row { Ends result self.old.core self.new.core (memory_row self.old.core k (MemIns.StwDp g u)) }
     {
         let thread = &mut self.threads[k as usize];
-        let at = thread.dp.wrapping_add(4 * u32::from(u));
-        match self.ram.store32(at, thread.reg(g)) {
+        let address = dp_address(thread, u);
+        match self.ram.store32(address, thread.reg(g)) {
             Ok(()) => {
                 go_on(thread);
                 Outcome::Done
             }
-            Err(_) => Outcome::Trap {
-                et: BAD_ADDRESS,
-                ed: at,
-            },
+            Err(_) => refused(address),
         }
     }
 

@@ -1,0 +1,89 @@
+use Rattle.std.proofs.Common.{refl}
+use Rattle.xs_model.specs.Picks.{pick_from}
+use Rattle.step_model.specs.Step.{node_step}
+use Rattle.step_model.proofs.worked_slots.Goals as goal
+
+pub returns-clause-issues : goal.returns-clause-issues
+unfolding node_step pick_from
+returns-clause-issues c = record {
+  threads = refl;
+  last = refl;
+  no_event = refl;
+  rests_in_slot_1 = refl;
+  rests_in_slot_2 = refl;
+  rests_in_slot_3 = refl;
+  next = refl;
+  last_next = refl;
+  two_threads = refl;
+  second_thread = refl;
+  turns = refl;
+  pause_over = refl;
+  pause_for_token = refl;
+  pause_for_event = refl;
+  no_operation = refl;
+}
+
+pub returns-clause-words : goal.returns-clause-words
+unfolding node_step pick_from
+returns-clause-words c = record {
+  add = refl;
+  add_wraps = refl;
+  add_to_itself = refl;
+  sub = refl;
+  sub_wraps = refl;
+  sub_of_zero = refl;
+  equal = refl;
+  not_equal = refl;
+  next = refl;
+}
+
+pub returns-clause-branches : goal.returns-clause-branches
+unfolding node_step pick_from
+returns-clause-branches c = record {
+  bt_taken = refl;
+  bt_not_taken = refl;
+  bf_taken = refl;
+  bf_not_taken = refl;
+  bu = refl;
+  bu_to_itself = refl;
+  registers = refl;
+}
+
+pub returns-clause-memory : goal.returns-clause-memory
+unfolding node_step pick_from
+returns-clause-memory c = record {
+  stored = refl;
+  store_goes_on = refl;
+  loaded = refl;
+  loaded_sp = refl;
+  stored_cp = refl;
+  first_bytes = refl;
+  last_word = refl;
+}
+
+pub returns-clause-traps : goal.returns-clause-traps
+unfolding node_step pick_from
+returns-clause-traps c = record {
+  no_code = refl;
+  no_code_events = refl;
+  halted_stays = refl;
+  bad_load = refl;
+  bad_load_events = refl;
+  bad_store = refl;
+  bad_store_events = refl;
+  unaligned = refl;
+  below = refl;
+  handler = refl;
+  handler_event = refl;
+  handler_goes_on = refl;
+  between = refl;
+  in_slot_4 = refl;
+}
+
+pub returns-clause-end : goal.returns-clause-end
+unfolding node_step pick_from
+returns-clause-end c = record {
+  free = refl;
+  no_event = refl;
+  stays = refl;
+}

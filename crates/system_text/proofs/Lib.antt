@@ -1,0 +1,3 @@
+pub mod FrameLines
+pub mod Sections
+pub mod Outcomes

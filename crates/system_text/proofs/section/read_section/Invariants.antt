@@ -1,0 +1,13 @@
+use Rattle.std.proofs.Common.{◌≡◌, ◌-◌, length}
+use Rattle.xs_text.specs.Lines.{lines_of, bytes_left}
+use Rattle.system_model.specs.System.{section_of}
+use Rattle.system_text.proofs.Sections.{SectionSoFar}
+use Rattle.system_text.proofs.section.read_section.Given as goal
+
+abbrev pub invariant-loop-line : goal.invariant-loop-line
+invariant-loop-line l =
+    (l.lines.text ≡ l.text)
+    × SectionSoFar l.text l.first.from l.line l.lines.at (lines_of (bytes_left l.lines)) (section_of (lines_of (bytes_left l.fn.lines)))
+
+abbrev pub decreases-loop-line : goal.decreases-loop-line
+decreases-loop-line l = length l.text - l.lines.at
