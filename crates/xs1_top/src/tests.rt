@@ -1,17 +1,25 @@
+ghost use Rattle.std.specs.Prelude.{◌≡◌, Some};
+
 use crate::top;
 use std::alloc::{AllocError, Global};
 use std::test::Fail;
 use system_model::Status;
 use xs_edge::{Failed, FailingSink, FailingSource, ListSink, ListSource, OpenGate, Sink, Source};
 
-ghost use Rattle.std.specs.Prelude.{◌≡◌, Some};
-
-const SUM: &[u8] = b"xs1 1\nnode 0 id 0\nsource 0\nmain: ldc r0, 5\n  ldc r1, 7\n  add r2, r0, r1 // 12\n  stw r2, dp[0]\n  freet\nend\n";
+const SUM: &[u8] =
+    b"xs1 1\nnode 0 id 0\nsource 0\nmain: ldc r0, 5\n  ldc r1, 7\n  add r2, r0, r1 // 12\n  stw r2, dp[0]\n  freet\nend\n";
 
 const SUM_TRACE: &[u8] = b"n0 mem 0x00010000 0x0000000c\nend 20\n";
 
 // A system whose node has an empty source.
 const EMPTY: &[u8] = b"xs1 1\nnode 0 id 0\nsource 0\nend\n";
+
+// A count down from 3, and a store.
+const COUNTDOWN: &[u8] =
+    b"xs1 1\nnode 0 id 0\nsource 0\nmain: ldc r0, 3\nldc r1, 1\nloop: sub r0, r0, r1\nbt r0, loop\nstw r1, dp[1]\nfreet\nend\n";
+
+// A load past the end of the memory.
+const PAST_THE_END: &[u8] = b"xs1 1\nnode 0 id 0\nsource 0\nldw r0, dp[16384]\nend\n";
 
 const LONGEST: usize = 4_194_304;
 
@@ -33,20 +41,47 @@ fn call<S: Source, K: Sink>(
 fn answers_as_worked_by_hand(rt: HostRuntime) -> Result<(), Fail> {
     let rows = [
         (["run", "20"].as_slice(), SUM, Status::Done, SUM_TRACE),
-        (["run", "0000000012"].as_slice(), SUM, Status::Done, b"end 12\n".as_slice()),
+        (
+            ["run", "0000000012"].as_slice(),
+            SUM,
+            Status::Done,
+            b"end 12\n".as_slice(),
+        ),
+        (
+            ["run", "0"].as_slice(),
+            EMPTY,
+            Status::Done,
+            b"end 0\n".as_slice(),
+        ),
+        (
+            ["run", "33"].as_slice(),
+            COUNTDOWN,
+            Status::Done,
+            b"n0 mem 0x00010004 0x00000001\nend 33\n".as_slice(),
+        ),
+        (
+            ["run", "32"].as_slice(),
+            COUNTDOWN,
+            Status::Done,
+            b"end 32\n".as_slice(),
+        ),
+        (
+            ["run", "1"].as_slice(),
+            PAST_THE_END,
+            Status::Done,
+            b"0 n0.t0 trap 5 pc 0x00040000 data 0x00020000\n0 n0.t0 halt\nn0.t0 halted\nend 1\n".as_slice(),
+        ),
         (
             ["run", "1"].as_slice(),
             EMPTY,
             Status::Done,
-            b"0 n0.t0 trap 2 pc 0x00040000 data 0x00040000\n0 n0.t0 halt\nn0.t0 halted\nend 1\n"
-                .as_slice(),
+            b"0 n0.t0 trap 2 pc 0x00040000 data 0x00040000\n0 n0.t0 halt\nn0.t0 halted\nend 1\n".as_slice(),
         ),
         (
             ["run", "1000001"].as_slice(),
             EMPTY,
             Status::Usage,
-            b"usage: xs1 run SLOTS [serial|free|rounds] | play SLOTS | make NUMBER | check\n"
-                .as_slice(),
+            b"usage: xs1 run SLOTS [serial|free|rounds] | play SLOTS | make NUMBER | check\n".as_slice(),
         ),
         (
             ["run", "1"].as_slice(),
@@ -106,8 +141,18 @@ fn takes_the_longest_input_and_no_longer(rt: HostRuntime) -> Result<(), Fail> {
     let rows = [
         (blank, 0, Status::Done, b"end 0\n".as_slice()),
         (0, blank, Status::Done, b"end 0\n".as_slice()),
-        (blank + 1, 0, Status::SystemFault, b"system line 0: S10 input too long\n".as_slice()),
-        (0, blank + 1, Status::SystemFault, b"system line 0: S10 input too long\n".as_slice()),
+        (
+            blank + 1,
+            0,
+            Status::SystemFault,
+            b"system line 0: S10 input too long\n".as_slice(),
+        ),
+        (
+            0,
+            blank + 1,
+            Status::SystemFault,
+            b"system line 0: S10 input too long\n".as_slice(),
+        ),
     ];
     for (before, after, status, text) in rows {
         let mut source = ListSource::new(padded(rt.alloc(), before, after)?);
