@@ -4,3 +4,4 @@ pub mod Trace
 pub mod Top
 pub mod Worked
 pub mod WorkedEdges
+pub mod StatusNumber

@@ -2,6 +2,8 @@
 //! the plain types that they speak of. See docs/DEFINITIONS.md.
 #![tactic(auto)]
 
+ghost use Rattle.std.specs.Prelude.{◌≡◌};
+ghost use Rattle.system_model.specs.StatusNumber.{number_of_status};
 ghost use Rattle.system_model.specs.Worked.{WorkedAnswers};
 ghost use Rattle.system_model.specs.WorkedEdges.{WorkedFrames, WorkedSources, WorkedRuns};
 
@@ -42,6 +44,15 @@ pub enum Status {
     ReadFault,
     /// The text could not be written whole.
     WriteFault,
+}
+
+impl Status {
+    /// The number that the program ends with, 0 to 7. See docs/OUTPUT.md.
+    pub fn number(self) -> u8
+        ensures { result ≡ number_of_status self }
+    {
+        self as u8
+    }
 }
 
 /// What is written, and how the program ends.

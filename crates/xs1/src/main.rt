@@ -2,9 +2,8 @@
 //! call's status. See docs/OUTPUT.md.
 #![tactic(auto)]
 
-use std::env;
-use std::io;
 use std::process::ExitCode;
+use std::{env, io};
 use xs_edge::{OpenGate, StdSink, StdSource};
 use xs1_top::{Status, top};
 

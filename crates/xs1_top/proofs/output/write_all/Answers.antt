@@ -1,0 +1,12 @@
+use Rattle.std.proofs.Common.{take, drop, arith, ◌∙◌}
+use Rattle.std.proofs.lemmas.List.{take_rest}
+use Rattle.xs_edge.specs.Edge.{Wrote}
+use Rattle.xs1_top.proofs.Pieces.{Wrote-more}
+use Rattle.xs1_top.proofs.output.write_all.Goals as goal
+
+pub loop-done-preserved : goal.loop-done-preserved
+loop-done-preserved g c =
+    let text = c.args.text.now in
+    let piece : Wrote (g.K.Sink.written c.loop-done.sink) (g.K.Sink.written c.put.new.self) (take c.in_ok-done.field-0 (drop c.loop-done.done text)) =
+    rw take_rest at c.in_ok-done.ensures.bytes in
+    (omega (arith, c.in_ok-done.ensures.fits), Wrote-more _ _ _ text c.loop-done.done c.in_ok-done.field-0 c.loop-done.invariant.1 piece, c.in_ok-done.ensures.calm ∙ c.loop-done.invariant.2)

@@ -1,0 +1,86 @@
+-- What the program's one call does to its source and its sink, and the status that it ends with.
+use Rattle.std.specs.Prelude.{ℕ, ◌≡◌, ◌≤◌, Option, Some, None, List, drop}
+use Rattle.xs_edge.specs.Edge.{Wrote, WrotePart}
+use Rattle.system_model.specs.declared.Form.{Form}
+use Rattle.system_model.specs.declared.Form.TheVariants.{Run}
+use Rattle.system_model.specs.declared.Status.{Status}
+use Rattle.system_model.specs.declared.Status.TheVariants.{Done, Memory, Usage, SystemFault, SourceFault, ScriptFault, ReadFault, WriteFault}
+use Rattle.system_model.specs.System.{System, Plan, Frame, Source}
+use Rattle.system_model.specs.Top.{answer, taken, most_slots}
+
+-- the form has no more slots than a run may have
+abbrev pub HasFewSlots : Form → Type 0
+HasFewSlots (Run slots) = slots ≤ most_slots
+
+-- Memory was there, the input was read and the text was written: a status of the definition's answers.
+abbrev pub IsWhole : Status → Type 0
+IsWhole Done = Unit {0}
+IsWhole Memory = ⊥
+IsWhole Usage = Unit {0}
+IsWhole SystemFault = Unit {0}
+IsWhole SourceFault = Unit {0}
+IsWhole ScriptFault = Unit {0}
+IsWhole ReadFault = ⊥
+IsWhole WriteFault = ⊥
+
+-- memory was there and the input was read, if it was asked for
+abbrev pub IsRead : Status → Type 0
+IsRead Done = Unit {0}
+IsRead Memory = ⊥
+IsRead Usage = Unit {0}
+IsRead SystemFault = Unit {0}
+IsRead SourceFault = Unit {0}
+IsRead ScriptFault = Unit {0}
+IsRead ReadFault = ⊥
+IsRead WriteFault = Unit {0}
+
+-- nothing was to be written: memory was wanting, or the input could not be read
+abbrev pub IsSilent : Status → Type 0
+IsSilent Done = ⊥
+IsSilent Memory = Unit {0}
+IsSilent Usage = ⊥
+IsSilent SystemFault = ⊥
+IsSilent SourceFault = ⊥
+IsSilent ScriptFault = ⊥
+IsSilent ReadFault = Unit {0}
+IsSilent WriteFault = ⊥
+
+-- the input is what the source tells as left, or any where it doesn't tell
+abbrev pub IsInput : Option (List ℕ) → List ℕ → Type 0
+IsInput (Some left) input = input ≡ left
+IsInput None input = Unit {0}
+
+-- The text of the answer to the words and the input was added to what was written, and the status is the answer's.
+abbrev pub Answers : List (List ℕ) → Option (List ℕ) → Option (List ℕ) → Option (List ℕ) → Status → Type 0
+Answers words left before after status =
+    (input : List ℕ) × IsInput left input × Wrote before after (answer words input).text × (status ≡ (answer words input).status)
+
+-- a front of that text was added, or nothing
+abbrev pub AnswersInPart : List (List ℕ) → Option (List ℕ) → Option (List ℕ) → Option (List ℕ) → Type 0
+AnswersInPart words left before after =
+    (input : List ℕ) × IsInput left input × WrotePart before after (answer words input).text
+
+-- the bytes of the input that the words ask for were taken, and no others
+abbrev pub TookInput : List (List ℕ) → Option (List ℕ) → Option (List ℕ) → Type 0
+TookInput words (Some left) (Some after) = after ≡ drop (taken words left) left
+TookInput words None None = Unit {0}
+TookInput words (Some left) None = ⊥
+TookInput words None (Some after) = ⊥
+
+-- the frame of the system text is refused
+abbrev pub IsFrame : System → Type 0
+IsFrame (Plan plan) = ⊥
+IsFrame (Frame line kind) = Unit {0}
+IsFrame (Source node line kind) = ⊥
+
+-- the source of a node is refused
+abbrev pub IsSource : System → Type 0
+IsSource (Plan plan) = ⊥
+IsSource (Frame line kind) = ⊥
+IsSource (Source node line kind) = Unit {0}
+
+-- nothing is refused
+abbrev pub IsPlan : System → Type 0
+IsPlan (Plan plan) = Unit {0}
+IsPlan (Frame line kind) = ⊥
+IsPlan (Source node line kind) = ⊥

@@ -1,0 +1,95 @@
+//! Reading the input whole, or as much of it as shows that it is too long.
+ghost use Rattle.std.specs.Prelude.{◌≡◌, ◌<◌, ◌≤◌, ◌+◌, length, take, vec_len, IfOk, OnOk, IfSome, IsErrOf};
+ghost use Rattle.xs_edge.specs.Edge.{HasRisen, Took};
+ghost use Rattle.system_model.specs.System.{longest_input};
+ghost use Rattle.xs1_top.specs.Reads.{ReadsAtMost};
+
+use std::alloc::{AllocError, Global};
+use xs_edge::{Failed, Source};
+
+// One byte past the longest input, so that an input that is too long is seen.
+const MOST_TAKEN: usize = 4_194_305;
+
+// The bytes that one read may take.
+const BUFFER_LENGTH: usize = 65_536;
+
+/// Why an input was not read.
+#[derive(Clone, Copy, PartialEq, Eq, Debug)]
+pub enum ReadError {
+    /// A read failed.
+    Failed,
+    /// Memory was wanting.
+    Memory,
+}
+
+impl From<Failed> for ReadError {
+    ghost use Rattle.std.specs.Prelude.{◌≡◌};
+    ghost use Rattle.xs1_top.specs.declared.input.ReadError.TheVariants as error;
+
+    ghost from_gives = { λ _ e. e ≡ error.Failed };
+
+    fn from(_failed: Failed) -> ReadError {
+        ReadError::Failed
+    }
+}
+
+impl From<AllocError> for ReadError {
+    ghost use Rattle.std.specs.Prelude.{◌≡◌};
+    ghost use Rattle.xs1_top.specs.declared.input.ReadError.TheVariants as error;
+
+    ghost from_gives = { λ _ e. e ≡ error.Memory };
+
+    fn from(_error: AllocError) -> ReadError {
+        ReadError::Memory
+    }
+}
+
+/// Reads until the input ends, a read fails, or 4,194,305 bytes are taken, which is one more than an input may
+/// have. No more than that is ever taken. `ReadError::Failed` comes only where the source's count of faults has
+/// risen, and `ReadError::Memory` where memory was wanting; the bytes taken till then are lost.
+pub fn read_all<S: Source>(alloc: Global, source: &mut S) -> Result<Vec<u8>, ReadError>
+    ensures taken { IfOk result (λ bytes. Took (S.left source.old) (S.left source.new) bytes.items) }
+    ensures front { IfOk result (λ bytes. IfSome (S.left source.old) (λ left. bytes.items ≡ take (longest_input + 1) left)) }
+    ensures within { IfOk result (λ bytes. vec_len bytes ≤ longest_input + 1) }
+    ensures calm { OnOk result (S.faults source.new ≡ S.faults source.old) }
+    ensures failed { IsErrOf result ReadError.Failed → HasRisen (S.faults source.old) (S.faults source.new) }
+    ensures memory { IsErrOf result ReadError.Memory → S.faults source.new ≡ S.faults source.old }
+    ensures reads { ReadsAtMost S.read_gives (longest_input + 2) source.old source.new }
+{
+    let mut buffer = make_buffer(alloc)?;
+    read_through(alloc, source, &mut buffer)
+}
+
+fn make_buffer(alloc: Global) -> Result<Vec<u8>, AllocError>
+    ensures { IfOk result (λ buffer. 0 < vec_len buffer) }
+{
+    vec![in alloc; 0; BUFFER_LENGTH]
+}
+
+// Reads by way of the buffer.
+fn read_through<S: Source>(
+    alloc: Global,
+    source: &mut S,
+    buffer: &mut [u8],
+) -> Result<Vec<u8>, ReadError>
+    requires { 0 < length buffer.old }
+    ensures taken { IfOk result (λ bytes. Took (S.left source.old) (S.left source.new) bytes.items) }
+    ensures front { IfOk result (λ bytes. IfSome (S.left source.old) (λ left. bytes.items ≡ take (longest_input + 1) left)) }
+    ensures within { IfOk result (λ bytes. vec_len bytes ≤ longest_input + 1) }
+    ensures calm { OnOk result (S.faults source.new ≡ S.faults source.old) }
+    ensures failed { IsErrOf result ReadError.Failed → HasRisen (S.faults source.old) (S.faults source.new) }
+    ensures memory { IsErrOf result ReadError.Memory → S.faults source.new ≡ S.faults source.old }
+    ensures reads { ReadsAtMost S.read_gives (longest_input + 2) source.old source.new }
+{
+    let mut bytes = Vec::new(alloc);
+    while bytes.len() < MOST_TAKEN {
+        let most = (MOST_TAKEN - bytes.len()).min(buffer.len());
+        let piece = &mut buffer[..most];
+        let count = source.read(piece)?;
+        if count == 0 {
+            return Ok(bytes);
+        }
+        bytes.extend_from_slice(&piece[..count])?;
+    }
+    Ok(bytes)
+}

@@ -1,0 +1,62 @@
+//! The lines that tell why nothing was run.
+ghost use Rattle.std.specs.Prelude.{◌≡◌, ◌++◌, IfOk, OnOk};
+ghost use Rattle.system_model.specs.Top.{frame_text, source_text, text_of_asm_kind, text_of_sys_kind, usage_text};
+
+use source_model::AsmKind;
+use std::alloc::{AllocError, Global};
+use system_model::SysKind;
+use trace_lines::append_decimal;
+use xs_base::Text;
+
+/// The usage line. It takes no memory.
+pub fn usage_line() -> &'static [u8]
+    ensures { result.now ≡ usage_text }
+{
+    b"usage: xs1 run SLOTS [serial|free|rounds] | play SLOTS | make NUMBER | check\n"
+}
+
+/// The line of a refused frame: `system line L: KIND TEXT`. The error is want of memory. See docs/OUTPUT.md.
+pub fn frame_line(alloc: Global, line: u32, kind: SysKind) -> Result<Text, AllocError>
+    ensures { IfOk result (λ text. text ≡ frame_text line kind) }
+{
+    let mut text = Text::new(alloc);
+    text.append(b"system line ")?;
+    append_decimal(&mut text, u64::from(line))?;
+    text.append(b": ")?;
+    text.append(text_of_sys_kind(kind))?;
+    text.append(b"\n")?;
+    Ok(text)
+}
+
+/// The line of a refused source of a node: `source N line L: KIND TEXT`. The error is want of memory. See
+/// docs/OUTPUT.md.
+pub fn source_line(alloc: Global, node: u8, line: u32, kind: AsmKind) -> Result<Text, AllocError>
+    ensures { IfOk result (λ text. text ≡ source_text node line kind) }
+{
+    let mut text = Text::new(alloc);
+    text.append(b"source ")?;
+    append_decimal(&mut text, u64::from(node))?;
+    text.append(b" line ")?;
+    append_decimal(&mut text, u64::from(line))?;
+    text.append(b": ")?;
+    text.append(text_of_asm_kind(kind))?;
+    text.append(b"\n")?;
+    Ok(text)
+}
+
+fn text_of_sys_kind(kind: SysKind) -> &'static [u8]
+    ensures { result.now ≡ text_of_sys_kind kind }
+{
+    match kind {
+        SysKind::BadLine => b"S2 bad line",
+        SysKind::TooLong => b"S10 input too long",
+    }
+}
+
+fn text_of_asm_kind(kind: AsmKind) -> &'static [u8]
+    ensures { result.now ≡ text_of_asm_kind kind }
+{
+    match kind {
+        AsmKind::UnknownName => b"A2 unknown name",
+    }
+}
