@@ -1,35 +1,63 @@
 -- From an issue to a node step, and the slots that a core keeps.
-use Rattle.std.proofs.Common.{◌≡◌, ℕ, zero, suc, ◌+◌, Bool, true, false, List, [], ◌∷◌, Option, Some, None, refl, ap, ◌∙◌, arith}
+use Rattle.std.proofs.Common.{◌≡◌, ℕ, zero, suc, ◌+◌, Bool, true, false, List, [], ◌∷◌, Option, Some, None, refl, ap, sym, ◌∙◌, arith}
 use Rattle.std.specs.Prelude.{slice_set, map}
 use Rattle.xs_model.specs.declared.thread.Thread.{Thread}
 use Rattle.xs_model.specs.declared.outside.Arrivals.{Arrivals}
 use Rattle.xs_model.specs.declared.outside.PinView.{PinView}
 use Rattle.xs_model.specs.declared.event.Happen.{Happen}
-use Rattle.xs_model.specs.Record.{CoreRec, NodeRec}
+use Rattle.xs_model.specs.Record.{CoreRec, NodeRec, LinkRec, core_with}
 use Rattle.xs_model.specs.Outside.{Emitted, emitted_events}
 use Rattle.xs_instructions.specs.declared.instr.Instr.{Instr}
 use Rattle.xs_instructions.specs.declared.instr.Instr.TheVariants.{Words, Memory, Flow, Threads}
 use Rattle.xs_instructions.specs.declared.instr.MemIns.{MemIns}
 use Rattle.xs_instructions.specs.declared.instr.MemIns.TheVariants.{LdwDp, StwDp}
 use Rattle.xs_instructions.specs.declared.instr.ThreadIns.TheVariants.{Freet}
+use Rattle.net_model.specs.Links.{links_after_arrivals}
+use Rattle.net_model.specs.Switch.{moves_from}
+use Rattle.net_model.specs.Quiet.{quiet_node}
 use Rattle.step_model.specs.Fixed.{Fixed}
 use Rattle.step_model.specs.Effect.{effect, memory_row, loaded, stored}
-use Rattle.step_model.specs.Step.{node_step, issued, issued_by, begun, executed, settled, trap, halt_unless, in_slot}
-use Rattle.core_step.specs.Core.{CoreValue, StandsFor, AreBefore}
+use Rattle.step_model.specs.Step.{Stepped, node_step, issued, issued_by, begun, executed, settled, trap, halt_unless, in_slot}
+use Rattle.core_step.specs.Core.{CoreValue, StandsFor, AreBefore, no_links}
 
--- a core that made the issue stands for the node after the step
-pub stepped : (before after : CoreValue) (rec : NodeRec) (slot : ℕ) (arrivals : Arrivals) (pins : PinView) → after.core ≡ (issued before.fixed before.core slot).core → StandsFor before rec → StandsFor after (node_step before.fixed rec slot arrivals pins).rec
-unfolding node_step
-stepped before after rec slot arrivals pins e s = record {
-  core = e ∙ ap (λ (core : CoreRec). (issued before.fixed core slot).core) s.core;
-  links = s.links;
+abbrev node_with : CoreRec → List (Option LinkRec) → NodeRec
+node_with core links = record { core = core; links = links }
+
+same_node : (c d : CoreRec) (l k : List (Option LinkRec)) → c ≡ d → l ≡ k → node_with c l ≡ node_with d k
+same_node c d l k e f = ap (λ (x : CoreRec). node_with x l) e ∙ ap (λ (y : List (Option LinkRec)). node_with d y) f
+
+-- a slot that is its issue alone
+abbrev issue_alone : Fixed → NodeRec → ℕ → Stepped
+issue_alone fixed rec slot = record {
+  rec = record rec { core = (issued fixed rec.core slot).core };
+  emitted = emitted_events (map (in_slot slot) (issued fixed rec.core slot).happened);
 }
 
--- and it gave what the step gives
-pub gave : (before : CoreValue) (out : Emitted) (rec : NodeRec) (slot : ℕ) (arrivals : Arrivals) (pins : PinView) → out ≡ emitted_events (map (in_slot slot) (issued before.fixed before.core slot).happened) → StandsFor before rec → out ≡ (node_step before.fixed rec slot arrivals pins).emitted
-unfolding node_step
-gave before out rec slot arrivals pins e s =
-    e ∙ ap (λ (core : CoreRec). emitted_events (map (in_slot slot) (issued before.fixed core slot).happened)) s.core
+-- where no link end is there and no channel end is in use, nothing comes before the issue
+quiet_step : (fixed : Fixed) (threads : List Thread) (last : List (Option ℕ)) (memory : List ℕ) (slot : ℕ) (arrivals : Arrivals) (pins : PinView) → node_step fixed (quiet_node threads last memory) slot arrivals pins ≡ issue_alone fixed (quiet_node threads last memory) slot
+unfolding node_step moves_from links_after_arrivals
+quiet_step fixed threads last memory slot arrivals pins = refl
+
+module _ (before : CoreValue) (rec : NodeRec) (slot : ℕ) (arrivals : Arrivals) (pins : PinView) (threads : List Thread) (last : List (Option ℕ)) (memory : List ℕ) (plain : before.core ≡ core_with threads last memory) (stands : StandsFor before rec) where
+  step_is : node_step before.fixed rec slot arrivals pins ≡ issue_alone before.fixed rec slot
+  step_is =
+      let rec_is = same_node rec.core (core_with threads last memory) rec.links no_links (sym stands.core ∙ plain) stands.links in
+      ap (λ (r : NodeRec). node_step before.fixed r slot arrivals pins) rec_is
+      ∙ quiet_step before.fixed threads last memory slot arrivals pins
+      ∙ sym (ap (λ (r : NodeRec). issue_alone before.fixed r slot) rec_is)
+
+  -- a core that made the issue stands for the node after the step
+  pub stepped : (after : CoreValue) → after.core ≡ (issued before.fixed before.core slot).core → StandsFor after (node_step before.fixed rec slot arrivals pins).rec
+  stepped after e = record {
+    core = e ∙ ap (λ (core : CoreRec). (issued before.fixed core slot).core) stands.core ∙ sym (ap (λ (s : Stepped). s.rec.core) step_is);
+    links = ap (λ (s : Stepped). s.rec.links) step_is ∙ stands.links;
+  }
+
+  -- and it gave what the step gives
+  pub gave : (out : Emitted) → out ≡ emitted_events (map (in_slot slot) (issued before.fixed before.core slot).happened) → out ≡ (node_step before.fixed rec slot arrivals pins).emitted
+  gave out e =
+      e ∙ ap (λ (core : CoreRec). emitted_events (map (in_slot slot) (issued before.fixed core slot).happened)) stands.core
+      ∙ sym (ap (λ (s : Stepped). s.emitted) step_is)
 
 -- what was before a slot is before the next
 pub still_before : (slot : ℕ) (last : List (Option ℕ)) → AreBefore slot last → AreBefore (slot + 1) last

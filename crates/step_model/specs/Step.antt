@@ -9,11 +9,13 @@ use Rattle.xs_model.specs.declared.event.Happen.TheVariants as happen
 use Rattle.xs_model.specs.declared.outside.Arrivals.{Arrivals}
 use Rattle.xs_model.specs.declared.outside.PinView.{PinView}
 use Rattle.xs_model.specs.Record.{CoreRec, NodeRec, thread_of, with_thread}
-use Rattle.xs_model.specs.Outside.{Emitted, emitted_events}
+use Rattle.xs_model.specs.Outside.{Emitted}
 use Rattle.xs_model.specs.Picks.{picked}
 use Rattle.xs_model.specs.Entry.{trapped}
 use Rattle.xs_instructions.specs.declared.instr.Instr.{Instr}
 use Rattle.xs_instructions.specs.Code.{is_code_place, code_at}
+use Rattle.net_model.specs.Links.{links_after_arrivals}
+use Rattle.net_model.specs.Switch.{Routes, Moving, moves}
 use Rattle.step_model.specs.Fixed.{Fixed}
 use Rattle.step_model.specs.Effect.{Effect, Done, Pause, Trap, Gone, effect}
 
@@ -75,18 +77,20 @@ issued_by fixed core slot (Some k) =
 abbrev pub issued : Fixed → CoreRec → ℕ → Issued
 issued fixed core slot = issued_by fixed core slot (picked core slot)
 
--- phase 1: what arrives by the link ends. No link end is built yet, and what arrives for one that isn't there
--- is dropped.
+-- phase 1: what arrives by the link ends, the token and then the credit; for a link end that isn't there it is dropped
 abbrev pub arrived : NodeRec → ℕ → Arrivals → NodeRec
-arrived rec slot arrivals = rec
+arrived rec slot arrivals = record rec { links = links_after_arrivals slot arrivals.tokens arrivals.credits 0 rec.links }
 
 -- phase 2: the edges of the ports' clocks. No port is built yet.
 abbrev pub clocked : NodeRec → ℕ → PinView → NodeRec
 clocked rec slot pins = rec
 
--- phase 3: the switch's 40 inputs. No channel end and no link end is built yet.
-abbrev pub switched : Fixed → NodeRec → ℕ → NodeRec
-switched fixed rec slot = rec
+abbrev pub routes_of : Fixed → Routes
+routes_of fixed = record { id = fixed.id; ways = fixed.ways; gaps = fixed.gaps }
+
+-- phase 3: one step of each of the switch's 40 inputs
+abbrev pub switched : Fixed → NodeRec → ℕ → Moving
+switched fixed rec slot = moves (routes_of fixed) slot rec
 
 -- a node after a slot, and what the slot gave to the outside
 pub record Stepped : Type 0 where
@@ -96,14 +100,15 @@ pub record Stepped : Type 0 where
 abbrev pub in_slot : ℕ → Happen → Event
 in_slot slot what = record { slot = slot; what = what }
 
-abbrev pub step_done : NodeRec → ℕ → Issued → Stepped
-step_done rec slot after = record {
-  rec = record rec { core = after.core };
-  emitted = emitted_events (map (in_slot slot) after.happened);
+-- the events of the switch come before those of the issue
+abbrev pub step_done : Moving → ℕ → Issued → Stepped
+step_done m slot after = record {
+  rec = record m.rec { core = after.core };
+  emitted = record { events = map (in_slot slot) (m.happened ++ after.happened); tokens = m.tokens; credits = m.credits };
 }
 
 -- one slot of a node: arrivals, ports, switch, and at most one issue
 unfoldable pub node_step : Fixed → NodeRec → ℕ → Arrivals → PinView → Stepped
 node_step fixed rec slot arrivals pins =
     let before = switched fixed (clocked (arrived rec slot arrivals) slot pins) slot in
-    step_done before slot (issued fixed before.core slot)
+    step_done before slot (issued fixed before.rec.core slot)

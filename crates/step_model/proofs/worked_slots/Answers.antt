@@ -1,10 +1,12 @@
 use Rattle.std.proofs.Common.{refl}
 use Rattle.xs_model.specs.Picks.{pick_from}
+use Rattle.net_model.specs.Links.{links_after_arrivals}
+use Rattle.net_model.specs.Switch.{moves_from}
 use Rattle.step_model.specs.Step.{node_step}
 use Rattle.step_model.proofs.worked_slots.Goals as goal
 
 pub returns-clause-issues : goal.returns-clause-issues
-unfolding node_step pick_from
+unfolding moves_from links_after_arrivals node_step pick_from
 returns-clause-issues c = record {
   threads = refl;
   last = refl;
@@ -24,7 +26,7 @@ returns-clause-issues c = record {
 }
 
 pub returns-clause-words : goal.returns-clause-words
-unfolding node_step pick_from
+unfolding moves_from links_after_arrivals node_step pick_from
 returns-clause-words c = record {
   add = refl;
   add_wraps = refl;
@@ -38,7 +40,7 @@ returns-clause-words c = record {
 }
 
 pub returns-clause-branches : goal.returns-clause-branches
-unfolding node_step pick_from
+unfolding moves_from links_after_arrivals node_step pick_from
 returns-clause-branches c = record {
   bt_taken = refl;
   bt_not_taken = refl;
@@ -50,7 +52,7 @@ returns-clause-branches c = record {
 }
 
 pub returns-clause-memory : goal.returns-clause-memory
-unfolding node_step pick_from
+unfolding moves_from links_after_arrivals node_step pick_from
 returns-clause-memory c = record {
   stored = refl;
   store_goes_on = refl;
@@ -62,7 +64,7 @@ returns-clause-memory c = record {
 }
 
 pub returns-clause-traps : goal.returns-clause-traps
-unfolding node_step pick_from
+unfolding moves_from links_after_arrivals node_step pick_from
 returns-clause-traps c = record {
   no_code = refl;
   no_code_events = refl;
@@ -81,7 +83,7 @@ returns-clause-traps c = record {
 }
 
 pub returns-clause-end : goal.returns-clause-end
-unfolding node_step pick_from
+unfolding moves_from links_after_arrivals node_step pick_from
 returns-clause-end c = record {
   free = refl;
   no_event = refl;

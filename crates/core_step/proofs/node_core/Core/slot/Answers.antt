@@ -19,14 +19,14 @@ picked_some c =
 pub returns-in-Some-clause-step : goal.returns-in-Some-clause-step
 returns-in-Some-clause-step c =
     let s = (goal.at.returns-in-Some-clause-step c).In-Some in
-    λ rec h. stepped c.args.self.now c.issue.new.self rec c.args.slot _ _
-    (c.issue.ensures.core ∙ ap (λ (p : Option ℕ). (issued_by c.args.self.now.fixed c.args.self.now.core c.args.slot p).core) (sym (picked_some s))) h
+    λ rec h. stepped c.args.self.now rec c.args.slot _ _ c.self.inside.threads c.self.inside.slots c.self.inside.ram (sym (ap (λ (v : CoreValue). v.core) c.self.view_is)) h c.issue.new.self
+    (c.issue.ensures.core ∙ ap (λ (p : Option ℕ). (issued_by c.args.self.now.fixed c.args.self.now.core c.args.slot p).core) (sym (picked_some s)))
 
 pub returns-in-Some-clause-emissions : goal.returns-in-Some-clause-emissions
 returns-in-Some-clause-emissions c =
     let s = (goal.at.returns-in-Some-clause-emissions c).In-Some in
-    λ rec h. gave c.args.self.now c.issue.new.out rec c.args.slot _ _
-    (c.issue.ensures.events ∙ ap (λ (p : Option ℕ). emitted_events (map (in_slot c.args.slot) (issued_by c.args.self.now.fixed c.args.self.now.core c.args.slot p).happened)) (sym (picked_some s))) h
+    λ rec h. gave c.args.self.now rec c.args.slot _ _ c.self.inside.threads c.self.inside.slots c.self.inside.ram (sym (ap (λ (v : CoreValue). v.core) c.self.view_is)) h c.issue.new.out
+    (c.issue.ensures.events ∙ ap (λ (p : Option ℕ). emitted_events (map (in_slot c.args.slot) (issued_by c.args.self.now.fixed c.args.self.now.core c.args.slot p).happened)) (sym (picked_some s)))
 
 pub returns-in-Some-clause-after : goal.returns-in-Some-clause-after
 returns-in-Some-clause-after c =
@@ -43,14 +43,14 @@ picked_none c none =
 pub returns-in_default-clause-step : goal.returns-in_default-clause-step
 returns-in_default-clause-step c =
     let s = (goal.at.returns-in_default-clause-step c).In_default in
-    λ rec h. stepped c.args.self.now c.args.self.now rec c.args.slot _ _
-    (ap (λ (p : Option ℕ). (issued_by c.args.self.now.fixed c.args.self.now.core c.args.slot p).core) (sym (picked_none s c.in_default.is))) h
+    λ rec h. stepped c.args.self.now rec c.args.slot _ _ c.self.inside.threads c.self.inside.slots c.self.inside.ram (sym (ap (λ (v : CoreValue). v.core) c.self.view_is)) h c.args.self.now
+    (ap (λ (p : Option ℕ). (issued_by c.args.self.now.fixed c.args.self.now.core c.args.slot p).core) (sym (picked_none s c.in_default.is)))
 
 pub returns-in_default-clause-emissions : goal.returns-in_default-clause-emissions
 returns-in_default-clause-emissions c =
     let s = (goal.at.returns-in_default-clause-emissions c).In_default in
-    λ rec h. gave c.args.self.now c.clear.new.self rec c.args.slot _ _
-    (c.clear.ensures ∙ ap (λ (p : Option ℕ). emitted_events (map (in_slot c.args.slot) (issued_by c.args.self.now.fixed c.args.self.now.core c.args.slot p).happened)) (sym (picked_none s c.in_default.is))) h
+    λ rec h. gave c.args.self.now rec c.args.slot _ _ c.self.inside.threads c.self.inside.slots c.self.inside.ram (sym (ap (λ (v : CoreValue). v.core) c.self.view_is)) h c.clear.new.self
+    (c.clear.ensures ∙ ap (λ (p : Option ℕ). emitted_events (map (in_slot c.args.slot) (issued_by c.args.self.now.fixed c.args.self.now.core c.args.slot p).happened)) (sym (picked_none s c.in_default.is)))
 
 pub returns-in_default-clause-after : goal.returns-in_default-clause-after
 returns-in_default-clause-after c = still_before c.args.slot c.args.self.now.core.last c.requires.before
