@@ -1,9 +1,9 @@
 -- Channel ends: what programs do with their buffers.
-use Rattle.std.specs.Prelude.{ℕ, ◌+◌, ◌-◌, ◌*◌, ◌%◌, Bool, true, false, ◌&&◌, not, ◌==◌, nat_le, nat_lt, if◌then◌else◌, Option, Some, None, List, [], ◌∷◌, ◌++◌, length, drop}
+use Rattle.std.specs.Prelude.{ℕ, ◌+◌, ◌%◌, Bool, true, false, ◌&&◌, ◌==◌, nat_le, nat_lt, if◌then◌else◌, Option, Some, None, List, [], ◌∷◌, ◌++◌, length}
 use Rattle.xs_base.specs.declared.Token.{Token}
 use Rattle.xs_base.specs.declared.Token.TheVariants.{Byte, Ctrl}
-use Rattle.xs_model.specs.Record.{CoreRec, ChanRec, unused_chan, chan_of}
-use Rattle.net_model.specs.Ids.{chan_id, node_of_dest, chan_of_dest}
+use Rattle.xs_model.specs.Record.{ChanRec, unused_chan}
+use Rattle.net_model.specs.Ids.{chan_id, chan_of_dest}
 
 -- how many tokens each of a channel end's two buffers holds
 abbrev pub buffer_room : ℕ
@@ -13,12 +13,12 @@ buffer_room = 8
 abbrev pub chan_named : ℕ → ℕ → Option ℕ
 chan_named node id = if (id == chan_id node (chan_of_dest id)) && nat_lt (chan_of_dest id) 32 then Some (chan_of_dest id) else None
 
--- the lowest channel end of so many, from number n on, that is not in use
+-- the lowest channel end of a list, whose first has number n, that is not in use
 unfoldable pub free_chan : List ChanRec → ℕ → Option ℕ
 free_chan [] n = None
 free_chan (chan ∷ chans) n = if chan.used then free_chan chans (n + 1) else Some n
 
--- a channel end that was just got
+-- a channel end that was just got: its buffers are empty, and it has no destination
 abbrev pub got_chan : ChanRec
 got_chan = record unused_chan { used = true }
 

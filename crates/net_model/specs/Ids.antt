@@ -1,5 +1,5 @@
 -- Resource identifiers of channel ends, and the way to them.
-use Rattle.std.specs.Prelude.{ℕ, zero, suc, ◌+◌, ◌*◌, ◌/◌, ◌%◌, Bool, ◌==◌, if◌then◌else◌, Option, Some, None, List, slice_index}
+use Rattle.std.specs.Prelude.{ℕ, zero, suc, ◌+◌, ◌*◌, ◌/◌, ◌%◌, ◌==◌, if◌then◌else◌, Option, Some, None, List, slice_index}
 use Rattle.std.specs.Int.{bit_at}
 
 -- channel end n of the node with this id

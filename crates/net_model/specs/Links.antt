@@ -1,7 +1,7 @@
 -- Link ends: what arrives at them, and when they may send. They count lists of slots.
-use Rattle.std.specs.Prelude.{ℕ, ◌+◌, Bool, true, ◌&&◌, nat_le, nat_lt, if◌then◌else◌, Option, Some, None, List, [], ◌∷◌, ◌++◌, length, filter, slice_index_or}
+use Rattle.std.specs.Prelude.{ℕ, ◌+◌, Bool, true, false, ◌&&◌, nat_le, nat_lt, if◌then◌else◌, Option, Some, None, List, [], ◌∷◌, ◌++◌, length, filter, slice_index_or}
 use Rattle.xs_base.specs.declared.Token.{Token}
-use Rattle.xs_model.specs.Record.{NodeRec, LinkRec}
+use Rattle.xs_model.specs.Record.{LinkRec}
 
 -- how many tokens fit into a link end's buffer, and how many may be on their way to it
 abbrev pub window : ℕ
@@ -26,10 +26,10 @@ link_after_arrivals slot token credit (Some link) = Some (credit_arrives slot cr
 unfoldable pub links_after_arrivals : ℕ → List (Option Token) → List Bool → ℕ → List (Option LinkRec) → List (Option LinkRec)
 links_after_arrivals slot tokens credits end [] = []
 links_after_arrivals slot tokens credits end (link ∷ links) =
-    link_after_arrivals slot (slice_index_or tokens end None) (slice_index_or credits end true) link
+    link_after_arrivals slot (slice_index_or tokens end None) (slice_index_or credits end false) link
     ∷ links_after_arrivals slot tokens credits (end + 1) links
 
--- the last slot of a list that rises
+-- the last slot of a list; the slots of a link end's list rise, as sends go slot by slot
 abbrev pub latest : List ℕ → Option ℕ
 latest [] = None
 latest (s ∷ []) = Some s

@@ -1,5 +1,5 @@
 -- The switch of a node: one step of each of its 40 inputs in a slot, link ends 0 to 7 and then channel ends 0 to 31.
-use Rattle.std.specs.Prelude.{ℕ, zero, suc, ◌+◌, ◌-◌, ◌*◌, ◌/◌, ◌%◌, Bool, true, false, ◌&&◌, ◌||◌, not, ◌==◌, nat_le, nat_lt, if◌then◌else◌, Option, Some, None, List, [], ◌∷◌, ◌++◌, length, drop, slice_index, slice_index_or, slice_set, replicate}
+use Rattle.std.specs.Prelude.{ℕ, zero, suc, ◌+◌, ◌-◌, ◌*◌, ◌/◌, ◌%◌, Bool, true, false, ◌&&◌, ◌||◌, not, ◌==◌, nat_lt, if◌then◌else◌, Option, Some, None, List, [], ◌∷◌, ◌++◌, drop, slice_index, slice_index_or, slice_set, replicate}
 use Rattle.std.specs.List.{list_any}
 use Rattle.std.specs.Int.{bit_at}
 use Rattle.xs_base.specs.declared.Token.{Token}
@@ -7,7 +7,8 @@ use Rattle.xs_base.specs.declared.Token.TheVariants.{Byte, Ctrl}
 use Rattle.xs_model.specs.declared.event.Happen.{Happen}
 use Rattle.xs_model.specs.declared.event.Happen.TheVariants as happen
 use Rattle.xs_model.specs.Record.{NodeRec, LinkRec, ChanRec, InputRec, Idle, Head1, Head2, Want, Local, Out, Lost, chan_of}
-use Rattle.net_model.specs.Ids.{Way, Here, Behind, chan_id, node_of_dest, chan_of_dest, way_to}
+use Rattle.net_model.specs.Ids.{Way, Here, Behind, chan_id, chan_of_dest, way_to}
+use Rattle.net_model.specs.Chans.{has_room}
 use Rattle.net_model.specs.Links.{may_send}
 
 -- what the switch knows of its node's plan: the id, for each bit of an id the link ends that lead on, and the gaps
@@ -118,7 +119,7 @@ put_into n t m = record m { rec = with_chan m.rec n (record (chan_of m.rec.core 
 abbrev pub deliver : ℕ → ℕ → Token → Moving → Moving
 deliver i n t m =
     if is_pause t then after_token i (Local n) t (take_first i m)
-    else (if nat_lt (length (chan_of m.rec.core n).input) 8
+    else (if has_room 1 (chan_of m.rec.core n).input
     then after_token i (Local n) t (it_happens (happen.Chan n t) (put_into n t (take_first i m)))
     else m)
 
@@ -150,17 +151,18 @@ end_may_send routes slot e None = false
 end_may_send routes slot e (Some link) = may_send (slice_index routes.gaps e) slot link
 
 -- the first token that waits goes out
-abbrev pub out_token : ℕ → ℕ → ℕ → ℕ → List Token → Moving → Moving
-out_token slot i e dest [] m = m
-out_token slot i e dest (t ∷ rest) m = after_token i (Out e 3 dest) t (send slot e t (take_first i m))
+abbrev pub out_token : ℕ → ℕ → ℕ → ℕ → ℕ → List Token → Moving → Moving
+out_token slot i e headers dest [] m = m
+out_token slot i e headers dest (t ∷ rest) m = after_token i (Out e headers dest) t (send slot e t (take_first i m))
 
--- an input that holds a link end: first the three header bytes go out, then the tokens that wait
+-- an input that holds a link end: first the three header bytes go out, then the tokens that wait. The count of header
+-- bytes that went out is 0 to 3.
 abbrev pub out_step : Routes → ℕ → ℕ → ℕ → ℕ → ℕ → Moving → Moving
 out_step routes slot i e headers dest m =
     if end_may_send routes slot e (link_at m.rec e)
     then (if nat_lt headers 3
     then to_state i (Out e (headers + 1) dest) (send slot e (Byte (header_byte dest headers)) m)
-    else out_token slot i e dest (waiting_at m.rec i) m)
+    else out_token slot i e headers dest (waiting_at m.rec i) m)
     else m
 
 -- to a channel end of this node: it is held from now on, unless another input holds it
@@ -203,22 +205,25 @@ abbrev pub head_step : ℕ → InputRec → List Token → Moving → Moving
 head_step i state [] m = m
 head_step i state (t ∷ rest) m = head_token i state t m
 
-abbrev pub dest_of : Option ℕ → ℕ
-dest_of None = 0
-dest_of (Some dest) = dest
+-- only a link end takes header tokens
+abbrev pub link_head_step : ℕ → InputRec → Moving → Moving
+link_head_step i state m = if is_link_input i then head_step i state (waiting_at m.rec i) m else m
+
+-- a packet to a destination begins; where there is none, nothing begins
+abbrev pub start_packet : Routes → ℕ → ℕ → Option ℕ → Moving → Moving
+start_packet routes slot i None m = m
+start_packet routes slot i (Some dest) m = want_step routes slot i dest (to_state i (Want dest) m)
 
 -- a channel end with tokens that wait begins a packet to its destination
 abbrev pub packet_step : Routes → ℕ → ℕ → List Token → Moving → Moving
 packet_step routes slot i [] m = m
-packet_step routes slot i (t ∷ rest) m =
-    let dest = dest_of (chan_of m.rec.core (i - 8)).dest in
-    want_step routes slot i dest (to_state i (Want dest) m)
+packet_step routes slot i (t ∷ rest) m = start_packet routes slot i (chan_of m.rec.core (i - 8)).dest m
 
 abbrev pub step_at : Routes → ℕ → ℕ → InputRec → Moving → Moving
 step_at routes slot i Idle m =
     if is_link_input i then head_step i Idle (waiting_at m.rec i) m else packet_step routes slot i (waiting_at m.rec i) m
-step_at routes slot i (Head1 high) m = head_step i (Head1 high) (waiting_at m.rec i) m
-step_at routes slot i (Head2 high low) m = head_step i (Head2 high low) (waiting_at m.rec i) m
+step_at routes slot i (Head1 high) m = link_head_step i (Head1 high) m
+step_at routes slot i (Head2 high low) m = link_head_step i (Head2 high low) m
 step_at routes slot i (Want dest) m = want_step routes slot i dest m
 step_at routes slot i (Local n) m = local_step i n (waiting_at m.rec i) m
 step_at routes slot i (Out e headers dest) m = out_step routes slot i e headers dest m
