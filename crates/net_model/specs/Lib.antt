@@ -4,3 +4,5 @@ pub mod Links
 pub mod Switch
 pub mod Quiet
 pub mod Worked
+pub mod WorkedThree
+pub mod WorkedSteps

@@ -1,13 +1,13 @@
--- Two nodes and one link, worked out by hand: node 0 sends END to channel end 0 of node 1 in slot 12, over a link
--- with a delay of 5 slots and a gap of 4.
-use Rattle.std.specs.Prelude.{ℕ, zero, suc, ◌≡◌, ◌+◌, ◌-◌, Bool, true, false, ◌==◌, nat_le, nat_lt, if◌then◌else◌, Option, Some, None, is_some, List, [], ◌∷◌, ◌++◌, length, replicate, slice_index_or, slice_set}
+-- Two nodes and one link, worked out by hand: node 0 sends to channel end 0 of node 1, over a link with a delay of 5
+-- slots and a gap of 4.
+use Rattle.std.specs.Prelude.{ℕ, zero, suc, ◌≡◌, ◌+◌, ◌-◌, ◌%◌, Bool, true, false, ◌&&◌, ◌==◌, nat_le, nat_lt, if◌then◌else◌, Option, Some, None, List, [], ◌∷◌, ◌++◌, length, drop, replicate, slice_index_or}
 use Rattle.xs_base.specs.declared.Token.{Token}
 use Rattle.xs_base.specs.declared.Token.TheVariants.{Byte, Ctrl}
 use Rattle.xs_model.specs.declared.event.Happen.{Happen}
 use Rattle.xs_model.specs.declared.event.Happen.TheVariants as happen
 use Rattle.xs_model.specs.Record.{NodeRec, LinkRec, ChanRec, core_with, unused_chan, chan_of}
 use Rattle.net_model.specs.Ids.{chan_id}
-use Rattle.net_model.specs.Chans.{got_chan}
+use Rattle.net_model.specs.Chans.{got_chan, has_room}
 use Rattle.net_model.specs.Links.{links_after_arrivals}
 use Rattle.net_model.specs.Switch.{Routes, Moving, moves, with_chan}
 
@@ -29,12 +29,16 @@ nothing_sent = record { tokens = []; credits = [] }
 abbrev pub fresh_link : LinkRec
 fresh_link = record { buffer = []; sent = []; credited = [] }
 
+abbrev pub node_with : List ChanRec → List (Option LinkRec) → NodeRec
+node_with chans links = record { core = record (core_with [] [] []) { chans = chans }; links = links }
+
 -- a node with channel end 0 in use and link end 0
 abbrev pub with_link : NodeRec
-with_link = record {
-  core = record (core_with [] [] []) { chans = got_chan ∷ replicate 31 unused_chan };
-  links = Some fresh_link ∷ replicate 7 None;
-}
+with_link = node_with (got_chan ∷ replicate 31 unused_chan) (Some fresh_link ∷ replicate 7 None)
+
+-- a node with link end 0 and no channel end in use
+abbrev pub without_chan : NodeRec
+without_chan = node_with (replicate 32 unused_chan) (Some fresh_link ∷ replicate 7 None)
 
 abbrev pub routes_of : ℕ → Routes
 routes_of id = record { id = id; ways = 1 ∷ replicate 15 0; gaps = 4 ∷ replicate 7 0 }
@@ -60,42 +64,65 @@ abbrev pub token_entry : ℕ → Option Token → List (ℕ × Token)
 token_entry slot None = []
 token_entry slot (Some t) = (slot, t) ∷ []
 
-abbrev pub and_sent : ℕ → Sent → Moving → Sent
-and_sent slot sent m = record {
-  tokens = sent.tokens ++ token_entry slot (slice_index_or m.tokens 0 None);
-  credits = sent.credits ++ (if slice_index_or m.credits 0 false then slot ∷ [] else []);
+-- what was sent by a link end, and what leaves by it in a slot
+abbrev pub and_sent : ℕ → ℕ → Sent → Moving → Sent
+and_sent end slot sent m = record {
+  tokens = sent.tokens ++ token_entry slot (slice_index_or m.tokens end None);
+  credits = sent.credits ++ (if slice_index_or m.credits end false then slot ∷ [] else []);
 }
 
 abbrev pub in_slot : ℕ → List Happen → List (ℕ × Happen)
 in_slot slot [] = []
 in_slot slot (h ∷ hs) = (slot, h) ∷ in_slot slot hs
 
--- in slot 12 node 0's program puts END into its channel end, whose destination is channel end 0 of node 1
-abbrev pub program : ℕ → NodeRec → NodeRec
-program slot rec =
-    if slot == 12 then with_chan rec 0 (record (chan_of rec.core 0) { dest = Some (chan_id 1 0); output = (chan_of rec.core 0).output ++ Ctrl 1 ∷ [] }) else rec
+-- a token is put into channel end 0, which gets a destination
+abbrev pub put_out : ℕ → Token → NodeRec → NodeRec
+put_out dest t rec = with_chan rec 0 (record (chan_of rec.core 0) { dest = Some dest; output = (chan_of rec.core 0).output ++ t ∷ [] })
 
-abbrev pub pair_after : ℕ → Pair → Moving → Moving → Pair
-pair_after slot pair one two = record {
+-- a program that puts one token into its channel end 0 in a slot
+abbrev pub puts_in : ℕ → ℕ → Token → ℕ → NodeRec → NodeRec
+puts_in when dest t slot rec = if slot == when then put_out dest t rec else rec
+
+-- a program that from slot 16 on puts a data byte into its channel end 0 in each eighth slot, where there is room
+abbrev pub floods : ℕ → NodeRec → NodeRec
+floods slot rec =
+    if (nat_le 16 slot && (slot % 8 == 0)) && has_room 1 (chan_of rec.core 0).output then put_out (chan_id 1 0) (Byte 7) rec else rec
+
+abbrev pub pair_after : (ℕ → NodeRec → NodeRec) → ℕ → Pair → Moving → Moving → Pair
+pair_after program slot pair one two = record {
   first = program slot one.rec;
   second = two.rec;
-  forth = and_sent slot pair.forth one;
-  back = and_sent slot pair.back two;
+  forth = and_sent 0 slot pair.forth one;
+  back = and_sent 0 slot pair.back two;
   happened = pair.happened ++ (in_slot slot one.happened ++ in_slot slot two.happened);
 }
 
-abbrev pub pair_step : ℕ → Pair → Pair
-pair_step slot pair =
-    pair_after slot pair
+abbrev pub pair_step : (ℕ → NodeRec → NodeRec) → ℕ → Pair → Pair
+pair_step program slot pair =
+    pair_after program slot pair
     (moves (routes_of 0) slot (arrives slot pair.back pair.first))
     (moves (routes_of 1) slot (arrives slot pair.forth pair.second))
 
-abbrev pub pair_start : Pair
-pair_start = record { first = with_link; second = with_link; forth = nothing_sent; back = nothing_sent; happened = [] }
+-- two nodes with one link, of which the second is given
+abbrev pub pair_start : NodeRec → Pair
+pair_start second = record { first = with_link; second = second; forth = nothing_sent; back = nothing_sent; happened = [] }
 
-unfoldable pub pair_at : ℕ → Pair
-pair_at zero = pair_start
-pair_at (suc slot) = pair_step slot (pair_at slot)
+-- the two nodes before a slot, where node 0 has a program
+unfoldable pub pair_from : (ℕ → NodeRec → NodeRec) → Pair → ℕ → Pair
+pair_from program start zero = start
+pair_from program start (suc slot) = pair_step program slot (pair_from program start slot)
+
+-- node 0 puts END into its channel end in slot 12
+abbrev pub pair_at : ℕ → Pair
+pair_at slot = pair_from (puts_in 12 (chan_id 1 0) (Ctrl 1)) (pair_start with_link) slot
+
+-- the same, where channel end 0 of node 1 is not in use
+abbrev pub lost_at : ℕ → Pair
+lost_at slot = pair_from (puts_in 12 (chan_id 1 0) (Ctrl 1)) (pair_start without_chan) slot
+
+-- node 0 goes on with data bytes, and no program takes them from channel end 0 of node 1
+abbrev pub full_at : ℕ → Pair
+full_at slot = pair_from floods (pair_start with_link) slot
 
 pub record WorkedPair : Type 0 where
   -- the header bytes, and then END, each a gap after the one before
@@ -106,3 +133,27 @@ pub record WorkedPair : Type 0 where
   -- a slot before its arrival nothing is delivered, and three credits are on their way or back
   pub not_yet : (pair_at 30).happened ≡ []
   pub three : (pair_at 30).back.credits ≡ 18 ∷ 22 ∷ 26 ∷ []
+
+pub record WorkedLost : Type 0 where
+  -- the packet is lost in the slot after its last header byte is taken, and that is told once, with the whole destination
+  pub told : (lost_at 40).happened ≡ (27, happen.Lost 65538) ∷ []
+  -- its sender sees nothing of that: all tokens go out, and the one that is dropped gives its credit back too
+  pub sent : (lost_at 40).forth.tokens ≡ (13, Byte 0) ∷ (17, Byte 1) ∷ (21, Byte 0) ∷ (25, Ctrl 1) ∷ []
+  pub credits : (lost_at 40).back.credits ≡ 18 ∷ 22 ∷ 26 ∷ 30 ∷ []
+
+abbrev pub seven_in : ℕ → ℕ × Happen
+seven_in slot = (slot, happen.Chan 0 (Byte 7))
+
+pub record WorkedFull : Type 0 where
+  -- 8 bytes fill the channel end's input buffer: the first four by the gap of 4, the others as they are put
+  pub delivered : (full_at 300).happened ≡ seven_in 34 ∷ seven_in 38 ∷ seven_in 42 ∷ seven_in 46 ∷ seven_in 54 ∷ seven_in 62 ∷ seven_in 70 ∷ seven_in 78 ∷ []
+  -- 3 header bytes, those 8 and 8 more that fill the link end's buffer were sent, the last one in slot 137
+  pub sent : length (full_at 300).forth.tokens ≡ 19
+  pub last_sent : drop 18 (full_at 300).forth.tokens ≡ (137, Byte 7) ∷ []
+  -- the 8 that stay in the link end's buffer give no credit back, and the other direction has no tokens
+  pub credits : length (full_at 300).back.credits ≡ 11
+  pub no_credits : (full_at 300).forth.credits ≡ []
+  -- bytes then stay in the output buffer, one more each 8 slots from slot 144 on: it is full from slot 200 on
+  pub seven_wait : length (chan_of (full_at 200).first.core 0).output ≡ 7
+  pub eight_wait : length (chan_of (full_at 208).first.core 0).output ≡ 8
+  pub still_eight : length (chan_of (full_at 300).first.core 0).output ≡ 8

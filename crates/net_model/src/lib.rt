@@ -2,7 +2,9 @@
 #![tactic(auto)]
 
 ghost use Rattle.net_model.specs.Quiet.{QuietSwitch};
-ghost use Rattle.net_model.specs.Worked.{WorkedPair};
+ghost use Rattle.net_model.specs.Worked.{WorkedPair, WorkedLost, WorkedFull};
+ghost use Rattle.net_model.specs.WorkedThree.{WorkedThree};
+ghost use Rattle.net_model.specs.WorkedSteps.{WorkedLinkEnds, WorkedSteps};
 
 /// Where nothing waits and no channel end is in use, the switch does nothing.
 pub fn quiet_switch()
@@ -12,4 +14,29 @@ pub fn quiet_switch()
 /// The definitions give what was worked out by hand for two nodes and one link.
 pub fn worked_pair()
     ensures { WorkedPair }
+{}
+
+/// The same two nodes, where the packet goes to a channel end that is not in use.
+pub fn worked_lost()
+    ensures { WorkedLost }
+{}
+
+/// The same two nodes, where the receiver's program never takes a token.
+pub fn worked_full()
+    ensures { WorkedFull }
+{}
+
+/// Three nodes in a line: one passes a packet on, while its own waits.
+pub fn worked_three()
+    ensures { WorkedThree }
+{}
+
+/// When link ends may send, what arrives at them, and which one is taken.
+pub fn worked_link_ends()
+    ensures { WorkedLinkEnds }
+{}
+
+/// Single steps of the switch's inputs.
+pub fn worked_steps()
+    ensures { WorkedSteps }
 {}

@@ -2,9 +2,9 @@ use Rattle.std.proofs.Common.{refl}
 use Rattle.net_model.specs.Switch.{moves_from, free_end}
 use Rattle.net_model.specs.Ids.{first_difference}
 use Rattle.net_model.specs.Links.{links_after_arrivals}
-use Rattle.net_model.specs.Worked.{pair_at}
+use Rattle.net_model.specs.Worked.{pair_from}
 use Rattle.net_model.proofs.worked_pair.Goals as goal
 
 pub returns : goal.returns
-unfolding moves_from free_end first_difference links_after_arrivals pair_at
+unfolding moves_from free_end first_difference links_after_arrivals pair_from
 returns c = record { sent = refl; credits = refl; delivered = refl; not_yet = refl; three = refl }
