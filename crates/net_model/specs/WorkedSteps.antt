@@ -33,7 +33,8 @@ pub record WorkedLinkEnds : Type 0 where
   pub in_gap : may_send 4 41 (counted eight_slots (40 ∷ [])) ≡ false
   pub gap_over : may_send 4 42 (counted eight_slots (40 ∷ [])) ≡ true
   pub never_sent : may_send 4 0 (counted [] []) ≡ true
-  -- a token and a credit arrive: both are taken, or both are dropped, by a full buffer and a count that is even
+  -- a token and a credit arrive: both are taken, and both are dropped where the buffer is full and each token that was
+  -- sent has its credit
   pub taken : links_after_arrivals 9 (Some (Byte 3) ∷ []) (true ∷ []) 0 (Some (counted (1 ∷ []) []) ∷ []) ≡ Some (record { buffer = Byte 3 ∷ []; sent = 1 ∷ []; credited = 9 ∷ [] }) ∷ []
   pub dropped : links_after_arrivals 9 (Some (Byte 3) ∷ []) (true ∷ []) 0 (Some full_link ∷ None ∷ []) ≡ Some full_link ∷ None ∷ []
   -- no credit is said to arrive, and none does

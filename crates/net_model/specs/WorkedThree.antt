@@ -1,6 +1,6 @@
 -- Three nodes in a line, worked out by hand. Their ids are 0, 1 and 3. Two links, each with a delay of 5 slots and a gap of
 -- 4, join link end 0 of node 0 to link end 0 of node 1, and link end 1 of node 1 to link end 0 of node 3.
-use Rattle.std.specs.Prelude.{ℕ, zero, suc, ◌≡◌, ◌+◌, ◌-◌, nat_lt, if◌then◌else◌, Option, Some, None, List, [], ◌∷◌, ◌++◌, length, replicate, false}
+use Rattle.std.specs.Prelude.{ℕ, zero, suc, ◌≡◌, ◌-◌, false, nat_lt, if◌then◌else◌, Some, None, List, [], ◌∷◌, ◌++◌, length, replicate}
 use Rattle.xs_base.specs.declared.Token.TheVariants.{Byte, Ctrl}
 use Rattle.xs_model.specs.declared.event.Happen.{Happen}
 use Rattle.xs_model.specs.declared.event.Happen.TheVariants as happen
