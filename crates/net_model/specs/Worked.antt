@@ -135,7 +135,8 @@ pub record WorkedPair : Type 0 where
   pub three : (pair_at 30).back.credits ≡ 18 ∷ 22 ∷ 26 ∷ []
 
 pub record WorkedLost : Type 0 where
-  -- the packet is lost in the slot after its last header byte is taken, and that is told once, with the whole destination
+  -- the packet is lost in the slot after its last header byte is taken, and that is told once, with the whole
+  -- destination
   pub told : (lost_at 40).happened ≡ (27, happen.Lost 65538) ∷ []
   -- its sender sees nothing of that: all tokens go out, and the one that is dropped gives its credit back too
   pub sent : (lost_at 40).forth.tokens ≡ (13, Byte 0) ∷ (17, Byte 1) ∷ (21, Byte 0) ∷ (25, Ctrl 1) ∷ []

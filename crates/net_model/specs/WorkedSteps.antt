@@ -3,7 +3,7 @@ use Rattle.std.specs.Prelude.{ℕ, ◌≡◌, Bool, true, false, Option, Some, N
 use Rattle.xs_base.specs.declared.Token.{Token}
 use Rattle.xs_base.specs.declared.Token.TheVariants.{Byte, Ctrl}
 use Rattle.xs_model.specs.declared.event.Happen.TheVariants as happen
-use Rattle.xs_model.specs.Record.{LinkRec, ChanRec, InputRec, Idle, Head1, Head2, Want, Local, Out, Lost, unused_chan, chan_of}
+use Rattle.xs_model.specs.Record.{NodeRec, LinkRec, ChanRec, InputRec, Idle, Head1, Head2, Want, Local, Out, Lost, unused_chan, chan_of}
 use Rattle.net_model.specs.Ids.{chan_id}
 use Rattle.net_model.specs.Chans.{got_chan}
 use Rattle.net_model.specs.Links.{links_after_arrivals, may_send}
@@ -39,16 +39,25 @@ pub record WorkedLinkEnds : Type 0 where
   pub dropped : links_after_arrivals 9 (Some (Byte 3) ∷ []) (true ∷ []) 0 (Some full_link ∷ None ∷ []) ≡ Some full_link ∷ None ∷ []
   -- no credit is said to arrive, and none does
   pub no_credit : links_after_arrivals 5 [] [] 0 (Some (counted (0 ∷ []) []) ∷ []) ≡ Some (counted (0 ∷ []) []) ∷ []
-  -- input 3 holds link end 1: of the ends 1 and 2 the second is free, of end 1 alone none is, and end 7 can be found too
+  -- input 3 holds link end 1: of the ends 1 and 2 the second is free, of end 1 alone none is, and end 7 can be found
+  -- too
   pub lowest : free_end (with_state with_link 3 (Out 1 0 0)) 6 0 8 ≡ Some 2
   pub none_free : free_end (with_state with_link 3 (Out 1 0 0)) 2 0 8 ≡ None
   pub last_end : free_end with_link 128 0 8 ≡ Some 7
 
+-- a channel end with a destination, at which tokens wait
+abbrev pub sends : List Token → ℕ → ChanRec
+sends output dest = record got_chan { output = output; dest = Some dest }
+
 -- slot 100 at node 1, where link end 0's input is in a state: some tokens wait in its buffer, and some lie in the input
 -- buffer of channel end 0
+abbrev pub link_node : List Token → List Token → NodeRec
+link_node buffer input =
+    node_with (record got_chan { input = input } ∷ replicate 31 unused_chan) (Some (record fresh_link { buffer = buffer }) ∷ replicate 7 None)
+
 abbrev pub from_link : InputRec → List Token → List Token → Moving
 from_link state buffer input =
-    moves (routes_of 1) 100 (with_state (node_with (record got_chan { input = input } ∷ replicate 31 unused_chan) (Some (record fresh_link { buffer = buffer }) ∷ replicate 7 None)) 0 state)
+    moves (routes_of 1) 100 (with_state (link_node buffer input) 0 state)
 
 -- slot 100 at node 0, which has no link end, where channel end 0's input is in a state
 abbrev pub from_chan : InputRec → ChanRec → Moving
@@ -57,13 +66,17 @@ from_chan state chan = moves (routes_of 0) 100 (with_state (node_with (chan ∷ 
 -- slot 100 at node 1, where tokens wait at channel ends 0 and 1, with their destinations
 abbrev pub from_two : List Token → ℕ → List Token → ℕ → Moving
 from_two zeroth dest other other_dest =
-    moves (routes_of 1) 100 (node_with (record got_chan { output = zeroth; dest = Some dest } ∷ record got_chan { output = other; dest = Some other_dest } ∷ replicate 30 unused_chan) (Some fresh_link ∷ replicate 7 None))
+    moves (routes_of 1) 100 (node_with (sends zeroth dest ∷ sends other other_dest ∷ replicate 30 unused_chan) (Some fresh_link ∷ replicate 7 None))
 
 -- slot 100 at node 0, where channel end 0's END is to leave by link end 0, which sent last in a slot, and channel end 1
 -- waits for that link end
+abbrev pub holder_node : ℕ → NodeRec
+holder_node last =
+    node_with (sends (Ctrl 1 ∷ []) (chan_id 1 0) ∷ sends (Byte 1 ∷ []) (chan_id 1 5) ∷ replicate 30 unused_chan) (Some (counted (last ∷ []) (last ∷ [])) ∷ replicate 7 None)
+
 abbrev pub from_holder : ℕ → Moving
 from_holder last =
-    moves (routes_of 0) 100 (with_state (node_with (record got_chan { output = Ctrl 1 ∷ []; dest = Some (chan_id 1 0) } ∷ record got_chan { output = Byte 1 ∷ []; dest = Some (chan_id 1 5) } ∷ replicate 30 unused_chan) (Some (counted (last ∷ []) (last ∷ [])) ∷ replicate 7 None)) 8 (Out 0 3 (chan_id 1 0)))
+    moves (routes_of 0) 100 (with_state (holder_node last) 8 (Out 0 3 (chan_id 1 0)))
 
 abbrev pub no_credits : List Bool
 no_credits = replicate 8 false
@@ -87,17 +100,18 @@ pub record WorkedSteps : Type 0 where
   pub ctrl_dropped : (from_link (Head1 7) (Ctrl 1 ∷ []) []).credits ≡ one_credit
   pub third_byte : state_at (from_link (Head2 2 1) (Byte 9 ∷ Ctrl 1 ∷ []) []).rec 0 ≡ Want (chan_id 513 9)
   -- only a link end takes header bytes, and a channel end with no destination begins no packet
-  pub no_header : state_at (from_chan (Head1 7) (record got_chan { dest = Some (chan_id 1 0); output = Byte 5 ∷ [] })).rec 8 ≡ Head1 7
+  pub no_header : state_at (from_chan (Head1 7) (sends (Byte 5 ∷ []) (chan_id 1 0))).rec 8 ≡ Head1 7
   pub no_dest : state_at (from_chan Idle (record got_chan { output = Byte 5 ∷ [] })).rec 8 ≡ Idle
   pub no_dest_none : (from_chan Idle (record got_chan { output = Byte 5 ∷ [] })).happened ≡ []
-  -- where a packet wants to go: there is no channel end 32, channel end 0 takes END at once, no link end leads to node 4,
-  -- and a packet may go back by the link end that it came by
+  -- where a packet wants to go: there is no channel end 32, channel end 0 takes END at once, no link end leads to node
+  -- 4, and a packet may go back by the link end that it came by
   pub chan_32 : (from_link (Want (chan_id 1 32)) (Ctrl 1 ∷ []) []).happened ≡ happen.Lost (chan_id 1 32) ∷ []
   pub chan_32_waits : (from_link (Want (chan_id 1 32)) (Ctrl 1 ∷ []) []).credits ≡ no_credits
   pub at_once : (from_link (Want (chan_id 1 0)) (Ctrl 1 ∷ []) []).happened ≡ happen.Chan 0 (Ctrl 1) ∷ []
   pub no_way : state_at (from_link (Want (chan_id 4 0)) (Ctrl 1 ∷ []) []).rec 0 ≡ Lost
   pub way_back : (from_link (Want (chan_id 0 0)) (Ctrl 1 ∷ []) []).tokens ≡ one_token (Byte 0)
-  -- END leaves in slot 100 where the gap is over, and the channel end that waits holds the link end in that slot; else it waits on
+  -- END leaves in slot 100 where the gap is over, and the channel end that waits holds the link end in that slot; else
+  -- it waits on
   pub end_leaves : (from_holder 96).tokens ≡ one_token (Ctrl 1)
   pub next_holds : state_at (from_holder 96).rec 9 ≡ Out 0 0 (chan_id 1 5)
   pub next_waits : state_at (from_holder 97).rec 9 ≡ Want (chan_id 1 5)
@@ -111,7 +125,8 @@ pub record WorkedSteps : Type 0 where
   pub first_ended : state_at (from_two (Ctrl 1 ∷ Byte 4 ∷ []) (chan_id 1 0) (Byte 2 ∷ []) (chan_id 1 0)).rec 8 ≡ Idle
   pub second_holds : state_at (from_two (Ctrl 1 ∷ Byte 4 ∷ []) (chan_id 1 0) (Byte 2 ∷ []) (chan_id 1 0)).rec 9 ≡ Local 0
   pub after_pause : (from_two (Ctrl 2 ∷ []) (chan_id 1 1) (Byte 2 ∷ []) (chan_id 1 1)).happened ≡ happen.Chan 1 (Byte 2) ∷ []
-  -- a packet is lost, to a channel end that is not in use and to a node with no way: that is told, and its token waits for the next slot
+  -- a packet is lost, to a channel end that is not in use and to a node with no way: that is told, and its token waits
+  -- for the next slot
   pub lost_near : (from_two (Byte 1 ∷ []) (chan_id 1 9) [] 0).happened ≡ happen.Lost (chan_id 1 9) ∷ []
   pub lost_far : (from_two (Byte 1 ∷ []) (chan_id 2 9) [] 0).happened ≡ happen.Lost (chan_id 2 9) ∷ []
   pub lost_waits : length (chan_of (from_two (Byte 1 ∷ []) (chan_id 1 9) [] 0).rec.core 0).output ≡ 1
@@ -119,7 +134,8 @@ pub record WorkedSteps : Type 0 where
   pub lost_byte : state_at (from_link Lost (Byte 1 ∷ Ctrl 1 ∷ []) []).rec 0 ≡ Lost
   pub lost_credit : (from_link Lost (Byte 1 ∷ []) []).credits ≡ one_credit
   pub lost_pause : state_at (from_link Lost (Ctrl 2 ∷ Byte 1 ∷ []) []).rec 0 ≡ Idle
-  -- an input that holds a link end keeps it while nothing waits and after a data byte, and gives it up with PAUSE, which goes out
+  -- an input that holds a link end keeps it while nothing waits and after a data byte, and gives it up with PAUSE,
+  -- which goes out
   pub holds_on : state_at (from_link (Out 0 3 (chan_id 0 0)) [] []).rec 0 ≡ Out 0 3 (chan_id 0 0)
   pub holds_after : state_at (from_link (Out 0 3 (chan_id 0 0)) (Byte 5 ∷ []) []).rec 0 ≡ Out 0 3 (chan_id 0 0)
   pub gives_up : state_at (from_link (Out 0 3 (chan_id 0 0)) (Ctrl 2 ∷ []) []).rec 0 ≡ Idle

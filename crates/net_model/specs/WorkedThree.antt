@@ -1,6 +1,7 @@
--- Three nodes in a line, worked out by hand. Their ids are 0, 1 and 3. Two links, each with a delay of 5 slots and a gap of
--- 4, join link end 0 of node 0 to link end 0 of node 1, and link end 1 of node 1 to link end 0 of node 3.
-use Rattle.std.specs.Prelude.{ℕ, zero, suc, ◌≡◌, ◌-◌, false, nat_lt, if◌then◌else◌, Some, None, List, [], ◌∷◌, ◌++◌, length, replicate}
+-- Three nodes in a line, worked out by hand. Their ids are 0, 1 and 3. Two links, each with a delay of 5 slots and a
+-- gap of 4, join link end 0 of node 0 to link end 0 of node 1, and link end 1 of node 1 to link end 0 of node 3.
+use Rattle.std.specs.Prelude.{ℕ, zero, suc, ◌≡◌, ◌-◌, Bool, false, nat_lt, if◌then◌else◌, Option, Some, None, List, [], ◌∷◌, ◌++◌, length, replicate}
+use Rattle.xs_base.specs.declared.Token.{Token}
 use Rattle.xs_base.specs.declared.Token.TheVariants.{Byte, Ctrl}
 use Rattle.xs_model.specs.declared.event.Happen.{Happen}
 use Rattle.xs_model.specs.declared.event.Happen.TheVariants as happen
@@ -33,7 +34,8 @@ middle_node = node_with (got_chan ∷ replicate 31 unused_chan) (Some fresh_link
 abbrev pub last_node : NodeRec
 last_node = node_with (got_chan ∷ got_chan ∷ replicate 30 unused_chan) (Some fresh_link ∷ replicate 7 None)
 
--- ids 0 and 1 differ from 3 in bit 1 as the highest: link end 0 of the first node leads there, and link end 1 of the middle one
+-- ids 0 and 1 differ from 3 in bit 1 as the highest: link end 0 of the first node leads there, and link end 1 of the
+-- middle one
 abbrev pub first_routes : Routes
 first_routes = record { id = 0; ways = 0 ∷ 1 ∷ replicate 14 0; gaps = 4 ∷ replicate 7 0 }
 
@@ -43,15 +45,22 @@ middle_routes = record { id = 1; ways = 0 ∷ 2 ∷ replicate 14 0; gaps = 4 ∷
 abbrev pub last_routes : Routes
 last_routes = record { id = 3; ways = replicate 16 0; gaps = 4 ∷ replicate 7 0 }
 
+abbrev pub two_tokens : ℕ → List (ℕ × Token) → List (ℕ × Token) → List (Option Token)
+two_tokens slot zeroth other = token_of_slot slot zeroth ∷ token_of_slot slot other ∷ replicate 6 None
+
+abbrev pub two_credits : ℕ → List ℕ → List ℕ → List Bool
+two_credits slot zeroth other = credit_of_slot slot zeroth ∷ credit_of_slot slot other ∷ replicate 6 false
+
 -- what arrives in a slot over the two links of the middle node
 abbrev pub both_arrive : ℕ → Sent → Sent → NodeRec → NodeRec
 both_arrive slot zeroth other rec =
     if nat_lt slot 5 then rec
     else record rec {
-      links = links_after_arrivals slot (token_of_slot (slot - 5) zeroth.tokens ∷ token_of_slot (slot - 5) other.tokens ∷ replicate 6 None) (credit_of_slot (slot - 5) zeroth.credits ∷ credit_of_slot (slot - 5) other.credits ∷ replicate 6 false) 0 rec.links;
+      links = links_after_arrivals slot (two_tokens (slot - 5) zeroth.tokens other.tokens) (two_credits (slot - 5) zeroth.credits other.credits) 0 rec.links;
     }
 
--- in slot 12 the first node puts END to channel end 0 of the last one, and in slot 28 the middle node PAUSE to its channel end 1
+-- in slot 12 the first node puts END to channel end 0 of the last one, and in slot 28 the middle node PAUSE to its
+-- channel end 1
 abbrev pub line_after : ℕ → Line → Moving → Moving → Moving → Line
 line_after slot line one two three = record {
   first = puts_in 12 (chan_id 3 0) (Ctrl 1) slot one.rec;
@@ -93,8 +102,8 @@ line_at zero = line_start
 line_at (suc slot) = line_step slot (line_at slot)
 
 pub record WorkedThree : Type 0 where
-  -- the middle node passes the packet on: the header bytes again, from the slot after it took the last of them, and then
-  -- END. Its own packet waits until END leaves the link end; PAUSE ends it.
+  -- the middle node passes the packet on: the header bytes again, from the slot after it took the last of them, and
+  -- then END. Its own packet waits until END leaves the link end; PAUSE ends it.
   pub passed_on : (line_at 70).on_forth.tokens ≡ (27, Byte 0) ∷ (31, Byte 3) ∷ (35, Byte 0) ∷ (39, Ctrl 1) ∷ (43, Byte 0) ∷ (47, Byte 3) ∷ (51, Byte 1) ∷ (55, Ctrl 2) ∷ []
   -- END is delivered at the last node, and PAUSE is dropped there; nothing happens at the two others
   pub delivered : (line_at 70).at_last ≡ (44, happen.Chan 0 (Ctrl 1)) ∷ []
