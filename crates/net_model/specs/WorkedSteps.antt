@@ -39,8 +39,7 @@ pub record WorkedLinkEnds : Type 0 where
   pub dropped : links_after_arrivals 9 (Some (Byte 3) ∷ []) (true ∷ []) 0 (Some full_link ∷ None ∷ []) ≡ Some full_link ∷ None ∷ []
   -- no credit is said to arrive, and none does
   pub no_credit : links_after_arrivals 5 [] [] 0 (Some (counted (0 ∷ []) []) ∷ []) ≡ Some (counted (0 ∷ []) []) ∷ []
-  -- input 3 holds link end 1: of the ends 1 and 2 the second is free, of end 1 alone none is, and end 7 can be found
-  -- too
+  -- input 3 holds link end 1: of the ends 1 and 2 the second is free, and of end 1 alone none is; end 7 is found too
   pub lowest : free_end (with_state with_link 3 (Out 1 0 0)) 6 0 8 ≡ Some 2
   pub none_free : free_end (with_state with_link 3 (Out 1 0 0)) 2 0 8 ≡ None
   pub last_end : free_end with_link 128 0 8 ≡ Some 7
@@ -49,15 +48,14 @@ pub record WorkedLinkEnds : Type 0 where
 abbrev pub sends : List Token → ℕ → ChanRec
 sends output dest = record got_chan { output = output; dest = Some dest }
 
--- slot 100 at node 1, where link end 0's input is in a state: some tokens wait in its buffer, and some lie in the input
--- buffer of channel end 0
+-- a node with a link end, in whose buffer some tokens wait; some lie in the input buffer of channel end 0
 abbrev pub link_node : List Token → List Token → NodeRec
 link_node buffer input =
     node_with (record got_chan { input = input } ∷ replicate 31 unused_chan) (Some (record fresh_link { buffer = buffer }) ∷ replicate 7 None)
 
+-- slot 100 at node 1 as such a node, where link end 0's input is in a state
 abbrev pub from_link : InputRec → List Token → List Token → Moving
-from_link state buffer input =
-    moves (routes_of 1) 100 (with_state (link_node buffer input) 0 state)
+from_link state buffer input = moves (routes_of 1) 100 (with_state (link_node buffer input) 0 state)
 
 -- slot 100 at node 0, which has no link end, where channel end 0's input is in a state
 abbrev pub from_chan : InputRec → ChanRec → Moving
@@ -68,15 +66,14 @@ abbrev pub from_two : List Token → ℕ → List Token → ℕ → Moving
 from_two zeroth dest other other_dest =
     moves (routes_of 1) 100 (node_with (sends zeroth dest ∷ sends other other_dest ∷ replicate 30 unused_chan) (Some fresh_link ∷ replicate 7 None))
 
--- slot 100 at node 0, where channel end 0's END is to leave by link end 0, which sent last in a slot, and channel end 1
--- waits for that link end
+-- a node with a link end that sent last in a slot; END waits at channel end 0, and a data byte at channel end 1
 abbrev pub holder_node : ℕ → NodeRec
 holder_node last =
     node_with (sends (Ctrl 1 ∷ []) (chan_id 1 0) ∷ sends (Byte 1 ∷ []) (chan_id 1 5) ∷ replicate 30 unused_chan) (Some (counted (last ∷ []) (last ∷ [])) ∷ replicate 7 None)
 
+-- slot 100 at node 0 as such a node, where channel end 0 holds the link end, and the header is out
 abbrev pub from_holder : ℕ → Moving
-from_holder last =
-    moves (routes_of 0) 100 (with_state (holder_node last) 8 (Out 0 3 (chan_id 1 0)))
+from_holder last = moves (routes_of 0) 100 (with_state (holder_node last) 8 (Out 0 3 (chan_id 1 0)))
 
 abbrev pub no_credits : List Bool
 no_credits = replicate 8 false
