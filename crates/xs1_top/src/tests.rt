@@ -1,12 +1,13 @@
+ghost use Rattle.std.specs.Prelude.{◌≡◌, Some};
+
 use crate::top;
 use std::alloc::{AllocError, Global};
 use std::test::Fail;
 use system_model::Status;
 use xs_edge::{Failed, FailingSink, FailingSource, ListSink, ListSource, OpenGate, Sink, Source};
 
-ghost use Rattle.std.specs.Prelude.{◌≡◌, Some};
-
-const SUM: &[u8] = b"xs1 1\nnode 0 id 0\nsource 0\nmain: ldc r0, 5\n  ldc r1, 7\n  add r2, r0, r1 // 12\n  stw r2, dp[0]\n  freet\nend\n";
+const SUM: &[u8] =
+    b"xs1 1\nnode 0 id 0\nsource 0\nmain: ldc r0, 5\n  ldc r1, 7\n  add r2, r0, r1 // 12\n  stw r2, dp[0]\n  freet\nend\n";
 
 const SUM_TRACE: &[u8] = b"n0 mem 0x00010000 0x0000000c\nend 20\n";
 
@@ -33,20 +34,23 @@ fn call<S: Source, K: Sink>(
 fn answers_as_worked_by_hand(rt: HostRuntime) -> Result<(), Fail> {
     let rows = [
         (["run", "20"].as_slice(), SUM, Status::Done, SUM_TRACE),
-        (["run", "0000000012"].as_slice(), SUM, Status::Done, b"end 12\n".as_slice()),
+        (
+            ["run", "0000000012"].as_slice(),
+            SUM,
+            Status::Done,
+            b"end 12\n".as_slice(),
+        ),
         (
             ["run", "1"].as_slice(),
             EMPTY,
             Status::Done,
-            b"0 n0.t0 trap 2 pc 0x00040000 data 0x00040000\n0 n0.t0 halt\nn0.t0 halted\nend 1\n"
-                .as_slice(),
+            b"0 n0.t0 trap 2 pc 0x00040000 data 0x00040000\n0 n0.t0 halt\nn0.t0 halted\nend 1\n".as_slice(),
         ),
         (
             ["run", "1000001"].as_slice(),
             EMPTY,
             Status::Usage,
-            b"usage: xs1 run SLOTS [serial|free|rounds] | play SLOTS | make NUMBER | check\n"
-                .as_slice(),
+            b"usage: xs1 run SLOTS [serial|free|rounds] | play SLOTS | make NUMBER | check\n".as_slice(),
         ),
         (
             ["run", "1"].as_slice(),
@@ -106,8 +110,18 @@ fn takes_the_longest_input_and_no_longer(rt: HostRuntime) -> Result<(), Fail> {
     let rows = [
         (blank, 0, Status::Done, b"end 0\n".as_slice()),
         (0, blank, Status::Done, b"end 0\n".as_slice()),
-        (blank + 1, 0, Status::SystemFault, b"system line 0: S10 input too long\n".as_slice()),
-        (0, blank + 1, Status::SystemFault, b"system line 0: S10 input too long\n".as_slice()),
+        (
+            blank + 1,
+            0,
+            Status::SystemFault,
+            b"system line 0: S10 input too long\n".as_slice(),
+        ),
+        (
+            0,
+            blank + 1,
+            Status::SystemFault,
+            b"system line 0: S10 input too long\n".as_slice(),
+        ),
     ];
     for (before, after, status, text) in rows {
         let mut source = ListSource::new(padded(rt.alloc(), before, after)?);
