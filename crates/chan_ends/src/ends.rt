@@ -1,7 +1,7 @@
 //! `ChanEnds`, the channel ends of a core.
 ghost use Rattle.std.specs.Prelude.{ℕ, ◌≡◌, ◌<◌, ◌↔◌, ◌&&◌, true, false, Some, None, [], ◌∷◌, ◌++◌, drop, length, slice_get, OnOk, OnErr, IfSome, IsErr, IsTrue, IsFalse};
 ghost use Rattle.net_model.specs.Chans.{free_chan, got_chan, has_room, is_chan_id};
-ghost use Rattle.chan_ends.specs.Ends.{chan_at, with_chan, with_got, unused_ends, ends_after};
+ghost use Rattle.chan_ends.specs.Ends.{chan_at, with_chan_at, with_got, unused_ends, ends_after};
 ghost use Rattle.chan_ends.specs.Answers.{found_at_put, put_answer, found_at_check, check_answer};
 
 use crate::answers::{Bad, Put, Take};
@@ -80,7 +80,7 @@ impl ChanEnds {
     pub fn set_dest(&mut self, c: u8, id: u32) -> Result<(), Bad>
         requires { c < 32 }
         ensures err { IsErr result ↔ ((chan_at self.old c).used && is_chan_id id) ≡ false }
-        ensures ok { OnOk result (self.new ≡ with_chan self.old c (record (chan_at self.old c) { dest = Some id })) }
+        ensures ok { OnOk result (self.new ≡ with_chan_at self.old c (record (chan_at self.old c) { dest = Some id })) }
         ensures unchanged { OnErr result (self.new ≡ self.old) }
         ensures count { length self.new.chans ≡ 32 }
     {
@@ -126,7 +126,7 @@ impl ChanEnds {
     pub fn pop_out(&mut self, c: u8) -> Option<Token>
         requires { c < 32 }
         ensures token { result ≡ slice_get (chan_at self.old c).output 0 }
-        ensures rest { self.new ≡ with_chan self.old c (record (chan_at self.old c) { output = drop 1 (chan_at self.old c).output }) }
+        ensures rest { self.new ≡ with_chan_at self.old c (record (chan_at self.old c) { output = drop 1 (chan_at self.old c).output }) }
         ensures count { length self.new.chans ≡ 32 }
     {
         self.ends[c as usize].pop_out()
@@ -147,7 +147,7 @@ impl ChanEnds {
     pub fn push_in(&mut self, c: u8, t: Token) -> bool
         requires { c < 32 }
         ensures room { result ≡ has_room 1 (chan_at self.old c).input }
-        ensures pushed { IsTrue result → self.new ≡ with_chan self.old c (record (chan_at self.old c) { input = (chan_at self.old c).input ++ t ∷ [] }) }
+        ensures pushed { IsTrue result → self.new ≡ with_chan_at self.old c (record (chan_at self.old c) { input = (chan_at self.old c).input ++ t ∷ [] }) }
         ensures unchanged { IsFalse result → self.new ≡ self.old }
         ensures count { length self.new.chans ≡ 32 }
     {
