@@ -46,3 +46,17 @@ is_ctrl_of value (Ctrl c) = c == value
 abbrev pub check_first : ℕ → ChanRec → List Token → Found
 check_first value chan [] = Waits
 check_first value chan (t ∷ rest) = if is_ctrl_of value t then Got (record chan { input = rest }) 0 else Refused
+
+-- what a program finds at a channel end, which is refused where it is not in use
+abbrev pub found_if_used : ChanRec → Found → Found
+found_if_used chan found = if chan.used then found else Refused
+
+-- whether an identifier's low byte is that of channel ends
+abbrev pub is_chan_id : ℕ → Bool
+is_chan_id id = id % 256 == 2
+
+-- a channel end after what was found there
+abbrev pub chan_after : ChanRec → Found → ChanRec
+chan_after chan (Got after word) = after
+chan_after chan Waits = chan
+chan_after chan Refused = chan

@@ -1,0 +1,185 @@
+//! `ChanEnd`, one channel end.
+ghost use Rattle.std.specs.Prelude.{◌≡◌, ◌↔◌, ◌&&◌, false, Some, None, [], ◌∷◌, ◌++◌, drop, slice_get, OnOk, OnErr, IsErr, IsTrue, IsFalse};
+ghost use Rattle.xs_model.specs.Record.{unused_chan};
+ghost use Rattle.net_model.specs.Chans.{got_chan, has_room, is_chan_id, chan_after};
+ghost use Rattle.chan_ends.specs.Answers.{found_at_put, put_answer, found_at_check, check_answer};
+
+use crate::answers::{Bad, Put, Take};
+use arrayvec::ArrayVec;
+use std::marker::Model;
+use xs_base::Token;
+
+// A token that waits in a buffer: what a buffer holds has a default, which tokens have not.
+#[derive(Clone, Copy)]
+struct Waiting {
+    token: Token,
+}
+
+impl Model for Waiting {
+    ghost use Rattle.xs_base.specs.declared.Token.{Token};
+
+    ghost Value = { Token };
+
+    ghost view = { λ w. w.token };
+
+    ghost inverse = { λ t. record { token = t } };
+}
+
+impl Default for Waiting {
+    fn default() -> Self {
+        Waiting {
+            token: Token::Byte(0),
+        }
+    }
+}
+
+/// A channel end. Contracts see it as a `ChanRec` of `Rattle.xs_model.specs.Record`.
+#[derive(Drop)]
+pub(crate) struct ChanEnd {
+    used: bool,
+    dest: Option<u32>,
+    output: ArrayVec<Waiting, 8>,
+    input: ArrayVec<Waiting, 8>,
+}
+
+impl Model for ChanEnd {
+    ghost use Rattle.xs_model.specs.Record.{ChanRec};
+
+    ghost Value = { ChanRec };
+
+    ghost view = { λ end. record { used = end.used; dest = end.dest; output = end.output.items; input = end.input.items } };
+}
+
+impl Default for ChanEnd {
+    ghost use Rattle.std.specs.Prelude.{◌≡◌};
+    ghost use Rattle.xs_model.specs.Record.{unused_chan};
+
+    ghost is_default = { λ end. end ≡ unused_chan };
+
+    fn default() -> Self {
+        ChanEnd {
+            used: false,
+            dest: None,
+            output: ArrayVec::new(),
+            input: ArrayVec::new(),
+        }
+    }
+}
+
+impl ChanEnd {
+    /// Puts it in use, with no destination and empty buffers.
+    pub(crate) fn get(&mut self)
+        ensures { self.new ≡ got_chan }
+    {
+        self.used = true;
+        self.dest = None;
+        self.output.clear();
+        self.input.clear();
+    }
+
+    pub(crate) fn used(&self) -> bool
+        ensures { result ≡ self.now.used }
+    {
+        self.used
+    }
+
+    pub(crate) fn dest(&self) -> Option<u32>
+        ensures { result ≡ self.now.dest }
+    {
+        self.dest
+    }
+
+    /// The token that waits longest in the output buffer.
+    pub(crate) fn first_out(&self) -> Option<Token>
+        ensures { result ≡ slice_get self.now.output 0 }
+    {
+        first_of(&self.output)
+    }
+
+    /// The token that waits longest in the input buffer.
+    pub(crate) fn first_in(&self) -> Option<Token>
+        ensures { result ≡ slice_get self.now.input 0 }
+    {
+        first_of(&self.input)
+    }
+
+    /// Gives it a destination: refused exactly where it is not in use or the identifier is no channel end's.
+    pub(crate) fn set_dest(&mut self, id: u32) -> Result<(), Bad>
+        ensures err { IsErr result ↔ (self.old.used && is_chan_id id) ≡ false }
+        ensures ok { OnOk result (self.new ≡ record self.old { dest = Some id }) }
+        ensures unchanged { OnErr result (self.new ≡ self.old) }
+    {
+        if !self.used || id % 256 != 2 {
+            return Err(Bad);
+        }
+        self.dest = Some(id);
+        Ok(())
+    }
+
+    /// Puts a token at the end of the output buffer.
+    pub(crate) fn put(&mut self, t: Token) -> Put
+        ensures answer { result ≡ put_answer (found_at_put t self.old) }
+        ensures after { self.new ≡ chan_after self.old (found_at_put t self.old) }
+    {
+        if !self.used || self.dest.is_none() {
+            return Put::Bad;
+        }
+        if self.output.is_full() {
+            return Put::Full;
+        }
+        self.output.push(Waiting { token: t });
+        Put::Done
+    }
+
+    /// Takes the control token of a value from the front of the input buffer.
+    pub(crate) fn check(&mut self, v: u32) -> Take
+        ensures answer { result ≡ check_answer v (found_at_check v self.old) }
+        ensures after { self.new ≡ chan_after self.old (found_at_check v self.old) }
+    {
+        if !self.used {
+            return Take::Bad;
+        }
+        match first_of(&self.input) {
+            None => Take::Wait,
+            Some(Token::Ctrl(value)) if u32::from(value) == v => {
+                self.input.remove(0);
+                Take::Got(v)
+            }
+            Some(_) => Take::Bad,
+        }
+    }
+
+    /// Takes the token that waits longest from the output buffer.
+    pub(crate) fn pop_out(&mut self) -> Option<Token>
+        ensures token { result ≡ slice_get self.old.output 0 }
+        ensures rest { self.new ≡ record self.old { output = drop 1 self.old.output } }
+    {
+        match self.output.pop_at(0) {
+            Some(first) => Some(first.token),
+            None => None,
+        }
+    }
+
+    /// Puts a token at the end of the input buffer, where it has room.
+    pub(crate) fn push_in(&mut self, t: Token) -> bool
+        ensures room { result ≡ has_room 1 self.old.input }
+        ensures pushed { IsTrue result → self.new ≡ record self.old { input = self.old.input ++ t ∷ [] } }
+        ensures unchanged { IsFalse result → self.new ≡ self.old }
+    {
+        if self.input.is_full() {
+            return false;
+        }
+        self.input.push(Waiting { token: t });
+        true
+    }
+}
+
+/// The token that waits longest in a buffer.
+fn first_of(tokens: &ArrayVec<Waiting, 8>) -> Option<Token>
+    ensures { result ≡ slice_get tokens.now.items 0 }
+{
+    match tokens.as_slice().first() {
+        Some(first) => Some(first.token),
+        None => None,
+    }
+}

@@ -1,0 +1,12 @@
+//! A core's 32 channel ends: their destinations, and the tokens that wait in their buffers. See docs/CHANNELS.md.
+#![tactic(auto)]
+
+mod answers;
+mod chan_end;
+mod ends;
+#[cfg(test)]
+mod tests;
+
+pub use answers::{Bad, Put, Take};
+pub use ends::ChanEnds;
+pub use xs_base::Token;

@@ -1,0 +1,100 @@
+//! The calls in turn, by hand.
+ghost use Rattle.std.specs.Prelude.{◌<◌};
+
+use super::*;
+use std::process::Abort;
+
+/// A call on a channel end, and the answer that is wanted.
+#[derive(Clone, Copy)]
+enum Call {
+    Used(bool),
+    SetDest(u32, Result<(), Bad>),
+    Dest(Option<u32>),
+    Put(Token, Put),
+    FirstOut(Option<Token>),
+    PopOut(Option<Token>),
+    PushIn(Token, bool),
+    FirstIn(Option<Token>),
+    Check(u32, Take),
+}
+
+const END: Token = Token::Ctrl(1);
+
+/// The calls on channel end 1, which is in use.
+const OF_USED: [Call; 28] = [
+    Call::Used(true),
+    Call::Dest(None),
+    Call::Put(END, Put::Bad),
+    Call::SetDest(0x00030101, Err(Bad)),
+    Call::Put(END, Put::Bad),
+    Call::SetDest(0x00030102, Ok(())),
+    Call::Dest(Some(0x00030102)),
+    Call::PopOut(None),
+    Call::Put(Token::Byte(10), Put::Done),
+    Call::Put(Token::Byte(11), Put::Done),
+    Call::Put(Token::Byte(12), Put::Done),
+    Call::Put(Token::Byte(13), Put::Done),
+    Call::Put(Token::Byte(14), Put::Done),
+    Call::Put(Token::Byte(15), Put::Done),
+    Call::Put(Token::Byte(16), Put::Done),
+    Call::Put(Token::Byte(17), Put::Done),
+    Call::Put(END, Put::Full),
+    Call::FirstOut(Some(Token::Byte(10))),
+    Call::PopOut(Some(Token::Byte(10))),
+    Call::PopOut(Some(Token::Byte(11))),
+    Call::Put(END, Put::Done),
+    Call::Check(1, Take::Wait),
+    Call::PushIn(END, true),
+    Call::PushIn(Token::Byte(1), true),
+    Call::Check(2, Take::Bad),
+    Call::Check(1, Take::Got(1)),
+    Call::Check(1, Take::Bad),
+    Call::FirstIn(Some(Token::Byte(1))),
+];
+
+/// The calls on channel end 2, which is not.
+const OF_UNUSED: [Call; 5] = [
+    Call::Used(false),
+    Call::SetDest(0x00030102, Err(Bad)),
+    Call::Dest(None),
+    Call::Put(END, Put::Bad),
+    Call::Check(1, Take::Bad),
+];
+
+fn make(rt: &impl Abort, ends: &mut ChanEnds, c: u8, call: Call)
+    requires { c < 32 }
+{
+    match call {
+        Call::Used(want) => assert_eq!(rt; ends.used(c), want),
+        Call::SetDest(id, want) => assert_eq!(rt; ends.set_dest(c, id), want),
+        Call::Dest(want) => assert_eq!(rt; ends.dest(c), want),
+        Call::Put(t, want) => assert_eq!(rt; ends.put(c, t), want),
+        Call::FirstOut(want) => assert_eq!(rt; ends.first_out(c), want),
+        Call::PopOut(want) => assert_eq!(rt; ends.pop_out(c), want),
+        Call::PushIn(t, want) => assert_eq!(rt; ends.push_in(c, t), want),
+        Call::FirstIn(want) => assert_eq!(rt; ends.first_in(c), want),
+        Call::Check(v, want) => assert_eq!(rt; ends.check(c, v), want),
+    }
+}
+
+#[test]
+fn calls_answer_in_turn(rt: HostRuntime) {
+    let mut ends = ChanEnds::new(3);
+    assert_eq!(rt; ends.alloc(), Some(0));
+    assert_eq!(rt; ends.alloc(), Some(1));
+    for call in OF_USED {
+        make(&rt, &mut ends, 1, call);
+    }
+    for call in OF_UNUSED {
+        make(&rt, &mut ends, 2, call);
+    }
+}
+
+#[test]
+fn thirty_two_are_there(rt: HostRuntime) {
+    let mut ends = ChanEnds::new(3);
+    for c in 0..32 {
+        assert_eq!(rt; ends.alloc(), Some(c));
+    }
+    assert_eq!(rt; ends.alloc(), None);
+}
