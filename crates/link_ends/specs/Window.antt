@@ -17,8 +17,8 @@ abbrev pub empty_window : ℕ → Window
 empty_window gap = record { gap = gap; buffer = []; outstanding = 0; last_sent = None }
 
 -- a token may be sent in this slot
-abbrev pub has_room : Window → ℕ → Bool
-has_room w slot = nat_lt w.outstanding window && gap_is_over w.gap slot w.last_sent
+abbrev pub can_send : Window → ℕ → Bool
+can_send w slot = nat_lt w.outstanding window && gap_is_over w.gap slot w.last_sent
 
 -- no slot is earlier than the one before it
 abbrev pub NeverFall : List ℕ → Type 0

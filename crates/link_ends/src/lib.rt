@@ -5,7 +5,7 @@
 ghost use Rattle.std.specs.Prelude.{◌≡◌, ◌-◌, ◌+◌, ◌<◌, ◌≤◌, ◌↔◌, ℕ, true, Some, None, [], ◌∷◌, ◌++◌, length, drop, All, MatchOption};
 ghost use Rattle.xs_model.specs.Record.{LinkRec};
 ghost use Rattle.net_model.specs.Links.{window, token_arrives, credit_arrives, may_send, gap_is_over};
-ghost use Rattle.link_ends.specs.Window.{WindowOf, empty_window, has_room};
+ghost use Rattle.link_ends.specs.Window.{WindowOf, empty_window, can_send};
 
 use arrayvec::ArrayVec;
 use std::marker::Model;
@@ -105,7 +105,7 @@ impl LinkEnd {
     /// gap ago or longer, or never. It agrees with the link record where no credit was counted after the slot. See
     /// docs/LINKS.md.
     pub fn can_send(&self, slot: u32) -> bool
-        ensures value { result ≡ has_room self.now slot }
+        ensures value { result ≡ can_send self.now slot }
         ensures stands { (link : LinkRec) → WindowOf self.now link → All (λ s. s ≤ slot) link.credited → result ≡ may_send self.now.gap slot link }
     {
         self.outstanding < WINDOW && gap_is_over(self.gap, slot, self.last_sent)
@@ -113,7 +113,7 @@ impl LinkEnd {
 
     /// Notes that a token is sent in a slot in which it may be, as `can_send` says. See docs/LINKS.md.
     pub fn sent(&mut self, slot: u32)
-        requires { has_room self.old slot ≡ true }
+        requires { can_send self.old slot ≡ true }
         ensures noted { self.new ≡ record self.old { outstanding = self.old.outstanding + 1; last_sent = Some slot } }
         ensures stands { (link : LinkRec) → WindowOf self.old link → WindowOf self.new (record link { sent = link.sent ++ slot ∷ [] }) }
     {
