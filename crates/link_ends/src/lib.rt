@@ -1,0 +1,272 @@
+//! Link ends: the tokens that wait at one, and whether it may send. A link end keeps counts where the definition
+//! counts lists of slots. See docs/LINKS.md.
+#![tactic(auto)]
+
+ghost use Rattle.std.specs.Prelude.{◌≡◌, ◌-◌, ◌+◌, ◌<◌, ◌≤◌, ◌↔◌, ℕ, true, Some, None, [], ◌∷◌, ◌++◌, length, drop, All, MatchOption};
+ghost use Rattle.xs_model.specs.Record.{LinkRec};
+ghost use Rattle.net_model.specs.Links.{window, token_arrives, credit_arrives, may_send, gap_is_over};
+ghost use Rattle.link_ends.specs.Window.{WindowOf, empty_window, can_send};
+
+use arrayvec::ArrayVec;
+use std::marker::Model;
+use xs_base::Token;
+
+/// How many tokens fit into the buffer, and how many may be on their way to the other end.
+const WINDOW: u32 = 8;
+
+/// A token in the buffer.
+#[derive(Clone, Copy)]
+struct Waiting {
+    token: Token,
+}
+
+impl Model for Waiting {
+    ghost use Rattle.xs_base.specs.declared.Token.{Token};
+
+    ghost Value = { Token };
+
+    ghost view = { λ waiting. waiting.token };
+
+    ghost inverse = { λ token. record { token = token } };
+}
+
+impl Default for Waiting {
+    fn default() -> Waiting {
+        Waiting {
+            token: Token::Byte(0),
+        }
+    }
+}
+
+/// One of a node's link ends: the tokens that wait in its buffer, at most 8, and what it needs to know of those that
+/// it sent. Contracts see it as a `Window`, and say which link records it stands for. See docs/LINKS.md.
+#[derive(Drop)]
+pub struct LinkEnd {
+    // In slots, from one token sent to the next.
+    gap: u32,
+    buffer: ArrayVec<Waiting, 8>,
+    // How many of the tokens sent are without a credit.
+    outstanding: u32,
+    last_sent: Option<u32>,
+}
+
+impl Model for LinkEnd {
+    ghost use Rattle.std.specs.Prelude.{◌≤◌};
+    ghost use Rattle.arrayvec.specs.ArrayVec.{array_vec_len};
+    ghost use Rattle.link_ends.specs.Window.{Window};
+
+    ghost Value = { Window };
+
+    ghost view = { λ end. record { gap = end.gap; buffer = end.buffer.items; outstanding = end.outstanding; last_sent = end.last_sent } };
+
+    ghost invariant = { λ end. (array_vec_len end.buffer ≤ 8) × (end.outstanding ≤ 8) × (1 ≤ end.gap) };
+}
+
+impl LinkEnd {
+    /// A link end that nothing came to and that never sent. `gap`, at least 1, is how many slots after a token the
+    /// next one may be sent. See docs/LINKS.md.
+    pub fn new(gap: u32) -> LinkEnd
+        requires { 1 ≤ gap }
+        ensures empty { result ≡ empty_window gap }
+        ensures stands { WindowOf result (record { buffer = []; sent = []; credited = [] }) }
+    {
+        LinkEnd {
+            gap,
+            buffer: ArrayVec::new(),
+            outstanding: 0,
+            last_sent: None,
+        }
+    }
+
+    /// A token arrives: it is put into the buffer, and dropped where 8 wait there. See docs/LINKS.md.
+    pub fn arrive(&mut self, t: Token)
+        ensures kept { length self.old.buffer < window → self.new ≡ record self.old { buffer = self.old.buffer ++ t ∷ [] } }
+        ensures dropped { length self.old.buffer ≡ window → self.new ≡ self.old }
+        ensures fits { length self.new.buffer ≤ window }
+        ensures gap { self.new.gap ≡ self.old.gap }
+        ensures stands { (link : LinkRec) → WindowOf self.old link → WindowOf self.new (token_arrives (Some t) link) }
+    {
+        if !self.buffer.is_full() {
+            self.buffer.push(Waiting { token: t });
+        }
+    }
+
+    /// A credit arrives: it is counted, and dropped where each token sent has its credit. See docs/LINKS.md.
+    pub fn credit(&mut self)
+        ensures counted { self.new ≡ record self.old { outstanding = self.old.outstanding - 1 } }
+        ensures stands { (link : LinkRec) (slot : ℕ) → WindowOf self.old link → WindowOf self.new (credit_arrives slot true link) }
+    {
+        if self.outstanding > 0 {
+            self.outstanding -= 1;
+        }
+    }
+
+    /// Whether a token may be sent in a slot: fewer than 8 tokens sent are without a credit, and the last was sent a
+    /// gap ago or longer, or never. It agrees with the link record where no credit was counted after the slot. See
+    /// docs/LINKS.md.
+    pub fn can_send(&self, slot: u32) -> bool
+        ensures value { result ≡ can_send self.now slot }
+        ensures stands { (link : LinkRec) → WindowOf self.now link → All (λ s. s ≤ slot) link.credited → result ≡ may_send self.now.gap slot link }
+    {
+        self.outstanding < WINDOW && gap_is_over(self.gap, slot, self.last_sent)
+    }
+
+    /// Notes that a token is sent in a slot in which it may be, as `can_send` says. See docs/LINKS.md.
+    pub fn sent(&mut self, slot: u32)
+        requires { can_send self.old slot ≡ true }
+        ensures noted { self.new ≡ record self.old { outstanding = self.old.outstanding + 1; last_sent = Some slot } }
+        ensures stands { (link : LinkRec) → WindowOf self.old link → WindowOf self.new (record link { sent = link.sent ++ slot ∷ [] }) }
+    {
+        self.outstanding += 1;
+        self.last_sent = Some(slot);
+    }
+
+    /// The token that waits longest: `None` exactly where none waits. See docs/LINKS.md.
+    pub fn first(&self) -> Option<Token>
+        ensures none { result ≡ None ↔ self.now.buffer ≡ [] }
+        ensures cases { MatchOption result (self.now.buffer ≡ []) (λ t. self.now.buffer ≡ t ∷ drop 1 self.now.buffer) }
+    {
+        match self.buffer.as_slice() {
+            [] => None,
+            [waiting, ..] => Some(waiting.token),
+        }
+    }
+
+    /// Takes the token that waits longest out of the buffer: `None` exactly where none waits. See docs/LINKS.md.
+    pub fn pop(&mut self) -> Option<Token>
+        ensures none { result ≡ None ↔ self.old.buffer ≡ [] }
+        ensures cases { MatchOption result (self.old.buffer ≡ []) (λ t. self.old.buffer ≡ t ∷ self.new.buffer) }
+        ensures rest { self.new ≡ record self.old { buffer = drop 1 self.old.buffer } }
+        ensures stands { (link : LinkRec) → WindowOf self.old link → WindowOf self.new (record link { buffer = drop 1 link.buffer }) }
+    {
+        if self.buffer.is_empty() {
+            None
+        } else {
+            let waiting = self.buffer.remove(0);
+            Some(waiting.token)
+        }
+    }
+}
+
+impl Default for LinkEnd {
+    ghost is_default = { λ end. end ≡ empty_window 1 };
+
+    fn default() -> LinkEnd {
+        LinkEnd::new(1)
+    }
+}
+
+/// Whether a slot is at least a gap after the last one, or there was none.
+#[inline]
+fn gap_is_over(gap: u32, slot: u32, last: Option<u32>) -> bool
+    ensures { result ≡ gap_is_over gap slot last }
+{
+    match last {
+        Some(last) => u64::from(last) + u64::from(gap) <= u64::from(slot),
+        None => true,
+    }
+}
+
+#[cfg(test)]
+mod tests {
+    use super::*;
+    use std::process::Abort;
+
+    /// What comes to a link end or is asked of it, and the answer that is wanted.
+    enum Step {
+        Send(u32, bool),
+        Credit,
+        Arrive(Token),
+        Take(Option<Token>),
+    }
+
+    fn goes(rt: &impl Abort, gap: u32, steps: &[Step])
+        requires { 1 ≤ gap }
+    {
+        let mut end = LinkEnd::new(gap);
+        for step in steps {
+            match *step {
+                Step::Send(slot, allowed) => {
+                    let can = end.can_send(slot);
+                    assert_eq!(rt; can, allowed, "in slot {slot}");
+                    if can {
+                        end.sent(slot);
+                    }
+                }
+                Step::Credit => end.credit(),
+                Step::Arrive(token) => end.arrive(token),
+                Step::Take(token) => {
+                    assert_eq!(rt; end.first(), token);
+                    assert_eq!(rt; end.pop(), token);
+                }
+            }
+        }
+    }
+
+    #[test]
+    fn a_window_of_eight(rt: HostRuntime) {
+        goes(
+            &rt,
+            4,
+            &[
+                // A credit without a token outstanding is dropped.
+                Step::Credit,
+                Step::Send(0, true),
+                Step::Send(3, false),
+                Step::Send(4, true),
+                Step::Send(8, true),
+                Step::Send(12, true),
+                Step::Send(16, true),
+                Step::Send(20, true),
+                Step::Send(24, true),
+                Step::Send(28, true),
+                Step::Send(32, false),
+                Step::Credit,
+                Step::Send(32, true),
+                Step::Send(36, false),
+            ],
+        );
+    }
+
+    #[test]
+    fn a_ninth_token_is_dropped(rt: HostRuntime) {
+        goes(
+            &rt,
+            1,
+            &[
+                Step::Take(None),
+                Step::Arrive(Token::Byte(10)),
+                Step::Arrive(Token::Ctrl(1)),
+                Step::Arrive(Token::Byte(12)),
+                Step::Arrive(Token::Byte(13)),
+                Step::Arrive(Token::Byte(14)),
+                Step::Arrive(Token::Byte(15)),
+                Step::Arrive(Token::Byte(16)),
+                Step::Arrive(Token::Byte(17)),
+                Step::Arrive(Token::Byte(18)),
+                Step::Take(Some(Token::Byte(10))),
+                Step::Take(Some(Token::Ctrl(1))),
+                Step::Arrive(Token::Byte(19)),
+                Step::Take(Some(Token::Byte(12))),
+                Step::Take(Some(Token::Byte(13))),
+                Step::Take(Some(Token::Byte(14))),
+                Step::Take(Some(Token::Byte(15))),
+                Step::Take(Some(Token::Byte(16))),
+                Step::Take(Some(Token::Byte(17))),
+                Step::Take(Some(Token::Byte(19))),
+                Step::Take(None),
+            ],
+        );
+    }
+
+    #[test]
+    fn a_link_end_may_be_made_without_a_gap(rt: HostRuntime) {
+        let mut end = LinkEnd::default();
+        if end.can_send(7) {
+            end.sent(7);
+        }
+        assert_eq!(rt; end.can_send(7), false);
+        assert_eq!(rt; end.can_send(8), true);
+        assert_eq!(rt; Waiting::default().token, Token::Byte(0));
+    }
+}
