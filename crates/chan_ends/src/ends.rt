@@ -11,7 +11,7 @@ use xs_base::Token;
 
 /// A core's 32 channel ends, numbered from 0: each is in use or not, may have a destination, and has an output and
 /// an input buffer of 8 tokens. Contracts see them as `Ends` of `Rattle.chan_ends.specs.Ends`, beside the id of the
-/// core's node. See docs/CHANNELS.md.
+/// core's node. See docs/LINKS.md.
 #[derive(Drop)]
 pub struct ChanEnds {
     node: u16,
@@ -42,7 +42,7 @@ impl ChanEnds {
     }
 
     /// Gets the channel end with the lowest number that is not in use: it is in use then, with no destination and
-    /// empty buffers. `None` comes exactly where all 32 are in use. See docs/CHANNELS.md.
+    /// empty buffers. `None` comes exactly where all 32 are in use. See docs/LINKS.md.
     pub fn alloc(&mut self) -> Option<u8>
         ensures lowest { result ≡ free_chan self.old.chans 0 }
         ensures got { self.new ≡ with_got self.old (free_chan self.old.chans 0) }
@@ -76,7 +76,7 @@ impl ChanEnds {
     }
 
     /// Gives channel end `c`, 0 to 31, the identifier of a channel end as its destination. `Bad` comes exactly where
-    /// it is not in use or the identifier's low byte is not 2, and then nothing changes. See docs/CHANNELS.md.
+    /// it is not in use or the identifier's low byte is not 2, and then nothing changes. See docs/LINKS.md.
     pub fn set_dest(&mut self, c: u8, id: u32) -> Result<(), Bad>
         requires { c < 32 }
         ensures err { IsErr result ↔ ((chan_at self.old c).used && is_chan_id id) ≡ false }
@@ -89,7 +89,7 @@ impl ChanEnds {
 
     /// Puts a token at the end of the output buffer of channel end `c`, 0 to 31. `Bad` comes exactly where it is not
     /// in use or has no destination, and `Full` exactly where it has one and 8 tokens are there; then nothing
-    /// changes. See docs/CHANNELS.md.
+    /// changes. See docs/LINKS.md.
     pub fn put(&mut self, c: u8, t: Token) -> Put
         requires { c < 32 }
         ensures answer { result ≡ put_answer (found_at_put t (chan_at self.old c)) }
@@ -101,7 +101,7 @@ impl ChanEnds {
 
     /// Takes the control token of value `v` from the front of the input buffer of channel end `c`, 0 to 31, and
     /// answers `Got(v)`. `Wait` comes exactly where it is in use and no token is there, and `Bad` exactly where it
-    /// is not in use or another token is first; then nothing changes. See docs/CHANNELS.md.
+    /// is not in use or another token is first; then nothing changes. See docs/LINKS.md.
     pub fn check(&mut self, c: u8, v: u32) -> Take
         requires { c < 32 }
         ensures answer { result ≡ check_answer v (found_at_check v (chan_at self.old c)) }
@@ -143,7 +143,7 @@ impl ChanEnds {
     }
 
     /// Puts a token at the end of the input buffer of channel end `c`, 0 to 31: `false` exactly where 8 tokens are
-    /// there, and then nothing changes. See docs/CHANNELS.md.
+    /// there, and then nothing changes. See docs/LINKS.md.
     pub fn push_in(&mut self, c: u8, t: Token) -> bool
         requires { c < 32 }
         ensures room { result ≡ has_room 1 (chan_at self.old c).input }

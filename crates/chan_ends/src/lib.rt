@@ -1,4 +1,4 @@
-//! A core's 32 channel ends: their destinations, and the tokens that wait in their buffers. See docs/CHANNELS.md.
+//! A core's 32 channel ends: their destinations, and the tokens that wait in their buffers. See docs/LINKS.md.
 #![tactic(auto)]
 
 mod answers;
