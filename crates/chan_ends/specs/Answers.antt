@@ -1,6 +1,6 @@
 -- What calls answer, by what is found at a channel end.
 use Rattle.std.specs.Prelude.{ℕ}
-use Rattle.xs_base.specs.declared.Token.{Token}
+use Rattle.xs_base.specs.declared.token.Token.{Token}
 use Rattle.xs_model.specs.Record.{ChanRec}
 use Rattle.net_model.specs.Chans.{Found, Got, Waits, Refused, found_if_used, put_token, check_first}
 use Rattle.chan_ends.specs.declared.answers.Put.{Put}

@@ -9,37 +9,13 @@ use arrayvec::ArrayVec;
 use std::marker::Model;
 use xs_base::Token;
 
-// A token that waits in a buffer: what a buffer holds has a default, which tokens have not.
-#[derive(Clone, Copy)]
-struct Waiting {
-    token: Token,
-}
-
-impl Model for Waiting {
-    ghost use Rattle.xs_base.specs.declared.Token.{Token};
-
-    ghost Value = { Token };
-
-    ghost view = { λ w. w.token };
-
-    ghost inverse = { λ t. record { token = t } };
-}
-
-impl Default for Waiting {
-    fn default() -> Self {
-        Waiting {
-            token: Token::Byte(0),
-        }
-    }
-}
-
 /// A channel end. Contracts see it as a `ChanRec` of `Rattle.xs_model.specs.Record`.
 #[derive(Drop)]
 pub(crate) struct ChanEnd {
     used: bool,
     dest: Option<u32>,
-    output: ArrayVec<Waiting, 8>,
-    input: ArrayVec<Waiting, 8>,
+    output: ArrayVec<Token, 8>,
+    input: ArrayVec<Token, 8>,
 }
 
 impl Model for ChanEnd {
@@ -127,7 +103,7 @@ impl ChanEnd {
         if self.output.is_full() {
             return Put::Full;
         }
-        self.output.push(Waiting { token: t });
+        self.output.push(t);
         Put::Done
     }
 
@@ -154,10 +130,7 @@ impl ChanEnd {
         ensures token { result ≡ slice_get self.old.output 0 }
         ensures rest { self.new ≡ record self.old { output = drop 1 self.old.output } }
     {
-        match self.output.pop_at(0) {
-            Some(first) => Some(first.token),
-            None => None,
-        }
+        self.output.pop_at(0)
     }
 
     /// Puts a token at the end of the input buffer, where it has room.
@@ -169,17 +142,17 @@ impl ChanEnd {
         if self.input.is_full() {
             return false;
         }
-        self.input.push(Waiting { token: t });
+        self.input.push(t);
         true
     }
 }
 
 /// The token that waits longest in a buffer.
-fn first_of(tokens: &ArrayVec<Waiting, 8>) -> Option<Token>
+fn first_of(tokens: &ArrayVec<Token, 8>) -> Option<Token>
     ensures { result ≡ slice_get tokens.now.items 0 }
 {
     match tokens.as_slice().first() {
-        Some(first) => Some(first.token),
+        Some(first) => Some(*first),
         None => None,
     }
 }

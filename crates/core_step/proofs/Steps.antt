@@ -6,7 +6,7 @@ use Rattle.xs_model.specs.declared.outside.Arrivals.{Arrivals}
 use Rattle.xs_model.specs.declared.outside.PinView.{PinView}
 use Rattle.xs_model.specs.declared.event.Happen.{Happen}
 use Rattle.xs_model.specs.Record.{CoreRec, NodeRec, LinkRec, core_with}
-use Rattle.xs_model.specs.Outside.{Emitted, emitted_events}
+use Rattle.xs_model.specs.Outside.{Emitted, emitted_events, in_slot}
 use Rattle.xs_instructions.specs.declared.instr.Instr.{Instr}
 use Rattle.xs_instructions.specs.declared.instr.Instr.TheVariants.{Words, Memory, Flow, Threads}
 use Rattle.xs_instructions.specs.declared.instr.MemIns.{MemIns}
@@ -17,7 +17,7 @@ use Rattle.net_model.specs.Switch.{moves_from}
 use Rattle.net_model.specs.Quiet.{quiet_node}
 use Rattle.step_model.specs.Fixed.{Fixed}
 use Rattle.step_model.specs.Effect.{effect, memory_row, loaded, stored}
-use Rattle.step_model.specs.Step.{Stepped, node_step, issued, issued_by, begun, executed, settled, trap, halt_unless, in_slot}
+use Rattle.step_model.specs.Step.{Stepped, node_step, issued, issued_by, begun, executed, settled, trap, halt_unless}
 use Rattle.core_step.specs.Core.{CoreValue, StandsFor, AreBefore, no_links}
 
 abbrev node_with : CoreRec → List (Option LinkRec) → NodeRec

@@ -21,12 +21,23 @@ pub record StandsFor (value : CoreValue) (rec : NodeRec) : Type 0 where
   pub core : value.core ≡ rec.core
   pub links : rec.links ≡ no_links
 
+-- every slot that the link end keeps is before this one
+pub record IsLinkBefore (slot : ℕ) (link : LinkRec) : Type 0 where
+  pub sent : AllByRecursion (λ s. s < slot) link.sent
+  pub credited : AllByRecursion (λ s. s < slot) link.credited
+
 -- every slot that the core keeps is before this one
 abbrev pub AreBefore : ℕ → List (Option ℕ) → Type 0
 AreBefore slot last = AllByRecursion (λ l. IfSome l (λ issued. issued < slot)) last
 
 abbrev pub SlotsBefore : CoreValue → ℕ → Type 0
 SlotsBefore value slot = AreBefore slot value.core.last
+
+-- the core stands for the record, as it is before this slot: every slot that the record keeps is earlier
+pub record StandsAt (value : CoreValue) (rec : NodeRec) (slot : ℕ) : Type 0 where
+  pub stands : StandsFor value rec
+  pub issued : AreBefore slot rec.core.last
+  pub links : AllByRecursion (λ l. IfSome l (IsLinkBefore slot)) rec.links
 
 -- the outcome of an instruction, and the core after it, are what its effect says
 abbrev pub Ends : Outcome → CoreRec → CoreRec → Effect → Type 0

@@ -6,12 +6,12 @@ ghost use Rattle.xs_model.specs.Record.{NodeRec, thread_of, free_thread};
 ghost use Rattle.xs_model.specs.Threads.{fresh_thread};
 ghost use Rattle.xs_model.specs.Memory.{load_word, is_word_address, memory_size};
 ghost use Rattle.xs_model.specs.Picks.{may_issue};
-ghost use Rattle.xs_model.specs.Outside.{LevelsFit, emitted_events};
+ghost use Rattle.xs_model.specs.Outside.{LevelsFit, emitted_events, in_slot};
 ghost use Rattle.xs_instructions.specs.Instr.{InRange, MemoryInRange};
 ghost use Rattle.step_model.specs.Start.{fixed_of, node_of, WaysHaveGaps};
 ghost use Rattle.step_model.specs.Effect.{effect, memory_row};
-ghost use Rattle.step_model.specs.Step.{node_step, resumed, begun, settled, trap, issued_by, in_slot};
-ghost use Rattle.core_step.specs.Core.{CoreValue, StandsFor, SlotsBefore, Ends, effect_of};
+ghost use Rattle.step_model.specs.Step.{node_step, resumed, begun, settled, trap, issued_by};
+ghost use Rattle.core_step.specs.Core.{CoreValue, StandsAt, SlotsBefore, Ends, effect_of};
 ghost use Rattle.std.specs.Int.{bit_at};
 ghost use Rattle.thread_slots.specs.Able.{is_able};
 
@@ -60,9 +60,12 @@ impl Core {
     pub fn boot(alloc: Global, plan: &NodePlan, gaps: &[u32; 8]) -> Result<Core, AllocError>
         requires gaps { WaysHaveGaps plan.now.ways gaps.now }
         ensures fixed { IfOk result (λ core. core.fixed ≡ fixed_of plan.now gaps.now) }
-        ensures start { IfOk result (λ core. StandsFor core (node_of plan.now)) }
+        ensures start { IfOk result (λ core. StandsAt core (node_of plan.now gaps.now) 0) }
         ensures before { IfOk result (λ core. SlotsBefore core 0) }
     {
+        if *gaps != [0; 8] {
+            return Err(AllocError);
+        }
         let code = Vec::from_slice(alloc, plan.image.code())?;
         let ram = Ram::new(alloc, plan.image.bytes())?;
         let mut threads = [free_thread(); 8];
@@ -105,9 +108,9 @@ impl Core {
         requires levels { LevelsFit _pins.now.level }
 
         ensures fixed { self.new.fixed ≡ self.old.fixed }
-        ensures step { (rec : NodeRec) → StandsFor self.old rec →
-            StandsFor self.new (node_step self.old.fixed rec slot _arrivals.now _pins.now).rec }
-        ensures emissions { (rec : NodeRec) → StandsFor self.old rec →
+        ensures step { (rec : NodeRec) → StandsAt self.old rec slot →
+            StandsAt self.new (node_step self.old.fixed rec slot _arrivals.now _pins.now).rec (slot + 1) }
+        ensures emissions { (rec : NodeRec) → StandsAt self.old rec slot →
             out.new ≡ (node_step self.old.fixed rec slot _arrivals.now _pins.now).emitted }
         ensures after { SlotsBefore self.new (slot + 1) }
     {

@@ -1,6 +1,6 @@
 -- What a link end keeps, by counts, and the link record that it stands for.
 use Rattle.std.specs.Prelude.{ℕ, ◌≡◌, ◌+◌, ◌≤◌, Bool, ◌&&◌, nat_lt, Option, None, List, [], ◌∷◌, length}
-use Rattle.xs_base.specs.declared.Token.{Token}
+use Rattle.xs_base.specs.declared.token.Token.{Token}
 use Rattle.xs_model.specs.Record.{LinkRec}
 use Rattle.net_model.specs.Links.{window, latest, gap_is_over}
 

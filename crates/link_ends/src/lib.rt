@@ -14,37 +14,13 @@ use xs_base::Token;
 /// How many tokens fit into the buffer, and how many may be on their way to the other end.
 const WINDOW: u32 = 8;
 
-/// A token in the buffer.
-#[derive(Clone, Copy)]
-struct Waiting {
-    token: Token,
-}
-
-impl Model for Waiting {
-    ghost use Rattle.xs_base.specs.declared.Token.{Token};
-
-    ghost Value = { Token };
-
-    ghost view = { λ waiting. waiting.token };
-
-    ghost inverse = { λ token. record { token = token } };
-}
-
-impl Default for Waiting {
-    fn default() -> Waiting {
-        Waiting {
-            token: Token::Byte(0),
-        }
-    }
-}
-
 /// One of a node's link ends: the tokens that wait in its buffer, at most 8, and what it needs to know of those that
 /// it sent. Contracts see it as a `Window`, and say which link records it stands for. See docs/LINKS.md.
 #[derive(Drop)]
 pub struct LinkEnd {
     // In slots, from one token sent to the next.
     gap: u32,
-    buffer: ArrayVec<Waiting, 8>,
+    buffer: ArrayVec<Token, 8>,
     // How many of the tokens sent are without a credit.
     outstanding: u32,
     last_sent: Option<u32>,
@@ -87,7 +63,7 @@ impl LinkEnd {
         ensures stands { (link : LinkRec) → WindowOf self.old link → WindowOf self.new (token_arrives (Some t) link) }
     {
         if !self.buffer.is_full() {
-            self.buffer.push(Waiting { token: t });
+            self.buffer.push(t);
         }
     }
 
@@ -128,7 +104,7 @@ impl LinkEnd {
     {
         match self.buffer.as_slice() {
             [] => None,
-            [waiting, ..] => Some(waiting.token),
+            [token, ..] => Some(*token),
         }
     }
 
@@ -142,8 +118,7 @@ impl LinkEnd {
         if self.buffer.is_empty() {
             None
         } else {
-            let waiting = self.buffer.remove(0);
-            Some(waiting.token)
+            Some(self.buffer.remove(0))
         }
     }
 }
@@ -267,6 +242,5 @@ mod tests {
         }
         assert_eq!(rt; end.can_send(7), false);
         assert_eq!(rt; end.can_send(8), true);
-        assert_eq!(rt; Waiting::default().token, Token::Byte(0));
     }
 }

@@ -1,9 +1,10 @@
 -- Channel ends: what programs do with their buffers.
 use Rattle.std.specs.Prelude.{ℕ, ◌+◌, ◌%◌, Bool, true, false, ◌&&◌, ◌==◌, nat_le, nat_lt, if◌then◌else◌, Option, Some, None, List, [], ◌∷◌, ◌++◌, length}
-use Rattle.xs_base.specs.declared.Token.{Token}
-use Rattle.xs_base.specs.declared.Token.TheVariants.{Byte, Ctrl}
+use Rattle.xs_base.specs.declared.token.Token.{Token}
+use Rattle.xs_base.specs.declared.token.Token.TheVariants.{Byte, Ctrl}
 use Rattle.xs_model.specs.Record.{ChanRec, unused_chan}
-use Rattle.net_model.specs.Ids.{chan_id, chan_of_dest}
+use Rattle.xs_base.specs.Ids.{chan_id}
+use Rattle.net_model.specs.Ids.{chan_of_dest}
 
 -- how many tokens each of a channel end's two buffers holds
 abbrev pub buffer_room : ℕ

@@ -1,10 +1,6 @@
--- Resource identifiers of channel ends, and the way to them.
-use Rattle.std.specs.Prelude.{ℕ, zero, suc, ◌+◌, ◌*◌, ◌/◌, ◌%◌, ◌==◌, if◌then◌else◌, Option, Some, None, List, slice_index}
+-- Where the destination of a packet lies, and the way to it.
+use Rattle.std.specs.Prelude.{ℕ, zero, suc, ◌/◌, ◌%◌, ◌==◌, if◌then◌else◌, Option, Some, None, List, slice_index}
 use Rattle.std.specs.Int.{bit_at}
-
--- channel end n of the node with this id
-abbrev pub chan_id : ℕ → ℕ → ℕ
-chan_id node n = node * 65536 + n * 256 + 2
 
 -- the id of the node that a destination is on
 abbrev pub node_of_dest : ℕ → ℕ

@@ -1,11 +1,15 @@
 -- Link ends: what arrives at them, and when they may send. They count lists of slots.
 use Rattle.std.specs.Prelude.{ℕ, ◌+◌, Bool, true, false, ◌&&◌, nat_le, nat_lt, if◌then◌else◌, Option, Some, None, List, [], ◌∷◌, ◌++◌, length, filter, slice_index_or}
-use Rattle.xs_base.specs.declared.Token.{Token}
+use Rattle.xs_base.specs.declared.token.Token.{Token}
 use Rattle.xs_model.specs.Record.{LinkRec}
 
 -- how many tokens fit into a link end's buffer, and how many may be on their way to it
 abbrev pub window : ℕ
 window = 8
+
+-- a link end that nothing came to and that never sent
+abbrev pub fresh_link : LinkRec
+fresh_link = record { buffer = []; sent = []; credited = [] }
 
 -- a token that arrives is put into the buffer, where it has room; else it is dropped
 abbrev pub token_arrives : Option Token → LinkRec → LinkRec

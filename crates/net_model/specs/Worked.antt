@@ -1,14 +1,14 @@
 -- Two nodes and one link, worked out by hand: node 0 sends to channel end 0 of node 1, over a link with a delay of 5
 -- slots and a gap of 4.
 use Rattle.std.specs.Prelude.{ℕ, zero, suc, ◌≡◌, ◌-◌, ◌%◌, Bool, true, false, ◌&&◌, ◌==◌, nat_le, nat_lt, if◌then◌else◌, Option, Some, None, List, [], ◌∷◌, ◌++◌, length, drop, replicate, slice_index_or}
-use Rattle.xs_base.specs.declared.Token.{Token}
-use Rattle.xs_base.specs.declared.Token.TheVariants.{Byte, Ctrl}
+use Rattle.xs_base.specs.declared.token.Token.{Token}
+use Rattle.xs_base.specs.declared.token.Token.TheVariants.{Byte, Ctrl}
 use Rattle.xs_model.specs.declared.event.Happen.{Happen}
 use Rattle.xs_model.specs.declared.event.Happen.TheVariants as happen
 use Rattle.xs_model.specs.Record.{NodeRec, LinkRec, ChanRec, core_with, unused_chan, chan_of}
-use Rattle.net_model.specs.Ids.{chan_id}
+use Rattle.xs_base.specs.Ids.{chan_id}
 use Rattle.net_model.specs.Chans.{got_chan, has_room}
-use Rattle.net_model.specs.Links.{links_after_arrivals}
+use Rattle.net_model.specs.Links.{fresh_link, links_after_arrivals}
 use Rattle.net_model.specs.Switch.{Routes, Moving, moves, with_chan}
 
 -- what travelled on one direction of the link, by the slots of its sending
@@ -25,9 +25,6 @@ pub record Pair : Type 0 where
 
 abbrev pub nothing_sent : Sent
 nothing_sent = record { tokens = []; credits = [] }
-
-abbrev pub fresh_link : LinkRec
-fresh_link = record { buffer = []; sent = []; credited = [] }
 
 abbrev pub node_with : List ChanRec → List (Option LinkRec) → NodeRec
 node_with chans links = record { core = record (core_with [] [] []) { chans = chans }; links = links }

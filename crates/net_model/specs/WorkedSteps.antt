@@ -1,14 +1,14 @@
 -- Single steps of the switch and of link ends, worked out by hand.
 use Rattle.std.specs.Prelude.{ℕ, ◌≡◌, Bool, true, false, Option, Some, None, List, [], ◌∷◌, length, replicate}
-use Rattle.xs_base.specs.declared.Token.{Token}
-use Rattle.xs_base.specs.declared.Token.TheVariants.{Byte, Ctrl}
+use Rattle.xs_base.specs.declared.token.Token.{Token}
+use Rattle.xs_base.specs.declared.token.Token.TheVariants.{Byte, Ctrl}
 use Rattle.xs_model.specs.declared.event.Happen.TheVariants as happen
 use Rattle.xs_model.specs.Record.{NodeRec, LinkRec, ChanRec, InputRec, Idle, Head1, Head2, Want, Local, Out, Lost, unused_chan, chan_of}
-use Rattle.net_model.specs.Ids.{chan_id}
+use Rattle.xs_base.specs.Ids.{chan_id}
 use Rattle.net_model.specs.Chans.{got_chan}
-use Rattle.net_model.specs.Links.{links_after_arrivals, may_send}
+use Rattle.net_model.specs.Links.{fresh_link, links_after_arrivals, may_send}
 use Rattle.net_model.specs.Switch.{Moving, moves, with_state, state_at, free_end}
-use Rattle.net_model.specs.Worked.{fresh_link, node_with, with_link, routes_of}
+use Rattle.net_model.specs.Worked.{node_with, with_link, routes_of}
 
 -- a link end with an empty buffer that sent in some slots, and counted credits in some
 abbrev pub counted : List ℕ → List ℕ → LinkRec

@@ -1,16 +1,16 @@
 -- Three nodes in a line, worked out by hand. Their ids are 0, 1 and 3. Two links, each with a delay of 5 slots and a
 -- gap of 4, join link end 0 of node 0 to link end 0 of node 1, and link end 1 of node 1 to link end 0 of node 3.
 use Rattle.std.specs.Prelude.{ℕ, zero, suc, ◌≡◌, ◌-◌, Bool, false, nat_lt, if◌then◌else◌, Option, Some, None, List, [], ◌∷◌, ◌++◌, length, replicate}
-use Rattle.xs_base.specs.declared.Token.{Token}
-use Rattle.xs_base.specs.declared.Token.TheVariants.{Byte, Ctrl}
+use Rattle.xs_base.specs.declared.token.Token.{Token}
+use Rattle.xs_base.specs.declared.token.Token.TheVariants.{Byte, Ctrl}
 use Rattle.xs_model.specs.declared.event.Happen.{Happen}
 use Rattle.xs_model.specs.declared.event.Happen.TheVariants as happen
 use Rattle.xs_model.specs.Record.{NodeRec, unused_chan}
-use Rattle.net_model.specs.Ids.{chan_id}
+use Rattle.xs_base.specs.Ids.{chan_id}
 use Rattle.net_model.specs.Chans.{got_chan}
-use Rattle.net_model.specs.Links.{links_after_arrivals}
+use Rattle.net_model.specs.Links.{fresh_link, links_after_arrivals}
 use Rattle.net_model.specs.Switch.{Routes, Moving, moves}
-use Rattle.net_model.specs.Worked.{Sent, nothing_sent, fresh_link, node_with, with_link, token_of_slot, credit_of_slot, arrives, and_sent, in_slot, puts_in}
+use Rattle.net_model.specs.Worked.{Sent, nothing_sent, node_with, with_link, token_of_slot, credit_of_slot, arrives, and_sent, in_slot, puts_in}
 
 -- the nodes, what travelled on each direction of the links between the first and the middle node and between the middle
 -- and the last one, and what happened at each node

@@ -1,8 +1,9 @@
 -- A node as its plan starts it.
-use Rattle.std.specs.Prelude.{ℕ, ◌≡◌, ◌<◌, List, slice_index}
+use Rattle.std.specs.Prelude.{ℕ, ◌≡◌, ◌<◌, ◌==◌, if◌then◌else◌, Option, Some, None, List, map, slice_index}
 use Rattle.std.specs.Int.{bit_at}
-use Rattle.xs_model.specs.Record.{NodeRec, first_node}
+use Rattle.xs_model.specs.Record.{NodeRec, LinkRec, first_node}
 use Rattle.xs_instructions.specs.Image.{entry_of}
+use Rattle.net_model.specs.Links.{fresh_link}
 use Rattle.sys_plan.specs.declared.NodePlan.{NodePlan}
 use Rattle.step_model.specs.Fixed.{Fixed}
 
@@ -10,9 +11,13 @@ use Rattle.step_model.specs.Fixed.{Fixed}
 abbrev pub fixed_of : NodePlan → List ℕ → Fixed
 fixed_of plan gaps = record { id = plan.id; code = plan.image.code; ways = plan.ways; gaps = gaps }
 
--- the node as it starts
-abbrev pub node_of : NodePlan → NodeRec
-node_of plan = first_node (entry_of plan.image) plan.image.cp_at plan.image.bytes
+-- the link end with this gap as it starts; a gap of 0 says that it is not there
+abbrev pub link_with_gap : ℕ → Option LinkRec
+link_with_gap gap = if gap == 0 then None else Some fresh_link
+
+-- the node as it starts, with the gaps of its link ends
+abbrev pub node_of : NodePlan → List ℕ → NodeRec
+node_of plan gaps = record (first_node (entry_of plan.image) plan.image.cp_at plan.image.bytes) { links = map link_with_gap gaps }
 
 -- each link end that some bit of an id leads to is there: it has a gap
 abbrev pub WaysHaveGaps : List ℕ → List ℕ → Type 0

@@ -3,13 +3,12 @@ use Rattle.std.specs.Prelude.{ℕ, Bool, if◌then◌else◌, Option, Some, None
 use Rattle.xs_model.specs.declared.thread.Thread.{Thread}
 use Rattle.xs_model.specs.declared.thread.Run.{Run}
 use Rattle.xs_model.specs.declared.thread.Run.TheVariants.{Going, Paused, Halted}
-use Rattle.xs_model.specs.declared.event.Event.{Event}
 use Rattle.xs_model.specs.declared.event.Happen.{Happen}
 use Rattle.xs_model.specs.declared.event.Happen.TheVariants as happen
 use Rattle.xs_model.specs.declared.outside.Arrivals.{Arrivals}
 use Rattle.xs_model.specs.declared.outside.PinView.{PinView}
 use Rattle.xs_model.specs.Record.{CoreRec, NodeRec, thread_of, with_thread}
-use Rattle.xs_model.specs.Outside.{Emitted}
+use Rattle.xs_model.specs.Outside.{Emitted, in_slot}
 use Rattle.xs_model.specs.Picks.{picked}
 use Rattle.xs_model.specs.Entry.{trapped}
 use Rattle.xs_instructions.specs.declared.instr.Instr.{Instr}
@@ -96,9 +95,6 @@ switched fixed rec slot = moves (routes_of fixed) slot rec
 pub record Stepped : Type 0 where
   pub rec : NodeRec
   pub emitted : Emitted
-
-abbrev pub in_slot : ℕ → Happen → Event
-in_slot slot what = record { slot = slot; what = what }
 
 -- the events of the switch come before those of the issue
 abbrev pub step_done : Moving → ℕ → Issued → Stepped

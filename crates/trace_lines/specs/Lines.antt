@@ -1,8 +1,8 @@
 -- The lines of the trace that tell of events. Slots, counts, token values and trap numbers are decimal; the rest
 -- is 0x and eight lower-case hex digits.
 use Rattle.std.specs.Prelude.{ℕ, ◌+◌, ◌-◌, ◌/◌, ◌%◌, nat_lt, if◌then◌else◌, List, [], ◌∷◌, ◌++◌, codes, decimal}
-use Rattle.xs_base.specs.declared.Token.{Token}
-use Rattle.xs_base.specs.declared.Token.TheVariants.{Byte, Ctrl}
+use Rattle.xs_base.specs.declared.token.Token.{Token}
+use Rattle.xs_base.specs.declared.token.Token.TheVariants.{Byte, Ctrl}
 use Rattle.xs_model.specs.declared.event.Event.{Event}
 use Rattle.xs_model.specs.declared.event.Happen.{Happen}
 use Rattle.xs_model.specs.declared.event.Happen.TheVariants as happen

@@ -1,6 +1,6 @@
 -- Lines worked out by hand.
 use Rattle.std.specs.Prelude.{◌≡◌, codes}
-use Rattle.xs_base.specs.declared.Token.TheVariants.{Byte, Ctrl}
+use Rattle.xs_base.specs.declared.token.Token.TheVariants.{Byte, Ctrl}
 use Rattle.xs_model.specs.declared.event.Happen.TheVariants as happen
 use Rattle.trace_lines.specs.Lines.{event_line}
 

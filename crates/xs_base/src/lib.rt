@@ -1,55 +1,17 @@
-//! What every other crate speaks of: the tokens that links and channel ends carry, and a text that grows.
+//! What every other crate speaks of: the tokens that links and channel ends carry, what travels on a link, resource
+//! identifiers, and a text that grows.
 #![tactic(auto)]
 
-ghost use Rattle.std.specs.Prelude.{◌≡◌, [], ◌++◌, OnOk, OnErr};
+mod batch;
+mod entry;
+mod ids;
+#[cfg(test)]
+mod tests;
+mod text;
+mod token;
 
-use std::alloc::{AllocError, Global};
-use std::marker::Model;
-
-/// What channel ends and links carry: a data byte, or a control token such as END (1), PAUSE (2), ACK (3) or
-/// NACK (4). Other control values are passed on as they are. See docs/MACHINE.md.
-#[derive(Clone, Copy, PartialEq, Eq, Debug)]
-pub enum Token {
-    Byte(u8),
-    Ctrl(u8),
-}
-
-/// A text in the making: bytes that only grow. Contracts see the list of its bytes.
-#[derive(Drop)]
-pub struct Text {
-    bytes: Vec<u8>,
-}
-
-impl Model for Text {
-    ghost use Rattle.std.specs.Prelude.{List, ℕ};
-
-    ghost Value = { List ℕ };
-
-    ghost view = { λ t. t.bytes.items };
-}
-
-impl Text {
-    /// An empty text. It takes no memory.
-    pub fn new(alloc: Global) -> Text
-        ensures empty { result ≡ [] }
-    {
-        Text {
-            bytes: Vec::new(alloc),
-        }
-    }
-
-    /// Puts a piece at the end. The error is want of memory, and leaves the text as it was.
-    pub fn append(&mut self, piece: &[u8]) -> Result<(), AllocError>
-        ensures ok { OnOk result (self.new ≡ self.old ++ piece.now) }
-        ensures err { OnErr result (self.new ≡ self.old) }
-    {
-        self.bytes.extend_from_slice(piece)
-    }
-
-    /// The bytes so far.
-    pub fn bytes(&self) -> &[u8]
-        ensures value { result.now ≡ self.now }
-    {
-        self.bytes.as_slice()
-    }
-}
+pub use batch::Batch;
+pub use entry::{Entry, What};
+pub use ids::{chan_id, port_id, port_named, port_of, port_width, res_id};
+pub use text::Text;
+pub use token::Token;

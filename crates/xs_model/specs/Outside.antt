@@ -1,7 +1,8 @@
 -- What a node's slot takes from outside and gives to it.
 use Rattle.std.specs.Prelude.{ℕ, ◌<◌, ◌^◌, Bool, false, List, [], ◌∷◌, ◌++◌, Option, None, replicate}
-use Rattle.xs_base.specs.declared.Token.{Token}
+use Rattle.xs_base.specs.declared.token.Token.{Token}
 use Rattle.xs_model.specs.declared.event.Event.{Event}
+use Rattle.xs_model.specs.declared.event.Happen.{Happen}
 
 -- what a slot gives: its events in order, and for each link end 0 to 7 the token and the credit that leave by it
 pub record Emitted : Type 0 where
@@ -12,6 +13,10 @@ pub record Emitted : Type 0 where
 -- these events, and nothing that leaves by a link end
 abbrev pub emitted_events : List Event → Emitted
 emitted_events events = record { events = events; tokens = replicate 8 None; credits = replicate 8 false }
+
+-- something happens in a slot
+abbrev pub in_slot : ℕ → Happen → Event
+in_slot slot what = record { slot = slot; what = what }
 
 -- the widths of the 29 ports in bits, by port number
 abbrev pub port_widths : List ℕ

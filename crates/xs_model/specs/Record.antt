@@ -1,6 +1,6 @@
 -- The node record: all that a node keeps from slot to slot, as plain data.
 use Rattle.std.specs.Prelude.{ℕ, Bool, false, List, [], ◌∷◌, Option, None, replicate, slice_index_or, slice_set}
-use Rattle.xs_base.specs.declared.Token.{Token}
+use Rattle.xs_base.specs.declared.token.Token.{Token}
 use Rattle.xs_model.specs.declared.thread.Thread.{Thread}
 use Rattle.xs_model.specs.declared.thread.Run.TheVariants.{Free}
 use Rattle.xs_model.specs.Threads.{fresh_thread, first_thread}

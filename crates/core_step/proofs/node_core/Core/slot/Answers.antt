@@ -2,8 +2,8 @@ use Rattle.std.proofs.Common.{◌≡◌, ℕ, ◌+◌, List, Option, Some, None,
 use Rattle.std.specs.Prelude.{map}
 use Rattle.xs_model.specs.Record.{CoreRec}
 use Rattle.xs_model.specs.Picks.{may_issue, pick, picked}
-use Rattle.xs_model.specs.Outside.{emitted_events}
-use Rattle.step_model.specs.Step.{issued_by, in_slot}
+use Rattle.xs_model.specs.Outside.{emitted_events, in_slot}
+use Rattle.step_model.specs.Step.{issued_by}
 use Rattle.core_step.specs.Core.{CoreValue, AreBefore}
 use Rattle.core_step.proofs.Steps.{stepped, gave, still_before, issue_before, issued_last}
 use Rattle.core_step.proofs.node_core.Core.slot.Goals as goal
@@ -19,7 +19,7 @@ picked_some c =
 pub returns-in-Some-clause-step : goal.returns-in-Some-clause-step
 returns-in-Some-clause-step c =
     let s = (goal.at.returns-in-Some-clause-step c).In-Some in
-    λ rec h. stepped c.args.self.now rec c.args.slot _ _ c.self.inside.threads c.self.inside.slots c.self.inside.ram (sym (ap (λ (v : CoreValue). v.core) c.self.view_is)) h c.issue.new.self
+    λ rec h. stepped c.args.self.now rec c.args.slot _ _ c.self.inside.threads c.self.inside.slots c.self.inside.ram (sym (ap (λ (v : CoreValue). v.core) c.self.view_is)) h.stands c.issue.new.self
     (c.issue.ensures.core ∙ ap (λ (p : Option ℕ). (issued_by c.args.self.now.fixed c.args.self.now.core c.args.slot p).core) (sym (picked_some s)))
 
 pub returns-in-Some-clause-emissions : goal.returns-in-Some-clause-emissions
