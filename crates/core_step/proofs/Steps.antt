@@ -1,6 +1,7 @@
 -- From an issue to a node step, and the slots that a core keeps.
-use Rattle.std.proofs.Common.{◌≡◌, ℕ, zero, suc, ◌+◌, Bool, true, false, List, [], ◌∷◌, Option, Some, None, refl, ap, sym, ◌∙◌, arith}
-use Rattle.std.specs.Prelude.{slice_set, map}
+use Rattle.std.proofs.Common.{◌≡◌, ℕ, zero, suc, ◌+◌, Bool, true, false, List, [], ◌∷◌, Option, Some, None, refl, ap, sym, ◌∙◌, arith, subst}
+use Rattle.std.specs.Prelude.{slice_set, map, IfSome}
+use Rattle.std.specs.List.{AllByRecursion}
 use Rattle.xs_model.specs.declared.thread.Thread.{Thread}
 use Rattle.xs_model.specs.declared.outside.Arrivals.{Arrivals}
 use Rattle.xs_model.specs.declared.outside.PinView.{PinView}
@@ -18,7 +19,7 @@ use Rattle.net_model.specs.Quiet.{quiet_node}
 use Rattle.step_model.specs.Fixed.{Fixed}
 use Rattle.step_model.specs.Effect.{effect, memory_row, loaded, stored}
 use Rattle.step_model.specs.Step.{Stepped, node_step, issued, issued_by, begun, executed, settled, trap, halt_unless}
-use Rattle.core_step.specs.Core.{CoreValue, StandsFor, AreBefore, no_links}
+use Rattle.core_step.specs.Core.{CoreValue, StandsFor, StandsAt, AreBefore, IsLinkBefore, no_links}
 
 abbrev node_with : CoreRec → List (Option LinkRec) → NodeRec
 node_with core links = record { core = core; links = links }
@@ -58,6 +59,14 @@ module _ (before : CoreValue) (rec : NodeRec) (slot : ℕ) (arrivals : Arrivals)
   gave out e =
       e ∙ ap (λ (core : CoreRec). emitted_events (map (in_slot slot) (issued before.fixed core slot).happened)) stands.core
       ∙ sym (ap (λ (s : Stepped). s.emitted) step_is)
+
+-- a core that stands for a node stands for it as it is before a slot, where its own slots are earlier
+pub stands_next : (slot : ℕ) (value : CoreValue) (rec : NodeRec) → StandsFor value rec → AreBefore (slot + 1) value.core.last → StandsAt value rec (slot + 1)
+stands_next slot value rec stands before = record {
+  stands = stands;
+  issued = subst (AreBefore (slot + 1)) (ap (λ (core : CoreRec). core.last) stands.core) before;
+  links = subst (λ links. AllByRecursion (λ l. IfSome l (IsLinkBefore (slot + 1))) links) (sym stands.links) (tt, (tt, (tt, (tt, (tt, (tt, (tt, (tt, tt))))))));
+}
 
 -- what was before a slot is before the next
 pub still_before : (slot : ℕ) (last : List (Option ℕ)) → AreBefore slot last → AreBefore (slot + 1) last
