@@ -8,8 +8,9 @@ ghost use Rattle.xs_assembler.specs.Words.{bytes_of_word};
 
 use crate::asm_error::{AsmError, refusal};
 use crate::operands::number_first;
-use crate::tokens::{ended, first_token, name_first, same_name};
+use crate::tokens::{ended, first_token, name_first};
 use std::alloc::Global;
+use xs_instructions::same_name;
 use xs_text::{Lines, all_allowed};
 
 // At most so many bytes of data.

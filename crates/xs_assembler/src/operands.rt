@@ -4,8 +4,8 @@ ghost use Rattle.source_model.specs.Source.{places_of, place_of};
 ghost use Rattle.source_model.specs.Statement.{register_number, register_first, common_first, any_first, number_first, short_first, small_first, label_first, resource_first, three_registers, register_and_short, register_and_dp, register_and_label, lone_label, register_and_small, resource_and_register, resource_and_small};
 ghost use Rattle.xs_assembler.specs.Labels.{HavePlaces};
 
-use crate::tokens::{ended, first_token, mark_first, name_first, same_name};
-use xs_instructions::Symbols;
+use crate::tokens::{ended, first_token, mark_first, name_first};
+use xs_instructions::{Symbols, same_name};
 use xs_text::{TokKind, source_number};
 
 // The number of a register: 0 to 11 for r0 to r11, then cp, dp, sp and lr.

@@ -3,7 +3,8 @@ ghost use Rattle.xs_text.specs.Lines.{lines_of};
 ghost use Rattle.xs_text.specs.Tokens.{tokens_of};
 ghost use Rattle.source_model.specs.Source.{begins_data, code_lines, data_lines, is_lone_word};
 
-use crate::tokens::{first_token, same_name};
+use crate::tokens::first_token;
+use xs_instructions::same_name;
 use xs_text::{Lines, TokKind, all_allowed};
 
 // The lines of code, and the lines of data, as the parts of the text that they are. The line `.data` between them is

@@ -8,8 +8,8 @@ use crate::operands::{
     lone_label, register_and_dp, register_and_label, register_and_short, register_and_small,
     resource_and_register, resource_and_small, three_registers,
 };
-use crate::tokens::{ended, name_first, same_name};
-use xs_instructions::{FlowIns, Instr, MemIns, ResIns, Symbols, ThreadIns, WordIns};
+use crate::tokens::{ended, name_first};
+use xs_instructions::{FlowIns, Instr, MemIns, ResIns, Symbols, ThreadIns, WordIns, same_name};
 
 // The instruction of this name, with the operands that are left of the line.
 #[tactic(auto, unfolding(source_model::specs::Statement::instruction))]

@@ -1,4 +1,4 @@
-use Rattle.std.proofs.Common.{◌≡◌, ℕ, List, Some, None, refl, sym, ap, ◌∙◌}
+use Rattle.std.proofs.Common.{◌≡◌, Some, None, sym, ap, ◌∙◌}
 use Rattle.xs_text.specs.Lines.{lines_of}
 use Rattle.xs_instructions.specs.Image.{ImageRec}
 use Rattle.source_model.specs.Source.{assembled, image_with, code_of, places_of, data_of, limited}

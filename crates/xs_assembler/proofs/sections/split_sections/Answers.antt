@@ -1,5 +1,5 @@
-use Rattle.std.proofs.Common.{◌≡◌, ℕ, List, ◌∷◌, ◌<◌, [], refl, sym, ap, ◌∙◌, arith, drop}
-use Rattle.xs_text.specs.Lines.{lines_of, line_bytes, bytes_left}
+use Rattle.std.proofs.Common.{◌<◌, refl, sym, ap, ◌∙◌, arith, drop}
+use Rattle.xs_text.specs.Lines.{lines_of, bytes_left}
 use Rattle.xs_assembler.proofs.Refusal.{lines_of-nothing}
 use Rattle.xs_assembler.proofs.SectionPass.{code_first, code_next, code_ends, data_begins, code_alone, no_data, parts_of, within_text, line_of_text}
 use Rattle.xs_assembler.proofs.sections.split_sections.Goals as goal
