@@ -1,3 +1,4 @@
 pub mod Inside
 pub mod Rows
 pub mod Switch
+pub mod Lends

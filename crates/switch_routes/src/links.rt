@@ -1,11 +1,12 @@
 //! `Links`, the row of a node's link ends.
-ghost use Rattle.std.specs.Prelude.{ℕ, ◌≡◌, ◌<◌, true, Some, None, Option, List, length, slice_set, slice_get};
+ghost use Rattle.std.specs.Prelude.{ℕ, ◌≡◌, ◌<◌, true, Some, None, Option, List, length, slice_set, slice_get, MatchOption};
+ghost use Rattle.std.specs.Borrow.{sem};
 ghost use Rattle.xs_model.specs.Record.{LinkRec};
 ghost use Rattle.net_model.specs.Links.{links_after_arrivals};
-ghost use Rattle.net_model.specs.Switch.{link_without_first, sent_in, end_may_send, Routes};
-ghost use Rattle.link_ends.specs.Window.{Window};
 ghost use Rattle.switch_routes.specs.Rows.{no_windows, window_at, WindowsOf, gaps_of, CreditedBy, buffer_of, may_send_by, without_first};
+ghost use Rattle.switch_routes.specs.Lends.{LendsEnd};
 
+use arrayvec::ArrayVec;
 use link_ends::LinkEnd;
 use std::marker::Model;
 use xs_base::Token;
@@ -15,7 +16,8 @@ use xs_model::Arrivals;
 /// `Window`s. See docs/LINKS.md.
 #[derive(Drop)]
 pub struct Links {
-    ends: [LinkEnd; 8],
+    // Where a link end is not there, some other one stands in its place.
+    ends: ArrayVec<LinkEnd, 8>,
     present: [bool; 8],
 }
 
@@ -27,9 +29,9 @@ impl Model for Links {
 
     ghost use Rattle.switch_routes.specs.Inside.{windows_in};
 
-    ghost view = { λ row. windows_in row.present row.ends };
+    ghost view = { λ row. windows_in row.present row.ends.items };
 
-    ghost invariant = { λ row. length row.ends ≡ 8 };
+    ghost invariant = { λ row. length row.ends.items ≡ 8 };
 }
 
 impl Links {
@@ -37,8 +39,9 @@ impl Links {
     pub fn new() -> Links
         ensures value { result ≡ no_windows }
     {
+        let ends: [LinkEnd; 8] = Default::default();
         Links {
-            ends: Default::default(),
+            ends: ArrayVec::from(ends),
             present: [false; 8],
         }
     }
@@ -49,21 +52,20 @@ impl Links {
         ensures value { self.new ≡ slice_set self.old end (Some link) }
         ensures count { length self.new ≡ 8 }
     {
-        self.ends[end as usize] = link;
+        self.ends.as_mut_slice()[end as usize] = link;
         self.present[end as usize] = true;
     }
 
-    /// What arrives in a slot at each link end: the token, then the credit. For a link end that is not there it is
-    /// dropped. See docs/LINKS.md.
-    pub fn arrivals(&mut self, arrivals: &Arrivals)
-        ensures stands { (slot : ℕ) (links : List (Option LinkRec)) → WindowsOf self.old links →
-            WindowsOf self.new (links_after_arrivals slot arrivals.now.tokens arrivals.now.credits 0 links) }
-        ensures credited { (slot : ℕ) (links : List (Option LinkRec)) → CreditedBy slot links →
-            CreditedBy slot (links_after_arrivals slot arrivals.now.tokens arrivals.now.credits 0 links) }
-        ensures gaps { gaps_of self.new ≡ gaps_of self.old }
+    /// The link end with a number, 0 to 7: `None` exactly where the node has no such link end.
+    pub fn end(&mut self, end: u8) -> Option<&mut LinkEnd>
+        requires within { end < 8 }
+        ensures* writes_back { sem 𝓛 (LendsEnd self.entry end result) }
+        ensures cases { MatchOption result (window_at self.old end ≡ None) (λ link. window_at self.old end ≡ Some link.now) }
     {
-        for end in 0..8u8 {
-            self.arrive(end, arrivals.tokens[end as usize], arrivals.credits[end as usize]);
+        if self.present[end as usize] {
+            self.ends.get_mut(end as usize)
+        } else {
+            None
         }
     }
 }
