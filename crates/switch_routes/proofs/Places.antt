@@ -36,18 +36,23 @@ windows_in-change (p ∷ present) (v ∷ ends) zero w there = ap (λ (b : Bool).
 windows_in-change (p ∷ present) (v ∷ ends) (suc e) w there = ap (λ rest. cond p (Some v) None ∷ rest) (windows_in-change present ends e w there)
 
 -- what stands in a place
-pub get_or-windows_in : (present : List Bool) (ends : List Window) (e : ℕ) (d : Window) → length present ≡ length ends → e < length ends → get_or (windows_in present ends) e None ≡ cond (get_or present e false) (Some (get_or ends e d)) None
-get_or-windows_in [] [] e d same h = absurd (omega arith)
-get_or-windows_in [] (w ∷ ends) e d same h = absurd (omega arith)
-get_or-windows_in (p ∷ present) [] e d same h = absurd (omega arith)
-get_or-windows_in (p ∷ present) (w ∷ ends) zero d same h = refl
-get_or-windows_in (p ∷ present) (w ∷ ends) (suc e) d same h = get_or-windows_in present ends e d (omega arith) (omega arith)
+pub get_or-windows_in : (present : List Bool) (ends : List Window) (e : ℕ) (d : Window) → e < length ends → get_or (windows_in present ends) e None ≡ cond (get_or present e false) (Some (get_or ends e d)) None
+get_or-windows_in [] [] e d h = absurd (omega arith)
+get_or-windows_in [] (w ∷ ends) e d h = refl
+get_or-windows_in (p ∷ present) [] e d h = absurd (omega arith)
+get_or-windows_in (p ∷ present) (w ∷ ends) zero d h = refl
+get_or-windows_in (p ∷ present) (w ∷ ends) (suc e) d h = get_or-windows_in present ends e d (omega arith)
 
 -- what is lent
-pub end_cases : (r : Option (MutBor Window)) (present : List Bool) (ends : List Window) (e : ℕ) → length present ≡ length ends → e < length ends → get_or present e false ≡ true → IsSome r ↔ (e < length ends) → IfSome r (λ x. x.now ≡ get_or ends e x.now) → MatchOption r (get_or (windows_in present ends) e None ≡ None) (λ x. get_or (windows_in present ends) e None ≡ Some x.now)
-end_cases None present ends e same h there some value = absurd (false≢true (some.1 h))
-end_cases (Some x) present ends e same h there some value =
-    get_or-windows_in present ends e x.now same h ∙ ap (λ (b : Bool). cond b (Some (get_or ends e x.now)) None) there ∙ ap Some (sym value)
+pub end_cases : (r : Option (MutBor Window)) (present : List Bool) (ends : List Window) (e : ℕ) → e < length ends → get_or present e false ≡ true → IsSome r ↔ (e < length ends) → IfSome r (λ x. x.now ≡ get_or ends e x.now) → MatchOption r (get_or (windows_in present ends) e None ≡ None) (λ x. get_or (windows_in present ends) e None ≡ Some x.now)
+end_cases None present ends e h there some value = absurd (false≢true (some.1 h))
+end_cases (Some x) present ends e h there some value =
+    get_or-windows_in present ends e x.now h ∙ ap (λ (b : Bool). cond b (Some (get_or ends e x.now)) None) there ∙ ap Some (sym value)
 
-pub not_there : (present : List Bool) (ends : List Window) (e : ℕ) (d : Window) → length present ≡ length ends → e < length ends → get_or present e false ≡ false → get_or (windows_in present ends) e None ≡ None
-not_there present ends e d same h there = get_or-windows_in present ends e d same h ∙ ap (λ (b : Bool). cond b (Some (get_or ends e d)) None) there
+pub not_there : (present : List Bool) (ends : List Window) (e : ℕ) (d : Window) → e < length ends → get_or present e false ≡ false → get_or (windows_in present ends) e None ≡ None
+not_there present ends e d h there = get_or-windows_in present ends e d h ∙ ap (λ (b : Bool). cond b (Some (get_or ends e d)) None) there
+
+-- a link end that is read from its place
+pub there : (present : List Bool) (ends : List Window) (e : ℕ) (w : Window) → e < length ends → get_or present e false ≡ true → w ≡ get_or ends e w → get_or (windows_in present ends) e None ≡ Some w
+there present ends e w h is read =
+    get_or-windows_in present ends e w h ∙ ap (λ (b : Bool). cond b (Some (get_or ends e w)) None) is ∙ ap Some (sym read)

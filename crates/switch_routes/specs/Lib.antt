@@ -2,3 +2,4 @@ pub mod Inside
 pub mod Rows
 pub mod Switch
 pub mod Lends
+pub mod Inputs
