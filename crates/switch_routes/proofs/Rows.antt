@@ -135,7 +135,7 @@ token-keeps : (token : Option Token) (link : LinkRec) → (token_arrives token l
 token-keeps None link = refl
 token-keeps (Some t) link = keeps-credited (ltb (length link.buffer) 8) (link.buffer ++ t ∷ []) link
 
-abbrev IsCreditedBy : ℕ → Option LinkRec → Type 0
+abbrev pub IsCreditedBy : ℕ → Option LinkRec → Type 0
 IsCreditedBy slot l = IfSome l (λ link. AllByRecursion (λ s. s ≤ slot) link.credited)
 
 credited-one : (slot : ℕ) (token : Option Token) (credit : Bool) (l : Option LinkRec) → IsCreditedBy slot l → IsCreditedBy slot (link_after_arrivals slot token credit l)

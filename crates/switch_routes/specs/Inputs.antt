@@ -1,5 +1,5 @@
 -- What an input of the switch is at, in code and in the node record.
-use Rattle.std.specs.Prelude.{ℕ, ◌<◌, ◌≤◌, List, map, replicate}
+use Rattle.std.specs.Prelude.{ℕ, ◌≡◌, ◌<◌, ◌≤◌, List, length, map, replicate}
 use Rattle.std.specs.List.{AllByRecursion}
 use Rattle.xs_model.specs.Record.{InputRec, Idle, Head1, Head2, Want, Local, Out, Lost}
 use Rattle.switch_routes.specs.declared.inputs.Input.{Input}
@@ -23,8 +23,10 @@ InputFits _ = Unit {0}
 abbrev pub states_in : List Input → List InputRec
 states_in states = map state_of states
 
-abbrev pub AllFit : List Input → Type 0
-AllFit states = AllByRecursion InputFits states
+-- there are 40 inputs, and each state fits
+pub record AreInputs (states : List Input) : Type 0 where
+  pub count : length states ≡ 40
+  pub fit : AllByRecursion InputFits states
 
 -- every input is idle
 abbrev pub idle_inputs : List InputRec

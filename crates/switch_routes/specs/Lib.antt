@@ -3,3 +3,4 @@ pub mod Rows
 pub mod Switch
 pub mod Lends
 pub mod Inputs
+pub mod Work

@@ -51,11 +51,11 @@ impl Model for Inputs {
 
     ghost Value = { List InputRec };
 
-    ghost use Rattle.switch_routes.specs.Inputs.{states_in, AllFit};
+    ghost use Rattle.switch_routes.specs.Inputs.{states_in, AreInputs};
 
     ghost view = { λ inputs. states_in inputs.states };
 
-    ghost invariant = { λ inputs. AllFit inputs.states };
+    ghost invariant = { λ inputs. AreInputs inputs.states };
 }
 
 impl Inputs {

@@ -3,6 +3,7 @@
 
 mod inputs;
 mod links;
+mod parts;
 
 pub use link_ends::LinkEnd;
 pub use links::Links;
