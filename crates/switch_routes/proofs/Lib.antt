@@ -2,3 +2,4 @@ pub mod Places
 pub mod Rows
 pub mod Held
 pub mod Work
+pub mod Rules

@@ -4,3 +4,4 @@ pub mod Switch
 pub mod Lends
 pub mod Inputs
 pub mod Work
+pub mod Ways

@@ -4,6 +4,8 @@
 mod inputs;
 mod links;
 mod parts;
+mod steps;
+mod ways;
 
 pub use link_ends::LinkEnd;
 pub use links::Links;
