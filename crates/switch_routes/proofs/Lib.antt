@@ -3,3 +3,5 @@ pub mod Rows
 pub mod Held
 pub mod Work
 pub mod Rules
+pub mod Differences
+pub mod Frees

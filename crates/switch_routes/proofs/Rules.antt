@@ -50,10 +50,10 @@ module _ (i n : ℕ) (t : Token) (m : Moving) where
       sym (ap (λ (b : Bool). cond b (after_token i (Local n) t (take_first i m)) (cond (has_room 1 (chan_of m.rec.core n).input) (after_token i (Local n) t (it_happens (happen.Chan n t) (put_into n t (take_first i m)))) m)) is)
 
   pub deliver-room : is_pause t ≡ false → has_room 1 (chan_of m.rec.core n).input ≡ true → after_token i (Local n) t (it_happens (happen.Chan n t) (take_first i (put_into n t m))) ≡ deliver i n t m
-  deliver-room no room =
+  deliver-room other room =
       ap (λ (x : Moving). after_token i (Local n) t (it_happens (happen.Chan n t) x)) (take-put i n t m)
       ∙ sym (ap (λ (b : Bool). cond b (after_token i (Local n) t (it_happens (happen.Chan n t) (put_into n t (take_first i m)))) m) room)
-      ∙ sym (ap (λ (b : Bool). cond b (after_token i (Local n) t (take_first i m)) (cond (has_room 1 (chan_of m.rec.core n).input) (after_token i (Local n) t (it_happens (happen.Chan n t) (put_into n t (take_first i m)))) m)) no)
+      ∙ sym (ap (λ (b : Bool). cond b (after_token i (Local n) t (take_first i m)) (cond (has_room 1 (chan_of m.rec.core n).input) (after_token i (Local n) t (it_happens (happen.Chan n t) (put_into n t (take_first i m)))) m)) other)
 
 module _ (routes : Routes) (slot i e headers dest : ℕ) (m : Moving) where
   same-send : (l : Option LinkRec) → end_may_send routes slot e l ≡ link_may_send (slice_index routes.gaps e) slot l

@@ -5,6 +5,7 @@ mod inputs;
 mod links;
 mod parts;
 mod steps;
+mod wants;
 mod ways;
 
 pub use link_ends::LinkEnd;

@@ -1,4 +1,4 @@
-use Rattle.std.proofs.Common.{ℕ, ◌≡◌, ◌+◌, ◌∙◌, ◌++◌, Bool, true, false, ltb, List, [], ◌∷◌, Option, sym, ap, refl, arith}
+use Rattle.std.proofs.Common.{ℕ, ◌≡◌, ◌+◌, ◌∙◌, ◌++◌, Bool, true, false, ltb, List, [], ◌∷◌, Option, sym, ap, refl, get_or, arith}
 use Rattle.xs_base.specs.declared.token.Token.{Token}
 use Rattle.xs_model.specs.Record.{ChanRec, InputRec, Local, Out, Lost, unused_chan}
 use Rattle.switch_routes.specs.Inputs.{state_of}
