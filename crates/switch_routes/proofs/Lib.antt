@@ -5,3 +5,4 @@ pub mod Work
 pub mod Rules
 pub mod Differences
 pub mod Frees
+pub mod Moves

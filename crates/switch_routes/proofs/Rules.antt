@@ -1,11 +1,13 @@
 -- The cases of the switch's rules, over plain values.
-use Rattle.std.proofs.Common.{ℕ, zero, suc, ◌≡◌, ◌+◌, ◌-◌, ◌++◌, Bool, true, false, cond, ltb, Option, Some, None, List, [], ◌∷◌, get_or, drop, refl, sym, ap, ◌∙◌}
-use Rattle.std.specs.Prelude.{slice_set, slice_index}
+use Rattle.std.proofs.Common.{ℕ, zero, suc, ◌≡◌, ◌+◌, ◌-◌, ◌++◌, ◌||◌, Bool, true, false, cond, ltb, Option, Some, None, List, [], ◌∷◌, get_or, drop, refl, sym, ap, ◌∙◌}
+use Rattle.std.specs.Prelude.{slice_set, slice_index, not}
 use Rattle.xs_base.specs.declared.token.Token.{Token}
 use Rattle.xs_model.specs.declared.event.Happen.TheVariants as happen
 use Rattle.xs_model.specs.Record.{NodeRec, LinkRec, ChanRec, InputRec, Local, Out, unused_chan, chan_of}
 use Rattle.net_model.specs.Chans.{has_room}
-use Rattle.net_model.specs.Switch.{Routes, Moving, with_chan, take_first, after_token, it_happens, put_into, link_without_first, link_at, is_pause, deliver, end_may_send, out_step, out_token, to_state, send, header_byte, waiting_at}
+use Rattle.net_model.specs.Switch.{Routes, Moving, with_chan, take_first, after_token, it_happens, put_into, link_without_first, link_at, is_pause, deliver, end_may_send, out_step, out_token, to_state, send, header_byte, waiting_at, loses, local_step, want_chan, want_way, hold_end, free_end, chan_is_held}
+use Rattle.net_model.specs.Ids.{Behind}
+use Rattle.std.proofs.lemmas.Bool.{eq-eqb, ne_eqb}
 use Rattle.xs_base.specs.declared.token.Token.TheVariants.{Byte}
 use Rattle.switch_routes.specs.Rows.{link_may_send}
 
@@ -72,3 +74,26 @@ module _ (routes : Routes) (slot i e headers dest : ℕ) (m : Moving) where
   out-some gaps header same may is =
       ap (λ (b : Bool). out_by true b) (sym is)
       ∙ ap (λ (b : Bool). out_by b (ltb headers 3)) (may ∙ ap (λ (gs : List ℕ). link_may_send (slice_index gs e) slot (link_at m.rec e)) (sym same) ∙ sym (same-send (link_at m.rec e)))
+
+-- to a channel end of this node
+module _ (i n dest : ℕ) (m : Moving) where
+  abbrev want_by : Bool → Bool → Moving
+  want_by lost held = cond lost (loses i dest m) (cond held m (local_step i n (waiting_at m.rec i) (to_state i (Local n) m)))
+
+  pub want-lost : (ltb 31 n || not (chan_of m.rec.core n).used) ≡ true → loses i dest m ≡ want_chan i n dest m
+  want-lost lost = sym (ap (λ (b : Bool). want_by b (chan_is_held m.rec n)) lost)
+
+  pub want-local : (ltb 31 n || not (chan_of m.rec.core n).used) ≡ false → chan_is_held m.rec n ≡ false → local_step i n (waiting_at m.rec i) (to_state i (Local n) m) ≡ want_chan i n dest m
+  want-local lost held = sym (ap (λ (b : Bool). want_by b (chan_is_held m.rec n)) lost ∙ ap (λ (b : Bool). want_by false b) held)
+
+-- behind some link ends
+module _ (routes : Routes) (slot i dest mask : ℕ) (m : Moving) where
+  abbrev behind_by : Bool → Option ℕ → Moving
+  behind_by none free = cond none (loses i dest m) (hold_end routes slot i dest free m)
+
+  pub behind-none : mask ≡ 0 → loses i dest m ≡ want_way routes slot i dest (Behind mask) m
+  behind-none is = sym (ap (λ (b : Bool). behind_by b (free_end m.rec mask 0 8)) (eq-eqb mask 0 is))
+
+  pub behind-some : (e : ℕ) → (mask ≡ 0 → ⊥) → Some e ≡ free_end m.rec mask 0 8 → out_step routes slot i e 0 dest (to_state i (Out e 0 dest) m) ≡ want_way routes slot i dest (Behind mask) m
+  behind-some e is free =
+      ap (λ (o : Option ℕ). behind_by false o) free ∙ sym (ap (λ (b : Bool). behind_by b (free_end m.rec mask 0 8)) (ne_eqb mask 0 is))

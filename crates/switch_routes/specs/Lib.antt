@@ -5,3 +5,4 @@ pub mod Lends
 pub mod Inputs
 pub mod Work
 pub mod Ways
+pub mod InsideSwitch

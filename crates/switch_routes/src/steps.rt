@@ -7,7 +7,7 @@ ghost use Rattle.switch_routes.specs.Inputs.{state_of, InputFits};
 ghost use Rattle.switch_routes.specs.Work.{Begun, Stands};
 ghost use Rattle.link_ends.specs.Window.{Window};
 ghost use Rattle.chan_ends.specs.Ends.{Ends};
-ghost use Rattle.switch_routes.specs.Rows.{window_at, may_send_by};
+ghost use Rattle.switch_routes.specs.Rows.{window_at, may_send_by, gaps_of};
 
 use crate::inputs::{Input, Inputs};
 use crate::links::Links;
@@ -47,6 +47,8 @@ pub(crate) fn local_step(turn: Turn, chan: u8, inputs: &mut Inputs, chans: &mut 
     ensures stands { (begun : Begun) (m : Moving) → Stands begun turn.slot inputs.old chans.old links.old out.old m →
         Stands begun turn.slot inputs.new chans.new links.new out.new (local_step turn.input chan (waiting_at m.rec turn.input) m) }
     ensures events { length out.new.events ≤ length out.old.events + 1 }
+    ensures node { chans.new.node ≡ chans.old.node }
+    ensures gaps { gaps_of links.new ≡ gaps_of links.old }
 {
     if let Some(token) = first_waiting(turn.input, chans, links) {
         deliver(turn, chan, token, inputs, chans, links, out);
@@ -61,6 +63,8 @@ fn deliver(turn: Turn, chan: u8, token: Token, inputs: &mut Inputs, chans: &mut 
     ensures stands { (begun : Begun) (m : Moving) → Stands begun turn.slot inputs.old chans.old links.old out.old m →
         Stands begun turn.slot inputs.new chans.new links.new out.new (deliver turn.input chan token m) }
     ensures events { length out.new.events ≤ length out.old.events + 1 }
+    ensures node { chans.new.node ≡ chans.old.node }
+    ensures gaps { gaps_of links.new ≡ gaps_of links.old }
 {
     if is_pause(token) {
         take_first(turn.input, chans, links, out);
@@ -88,6 +92,8 @@ pub(crate) fn lost_step(turn: Turn, inputs: &mut Inputs, chans: &mut ChanEnds, l
     ensures stands { (begun : Begun) (m : Moving) → Stands begun turn.slot inputs.old chans.old links.old out.old m →
         Stands begun turn.slot inputs.new chans.new links.new out.new (lost_step turn.input (waiting_at m.rec turn.input) m) }
     ensures events { out.new.events ≡ out.old.events }
+    ensures node { chans.new.node ≡ chans.old.node }
+    ensures gaps { gaps_of links.new ≡ gaps_of links.old }
 {
     if let Some(token) = first_waiting(turn.input, chans, links) {
         take_first(turn.input, chans, links, out);
@@ -102,6 +108,8 @@ pub(crate) fn head_step(turn: Turn, state: Input, inputs: &mut Inputs, chans: &m
     ensures stands { (begun : Begun) (m : Moving) → Stands begun turn.slot inputs.old chans.old links.old out.old m →
         Stands begun turn.slot inputs.new chans.new links.new out.new (head_step turn.input (state_of state) (waiting_at m.rec turn.input) m) }
     ensures events { out.new.events ≡ out.old.events }
+    ensures node { chans.new.node ≡ chans.old.node }
+    ensures gaps { gaps_of links.new ≡ gaps_of links.old }
 {
     if let Some(token) = first_waiting(turn.input, chans, links) {
         take_first(turn.input, chans, links, out);
@@ -150,6 +158,8 @@ pub(crate) fn out_step(turn: Turn, held: Held, inputs: &mut Inputs, chans: &mut 
         Stands begun turn.slot inputs.old chans.old links.old out.old m →
         Stands begun turn.slot inputs.new chans.new links.new out.new (out_step routes turn.slot turn.input held.end held.headers held.dest m) }
     ensures events { out.new.events ≡ out.old.events }
+    ensures node { chans.new.node ≡ chans.old.node }
+    ensures gaps { gaps_of links.new ≡ gaps_of links.old }
 {
     if !links.can_send(held.end, turn.slot) {
         return;
@@ -171,6 +181,7 @@ fn out_header(turn: Turn, held: Held, inputs: &mut Inputs, links: &mut Links, ou
         Stands begun turn.slot inputs.new ends links.new out.new
             (to_state turn.input (Out held.end (held.headers + 1) held.dest) (send turn.slot held.end (Byte (header_byte held.dest held.headers)) m)) }
     ensures events { out.new.events ≡ out.old.events }
+    ensures gaps { gaps_of links.new ≡ gaps_of links.old }
 {
     let byte = header_byte(held.dest, held.headers);
     send(held.end, Token::Byte(byte), turn.slot, links, out);
@@ -206,6 +217,8 @@ fn out_token(turn: Turn, held: Held, inputs: &mut Inputs, chans: &mut ChanEnds, 
         Stands begun turn.slot inputs.new chans.new links.new out.new
             (out_token turn.slot turn.input held.end held.headers held.dest (waiting_at m.rec turn.input) m) }
     ensures events { out.new.events ≡ out.old.events }
+    ensures node { chans.new.node ≡ chans.old.node }
+    ensures gaps { gaps_of links.new ≡ gaps_of links.old }
 {
     if let Some(token) = first_waiting(turn.input, chans, links) {
         take_first(turn.input, chans, links, out);

@@ -6,6 +6,7 @@ ghost use Rattle.xs_model.specs.Record.{NodeRec, Idle};
 ghost use Rattle.net_model.specs.Ids.{chan_of_dest, Behind};
 ghost use Rattle.net_model.specs.Switch.{Routes, Moving, want_step, want_chan, want_way, free_end, is_out_by, packet_step, start_packet, link_head_step, step_at, input_step, waiting_at};
 ghost use Rattle.chan_ends.specs.Ends.{chan_at};
+ghost use Rattle.switch_routes.specs.Rows.{gaps_of};
 ghost use Rattle.switch_routes.specs.Inputs.{state_of, InputFits};
 ghost use Rattle.switch_routes.specs.Work.{Begun, Stands};
 ghost use Rattle.switch_routes.specs.Ways.{routes_with};
@@ -31,6 +32,8 @@ pub(crate) fn step(turn: Turn, ways: &Ways, inputs: &mut Inputs, chans: &mut Cha
     ensures stands { (begun : Begun) (m : Moving) → Stands begun turn.slot inputs.old chans.old links.old out.old m →
         Stands begun turn.slot inputs.new chans.new links.new out.new (input_step (routes_with ways.now begun.gaps) turn.slot turn.input m) }
     ensures events { length out.new.events ≤ length out.old.events + 1 }
+    ensures node { chans.new.node ≡ chans.old.node }
+    ensures gaps { gaps_of links.new ≡ gaps_of links.old }
 {
     let state = inputs.state(turn.input);
     match state {
@@ -54,6 +57,8 @@ fn idle_step(turn: Turn, ways: &Ways, inputs: &mut Inputs, chans: &mut ChanEnds,
     ensures stands { (begun : Begun) (m : Moving) → Stands begun turn.slot inputs.old chans.old links.old out.old m →
         Stands begun turn.slot inputs.new chans.new links.new out.new (step_at (routes_with ways.now begun.gaps) turn.slot turn.input Idle m) }
     ensures events { length out.new.events ≤ length out.old.events + 1 }
+    ensures node { chans.new.node ≡ chans.old.node }
+    ensures gaps { gaps_of links.new ≡ gaps_of links.old }
 {
     if turn.input < LINK_INPUTS {
         head_step(turn, Input::Idle, inputs, chans, links, out);
@@ -69,6 +74,8 @@ fn link_head_step(turn: Turn, state: Input, inputs: &mut Inputs, chans: &mut Cha
     ensures stands { (begun : Begun) (m : Moving) → Stands begun turn.slot inputs.old chans.old links.old out.old m →
         Stands begun turn.slot inputs.new chans.new links.new out.new (link_head_step turn.input (state_of state) m) }
     ensures events { out.new.events ≡ out.old.events }
+    ensures node { chans.new.node ≡ chans.old.node }
+    ensures gaps { gaps_of links.new ≡ gaps_of links.old }
 {
     if turn.input < LINK_INPUTS {
         head_step(turn, state, inputs, chans, links, out);
@@ -84,6 +91,8 @@ fn packet_step(turn: Turn, ways: &Ways, inputs: &mut Inputs, chans: &mut ChanEnd
         Stands begun turn.slot inputs.new chans.new links.new out.new
             (packet_step (routes_with ways.now begun.gaps) turn.slot turn.input (waiting_at m.rec turn.input) m) }
     ensures events { length out.new.events ≤ length out.old.events + 1 }
+    ensures node { chans.new.node ≡ chans.old.node }
+    ensures gaps { gaps_of links.new ≡ gaps_of links.old }
 {
     if let Some(_) = first_waiting(turn.input, chans, links) {
         start_packet(turn, ways, inputs, chans, links, out);
@@ -99,6 +108,8 @@ fn start_packet(turn: Turn, ways: &Ways, inputs: &mut Inputs, chans: &mut ChanEn
         Stands begun turn.slot inputs.new chans.new links.new out.new
             (start_packet (routes_with ways.now begun.gaps) turn.slot turn.input (chan_at chans.old (turn.input - 8)).dest m) }
     ensures events { length out.new.events ≤ length out.old.events + 1 }
+    ensures node { chans.new.node ≡ chans.old.node }
+    ensures gaps { gaps_of links.new ≡ gaps_of links.old }
 {
     if let Some(dest) = chans.dest(turn.input - LINK_INPUTS) {
         inputs.set(turn.input, Input::Want { dest });
@@ -113,6 +124,8 @@ fn want_step(turn: Turn, dest: u32, ways: &Ways, inputs: &mut Inputs, chans: &mu
     ensures stands { (begun : Begun) (m : Moving) → Stands begun turn.slot inputs.old chans.old links.old out.old m →
         Stands begun turn.slot inputs.new chans.new links.new out.new (want_step (routes_with ways.now begun.gaps) turn.slot turn.input dest m) }
     ensures events { length out.new.events ≤ length out.old.events + 1 }
+    ensures node { chans.new.node ≡ chans.old.node }
+    ensures gaps { gaps_of links.new ≡ gaps_of links.old }
 {
     match ways.way_to(dest) {
         Way::Here => want_chan(turn, dest, inputs, chans, links, out),
@@ -127,6 +140,8 @@ fn want_chan(turn: Turn, dest: u32, inputs: &mut Inputs, chans: &mut ChanEnds, l
     ensures stands { (begun : Begun) (m : Moving) → Stands begun turn.slot inputs.old chans.old links.old out.old m →
         Stands begun turn.slot inputs.new chans.new links.new out.new (want_chan turn.input (chan_of_dest dest) dest m) }
     ensures events { length out.new.events ≤ length out.old.events + 1 }
+    ensures node { chans.new.node ≡ chans.old.node }
+    ensures gaps { gaps_of links.new ≡ gaps_of links.old }
 {
     let chan = chan_of_dest(dest);
     if !is_in_use(chan, chans) {
@@ -153,6 +168,8 @@ fn want_end(turn: Turn, dest: u32, mask: u8, inputs: &mut Inputs, chans: &mut Ch
         Stands begun turn.slot inputs.old chans.old links.old out.old m →
         Stands begun turn.slot inputs.new chans.new links.new out.new (want_way routes turn.slot turn.input dest (Behind mask) m) }
     ensures events { length out.new.events ≤ length out.old.events + 1 }
+    ensures node { chans.new.node ≡ chans.old.node }
+    ensures gaps { gaps_of links.new ≡ gaps_of links.old }
 {
     if mask == 0 {
         lose(turn, dest, inputs, out);
