@@ -1,4 +1,6 @@
 //! The worked timeline of two nodes with one link: a delay of 5 slots and a gap of 4.
+ghost use Rattle.std.specs.Prelude.{◌<◌};
+
 use super::*;
 use chan_ends::{ChanEnds, Put};
 use trace_lines::Emissions;
