@@ -1,5 +1,4 @@
-use Rattle.std.proofs.Common.{◌≡◌, ◌∙◌, sym, refl, arith}
-use Rattle.switch_routes.specs.Switch.{is_idle}
+use Rattle.std.proofs.Common.{◌∙◌, sym, refl, arith}
 use Rattle.switch_routes.proofs.Held.{idle_next, idle_fails, idle_end}
 use Rattle.switch_routes.proofs.inputs.Inputs.are_idle.Goals as goal
 
@@ -14,7 +13,7 @@ loop-state-preserved c =
 pub returns-then-not-is_idle : goal.returns-then-not-is_idle
 returns-then-not-is_idle c = record {
   value = sym (c.loop-state.invariant
-    ∙ idle_fails c.self.inside.states c.loop-state.state-index _ (omega (arith, c.self.invariant.count)) (sym c.is_idle.ensures.value ∙ c.if-not-is_idle.true));
+      ∙ idle_fails c.self.inside.states c.loop-state.state-index _ (omega (arith, c.self.invariant.count)) (sym c.is_idle.ensures.value ∙ c.if-not-is_idle.true));
 }
 
 pub returns : goal.returns
