@@ -10,6 +10,9 @@ use crate::chan_end::ChanEnd;
 use std::marker::Model;
 use xs_base::Token;
 
+/// How many channel ends a core has.
+const CHANS: u8 = 32;
+
 /// A core's 32 channel ends, numbered from 0: each is in use or not, may have a destination, and has an output and
 /// an input buffer of 8 tokens. Contracts see them as `Ends` of `Rattle.chan_ends.specs.Ends`, beside the id of the
 /// core's node. See docs/LINKS.md.
@@ -112,24 +115,26 @@ impl ChanEnds {
         self.ends[c as usize].check(v)
     }
 
-    /// Whether `count` tokens still fit into the output buffer of channel end `c`, 0 to 31, which holds 8; of 0 tokens,
-    /// and of more than 8, it says whether they fit in place of 8. See docs/LINKS.md.
+    /// Whether `count` tokens, 0 to 8, still fit into the output buffer of channel end `c`, which holds 8. With a `c` of
+    /// 32 or more it speaks of an empty buffer. See docs/LINKS.md.
     pub fn has_room(&self, c: u8, count: u8) -> bool
-        requires { c < 32 }
         ensures value { result ≡ nat_le (length (chan_at self.now c).output) (8 - count) }
         ensures count { length self.now.chans ≡ 32 }
     {
-        self.ends[c as usize].has_room(count)
+        c >= CHANS || self.ends[c as usize].has_room(count)
     }
 
-    /// Whether `count` tokens are in the input buffer of channel end `c`, 0 to 31, or a control token is among the
-    /// first `count`. See docs/LINKS.md.
+    /// Whether `count` tokens are in the input buffer of channel end `c`, or a control token is among the first
+    /// `count`. With a `c` of 32 or more it speaks of an empty buffer. See docs/LINKS.md.
     pub fn has_tokens(&self, c: u8, count: u8) -> bool
-        requires { c < 32 }
         ensures value { result ≡ has_tokens count (chan_at self.now c).input }
         ensures count { length self.now.chans ≡ 32 }
     {
-        self.ends[c as usize].has_tokens(count)
+        if c < CHANS {
+            self.ends[c as usize].has_tokens(count)
+        } else {
+            count == 0
+        }
     }
 
     /// The token that waits longest in the output buffer of channel end `c`, 0 to 31: `None` exactly where none is
