@@ -25,6 +25,12 @@ first_cases None (t ∷ ts) is = cc
 first_cases (Some u) [] is = cc
 first_cases (Some u) (t ∷ ts) is = cc
 
+same-buffer : (w : Option Window) (l : Option LinkRec) → IsWindowOf w l → buffer_of w ≡ buffer_of_link l
+same-buffer None None of = refl
+same-buffer None (Some l) of = absurd of
+same-buffer (Some w) None of = absurd of
+same-buffer (Some w) (Some l) of = of.buffer
+
 IsCreditedBy-pop : (slot : ℕ) (l : Option LinkRec) → IsCreditedBy slot l → IsCreditedBy slot (link_without_first l)
 IsCreditedBy-pop slot None by = tt
 IsCreditedBy-pop slot (Some link) by = by
@@ -46,6 +52,12 @@ gap-pop None = refl
 gap-pop (Some w) = refl
 
 module _ (begun : Begun) (slot : ℕ) (states : List InputRec) (ends : Ends) (row : List (Option Window)) (out : Emitted) (m : Moving) (s : Stands begun slot states ends row out m) where
+  -- the tokens that wait at an input
+  pub waits : (i : ℕ) → waiting_in ends row i ≡ waiting_at m.rec i
+  waits i =
+      ap (λ (ts : List Token). cond (ltb i 8) ts (chan_at ends (i - 8)).output) (same-buffer (window_at row i) (link_at m.rec i) (windows-at row m.rec.links i s.links))
+      ∙ ap (λ (cs : List ChanRec). cond (ltb i 8) (buffer_of_link (link_at m.rec i)) (get_or cs (i - 8) unused_chan).output) s.chans
+
   -- an input is put into a state
   pub stands-state : (i : ℕ) (state : InputRec) → Stands begun slot (slice_set states i state) ends row out (to_state i state m)
   stands-state i state = record {

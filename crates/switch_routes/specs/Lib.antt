@@ -4,3 +4,5 @@ pub mod Switch
 pub mod Lends
 pub mod Inputs
 pub mod Work
+pub mod Ways
+pub mod InsideSwitch

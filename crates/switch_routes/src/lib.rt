@@ -4,7 +4,12 @@
 mod inputs;
 mod links;
 mod parts;
+mod steps;
+mod switch;
+mod wants;
+mod ways;
 
 pub use link_ends::LinkEnd;
 pub use links::Links;
+pub use switch::Switch;
 pub use xs_base::Token;

@@ -118,6 +118,7 @@ impl Links {
     pub(crate) fn pop(&mut self, end: u8)
         requires within { end < 8 }
         ensures value { self.new ≡ slice_set self.old end (without_first (window_at self.old end)) }
+        ensures gaps { gaps_of self.new ≡ gaps_of self.old }
     {
         if let Some(link) = self.end(end) {
             let _ = link.pop();

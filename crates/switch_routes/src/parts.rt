@@ -7,7 +7,7 @@ ghost use Rattle.net_model.specs.Switch.{Moving, take_first, send, after_token, 
 ghost use Rattle.link_ends.specs.Window.{Window};
 ghost use Rattle.chan_ends.specs.Ends.{Ends};
 ghost use Rattle.switch_routes.specs.Inputs.{state_of, InputFits};
-ghost use Rattle.switch_routes.specs.Rows.{window_at, may_send_by};
+ghost use Rattle.switch_routes.specs.Rows.{window_at, may_send_by, gaps_of};
 ghost use Rattle.switch_routes.specs.Work.{Begun, Stands, waiting_in};
 
 use crate::inputs::{Input, Inputs};
@@ -43,6 +43,8 @@ pub(crate) fn take_first(input: u8, chans: &mut ChanEnds, links: &mut Links, out
     ensures stands { (begun : Begun) (slot : ℕ) (states : List InputRec) (m : Moving) →
         Stands begun slot states chans.old links.old out.old m → Stands begun slot states chans.new links.new out.new (take_first input m) }
     ensures events { out.new.events ≡ out.old.events }
+    ensures node { chans.new.node ≡ chans.old.node }
+    ensures gaps { gaps_of links.new ≡ gaps_of links.old }
     ensures may_send { (slot e : ℕ) → may_send_by slot (window_at links.new e) ≡ may_send_by slot (window_at links.old e) }
 {
     if input < LINK_INPUTS {
@@ -60,6 +62,7 @@ pub(crate) fn send(end: u8, token: Token, slot: u32, links: &mut Links, out: &mu
     ensures stands { (begun : Begun) (states : List InputRec) (ends : Ends) (m : Moving) →
         Stands begun slot states ends links.old out.old m → Stands begun slot states ends links.new out.new (send slot end token m) }
     ensures events { out.new.events ≡ out.old.events }
+    ensures gaps { gaps_of links.new ≡ gaps_of links.old }
 {
     links.sent(end, slot);
     out.set_token(end, token);

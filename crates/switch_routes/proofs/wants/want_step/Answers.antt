@@ -1,0 +1,18 @@
+use Rattle.std.proofs.Common.{ℕ, ◌≡◌, ◌+◌, ◌∙◌, ◌++◌, Bool, true, false, ltb, List, [], ◌∷◌, Option, sym, ap, refl, arith}
+use Rattle.xs_base.specs.declared.token.Token.{Token}
+use Rattle.xs_model.specs.Record.{ChanRec, InputRec, Local, Out, Lost, unused_chan}
+use Rattle.switch_routes.specs.Inputs.{state_of}
+use Rattle.switch_routes.proofs.Work.{along, waits, stands-state, stands-happens, stands-chan}
+use Rattle.net_model.specs.Ids.{Way, Behind}
+use Rattle.net_model.specs.Switch.{want_way}
+use Rattle.switch_routes.specs.Ways.{routes_with}
+use Rattle.switch_routes.proofs.wants.want_step.Goals as goal
+
+pub returns-in-Behind-clause-stands : goal.returns-in-Behind-clause-stands
+returns-in-Behind-clause-stands c =
+    λ begun m s.
+    let i = c.args.turn.input in
+    let routes = routes_with c.args.ways.now begun.gaps in
+    along _ _ _ _ _ _ (want_way routes c.args.turn.slot i c.args.dest (Behind c.in-Behind.ends) m) _
+    (ap (λ (w : Way). want_way routes c.args.turn.slot i c.args.dest w m) c.in-Behind.ensures.value)
+    (c.want_end.ensures.stands begun routes m refl s)
