@@ -39,6 +39,7 @@ pub(crate) fn resources(
     requires range { ResourcesInRange ins }
     ensures row { (core : CoreRec) → Ends result (with_units core threads.old chans.old) (with_units core threads.new chans.new)
         (resources_row id (with_units core threads.old chans.old) k ins) }
+    ensures count { length threads.new ≡ 8 }
 {
     match ins {
         ResIns::Getr(d, i) => {
@@ -66,6 +67,7 @@ fn getr(id: u16, k: u8, d: u8, kind: u8, threads: &mut [Thread; 8], chans: &mut 
     requires thread { k < 8 }
     requires register { d < 12 }
     ensures row { (core : CoreRec) → with_units core threads.new chans.new ≡ resource_got id (with_units core threads.old chans.old) k d kind }
+    ensures count { length threads.new ≡ 8 }
 {
     let name = if kind == CHAN_KIND {
         got_chan(id, chans)
@@ -116,6 +118,7 @@ fn set_dest(
     requires thread { k < 8 }
     ensures row { (core : CoreRec) → Ends result (with_units core threads.old chans.old) (with_units core threads.new chans.new)
         (dest_set (with_units core threads.old chans.old) k name dest (chan_named id name)) }
+    ensures count { length threads.new ≡ 8 }
 {
     match chan_named(id, name) {
         None => illegal(name),
@@ -141,6 +144,7 @@ fn put(
     requires thread { k < 8 }
     ensures row { (core : CoreRec) → Ends result (with_units core threads.old chans.old) (with_units core threads.new chans.new)
         (token_put (with_units core threads.old chans.old) k name token (chan_named id name)) }
+    ensures count { length threads.new ≡ 8 }
 {
     match chan_named(id, name) {
         None => illegal(name),
@@ -167,6 +171,7 @@ fn check(
     requires thread { k < 8 }
     ensures row { (core : CoreRec) → Ends result (with_units core threads.old chans.old) (with_units core threads.new chans.new)
         (token_checked (with_units core threads.old chans.old) k name value (chan_named id name)) }
+    ensures count { length threads.new ≡ 8 }
 {
     match chan_named(id, name) {
         None => illegal(name),
