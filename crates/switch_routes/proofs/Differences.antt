@@ -1,5 +1,5 @@
 -- The highest bit in which two ids differ, bit by bit from above.
-use Rattle.std.proofs.Common.{ℕ, suc, ◌≡◌, ◌+◌, Bool, true, false, cond, eqb, Option, Some, None, refl, ap}
+use Rattle.std.proofs.Common.{ℕ, suc, ◌≡◌, Bool, true, false, cond, eqb, Some, None, ap}
 use Rattle.std.specs.Int.{bit_at}
 use Rattle.net_model.specs.Ids.{first_difference}
 

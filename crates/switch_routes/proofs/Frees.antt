@@ -1,9 +1,9 @@
 -- The lowest free link end, one by one.
-use Rattle.std.proofs.Common.{ℕ, suc, ◌≡◌, ◌+◌, ◌&&◌, Bool, true, false, cond, eqb, Option, Some, None, refl, ap, sym, ◌∙◌}
+use Rattle.std.proofs.Common.{ℕ, suc, ◌≡◌, ◌+◌, ◌&&◌, Bool, true, false, cond, eqb, Some, None, ap}
 use Rattle.std.specs.Prelude.{not}
 use Rattle.std.specs.List.{list_any}
 use Rattle.std.specs.Int.{bit_at}
-use Rattle.xs_model.specs.Record.{NodeRec, InputRec}
+use Rattle.xs_model.specs.Record.{NodeRec}
 use Rattle.net_model.specs.Switch.{free_end, is_out_by}
 
 module _ (rec : NodeRec) (mask end n k : ℕ) (is : n ≡ suc k) where

@@ -1,5 +1,5 @@
 -- The steps of the inputs, one after the other.
-use Rattle.std.proofs.Common.{ℕ, zero, suc, ◌≡◌, ◌+◌, List, [], ◌∷◌, ◌++◌, Option, Some, None, refl, ap, sym, ◌∙◌, ◌≤◌, arith, add-one, replicate, false}
+use Rattle.std.proofs.Common.{ℕ, zero, suc, ◌≡◌, ◌+◌, List, [], ◌∷◌, Option, Some, None, refl, ap, sym, ◌∙◌, ◌≤◌, arith, add-one, replicate, false}
 use Rattle.std.proofs.lemmas.List.{append-nil}
 use Rattle.std.specs.List.{AllByRecursion}
 use Rattle.std.specs.Prelude.{IfSome}
@@ -9,8 +9,8 @@ use Rattle.net_model.specs.Switch.{Routes, Moving, moves_from, input_step, begun
 use Rattle.link_ends.specs.Window.{Window}
 use Rattle.chan_ends.specs.Ends.{Ends}
 use Rattle.switch_routes.specs.Rows.{CreditedBy, gaps_of}
-use Rattle.switch_routes.specs.Switch.{SwitchRec, StandsIn, switched, node_after}
-use Rattle.switch_routes.specs.Work.{Begun, Stands, with_parts}
+use Rattle.switch_routes.specs.Switch.{SwitchRec, StandsIn}
+use Rattle.switch_routes.specs.Work.{Stands, with_parts}
 
 -- the steps of the first inputs
 unfoldable pub first_steps : Routes → ℕ → ℕ → Moving → Moving

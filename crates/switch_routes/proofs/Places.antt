@@ -4,7 +4,7 @@ use Rattle.std.specs.Prelude.{slice_set, IsSome, IfSome, MatchOption, ◌↔◌}
 use Rattle.std.specs.Borrow.{MutBor}
 use Rattle.std.proofs.lemmas.Bool.{false≢true}
 use Rattle.std.proofs.lemmas.List.{length-set, take_at}
-use Rattle.link_ends.specs.Window.{Window, empty_window}
+use Rattle.link_ends.specs.Window.{Window}
 use Rattle.switch_routes.specs.Inside.{windows_in}
 
 pub length-windows_in : (present : List Bool) (ends : List Window) → length present ≡ length ends → length (windows_in present ends) ≡ length ends

@@ -1,16 +1,15 @@
 -- A row of link ends and its link records, where one of them changes.
-use Rattle.std.proofs.Common.{ℕ, zero, suc, ◌≡◌, ◌+◌, ◌≤◌, ◌<◌, Bool, true, false, Option, Some, None, List, [], ◌∷◌, ◌++◌, ◌&&◌, cond, ltb, length, get_or, refl, sym, ap, ◌∙◌, arith}
-use Rattle.std.specs.Prelude.{slice_set, slice_index, slice_get, IfSome, All, map, MatchOption, drop}
+use Rattle.std.proofs.Common.{ℕ, zero, suc, ◌≡◌, ◌+◌, ◌≤◌, Bool, true, false, Option, Some, None, List, [], ◌∷◌, ◌++◌, ◌&&◌, cond, ltb, length, get_or, refl, ap, arith}
+use Rattle.std.specs.Prelude.{slice_set, slice_index, IfSome, All, drop}
 use Rattle.std.specs.List.{AllByRecursion}
 use Rattle.std.proofs.lemmas.List.{set-get_or}
 use Rattle.std.proofs.lemmas.List.Elements.{All-from_recursion}
-use Rattle.std.specs.Borrow.{MutBor}
 use Rattle.xs_base.specs.declared.token.Token.{Token}
 use Rattle.xs_model.specs.Record.{LinkRec}
 use Rattle.net_model.specs.Links.{links_after_arrivals, link_after_arrivals, token_arrives, may_send}
 use Rattle.net_model.specs.Switch.{link_without_first}
-use Rattle.link_ends.specs.Window.{Window, WindowOf, can_send}
-use Rattle.switch_routes.specs.Rows.{IsWindowOf, WindowsOf, CreditedBy, gap_of, gaps_of, window_at, link_may_send, without_first}
+use Rattle.link_ends.specs.Window.{Window, WindowOf}
+use Rattle.switch_routes.specs.Rows.{IsWindowOf, WindowsOf, CreditedBy, gap_of, gaps_of, link_may_send, without_first}
 
 pub length-same : (ws : List (Option Window)) (ls : List (Option LinkRec)) → WindowsOf ws ls → length ws ≡ length ls
 length-same [] [] of = refl

@@ -3,7 +3,7 @@ use Rattle.std.proofs.Common.{ℕ, zero, suc, ◌≡◌, ◌+◌, ◌-◌, ◌++
 use Rattle.std.specs.Prelude.{slice_set, slice_index, not}
 use Rattle.xs_base.specs.declared.token.Token.{Token}
 use Rattle.xs_model.specs.declared.event.Happen.TheVariants as happen
-use Rattle.xs_model.specs.Record.{NodeRec, LinkRec, ChanRec, InputRec, Local, Out, unused_chan, chan_of}
+use Rattle.xs_model.specs.Record.{LinkRec, ChanRec, Local, Out, unused_chan, chan_of}
 use Rattle.net_model.specs.Chans.{has_room}
 use Rattle.net_model.specs.Switch.{Routes, Moving, with_chan, take_first, after_token, it_happens, put_into, link_without_first, link_at, is_pause, deliver, end_may_send, out_step, out_token, to_state, send, header_byte, waiting_at, loses, local_step, want_chan, want_way, hold_end, free_end, chan_is_held}
 use Rattle.net_model.specs.Ids.{Behind}

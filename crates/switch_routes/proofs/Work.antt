@@ -1,17 +1,17 @@
 -- What the switch's parts stand for, after each of the moves that its rules are made of.
-use Rattle.std.proofs.Common.{ℕ, ◌≡◌, ◌+◌, ◌-◌, ◌<◌, ◌≤◌, ◌++◌, Bool, true, false, cond, ltb, Option, Some, None, List, [], ◌∷◌, length, get_or, drop, map, refl, sym, ap, subst, ◌∙◌, arith}
+use Rattle.std.proofs.Common.{ℕ, ◌≡◌, ◌-◌, ◌++◌, Bool, true, cond, ltb, Option, Some, None, List, [], ◌∷◌, get_or, drop, map, refl, sym, ap, subst, ◌∙◌}
 use Rattle.std.specs.Prelude.{slice_set, slice_get, MatchOption}
 use Rattle.std.proofs.lemmas.List.{append_assoc, map-append}
 use Rattle.xs_base.specs.declared.token.Token.{Token}
 use Rattle.xs_model.specs.declared.event.Event.{Event}
 use Rattle.xs_model.specs.declared.event.Happen.{Happen}
-use Rattle.xs_model.specs.Record.{NodeRec, CoreRec, LinkRec, ChanRec, InputRec, unused_chan, chan_of}
+use Rattle.xs_model.specs.Record.{NodeRec, LinkRec, ChanRec, InputRec, unused_chan, chan_of}
 use Rattle.xs_model.specs.Outside.{Emitted, in_slot}
-use Rattle.net_model.specs.Switch.{Moving, is_link_input, take_first, send, after_token, ends_packet, it_happens, to_state, put_into, link_without_first, sent_in, waiting_at, link_at, buffer_of_link}
-use Rattle.link_ends.specs.Window.{Window, WindowOf, can_send}
+use Rattle.net_model.specs.Switch.{Moving, send, it_happens, to_state, link_without_first, sent_in, waiting_at, link_at, buffer_of_link}
+use Rattle.link_ends.specs.Window.{Window}
 use Rattle.chan_ends.specs.Ends.{Ends, chan_at, with_chan_at}
-use Rattle.switch_routes.specs.Rows.{WindowsOf, IsWindowOf, CreditedBy, gaps_of, gap_of, window_at, buffer_of, without_first, may_send_by}
-use Rattle.switch_routes.specs.Work.{Begun, Stands, with_parts, waiting_in}
+use Rattle.switch_routes.specs.Rows.{WindowsOf, IsWindowOf, CreditedBy, gaps_of, gap_of, window_at, buffer_of, without_first}
+use Rattle.switch_routes.specs.Work.{Begun, Stands, waiting_in}
 use Rattle.switch_routes.proofs.Rows.{IsCreditedBy, windows-pop, windows-at, gaps-set, all-set, all-at}
 
 -- the same moves, by another name

@@ -1,5 +1,5 @@
 -- What an input of the switch is at, in code and in the node record.
-use Rattle.std.specs.Prelude.{ℕ, ◌≡◌, ◌<◌, ◌≤◌, List, length, map, replicate}
+use Rattle.std.specs.Prelude.{◌≡◌, ◌<◌, ◌≤◌, List, length, map, replicate}
 use Rattle.std.specs.List.{AllByRecursion}
 use Rattle.xs_model.specs.Record.{InputRec, Idle, Head1, Head2, Want, Local, Out, Lost}
 use Rattle.switch_routes.specs.declared.inputs.Input.{Input}

@@ -1,5 +1,5 @@
 -- How a row of link ends lies in memory.
-use Rattle.std.specs.Prelude.{Bool, true, false, Option, Some, None, List, [], ◌∷◌, if◌then◌else◌}
+use Rattle.std.specs.Prelude.{Bool, Option, Some, None, List, [], ◌∷◌, if◌then◌else◌}
 use Rattle.link_ends.specs.Window.{Window}
 
 -- the link ends that are there, in their places

@@ -1,5 +1,5 @@
 -- The row of a node's link ends, and the link records that it stands for.
-use Rattle.std.specs.Prelude.{ℕ, ◌≤◌, Bool, false, Option, Some, None, List, [], ◌∷◌, map, replicate, slice_index_or, slice_set, drop, IfSome}
+use Rattle.std.specs.Prelude.{ℕ, ◌≤◌, Bool, false, Option, Some, None, List, [], ◌∷◌, map, replicate, slice_index_or, drop, IfSome}
 use Rattle.std.specs.List.{AllByRecursion}
 use Rattle.xs_base.specs.declared.token.Token.{Token}
 use Rattle.xs_model.specs.Record.{LinkRec}

@@ -1,7 +1,7 @@
 -- What contracts see of a switch, and what it stands for.
 use Rattle.std.specs.Prelude.{ℕ, ◌≡◌, Bool, true, false, ◌||◌, not, ◌+◌, slice_index_or, List, replicate, Option, map, ◌++◌}
 use Rattle.std.specs.List.{list_any}
-use Rattle.xs_model.specs.Record.{NodeRec, InputRec, Idle, Head1, Head2, Want, Local, Out, Lost}
+use Rattle.xs_model.specs.Record.{NodeRec, InputRec, Idle}
 use Rattle.xs_model.specs.Outside.{Emitted, in_slot}
 use Rattle.net_model.specs.Switch.{Routes, Moving, moves, is_local_to}
 use Rattle.link_ends.specs.Window.{Window}

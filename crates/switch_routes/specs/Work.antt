@@ -4,7 +4,7 @@ use Rattle.xs_base.specs.declared.token.Token.{Token}
 use Rattle.xs_model.specs.declared.event.Event.{Event}
 use Rattle.xs_model.specs.Record.{NodeRec, LinkRec, ChanRec, InputRec}
 use Rattle.xs_model.specs.Outside.{Emitted, in_slot}
-use Rattle.net_model.specs.Switch.{Routes, Moving, is_link_input}
+use Rattle.net_model.specs.Switch.{Moving, is_link_input}
 use Rattle.link_ends.specs.Window.{Window}
 use Rattle.chan_ends.specs.Ends.{Ends, chan_at}
 use Rattle.switch_routes.specs.Rows.{WindowsOf, CreditedBy, gaps_of, window_at, buffer_of}

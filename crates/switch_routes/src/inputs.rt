@@ -12,28 +12,15 @@ use std::marker::Model;
 pub(crate) enum Input {
     Idle,
     /// A link end's, after the high byte of a node's id.
-    Head1 {
-        high: u8,
-    },
+    Head1 { high: u8 },
     /// A link end's, after both bytes of a node's id.
-    Head2 {
-        high: u8,
-        low: u8,
-    },
+    Head2 { high: u8, low: u8 },
     /// Its packet wants to go to a destination.
-    Want {
-        dest: u32,
-    },
+    Want { dest: u32 },
     /// It holds a channel end of its node, 0 to 31.
-    Local {
-        chan: u8,
-    },
+    Local { chan: u8 },
     /// It holds a link end, 0 to 7, by which so many header bytes, 0 to 3, went out.
-    Out {
-        end: u8,
-        headers: u8,
-        dest: u32,
-    },
+    Out { end: u8, headers: u8, dest: u32 },
     /// Its packet is lost.
     Lost,
 }

@@ -6,6 +6,8 @@ mod links;
 mod parts;
 mod steps;
 mod switch;
+#[cfg(test)]
+mod tests;
 mod wants;
 mod ways;
 

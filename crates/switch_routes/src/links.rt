@@ -82,7 +82,11 @@ impl Links {
         ensures gaps { gaps_of self.new ≡ gaps_of self.old }
     {
         for end in 0..8u8 {
-            self.arrive(end, arrivals.tokens[end as usize], arrivals.credits[end as usize]);
+            self.arrive(
+                end,
+                arrivals.tokens[end as usize],
+                arrivals.credits[end as usize],
+            );
         }
     }
 

@@ -22,6 +22,7 @@ pub(crate) const LINK_INPUTS: u8 = 8;
 
 /// The control tokens that end a packet.
 const END: u8 = 1;
+
 const PAUSE: u8 = 2;
 
 /// The token that waits longest at an input: `None` exactly where none waits.
@@ -86,7 +87,14 @@ pub(crate) fn after_token(input: u8, state: Input, token: Token, inputs: &mut In
     ensures stands { (begun : Begun) (slot : ℕ) (ends : Ends) (row : List (Option Window)) (out : Emitted) (m : Moving) →
         Stands begun slot inputs.old ends row out m → Stands begun slot inputs.new ends row out (after_token input (state_of state) token m) }
 {
-    inputs.set(input, if ends_packet(token) { Input::Idle } else { state });
+    inputs.set(
+        input,
+        if ends_packet(token) {
+            Input::Idle
+        } else {
+            state
+        },
+    );
 }
 
 // Whether a token ends its packet.

@@ -40,7 +40,14 @@ pub(crate) struct Held {
 }
 
 /// An input that holds channel end `chan`, 0 to 31: the token that waits goes there.
-pub(crate) fn local_step(turn: Turn, chan: u8, inputs: &mut Inputs, chans: &mut ChanEnds, links: &mut Links, out: &mut Emissions)
+pub(crate) fn local_step(
+    turn: Turn,
+    chan: u8,
+    inputs: &mut Inputs,
+    chans: &mut ChanEnds,
+    links: &mut Links,
+    out: &mut Emissions,
+)
     requires input { turn.input < 40 }
     requires chan { chan < 32 }
     requires room { length out.old.events < 112 }
@@ -56,7 +63,15 @@ pub(crate) fn local_step(turn: Turn, chan: u8, inputs: &mut Inputs, chans: &mut 
 }
 
 // A token goes into a channel end's input buffer, where it has room. PAUSE is dropped.
-fn deliver(turn: Turn, chan: u8, token: Token, inputs: &mut Inputs, chans: &mut ChanEnds, links: &mut Links, out: &mut Emissions)
+fn deliver(
+    turn: Turn,
+    chan: u8,
+    token: Token,
+    inputs: &mut Inputs,
+    chans: &mut ChanEnds,
+    links: &mut Links,
+    out: &mut Emissions,
+)
     requires input { turn.input < 40 }
     requires chan { chan < 32 }
     requires room { length out.old.events < 112 }
@@ -87,7 +102,13 @@ fn is_pause(token: Token) -> bool
 }
 
 /// An input whose packet is lost drops the token that waits.
-pub(crate) fn lost_step(turn: Turn, inputs: &mut Inputs, chans: &mut ChanEnds, links: &mut Links, out: &mut Emissions)
+pub(crate) fn lost_step(
+    turn: Turn,
+    inputs: &mut Inputs,
+    chans: &mut ChanEnds,
+    links: &mut Links,
+    out: &mut Emissions,
+)
     requires input { turn.input < 40 }
     ensures stands { (begun : Begun) (m : Moving) → Stands begun turn.slot inputs.old chans.old links.old out.old m →
         Stands begun turn.slot inputs.new chans.new links.new out.new (lost_step turn.input (waiting_at m.rec turn.input) m) }
@@ -102,7 +123,14 @@ pub(crate) fn lost_step(turn: Turn, inputs: &mut Inputs, chans: &mut ChanEnds, l
 }
 
 /// A link end's input that is idle or in a header takes the token that waits. A control token is dropped.
-pub(crate) fn head_step(turn: Turn, state: Input, inputs: &mut Inputs, chans: &mut ChanEnds, links: &mut Links, out: &mut Emissions)
+pub(crate) fn head_step(
+    turn: Turn,
+    state: Input,
+    inputs: &mut Inputs,
+    chans: &mut ChanEnds,
+    links: &mut Links,
+    out: &mut Emissions,
+)
     requires input { turn.input < 40 }
     requires fits { InputFits state }
     ensures stands { (begun : Begun) (m : Moving) → Stands begun turn.slot inputs.old chans.old links.old out.old m →
@@ -150,7 +178,14 @@ pub(crate) fn lose(turn: Turn, dest: u32, inputs: &mut Inputs, out: &mut Emissio
 }
 
 /// An input that holds a link end: where it may send, first the header bytes go out, then the tokens that wait.
-pub(crate) fn out_step(turn: Turn, held: Held, inputs: &mut Inputs, chans: &mut ChanEnds, links: &mut Links, out: &mut Emissions)
+pub(crate) fn out_step(
+    turn: Turn,
+    held: Held,
+    inputs: &mut Inputs,
+    chans: &mut ChanEnds,
+    links: &mut Links,
+    out: &mut Emissions,
+)
     requires input { turn.input < 40 }
     requires end { held.end < 8 }
     requires headers { held.headers ≤ 3 }
@@ -179,7 +214,7 @@ fn out_header(turn: Turn, held: Held, inputs: &mut Inputs, links: &mut Links, ou
     requires allowed { may_send_by turn.slot (window_at links.old held.end) ≡ true }
     ensures stands { (begun : Begun) (ends : Ends) (m : Moving) → Stands begun turn.slot inputs.old ends links.old out.old m →
         Stands begun turn.slot inputs.new ends links.new out.new
-            (to_state turn.input (Out held.end (held.headers + 1) held.dest) (send turn.slot held.end (Byte (header_byte held.dest held.headers)) m)) }
+        (to_state turn.input (Out held.end (held.headers + 1) held.dest) (send turn.slot held.end (Byte (header_byte held.dest held.headers)) m)) }
     ensures events { out.new.events ≡ out.old.events }
     ensures gaps { gaps_of links.new ≡ gaps_of links.old }
 {
@@ -208,14 +243,21 @@ fn header_byte(dest: u32, headers: u8) -> u8
 }
 
 // The first token that waits goes out, if one does.
-fn out_token(turn: Turn, held: Held, inputs: &mut Inputs, chans: &mut ChanEnds, links: &mut Links, out: &mut Emissions)
+fn out_token(
+    turn: Turn,
+    held: Held,
+    inputs: &mut Inputs,
+    chans: &mut ChanEnds,
+    links: &mut Links,
+    out: &mut Emissions,
+)
     requires input { turn.input < 40 }
     requires end { held.end < 8 }
     requires headers { held.headers ≤ 3 }
     requires allowed { may_send_by turn.slot (window_at links.old held.end) ≡ true }
     ensures stands { (begun : Begun) (m : Moving) → Stands begun turn.slot inputs.old chans.old links.old out.old m →
         Stands begun turn.slot inputs.new chans.new links.new out.new
-            (out_token turn.slot turn.input held.end held.headers held.dest (waiting_at m.rec turn.input) m) }
+        (out_token turn.slot turn.input held.end held.headers held.dest (waiting_at m.rec turn.input) m) }
     ensures events { out.new.events ≡ out.old.events }
     ensures node { chans.new.node ≡ chans.old.node }
     ensures gaps { gaps_of links.new ≡ gaps_of links.old }

@@ -90,7 +90,14 @@ impl Switch {
 }
 
 // The steps of all inputs.
-fn steps(ways: &Ways, slot: u32, inputs: &mut Inputs, chans: &mut ChanEnds, links: &mut Links, out: &mut Emissions)
+fn steps(
+    ways: &Ways,
+    slot: u32,
+    inputs: &mut Inputs,
+    chans: &mut ChanEnds,
+    links: &mut Links,
+    out: &mut Emissions,
+)
     requires room { length out.old.events ≤ 72 }
     ensures stands { (begun : Begun) (m : Moving) → Stands begun slot inputs.old chans.old links.old out.old m →
         Stands begun slot inputs.new chans.new links.new out.new (moves_from (routes_with ways.now begun.gaps) slot 0 40 m) }

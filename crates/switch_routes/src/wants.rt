@@ -26,7 +26,14 @@ const CHAN_ENDS: u8 = 32;
 const LINK_ENDS: u8 = 8;
 
 /// The step of an input, by its state.
-pub(crate) fn step(turn: Turn, ways: &Ways, inputs: &mut Inputs, chans: &mut ChanEnds, links: &mut Links, out: &mut Emissions)
+pub(crate) fn step(
+    turn: Turn,
+    ways: &Ways,
+    inputs: &mut Inputs,
+    chans: &mut ChanEnds,
+    links: &mut Links,
+    out: &mut Emissions,
+)
     requires input { turn.input < 40 }
     requires room { length out.old.events < 112 }
     ensures stands { (begun : Begun) (m : Moving) → Stands begun turn.slot inputs.old chans.old links.old out.old m →
@@ -51,7 +58,14 @@ pub(crate) fn step(turn: Turn, ways: &Ways, inputs: &mut Inputs, chans: &mut Cha
 }
 
 // An idle input: a link end's takes a header byte, a channel end's begins a packet.
-fn idle_step(turn: Turn, ways: &Ways, inputs: &mut Inputs, chans: &mut ChanEnds, links: &mut Links, out: &mut Emissions)
+fn idle_step(
+    turn: Turn,
+    ways: &Ways,
+    inputs: &mut Inputs,
+    chans: &mut ChanEnds,
+    links: &mut Links,
+    out: &mut Emissions,
+)
     requires input { turn.input < 40 }
     requires room { length out.old.events < 112 }
     ensures stands { (begun : Begun) (m : Moving) → Stands begun turn.slot inputs.old chans.old links.old out.old m →
@@ -68,7 +82,14 @@ fn idle_step(turn: Turn, ways: &Ways, inputs: &mut Inputs, chans: &mut ChanEnds,
 }
 
 // Only a link end takes header bytes.
-fn link_head_step(turn: Turn, state: Input, inputs: &mut Inputs, chans: &mut ChanEnds, links: &mut Links, out: &mut Emissions)
+fn link_head_step(
+    turn: Turn,
+    state: Input,
+    inputs: &mut Inputs,
+    chans: &mut ChanEnds,
+    links: &mut Links,
+    out: &mut Emissions,
+)
     requires input { turn.input < 40 }
     requires fits { InputFits state }
     ensures stands { (begun : Begun) (m : Moving) → Stands begun turn.slot inputs.old chans.old links.old out.old m →
@@ -83,13 +104,20 @@ fn link_head_step(turn: Turn, state: Input, inputs: &mut Inputs, chans: &mut Cha
 }
 
 // A channel end with tokens that wait begins a packet.
-fn packet_step(turn: Turn, ways: &Ways, inputs: &mut Inputs, chans: &mut ChanEnds, links: &mut Links, out: &mut Emissions)
+fn packet_step(
+    turn: Turn,
+    ways: &Ways,
+    inputs: &mut Inputs,
+    chans: &mut ChanEnds,
+    links: &mut Links,
+    out: &mut Emissions,
+)
     requires input { turn.input < 40 }
     requires chan_end { 8 ≤ turn.input }
     requires room { length out.old.events < 112 }
     ensures stands { (begun : Begun) (m : Moving) → Stands begun turn.slot inputs.old chans.old links.old out.old m →
         Stands begun turn.slot inputs.new chans.new links.new out.new
-            (packet_step (routes_with ways.now begun.gaps) turn.slot turn.input (waiting_at m.rec turn.input) m) }
+        (packet_step (routes_with ways.now begun.gaps) turn.slot turn.input (waiting_at m.rec turn.input) m) }
     ensures events { length out.new.events ≤ length out.old.events + 1 }
     ensures node { chans.new.node ≡ chans.old.node }
     ensures gaps { gaps_of links.new ≡ gaps_of links.old }
@@ -100,13 +128,20 @@ fn packet_step(turn: Turn, ways: &Ways, inputs: &mut Inputs, chans: &mut ChanEnd
 }
 
 // A packet to the channel end's destination begins, if it has one.
-fn start_packet(turn: Turn, ways: &Ways, inputs: &mut Inputs, chans: &mut ChanEnds, links: &mut Links, out: &mut Emissions)
+fn start_packet(
+    turn: Turn,
+    ways: &Ways,
+    inputs: &mut Inputs,
+    chans: &mut ChanEnds,
+    links: &mut Links,
+    out: &mut Emissions,
+)
     requires input { turn.input < 40 }
     requires chan_end { 8 ≤ turn.input }
     requires room { length out.old.events < 112 }
     ensures stands { (begun : Begun) (m : Moving) → Stands begun turn.slot inputs.old chans.old links.old out.old m →
         Stands begun turn.slot inputs.new chans.new links.new out.new
-            (start_packet (routes_with ways.now begun.gaps) turn.slot turn.input (chan_at chans.old (turn.input - 8)).dest m) }
+        (start_packet (routes_with ways.now begun.gaps) turn.slot turn.input (chan_at chans.old (turn.input - 8)).dest m) }
     ensures events { length out.new.events ≤ length out.old.events + 1 }
     ensures node { chans.new.node ≡ chans.old.node }
     ensures gaps { gaps_of links.new ≡ gaps_of links.old }
@@ -118,7 +153,15 @@ fn start_packet(turn: Turn, ways: &Ways, inputs: &mut Inputs, chans: &mut ChanEn
 }
 
 // An input that wants to go on to a destination.
-fn want_step(turn: Turn, dest: u32, ways: &Ways, inputs: &mut Inputs, chans: &mut ChanEnds, links: &mut Links, out: &mut Emissions)
+fn want_step(
+    turn: Turn,
+    dest: u32,
+    ways: &Ways,
+    inputs: &mut Inputs,
+    chans: &mut ChanEnds,
+    links: &mut Links,
+    out: &mut Emissions,
+)
     requires input { turn.input < 40 }
     requires room { length out.old.events < 112 }
     ensures stands { (begun : Begun) (m : Moving) → Stands begun turn.slot inputs.old chans.old links.old out.old m →
@@ -134,7 +177,14 @@ fn want_step(turn: Turn, dest: u32, ways: &Ways, inputs: &mut Inputs, chans: &mu
 }
 
 // To a channel end of this node: it is held from now on, unless another input holds it.
-fn want_chan(turn: Turn, dest: u32, inputs: &mut Inputs, chans: &mut ChanEnds, links: &mut Links, out: &mut Emissions)
+fn want_chan(
+    turn: Turn,
+    dest: u32,
+    inputs: &mut Inputs,
+    chans: &mut ChanEnds,
+    links: &mut Links,
+    out: &mut Emissions,
+)
     requires input { turn.input < 40 }
     requires room { length out.old.events < 112 }
     ensures stands { (begun : Begun) (m : Moving) → Stands begun turn.slot inputs.old chans.old links.old out.old m →
@@ -161,7 +211,15 @@ fn is_in_use(chan: u8, chans: &ChanEnds) -> bool
 }
 
 // To another node, behind some of the link ends in a mask: the lowest that is free is held from now on.
-fn want_end(turn: Turn, dest: u32, mask: u8, inputs: &mut Inputs, chans: &mut ChanEnds, links: &mut Links, out: &mut Emissions)
+fn want_end(
+    turn: Turn,
+    dest: u32,
+    mask: u8,
+    inputs: &mut Inputs,
+    chans: &mut ChanEnds,
+    links: &mut Links,
+    out: &mut Emissions,
+)
     requires input { turn.input < 40 }
     requires room { length out.old.events < 112 }
     ensures stands { (begun : Begun) (routes : Routes) (m : Moving) → routes.gaps ≡ begun.gaps →

@@ -27,7 +27,9 @@ impl Ways {
     {
         match first_difference(self.id, (dest >> 16) as u16) {
             None => Way::Here,
-            Some(bit) => Way::Behind { ends: self.ends[bit as usize] },
+            Some(bit) => Way::Behind {
+                ends: self.ends[bit as usize],
+            },
         }
     }
 }

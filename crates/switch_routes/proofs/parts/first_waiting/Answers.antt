@@ -1,4 +1,4 @@
-use Rattle.std.proofs.Common.{◌≡◌, ◌≤◌, ◌-◌, ltb, false, arith}
+use Rattle.std.proofs.Common.{◌-◌}
 use Rattle.std.proofs.lemmas.Bool.{le-ltb}
 use Rattle.chan_ends.specs.Ends.{chan_at}
 use Rattle.switch_routes.proofs.Work.{first_cases}

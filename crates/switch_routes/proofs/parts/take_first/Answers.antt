@@ -1,4 +1,3 @@
-use Rattle.std.proofs.Common.{◌≡◌, ◌≤◌, ltb, false, arith}
 use Rattle.std.proofs.lemmas.Bool.{lt-ltb}
 use Rattle.switch_routes.proofs.Work.{stands-pop}
 use Rattle.switch_routes.proofs.parts.take_first.Goals as goal

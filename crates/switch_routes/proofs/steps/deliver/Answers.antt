@@ -1,8 +1,6 @@
-use Rattle.std.proofs.Common.{ℕ, ◌≡◌, ◌+◌, ◌∙◌, ◌++◌, Bool, true, false, ltb, List, [], ◌∷◌, Option, sym, ap, refl, get_or, arith}
-use Rattle.xs_base.specs.declared.token.Token.{Token}
-use Rattle.xs_model.specs.Record.{ChanRec, InputRec, Local, Out, Lost, unused_chan}
-use Rattle.switch_routes.specs.Inputs.{state_of}
-use Rattle.switch_routes.proofs.Work.{along, waits, stands-state, stands-happens, stands-chan}
+use Rattle.std.proofs.Common.{◌∙◌, ◌++◌, List, [], ◌∷◌, sym, ap, get_or}
+use Rattle.xs_model.specs.Record.{ChanRec, Local, unused_chan}
+use Rattle.switch_routes.proofs.Work.{along, stands-chan}
 use Rattle.net_model.specs.Chans.{has_room}
 use Rattle.net_model.specs.Switch.{take_first, put_into, it_happens, after_token}
 use Rattle.xs_model.specs.declared.event.Happen.TheVariants as happen

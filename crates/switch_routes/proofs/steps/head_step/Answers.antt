@@ -1,10 +1,9 @@
-use Rattle.std.proofs.Common.{ℕ, ◌≡◌, ◌+◌, ◌∙◌, ◌++◌, Bool, true, false, ltb, List, [], ◌∷◌, Option, sym, ap, refl, arith}
+use Rattle.std.proofs.Common.{◌∙◌, List, sym, ap}
 use Rattle.xs_base.specs.declared.token.Token.{Token}
-use Rattle.xs_model.specs.Record.{ChanRec, InputRec, Local, Out, Lost, unused_chan}
 use Rattle.switch_routes.specs.Inputs.{state_of}
-use Rattle.switch_routes.proofs.Work.{along, waits, stands-state, stands-happens, stands-chan}
-use Rattle.xs_base.specs.declared.token.Token.TheVariants.{Byte, Ctrl}
-use Rattle.net_model.specs.Switch.{head_step, head_token, take_first, to_state, after_header}
+use Rattle.switch_routes.proofs.Work.{along, waits, stands-state}
+use Rattle.xs_base.specs.declared.token.Token.TheVariants.{Byte}
+use Rattle.net_model.specs.Switch.{head_step, head_token, take_first, after_header}
 use Rattle.switch_routes.proofs.steps.head_step.Goals as goal
 
 pub returns-in-Byte-clause-stands : goal.returns-in-Byte-clause-stands
@@ -19,7 +18,7 @@ returns-in-Byte-clause-stands c =
     (stands-state _ _ _ _ _ _ (take_first i m) taken i (after_header (state_of c.args.state) c.in-Byte.byte)))
 
 pub returns-in-Ctrl-clause-stands : goal.returns-in-Ctrl-clause-stands
-returns-in-Ctrl-clause-stands c = 
+returns-in-Ctrl-clause-stands c =
     λ begun m s.
     let i = c.args.turn.input in
     let is = sym (waits begun c.args.turn.slot c.args.inputs.now c.args.chans.now c.args.links.now c.args.out.now m s i) ∙ c.in-Some.ensures.cases in

@@ -1,9 +1,7 @@
-use Rattle.std.proofs.Common.{ℕ, ◌≡◌, ◌+◌, ◌∙◌, ◌++◌, Bool, true, false, ltb, List, [], ◌∷◌, Option, sym, ap, refl, arith}
-use Rattle.xs_base.specs.declared.token.Token.{Token}
-use Rattle.xs_model.specs.Record.{ChanRec, InputRec, Local, Out, Lost, unused_chan}
-use Rattle.switch_routes.specs.Inputs.{state_of}
-use Rattle.switch_routes.proofs.Work.{along, waits, stands-state, stands-happens, stands-chan}
-use Rattle.std.proofs.lemmas.Bool.{lt-ltb, le-ltb}
+use Rattle.std.proofs.Common.{ℕ, ◌+◌, ◌∙◌, true, List, sym, ap}
+use Rattle.xs_model.specs.Record.{Out}
+use Rattle.switch_routes.proofs.Work.{along}
+use Rattle.std.proofs.lemmas.Bool.{lt-ltb}
 use Rattle.std.specs.Prelude.{slice_index}
 use Rattle.xs_base.specs.declared.token.Token.TheVariants.{Byte}
 use Rattle.net_model.specs.Switch.{to_state, send, header_byte, link_at}

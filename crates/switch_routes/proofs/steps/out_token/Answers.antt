@@ -1,8 +1,7 @@
-use Rattle.std.proofs.Common.{ℕ, ◌≡◌, ◌+◌, ◌∙◌, ◌++◌, Bool, true, false, ltb, List, [], ◌∷◌, Option, sym, ap, refl, arith}
+use Rattle.std.proofs.Common.{◌∙◌, List, sym, ap}
 use Rattle.xs_base.specs.declared.token.Token.{Token}
-use Rattle.xs_model.specs.Record.{ChanRec, InputRec, Local, Out, Lost, unused_chan}
-use Rattle.switch_routes.specs.Inputs.{state_of}
-use Rattle.switch_routes.proofs.Work.{along, waits, stands-state, stands-happens, stands-chan}
+use Rattle.xs_model.specs.Record.{Out}
+use Rattle.switch_routes.proofs.Work.{along, waits}
 use Rattle.net_model.specs.Switch.{out_token, after_token, take_first, send}
 use Rattle.switch_routes.proofs.steps.out_token.Goals as goal
 

@@ -1,8 +1,7 @@
-use Rattle.std.proofs.Common.{ℕ, ◌≡◌, ◌+◌, ◌∙◌, ◌++◌, Bool, true, false, ltb, List, [], ◌∷◌, Option, sym, ap, refl, arith}
-use Rattle.xs_base.specs.declared.token.Token.{Token}
-use Rattle.xs_model.specs.Record.{ChanRec, InputRec, Local, Out, Lost, unused_chan}
+use Rattle.std.proofs.Common.{◌∙◌, List, sym, ap, refl}
+use Rattle.xs_model.specs.Record.{InputRec}
 use Rattle.switch_routes.specs.Inputs.{state_of}
-use Rattle.switch_routes.proofs.Work.{along, waits, stands-state, stands-happens, stands-chan}
+use Rattle.switch_routes.proofs.Work.{along}
 use Rattle.std.proofs.Common.{get_or}
 use Rattle.xs_model.specs.Record.{Idle}
 use Rattle.net_model.specs.Switch.{step_at, out_step}

@@ -1,8 +1,6 @@
-use Rattle.std.proofs.Common.{ℕ, ◌≡◌, ◌+◌, ◌∙◌, ◌++◌, Bool, true, false, ltb, List, [], ◌∷◌, Option, sym, ap, refl, arith}
-use Rattle.xs_base.specs.declared.token.Token.{Token}
-use Rattle.xs_model.specs.Record.{ChanRec, InputRec, Local, Out, Lost, unused_chan}
-use Rattle.switch_routes.specs.Inputs.{state_of}
-use Rattle.switch_routes.proofs.Work.{along, waits, stands-state, stands-happens, stands-chan}
+use Rattle.std.proofs.Common.{ℕ, ◌∙◌, ltb, List, sym, ap}
+use Rattle.xs_model.specs.Record.{ChanRec, InputRec, Local, unused_chan}
+use Rattle.switch_routes.proofs.Work.{along, stands-state}
 use Rattle.std.specs.Prelude.{not, ◌||◌, get_or}
 use Rattle.std.specs.List.{list_any}
 use Rattle.net_model.specs.Switch.{want_chan, loses, to_state, is_local_to, local_step, waiting_at}

@@ -1,6 +1,5 @@
-use Rattle.std.proofs.Common.{◌≡◌, ◌∙◌, ◌-◌, sym, refl, arith}
+use Rattle.std.proofs.Common.{◌∙◌, ◌-◌, sym, arith}
 use Rattle.std.proofs.lemmas.Bool.{eq-eqb, ne_eqb}
-use Rattle.net_model.specs.Ids.{first_difference}
 use Rattle.switch_routes.proofs.Differences.{difference_here, difference_below, no_difference}
 use Rattle.switch_routes.proofs.ways.first_difference.Goals as goal
 

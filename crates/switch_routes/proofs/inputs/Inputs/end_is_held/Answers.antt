@@ -1,4 +1,4 @@
-use Rattle.std.proofs.Common.{◌≡◌, ◌∙◌, sym, refl, arith}
+use Rattle.std.proofs.Common.{◌∙◌, sym, refl, arith}
 use Rattle.net_model.specs.Switch.{is_out_by}
 use Rattle.switch_routes.proofs.Held.{any_here, any_next, any_none}
 use Rattle.switch_routes.proofs.inputs.Inputs.end_is_held.Goals as goal
@@ -14,7 +14,7 @@ loop-state-preserved c =
 pub returns-then-is_out_by : goal.returns-then-is_out_by
 returns-then-is_out_by c = record {
   value = sym (c.loop-state.invariant
-    ∙ any_here (is_out_by c.args.end) c.self.inside.states c.loop-state.state-index _ (omega (arith, c.self.invariant.count)) (sym c.is_out_by.ensures.value ∙ c.if-is_out_by.true));
+      ∙ any_here (is_out_by c.args.end) c.self.inside.states c.loop-state.state-index _ (omega (arith, c.self.invariant.count)) (sym c.is_out_by.ensures.value ∙ c.if-is_out_by.true));
 }
 
 pub returns : goal.returns

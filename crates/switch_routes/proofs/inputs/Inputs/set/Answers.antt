@@ -1,4 +1,3 @@
-use Rattle.std.proofs.Common.{◌≡◌, ◌∙◌, sym, refl, arith}
 use Rattle.std.proofs.lemmas.List.{map-set}
 use Rattle.switch_routes.specs.Inputs.{state_of}
 use Rattle.switch_routes.proofs.inputs.Inputs.set.Goals as goal

@@ -1,6 +1,4 @@
-use Rattle.std.proofs.Common.{ℕ, ◌≡◌, ◌≤◌, ap, sym, ◌∙◌, length, Option, List, refl, arith, add-one}
-use Rattle.xs_model.specs.Record.{LinkRec}
-use Rattle.switch_routes.specs.Rows.{WindowsOf}
+use Rattle.std.proofs.Common.{◌≤◌, ◌∙◌, length, refl, arith, add-one}
 use Rattle.switch_routes.proofs.Rows.{first_arrivals, next-arrivals, all-arrivals, length-first_arrivals, credited-arrivals, length-same}
 use Rattle.switch_routes.proofs.links.Links.arrivals.Goals as goal
 

@@ -1,4 +1,4 @@
-use Rattle.std.proofs.Common.{◌≡◌, ap, sym, ◌∙◌, Some, refl}
+use Rattle.std.proofs.Common.{ap, sym, ◌∙◌, Some, refl}
 use Rattle.net_model.specs.Links.{link_after_arrivals, token_arrives}
 use Rattle.std.proofs.lemmas.List.{length-set}
 use Rattle.switch_routes.proofs.Rows.{change-there, change-none, gaps-set}

@@ -1,4 +1,4 @@
-use Rattle.std.proofs.Common.{◌≡◌, ◌∙◌, refl, sym, ap, arith, rules}
+use Rattle.std.proofs.Common.{◌∙◌, refl, arith}
 use borrow.Follows.Closed.{read_of}
 use Rattle.std.specs.Option.{ghost_name_of}
 use Rattle.link_ends.specs.Window.{Window, empty_window}

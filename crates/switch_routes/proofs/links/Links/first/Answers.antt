@@ -1,4 +1,4 @@
-use Rattle.std.proofs.Common.{◌≡◌, ap, sym, ◌∙◌, Some, refl, arith}
+use Rattle.std.proofs.Common.{ap, arith}
 use Rattle.link_ends.specs.Window.{empty_window}
 use Rattle.switch_routes.specs.Rows.{buffer_of}
 use Rattle.switch_routes.proofs.Places.{not_there, there}

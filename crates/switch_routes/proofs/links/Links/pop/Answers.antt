@@ -1,4 +1,4 @@
-use Rattle.std.proofs.Common.{◌≡◌, ◌∙◌, ap, sym, Some}
+use Rattle.std.proofs.Common.{◌∙◌, ap, sym, Some}
 use Rattle.link_ends.specs.Window.{Window}
 use Rattle.switch_routes.specs.Rows.{gap_of}
 use Rattle.switch_routes.proofs.Rows.{gaps-set}

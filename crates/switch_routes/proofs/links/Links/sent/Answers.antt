@@ -1,4 +1,4 @@
-use Rattle.std.proofs.Common.{◌≡◌, ap, sym, ◌∙◌, Some, refl}
+use Rattle.std.proofs.Common.{ap, sym, ◌∙◌, Some}
 use Rattle.net_model.specs.Switch.{sent_in}
 use Rattle.switch_routes.proofs.Rows.{change-there, gaps-set}
 use Rattle.link_ends.specs.Window.{Window}

@@ -1,7 +1,5 @@
-use Rattle.std.proofs.Common.{◌≡◌, ◌∙◌, ◌++◌, List, Option, Some, length, take, drop, sym, ap, arith}
-use Rattle.std.specs.Prelude.{slice_set}
-use Rattle.std.proofs.lemmas.List.{length-set, take_at}
-use Rattle.link_ends.specs.Window.{Window}
+use Rattle.std.proofs.Common.{◌∙◌, Some, length, ap, arith}
+use Rattle.std.proofs.lemmas.List.{length-set}
 use Rattle.switch_routes.specs.Inside.{windows_in}
 use Rattle.switch_routes.proofs.Places.{put_in_place, length-windows_in}
 use Rattle.switch_routes.proofs.links.Links.set.Goals as goal

@@ -1,8 +1,6 @@
-use Rattle.std.proofs.Common.{◌≡◌, ◌∙◌, ap, sym, List}
-use Rattle.xs_model.specs.Record.{InputRec, ChanRec}
 use Rattle.net_model.specs.Switch.{begun as begun_at}
 use Rattle.switch_routes.specs.Rows.{gaps_of}
-use Rattle.switch_routes.specs.Work.{Begun, with_parts}
+use Rattle.switch_routes.specs.Work.{Begun}
 use Rattle.switch_routes.specs.InsideSwitch.{switch_of}
 use Rattle.switch_routes.proofs.Moves.{stands-first, credited-later, same_emitted, same_parts}
 use Rattle.switch_routes.proofs.switch.Switch.moves.Goals as goal
