@@ -26,7 +26,7 @@ use Rattle.net_model.specs.Chans.{Found, Got, Waits, Refused, is_chan_id}
 use Rattle.net_model.specs.Switch.{Routes, Moving, moves}
 use Rattle.link_ends.specs.Window.{Window, WindowOf, NeverFall}
 use Rattle.chan_ends.specs.Ends.{Ends}
-use Rattle.switch_routes.specs.Rows.{WindowsOf, CreditedBy, gaps_of}
+use Rattle.switch_routes.specs.Rows.{WindowsOf, CreditedBy, SentBy, gaps_of}
 use Rattle.switch_routes.specs.Switch.{SwitchRec, StandsIn, switched}
 use Rattle.step_model.specs.Fixed.{Fixed}
 use Rattle.step_model.specs.Effect.{effect, memory_row, loaded, stored, resources_row, resource_got, chan_was_got, chan_kind, chan_to_get, goes_on_with, dest_set, found_there, token_put, token_checked, is_waited_at}
@@ -53,6 +53,25 @@ credited_by : (slot : ℕ) (links : List (Option LinkRec)) → AllByRecursion (�
 credited_by slot [] h = tt
 credited_by slot (None ∷ links) h = (tt, credited_by slot links h.1)
 credited_by slot (Some link ∷ links) h = (slots_by slot link.credited h.0.credited, credited_by slot links h.1)
+
+-- a last token that was sent before a slot was sent in it or earlier, and one that was sent by then is before the next
+sent_by_one : (slot : ℕ) (last : Option ℕ) → IfSome last (λ s. s < slot) → IfSome last (λ s. s ≤ slot)
+sent_by_one slot None h = tt
+sent_by_one slot (Some s) h = omega (arith, h)
+
+pub sent_by : (slot : ℕ) (row : List (Option Window)) → SentBefore slot row → SentBy slot row
+sent_by slot [] h = tt
+sent_by slot (None ∷ row) h = (tt, sent_by slot row h.1)
+sent_by slot (Some window ∷ row) h = (sent_by_one slot window.last_sent h.0, sent_by slot row h.1)
+
+sent_next_one : (slot : ℕ) (last : Option ℕ) → IfSome last (λ s. s ≤ slot) → IfSome last (λ s. s < slot + 1)
+sent_next_one slot None h = tt
+sent_next_one slot (Some s) h = omega (arith, h)
+
+pub sent_before_next : (slot : ℕ) (row : List (Option Window)) → SentBy slot row → SentBefore (slot + 1) row
+sent_before_next slot [] h = tt
+sent_before_next slot (None ∷ row) h = (tt, sent_before_next slot row h.1)
+sent_before_next slot (Some window ∷ row) h = (sent_next_one slot window.last_sent h.0, sent_before_next slot row h.1)
 
 -- after the arrivals, the switch, the channel ends and the link ends stand for the node
 pub stands_in : (slot : ℕ) (value : CoreValue) (switch : SwitchRec) (ends : Ends) (row : List (Option Window)) (rec : NodeRec) (arrivals : Arrivals) → switch.inputs ≡ value.core.inputs → ends.chans ≡ value.core.chans → ((links : List (Option LinkRec)) → WindowsOf value.windows links → WindowsOf row (links_after_arrivals slot arrivals.tokens arrivals.credits 0 links)) → ((links : List (Option LinkRec)) → CreditedBy slot links → CreditedBy slot (links_after_arrivals slot arrivals.tokens arrivals.credits 0 links)) → StandsAt value rec slot → StandsIn slot switch ends row (arrived rec slot arrivals)
