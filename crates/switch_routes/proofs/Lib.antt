@@ -6,3 +6,4 @@ pub mod Rules
 pub mod Differences
 pub mod Frees
 pub mod Moves
+pub mod Rests

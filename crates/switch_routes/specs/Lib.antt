@@ -6,3 +6,4 @@ pub mod Inputs
 pub mod Work
 pub mod Ways
 pub mod InsideSwitch
+pub mod Rest

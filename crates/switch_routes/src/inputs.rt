@@ -1,6 +1,7 @@
 //! What the switch's inputs are at.
 ghost use Rattle.std.specs.Prelude.{ℕ, ◌≡◌, ◌<◌, Bool, length, slice_set, slice_index_or};
-ghost use Rattle.std.specs.List.{list_any};
+ghost use Rattle.std.specs.List.{list_all, list_any};
+ghost use Rattle.switch_routes.specs.Switch.{is_idle};
 ghost use Rattle.xs_model.specs.Record.{Idle};
 ghost use Rattle.net_model.specs.Switch.{is_local_to, is_out_by};
 ghost use Rattle.switch_routes.specs.Inputs.{state_of, InputFits, idle_inputs};
@@ -73,6 +74,18 @@ impl Inputs {
         self.states[input as usize] = state;
     }
 
+    /// Whether every input is idle.
+    pub(crate) fn are_idle(&self) -> bool
+        ensures value { result ≡ list_all is_idle self.now }
+    {
+        for state in &self.states {
+            if !is_idle(*state) {
+                return false;
+            }
+        }
+        true
+    }
+
     /// Whether some input holds a channel end.
     pub(crate) fn chan_is_held(&self, chan: u8) -> bool
         ensures value { result ≡ list_any (is_local_to chan) self.now }
@@ -95,6 +108,16 @@ impl Inputs {
             }
         }
         false
+    }
+}
+
+// Whether an input in this state is idle.
+fn is_idle(state: Input) -> bool
+    ensures value { result ≡ is_idle (state_of state) }
+{
+    match state {
+        Input::Idle => true,
+        _ => false,
     }
 }
 

@@ -1,6 +1,8 @@
 //! `Links`, the row of a node's link ends.
 ghost use Rattle.std.specs.Prelude.{ℕ, ◌≡◌, ◌<◌, true, Some, None, Option, List, [], ◌∷◌, drop, length, slice_set, slice_index, slice_index_or, MatchOption};
 ghost use Rattle.std.specs.Borrow.{sem};
+ghost use Rattle.std.specs.List.{list_all};
+ghost use Rattle.switch_routes.specs.Rest.{holds_nothing};
 ghost use Rattle.xs_model.specs.Record.{LinkRec};
 ghost use Rattle.net_model.specs.Links.{links_after_arrivals, link_after_arrivals, token_arrives, credit_arrives};
 ghost use Rattle.net_model.specs.Switch.{sent_in};
@@ -24,16 +26,16 @@ pub struct Links {
 }
 
 impl Model for Links {
-    ghost use Rattle.std.specs.Prelude.{◌≡◌, Option, List, length};
+    ghost use Rattle.std.specs.Prelude.{Option, List};
     ghost use Rattle.link_ends.specs.Window.{Window};
 
     ghost Value = { List (Option Window) };
 
-    ghost use Rattle.switch_routes.specs.Inside.{windows_in};
+    ghost use Rattle.switch_routes.specs.Inside.{windows_in, AreEnds};
 
     ghost view = { λ row. windows_in row.present row.ends.items };
 
-    ghost invariant = { λ row. length row.ends.items ≡ 8 };
+    ghost invariant = { λ row. AreEnds row.present row.ends.items };
 }
 
 impl Links {
@@ -111,6 +113,7 @@ impl Links {
         requires within { end < 8 }
         ensures cases { MatchOption result (buffer_of (window_at self.now end) ≡ [])
             (λ t. buffer_of (window_at self.now end) ≡ t ∷ drop 1 (buffer_of (window_at self.now end))) }
+        ensures count { length self.now ≡ 8 }
     {
         let link = &self.ends.as_slice()[end as usize];
         if self.present[end as usize] {
@@ -118,6 +121,18 @@ impl Links {
         } else {
             None
         }
+    }
+
+    /// Whether no token waits at any link end.
+    pub(crate) fn hold_nothing(&self) -> bool
+        ensures value { result ≡ list_all holds_nothing self.now }
+    {
+        for end in 0..8u8 {
+            if self.first(end).is_some() {
+                return false;
+            }
+        }
+        true
     }
 
     /// Takes the token that waits longest out of a link end's buffer, where one waits.

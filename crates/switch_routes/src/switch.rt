@@ -1,9 +1,11 @@
 //! `Switch`, the switch of a node.
-ghost use Rattle.std.specs.Prelude.{ℕ, ◌≡◌, ◌<◌, ◌≤◌, ◌+◌, false, None, length, replicate};
+ghost use Rattle.std.specs.Prelude.{ℕ, ◌≡◌, ◌<◌, ◌≤◌, ◌+◌, false, None, length, replicate, IsTrue};
 ghost use Rattle.xs_model.specs.Record.{NodeRec};
-ghost use Rattle.net_model.specs.Switch.{Moving, moves_from};
+ghost use Rattle.net_model.specs.Switch.{Moving, moves_from, begun};
 ghost use Rattle.switch_routes.specs.Rows.{WindowsOf, CreditedBy, SentBy, gaps_of};
 ghost use Rattle.switch_routes.specs.Switch.{StandsIn, idle_switch, switched, node_after, emitted_after, chan_is_busy};
+ghost use Rattle.std.specs.List.{list_all};
+ghost use Rattle.switch_routes.specs.Rest.{at_rest, sends_nothing};
 ghost use Rattle.switch_routes.specs.Work.{Begun, Stands};
 ghost use Rattle.switch_routes.specs.Ways.{routes_with};
 
@@ -78,6 +80,16 @@ impl Switch {
         steps(&ways, slot, &mut self.inputs, chans, links, out);
     }
 
+    /// Whether every input is idle and no token waits at any of them. A slot's moves then change nothing, and give
+    /// nothing. See docs/LINKS.md.
+    pub fn is_at_rest(&self, chans: &ChanEnds, links: &Links) -> bool
+        ensures value { result ≡ at_rest self.now chans.now links.now }
+        ensures rests { IsTrue result → (slot : ℕ) (rec : NodeRec) → StandsIn slot self.now chans.now links.now rec →
+            switched self.now links.now slot rec ≡ begun rec }
+    {
+        self.inputs.are_idle() && send_nothing(chans) && links.hold_nothing()
+    }
+
     /// Whether channel end `c`, 0 to 31, is at work: its own input is not idle, or some input holds it.
     pub fn held(&self, c: u8) -> bool
         requires within { c < 32 }
@@ -110,4 +122,16 @@ fn steps(
     for input in 0..INPUTS {
         step(Turn { input, slot }, ways, inputs, chans, links, out);
     }
+}
+
+// Whether no token waits in any channel end's output buffer.
+fn send_nothing(chans: &ChanEnds) -> bool
+    ensures value { result ≡ list_all sends_nothing chans.now.chans }
+{
+    for c in 0..32u8 {
+        if chans.first_out(c).is_some() {
+            return false;
+        }
+    }
+    true
 }

@@ -13,9 +13,9 @@ returns-then-self-end c =
     let e = c.args.end in
     rw (← c.self.view_is) (
       λ t. read_of (ghost_name_of c.get_mut.result) (λ (w : Window). windows_in-change present ends e w c.if-self-end.true t) (windows_in present ends),
-      record { writes_back = tt; cases = end_cases c.get_mut.result present ends e (omega (arith, c.self.invariant)) c.if-self-end.true c.get_mut.ensures.variant c.get_mut.ensures.value; count = length-windows_in present ends (omega (arith, c.self.told, c.self.invariant)) ∙ c.self.invariant },
+      record { writes_back = tt; cases = end_cases c.get_mut.result present ends e (omega (arith, c.self.invariant)) c.if-self-end.true c.get_mut.ensures.variant c.get_mut.ensures.value; count = length-windows_in present ends (omega (arith, c.self.invariant)) ∙ c.self.invariant.eight },
     )
 
 pub returns-else-self-end : goal.returns-else-self-end
 returns-else-self-end c =
-    rw (← c.self.view_is) (refl, record { writes_back = tt; cases = not_there c.self.inside.present c.self.inside.ends.items c.args.end (empty_window 0) (omega (arith, c.self.invariant)) c.if-self-end.false; count = length-windows_in c.self.inside.present c.self.inside.ends.items (omega (arith, c.self.told, c.self.invariant)) ∙ c.self.invariant })
+    rw (← c.self.view_is) (refl, record { writes_back = tt; cases = not_there c.self.inside.present c.self.inside.ends.items c.args.end (empty_window 0) (omega (arith, c.self.invariant)) c.if-self-end.false; count = length-windows_in c.self.inside.present c.self.inside.ends.items (omega (arith, c.self.invariant)) ∙ c.self.invariant.eight })

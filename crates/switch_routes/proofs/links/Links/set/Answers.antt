@@ -13,5 +13,5 @@ returns-clause-count c =
     rw c.as_mut_slice.ensures.value
     (ap length (put_in_place c.self.inside.present c.self.inside.ends.items c.args.end c.args.link)
     ∙ length-set (windows_in c.self.inside.present c.self.inside.ends.items) c.args.end (Some c.args.link)
-    ∙ length-windows_in c.self.inside.present c.self.inside.ends.items (omega (arith, c.self.told, c.self.invariant))
-    ∙ c.self.invariant)
+    ∙ length-windows_in c.self.inside.present c.self.inside.ends.items (omega (arith, c.self.invariant))
+    ∙ c.self.invariant.eight)
