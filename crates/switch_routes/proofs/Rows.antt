@@ -1,5 +1,5 @@
 -- A row of link ends and its link records, where one of them changes.
-use Rattle.std.proofs.Common.{ℕ, zero, suc, ◌≡◌, ◌+◌, ◌≤◌, Bool, true, false, Option, Some, None, List, [], ◌∷◌, ◌++◌, ◌&&◌, cond, ltb, length, get_or, refl, ap, arith}
+use Rattle.std.proofs.Common.{ℕ, zero, suc, ◌≡◌, ◌+◌, ◌≤◌, Bool, true, false, Option, Some, None, List, [], ◌∷◌, ◌++◌, ◌&&◌, cond, ltb, length, get_or, refl, ap, sym, subst, arith}
 use Rattle.std.specs.Prelude.{slice_set, slice_index, IfSome, All, drop}
 use Rattle.std.specs.List.{AllByRecursion}
 use Rattle.std.proofs.lemmas.List.{set-get_or}
@@ -9,7 +9,7 @@ use Rattle.xs_model.specs.Record.{LinkRec}
 use Rattle.net_model.specs.Links.{links_after_arrivals, link_after_arrivals, token_arrives, may_send}
 use Rattle.net_model.specs.Switch.{link_without_first}
 use Rattle.link_ends.specs.Window.{Window, WindowOf}
-use Rattle.switch_routes.specs.Rows.{IsWindowOf, WindowsOf, CreditedBy, gap_of, gaps_of, link_may_send, without_first}
+use Rattle.switch_routes.specs.Rows.{IsWindowOf, WindowsOf, CreditedBy, SentBy, gap_of, gaps_of, link_may_send, without_first}
 
 pub length-same : (ws : List (Option Window)) (ls : List (Option LinkRec)) → WindowsOf ws ls → length ws ≡ length ls
 length-same [] [] of = refl
@@ -164,3 +164,18 @@ none-sends gap slot (Some link) of = absurd of
 
 pub sends-none : (ws : List (Option Window)) (ls : List (Option LinkRec)) (e slot gap : ℕ) → get_or ws e None ≡ None → WindowsOf ws ls → false ≡ link_may_send gap slot (get_or ls e None)
 sends-none ws ls e slot gap there of = none-sends gap slot (get_or ls e None) (rw there at (windows-at ws ls e of))
+
+-- a link end that sent its last token in a slot or earlier, or never
+abbrev pub IsSentBy : ℕ → Option Window → Type 0
+IsSentBy slot w = IfSome w (λ window. IfSome window.last_sent (λ s. s ≤ slot))
+
+-- a link end that changes sent its last token when it did before
+pub sent-kept : (ws : List (Option Window)) (e slot : ℕ) (now new : Window) → get_or ws e None ≡ Some now → new.last_sent ≡ now.last_sent → SentBy slot ws → SentBy slot (slice_set ws e (Some new))
+sent-kept ws e slot now new there same by =
+    all-set (IsSentBy slot) ws e (Some new) by
+    (subst (λ last. IfSome last (λ s. s ≤ slot)) (sym same) (subst (λ w. IsSentBy slot w) there (all-at (IsSentBy slot) ws e None by tt)))
+
+-- or in the slot itself
+pub sent-now : (ws : List (Option Window)) (e slot : ℕ) (new : Window) → new.last_sent ≡ Some slot → SentBy slot ws → SentBy slot (slice_set ws e (Some new))
+sent-now ws e slot new is by =
+    all-set (IsSentBy slot) ws e (Some new) by (subst (λ last. IfSome last (λ s. s ≤ slot)) (sym is) (omega arith))

@@ -37,6 +37,10 @@ gaps_of windows = map gap_of windows
 abbrev pub CreditedBy : ℕ → List (Option LinkRec) → Type 0
 CreditedBy slot links = AllByRecursion (λ l. IfSome l (λ link. AllByRecursion (λ s. s ≤ slot) link.credited)) links
 
+-- each link end sent its last token in this slot or earlier, or never
+abbrev pub SentBy : ℕ → List (Option Window) → Type 0
+SentBy slot windows = AllByRecursion (λ w. IfSome w (λ window. IfSome window.last_sent (λ s. s ≤ slot))) windows
+
 -- the tokens that wait at a link end
 abbrev pub buffer_of : Option Window → List Token
 buffer_of None = []

@@ -7,7 +7,7 @@ ghost use Rattle.xs_model.specs.Record.{LinkRec};
 ghost use Rattle.net_model.specs.Links.{links_after_arrivals, link_after_arrivals, token_arrives, credit_arrives};
 ghost use Rattle.net_model.specs.Switch.{sent_in};
 ghost use Rattle.link_ends.specs.Window.{WindowOf};
-ghost use Rattle.switch_routes.specs.Rows.{no_windows, window_at, WindowsOf, gaps_of, CreditedBy, buffer_of, may_send_by, link_may_send, without_first};
+ghost use Rattle.switch_routes.specs.Rows.{no_windows, window_at, WindowsOf, gaps_of, CreditedBy, SentBy, buffer_of, may_send_by, link_may_send, without_first};
 ghost use Rattle.switch_routes.specs.Lends.{LendsEnd};
 
 use arrayvec::ArrayVec;
@@ -82,6 +82,7 @@ impl Links {
         ensures credited { (slot : ℕ) (links : List (Option LinkRec)) → CreditedBy slot links →
             CreditedBy slot (links_after_arrivals slot arrivals.now.tokens arrivals.now.credits 0 links) }
         ensures gaps { gaps_of self.new ≡ gaps_of self.old }
+        ensures sent { (slot : ℕ) → SentBy slot self.old → SentBy slot self.new }
     {
         for end in 0..8u8 {
             self.arrive(
@@ -98,6 +99,7 @@ impl Links {
         ensures stands { (slot : ℕ) (links : List (Option LinkRec)) → WindowsOf self.old links →
             WindowsOf self.new (slice_set links end (link_after_arrivals slot token credit (slice_index_or links end None))) }
         ensures gaps { gaps_of self.new ≡ gaps_of self.old }
+        ensures sent { (slot : ℕ) → SentBy slot self.old → SentBy slot self.new }
         ensures count { length self.new ≡ 8 }
     {
         if let Some(link) = self.end(end) {
@@ -138,6 +140,7 @@ impl Links {
         requires within { end < 8 }
         ensures value { self.new ≡ slice_set self.old end (without_first (window_at self.old end)) }
         ensures gaps { gaps_of self.new ≡ gaps_of self.old }
+        ensures sent { (slot : ℕ) → SentBy slot self.old → SentBy slot self.new }
     {
         if let Some(link) = self.end(end) {
             let _ = link.pop();
@@ -162,6 +165,7 @@ impl Links {
         ensures stands { (links : List (Option LinkRec)) → WindowsOf self.old links →
             WindowsOf self.new (slice_set links end (sent_in slot (slice_index_or links end None))) }
         ensures gaps { gaps_of self.new ≡ gaps_of self.old }
+        ensures sent { SentBy slot self.old → SentBy slot self.new }
     {
         if let Some(link) = self.end(end) {
             link.sent(slot);
@@ -173,6 +177,7 @@ impl Links {
 fn receive(link: &mut LinkEnd, token: Option<Token>)
     ensures stands { (rec : LinkRec) → WindowOf link.old rec → WindowOf link.new (token_arrives token rec) }
     ensures gap { link.new.gap ≡ link.old.gap }
+    ensures last_sent { link.new.last_sent ≡ link.old.last_sent }
 {
     if let Some(token) = token {
         link.arrive(token);
@@ -183,6 +188,7 @@ fn receive(link: &mut LinkEnd, token: Option<Token>)
 fn count(link: &mut LinkEnd, credit: bool)
     ensures stands { (rec : LinkRec) (slot : ℕ) → WindowOf link.old rec → WindowOf link.new (credit_arrives slot credit rec) }
     ensures gap { link.new.gap ≡ link.old.gap }
+    ensures last_sent { link.new.last_sent ≡ link.old.last_sent }
 {
     if credit {
         link.credit();

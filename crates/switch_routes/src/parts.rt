@@ -7,7 +7,7 @@ ghost use Rattle.net_model.specs.Switch.{Moving, take_first, send, after_token, 
 ghost use Rattle.link_ends.specs.Window.{Window};
 ghost use Rattle.chan_ends.specs.Ends.{Ends};
 ghost use Rattle.switch_routes.specs.Inputs.{state_of, InputFits};
-ghost use Rattle.switch_routes.specs.Rows.{window_at, may_send_by, gaps_of};
+ghost use Rattle.switch_routes.specs.Rows.{window_at, may_send_by, gaps_of, SentBy};
 ghost use Rattle.switch_routes.specs.Work.{Begun, Stands, waiting_in};
 
 use crate::inputs::{Input, Inputs};
@@ -46,6 +46,7 @@ pub(crate) fn take_first(input: u8, chans: &mut ChanEnds, links: &mut Links, out
     ensures events { out.new.events ≡ out.old.events }
     ensures node { chans.new.node ≡ chans.old.node }
     ensures gaps { gaps_of links.new ≡ gaps_of links.old }
+    ensures sent { (slot : ℕ) → SentBy slot links.old → SentBy slot links.new }
     ensures may_send { (slot e : ℕ) → may_send_by slot (window_at links.new e) ≡ may_send_by slot (window_at links.old e) }
 {
     if input < LINK_INPUTS {
@@ -64,6 +65,7 @@ pub(crate) fn send(end: u8, token: Token, slot: u32, links: &mut Links, out: &mu
         Stands begun slot states ends links.old out.old m → Stands begun slot states ends links.new out.new (send slot end token m) }
     ensures events { out.new.events ≡ out.old.events }
     ensures gaps { gaps_of links.new ≡ gaps_of links.old }
+    ensures sent { SentBy slot links.old → SentBy slot links.new }
 {
     links.sent(end, slot);
     out.set_token(end, token);

@@ -7,7 +7,7 @@ ghost use Rattle.switch_routes.specs.Inputs.{state_of, InputFits};
 ghost use Rattle.switch_routes.specs.Work.{Begun, Stands};
 ghost use Rattle.link_ends.specs.Window.{Window};
 ghost use Rattle.chan_ends.specs.Ends.{Ends};
-ghost use Rattle.switch_routes.specs.Rows.{window_at, may_send_by, gaps_of};
+ghost use Rattle.switch_routes.specs.Rows.{window_at, may_send_by, gaps_of, SentBy};
 
 use crate::inputs::{Input, Inputs};
 use crate::links::Links;
@@ -56,6 +56,7 @@ pub(crate) fn local_step(
     ensures events { length out.new.events ≤ length out.old.events + 1 }
     ensures node { chans.new.node ≡ chans.old.node }
     ensures gaps { gaps_of links.new ≡ gaps_of links.old }
+    ensures sent { SentBy turn.slot links.old → SentBy turn.slot links.new }
 {
     if let Some(token) = first_waiting(turn.input, chans, links) {
         deliver(turn, chan, token, inputs, chans, links, out);
@@ -80,6 +81,7 @@ fn deliver(
     ensures events { length out.new.events ≤ length out.old.events + 1 }
     ensures node { chans.new.node ≡ chans.old.node }
     ensures gaps { gaps_of links.new ≡ gaps_of links.old }
+    ensures sent { SentBy turn.slot links.old → SentBy turn.slot links.new }
 {
     if is_pause(token) {
         take_first(turn.input, chans, links, out);
@@ -115,6 +117,7 @@ pub(crate) fn lost_step(
     ensures events { out.new.events ≡ out.old.events }
     ensures node { chans.new.node ≡ chans.old.node }
     ensures gaps { gaps_of links.new ≡ gaps_of links.old }
+    ensures sent { SentBy turn.slot links.old → SentBy turn.slot links.new }
 {
     if let Some(token) = first_waiting(turn.input, chans, links) {
         take_first(turn.input, chans, links, out);
@@ -138,6 +141,7 @@ pub(crate) fn head_step(
     ensures events { out.new.events ≡ out.old.events }
     ensures node { chans.new.node ≡ chans.old.node }
     ensures gaps { gaps_of links.new ≡ gaps_of links.old }
+    ensures sent { SentBy turn.slot links.old → SentBy turn.slot links.new }
 {
     if let Some(token) = first_waiting(turn.input, chans, links) {
         take_first(turn.input, chans, links, out);
@@ -195,6 +199,7 @@ pub(crate) fn out_step(
     ensures events { out.new.events ≡ out.old.events }
     ensures node { chans.new.node ≡ chans.old.node }
     ensures gaps { gaps_of links.new ≡ gaps_of links.old }
+    ensures sent { SentBy turn.slot links.old → SentBy turn.slot links.new }
 {
     if !links.can_send(held.end, turn.slot) {
         return;
@@ -217,6 +222,7 @@ fn out_header(turn: Turn, held: Held, inputs: &mut Inputs, links: &mut Links, ou
         (to_state turn.input (Out held.end (held.headers + 1) held.dest) (send turn.slot held.end (Byte (header_byte held.dest held.headers)) m)) }
     ensures events { out.new.events ≡ out.old.events }
     ensures gaps { gaps_of links.new ≡ gaps_of links.old }
+    ensures sent { SentBy turn.slot links.old → SentBy turn.slot links.new }
 {
     let byte = header_byte(held.dest, held.headers);
     send(held.end, Token::Byte(byte), turn.slot, links, out);
@@ -261,6 +267,7 @@ fn out_token(
     ensures events { out.new.events ≡ out.old.events }
     ensures node { chans.new.node ≡ chans.old.node }
     ensures gaps { gaps_of links.new ≡ gaps_of links.old }
+    ensures sent { SentBy turn.slot links.old → SentBy turn.slot links.new }
 {
     if let Some(token) = first_waiting(turn.input, chans, links) {
         take_first(turn.input, chans, links, out);

@@ -2,7 +2,7 @@
 ghost use Rattle.std.specs.Prelude.{ℕ, ◌≡◌, ◌<◌, ◌≤◌, ◌+◌, false, None, length, replicate, IsTrue};
 ghost use Rattle.xs_model.specs.Record.{NodeRec};
 ghost use Rattle.net_model.specs.Switch.{Moving, moves_from, begun};
-ghost use Rattle.switch_routes.specs.Rows.{WindowsOf, CreditedBy, gaps_of};
+ghost use Rattle.switch_routes.specs.Rows.{WindowsOf, CreditedBy, SentBy, gaps_of};
 ghost use Rattle.switch_routes.specs.Switch.{StandsIn, idle_switch, switched, node_after, emitted_after, chan_is_busy};
 ghost use Rattle.std.specs.List.{list_all};
 ghost use Rattle.switch_routes.specs.Rest.{at_rest, sends_nothing};
@@ -66,13 +66,14 @@ impl Switch {
         ensures windows { (rec : NodeRec) → StandsIn slot self.old chans.old links.old rec →
             WindowsOf links.new (switched self.old links.old slot rec).rec.links }
         ensures credited { (rec : NodeRec) → StandsIn slot self.old chans.old links.old rec →
-            CreditedBy (slot + 1) (switched self.old links.old slot rec).rec.links }
+            CreditedBy slot (switched self.old links.old slot rec).rec.links }
         ensures emitted { (rec : NodeRec) → StandsIn slot self.old chans.old links.old rec →
             out.new ≡ emitted_after out.old slot (switched self.old links.old slot rec) }
         ensures id { self.new.id ≡ self.old.id }
         ensures ways { self.new.ways ≡ self.old.ways }
         ensures node { chans.new.node ≡ chans.old.node }
         ensures gaps { gaps_of links.new ≡ gaps_of links.old }
+        ensures sent { SentBy slot links.old → SentBy slot links.new }
         ensures events { length out.new.events ≤ length out.old.events + 40 }
     {
         let ways = self.ways;
@@ -116,6 +117,7 @@ fn steps(
     ensures events { length out.new.events ≤ length out.old.events + 40 }
     ensures node { chans.new.node ≡ chans.old.node }
     ensures gaps { gaps_of links.new ≡ gaps_of links.old }
+    ensures sent { SentBy slot links.old → SentBy slot links.new }
 {
     for input in 0..INPUTS {
         step(Turn { input, slot }, ways, inputs, chans, links, out);

@@ -6,7 +6,7 @@ ghost use Rattle.xs_model.specs.Record.{NodeRec, Idle};
 ghost use Rattle.net_model.specs.Ids.{chan_of_dest, Behind};
 ghost use Rattle.net_model.specs.Switch.{Routes, Moving, want_step, want_chan, want_way, free_end, is_out_by, packet_step, start_packet, link_head_step, step_at, input_step, waiting_at};
 ghost use Rattle.chan_ends.specs.Ends.{chan_at};
-ghost use Rattle.switch_routes.specs.Rows.{gaps_of};
+ghost use Rattle.switch_routes.specs.Rows.{gaps_of, SentBy};
 ghost use Rattle.switch_routes.specs.Inputs.{state_of, InputFits};
 ghost use Rattle.switch_routes.specs.Work.{Begun, Stands};
 ghost use Rattle.switch_routes.specs.Ways.{routes_with};
@@ -41,6 +41,7 @@ pub(crate) fn step(
     ensures events { length out.new.events ≤ length out.old.events + 1 }
     ensures node { chans.new.node ≡ chans.old.node }
     ensures gaps { gaps_of links.new ≡ gaps_of links.old }
+    ensures sent { SentBy turn.slot links.old → SentBy turn.slot links.new }
 {
     let state = inputs.state(turn.input);
     match state {
@@ -73,6 +74,7 @@ fn idle_step(
     ensures events { length out.new.events ≤ length out.old.events + 1 }
     ensures node { chans.new.node ≡ chans.old.node }
     ensures gaps { gaps_of links.new ≡ gaps_of links.old }
+    ensures sent { SentBy turn.slot links.old → SentBy turn.slot links.new }
 {
     if turn.input < LINK_INPUTS {
         head_step(turn, Input::Idle, inputs, chans, links, out);
@@ -97,6 +99,7 @@ fn link_head_step(
     ensures events { out.new.events ≡ out.old.events }
     ensures node { chans.new.node ≡ chans.old.node }
     ensures gaps { gaps_of links.new ≡ gaps_of links.old }
+    ensures sent { SentBy turn.slot links.old → SentBy turn.slot links.new }
 {
     if turn.input < LINK_INPUTS {
         head_step(turn, state, inputs, chans, links, out);
@@ -121,6 +124,7 @@ fn packet_step(
     ensures events { length out.new.events ≤ length out.old.events + 1 }
     ensures node { chans.new.node ≡ chans.old.node }
     ensures gaps { gaps_of links.new ≡ gaps_of links.old }
+    ensures sent { SentBy turn.slot links.old → SentBy turn.slot links.new }
 {
     if let Some(_) = first_waiting(turn.input, chans, links) {
         start_packet(turn, ways, inputs, chans, links, out);
@@ -145,6 +149,7 @@ fn start_packet(
     ensures events { length out.new.events ≤ length out.old.events + 1 }
     ensures node { chans.new.node ≡ chans.old.node }
     ensures gaps { gaps_of links.new ≡ gaps_of links.old }
+    ensures sent { SentBy turn.slot links.old → SentBy turn.slot links.new }
 {
     if let Some(dest) = chans.dest(turn.input - LINK_INPUTS) {
         inputs.set(turn.input, Input::Want { dest });
@@ -169,6 +174,7 @@ fn want_step(
     ensures events { length out.new.events ≤ length out.old.events + 1 }
     ensures node { chans.new.node ≡ chans.old.node }
     ensures gaps { gaps_of links.new ≡ gaps_of links.old }
+    ensures sent { SentBy turn.slot links.old → SentBy turn.slot links.new }
 {
     match ways.way_to(dest) {
         Way::Here => want_chan(turn, dest, inputs, chans, links, out),
@@ -192,6 +198,7 @@ fn want_chan(
     ensures events { length out.new.events ≤ length out.old.events + 1 }
     ensures node { chans.new.node ≡ chans.old.node }
     ensures gaps { gaps_of links.new ≡ gaps_of links.old }
+    ensures sent { SentBy turn.slot links.old → SentBy turn.slot links.new }
 {
     let chan = chan_of_dest(dest);
     if !is_in_use(chan, chans) {
@@ -228,6 +235,7 @@ fn want_end(
     ensures events { length out.new.events ≤ length out.old.events + 1 }
     ensures node { chans.new.node ≡ chans.old.node }
     ensures gaps { gaps_of links.new ≡ gaps_of links.old }
+    ensures sent { SentBy turn.slot links.old → SentBy turn.slot links.new }
 {
     if mask == 0 {
         lose(turn, dest, inputs, out);

@@ -30,3 +30,9 @@ returns-then-push_in-clause-stands c =
     along _ _ _ _ _ _ (after_token i (Local n) t (it_happens (happen.Chan n t) (take_first i (put_into n t m)))) _
     (deliver-room i n t m (sym c.is_pause.ensures.value ∙ c.if-is_pause.false) room)
     (c.after_token-then-push_in.ensures.stands begun slot _ _ _ (it_happens (happen.Chan n t) (take_first i (put_into n t m))) told)
+
+pub returns-then-is_pause-clause-sent : goal.returns-then-is_pause-clause-sent
+returns-then-is_pause-clause-sent c = c.take_first.ensures.sent c.args.turn.slot
+
+pub returns-then-push_in-clause-sent : goal.returns-then-push_in-clause-sent
+returns-then-push_in-clause-sent c = c.take_first-then-push_in.ensures.sent c.args.turn.slot

@@ -32,3 +32,9 @@ returns-in_default-clause-stands c =
     let i = c.args.turn.input in
     let is = sym (waits begun c.args.turn.slot c.args.inputs.now c.args.chans.now c.args.links.now c.args.out.now m s i) ∙ c.in_default.ensures.cases in
     along _ _ _ _ _ _ m _ (sym (ap (λ (ts : List Token). head_step i (state_of c.args.state) ts m) is)) s
+
+pub returns-in-Byte-clause-sent : goal.returns-in-Byte-clause-sent
+returns-in-Byte-clause-sent c = c.take_first.ensures.sent c.args.turn.slot
+
+pub returns-in-Ctrl-clause-sent : goal.returns-in-Ctrl-clause-sent
+returns-in-Ctrl-clause-sent c = c.take_first.ensures.sent c.args.turn.slot

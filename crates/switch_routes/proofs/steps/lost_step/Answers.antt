@@ -20,3 +20,6 @@ returns-in_default-clause-stands c =
     let i = c.args.turn.input in
     let is = sym (waits begun c.args.turn.slot c.args.inputs.now c.args.chans.now c.args.links.now c.args.out.now m s i) ∙ c.in_default.ensures.cases in
     along _ _ _ _ _ _ m _ (sym (ap (λ (ts : List Token). lost_step i ts m) is)) s
+
+pub returns-in-Some-clause-sent : goal.returns-in-Some-clause-sent
+returns-in-Some-clause-sent c = c.take_first.ensures.sent c.args.turn.slot

@@ -25,3 +25,6 @@ returns-in_default-clause-stands c =
     let held = c.args.held in
     let is = sym (waits begun c.args.turn.slot c.args.inputs.now c.args.chans.now c.args.links.now c.args.out.now m s i) ∙ c.in_default.ensures.cases in
     along _ _ _ _ _ _ m _ (sym (ap (λ (ts : List Token). out_token c.args.turn.slot i held.end held.headers held.dest ts m) is)) s
+
+pub returns-in-Some-clause-sent : goal.returns-in-Some-clause-sent
+returns-in-Some-clause-sent c = λ by. c.send.ensures.sent (c.take_first.ensures.sent c.args.turn.slot by)

@@ -11,6 +11,7 @@ loop-input-init c = record {
   events = omega arith;
   node = refl;
   gaps = refl;
+  sent = λ by. by;
 }
 
 pub loop-input-preserved : goal.loop-input-preserved
@@ -24,6 +25,7 @@ loop-input-preserved c =
       events = omega (arith, c.step.ensures.events, c.loop-input.invariant.events);
       node = c.step.ensures.node ∙ c.loop-input.invariant.node;
       gaps = c.step.ensures.gaps ∙ c.loop-input.invariant.gaps;
+      sent = λ by. c.step.ensures.sent (c.loop-input.invariant.sent by);
     }
 
 pub returns-clause-stands : goal.returns-clause-stands

@@ -1,7 +1,7 @@
 use Rattle.std.proofs.Common.{◌≡◌, ◌+◌, ◌≤◌, length}
 use Rattle.net_model.specs.Switch.{Moving}
 use Rattle.switch_routes.specs.Ways.{routes_with}
-use Rattle.switch_routes.specs.Rows.{gaps_of}
+use Rattle.switch_routes.specs.Rows.{SentBy, gaps_of}
 use Rattle.switch_routes.specs.Work.{Begun, Stands}
 use Rattle.switch_routes.proofs.Moves.{first_steps}
 use Rattle.switch_routes.proofs.switch.steps.Given as goal
@@ -14,4 +14,5 @@ invariant-loop-input l = record {
   events : length l.out.events ≤ length l.fn.out.events + l.input;
   node : l.chans.node ≡ l.fn.chans.node;
   gaps : gaps_of l.links ≡ gaps_of l.fn.links;
+  sent : SentBy l.slot l.fn.links → SentBy l.slot l.links;
 }

@@ -4,7 +4,7 @@ use Rattle.switch_routes.proofs.links.Links.arrivals.Goals as goal
 
 pub loop-end-init : goal.loop-end-init
 unfolding first_arrivals
-loop-end-init c = record { stands = λ slot links of. of; count = λ h. absurd (omega arith); gaps = refl }
+loop-end-init c = record { stands = λ slot links of. of; count = λ h. absurd (omega arith); gaps = refl; sent = λ slot by. by }
 
 pub loop-end-preserved : goal.loop-end-preserved
 loop-end-preserved c =
@@ -16,6 +16,7 @@ loop-end-preserved c =
           rw (add-one, ← next) done;
       count = λ h. c.arrive.ensures.count;
       gaps = c.arrive.ensures.gaps ∙ c.loop-end.invariant.gaps;
+      sent = λ slot by. c.arrive.ensures.sent slot (c.loop-end.invariant.sent slot by);
     }
 
 pub returns-clause-stands : goal.returns-clause-stands

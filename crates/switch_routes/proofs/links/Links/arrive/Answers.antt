@@ -1,7 +1,7 @@
 use Rattle.std.proofs.Common.{ap, sym, ◌∙◌, Some, refl}
 use Rattle.net_model.specs.Links.{link_after_arrivals, token_arrives}
 use Rattle.std.proofs.lemmas.List.{length-set}
-use Rattle.switch_routes.proofs.Rows.{change-there, change-none, gaps-set}
+use Rattle.switch_routes.proofs.Rows.{change-there, change-none, gaps-set, sent-kept}
 use Rattle.switch_routes.specs.Rows.{gap_of}
 use Rattle.switch_routes.proofs.links.Links.arrive.Goals as goal
 
@@ -21,3 +21,7 @@ returns-in_default-clause-stands c =
 
 pub returns-in-Some-clause-count : goal.returns-in-Some-clause-count
 returns-in-Some-clause-count c = length-set c.args.self.now c.args.end (Some c.count.new.link) ∙ c.end.ensures.count
+
+pub returns-in-Some-clause-sent : goal.returns-in-Some-clause-sent
+returns-in-Some-clause-sent c = λ slot by.
+    sent-kept c.args.self.now c.args.end slot c.in-Some.link.now c.count.new.link c.in-Some.ensures.cases (c.count.ensures.last_sent ∙ c.receive.ensures.last_sent) by

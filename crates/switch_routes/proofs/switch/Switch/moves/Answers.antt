@@ -2,7 +2,7 @@ use Rattle.net_model.specs.Switch.{begun as begun_at}
 use Rattle.switch_routes.specs.Rows.{gaps_of}
 use Rattle.switch_routes.specs.Work.{Begun}
 use Rattle.switch_routes.specs.InsideSwitch.{switch_of}
-use Rattle.switch_routes.proofs.Moves.{stands-first, credited-later, same_emitted, same_parts}
+use Rattle.switch_routes.proofs.Moves.{stands-first, same_emitted, same_parts}
 use Rattle.switch_routes.proofs.switch.Switch.moves.Goals as goal
 
 pub returns-clause-rec : goal.returns-clause-rec
@@ -27,7 +27,7 @@ returns-clause-credited c =
     let row = c.args.links.now in
     let begun : Begun = record { start = rec; before = c.args.out.now.events; gaps = gaps_of row } in
     let s = c.steps.ensures.stands begun (begun_at rec) (stands-first c.args.slot (switch_of c.self.inside) c.args.chans.now row c.args.out.now rec stands c.requires.no_tokens c.requires.no_credits) in
-    credited-later c.args.slot _ s.credited)
+    s.credited)
 
 pub returns-clause-emitted : goal.returns-clause-emitted
 returns-clause-emitted c =
