@@ -1,6 +1,7 @@
 //! `ChanEnds`, the channel ends of a core.
-ghost use Rattle.std.specs.Prelude.{ℕ, ◌≡◌, ◌<◌, ◌↔◌, ◌&&◌, true, false, Some, None, [], ◌∷◌, ◌++◌, drop, length, slice_get, OnOk, OnErr, IfSome, IsErr, IsTrue, IsFalse};
+ghost use Rattle.std.specs.Prelude.{ℕ, ◌≡◌, ◌<◌, ◌↔◌, ◌&&◌, ◌-◌, nat_le, true, false, Some, None, [], ◌∷◌, ◌++◌, drop, length, slice_get, OnOk, OnErr, IfSome, IsErr, IsTrue, IsFalse};
 ghost use Rattle.net_model.specs.Chans.{free_chan, got_chan, has_room, is_chan_id};
+ghost use Rattle.xs_model.specs.Picks.{has_tokens};
 ghost use Rattle.chan_ends.specs.Ends.{chan_at, with_chan_at, with_got, unused_ends, ends_after};
 ghost use Rattle.chan_ends.specs.Answers.{found_at_put, put_answer, found_at_check, check_answer};
 
@@ -109,6 +110,26 @@ impl ChanEnds {
         ensures count { length self.new.chans ≡ 32 }
     {
         self.ends[c as usize].check(v)
+    }
+
+    /// Whether `count` tokens still fit into the output buffer of channel end `c`, 0 to 31, which holds 8; of 0 tokens,
+    /// and of more than 8, it says whether they fit in place of 8. See docs/LINKS.md.
+    pub fn has_room(&self, c: u8, count: u8) -> bool
+        requires { c < 32 }
+        ensures value { result ≡ nat_le (length (chan_at self.now c).output) (8 - count) }
+        ensures count { length self.now.chans ≡ 32 }
+    {
+        self.ends[c as usize].has_room(count)
+    }
+
+    /// Whether `count` tokens are in the input buffer of channel end `c`, 0 to 31, or a control token is among the
+    /// first `count`. See docs/LINKS.md.
+    pub fn has_tokens(&self, c: u8, count: u8) -> bool
+        requires { c < 32 }
+        ensures value { result ≡ has_tokens count (chan_at self.now c).input }
+        ensures count { length self.now.chans ≡ 32 }
+    {
+        self.ends[c as usize].has_tokens(count)
     }
 
     /// The token that waits longest in the output buffer of channel end `c`, 0 to 31: `None` exactly where none is

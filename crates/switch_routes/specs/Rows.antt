@@ -3,6 +3,7 @@ use Rattle.std.specs.Prelude.{ℕ, ◌≤◌, Bool, false, Option, Some, None, L
 use Rattle.std.specs.List.{AllByRecursion}
 use Rattle.xs_base.specs.declared.token.Token.{Token}
 use Rattle.xs_model.specs.Record.{LinkRec}
+use Rattle.net_model.specs.Links.{may_send}
 use Rattle.link_ends.specs.Window.{Window, WindowOf, can_send}
 
 -- no link end is there
@@ -50,3 +51,8 @@ may_send_by slot (Some window) = can_send window slot
 abbrev pub without_first : Option Window → Option Window
 without_first None = None
 without_first (Some window) = Some (record window { buffer = drop 1 window.buffer })
+
+-- whether a link record is there and its link end, with this gap, may send in a slot
+abbrev pub link_may_send : ℕ → ℕ → Option LinkRec → Bool
+link_may_send gap slot None = false
+link_may_send gap slot (Some link) = may_send gap slot link

@@ -27,10 +27,10 @@ abbrev pub switched : SwitchRec → List (Option Window) → ℕ → NodeRec →
 switched switch windows slot rec = moves (routes_of switch windows) slot rec
 
 -- a switch, channel ends and a row of link ends stand for a node's record in a slot
-pub record StandsIn (slot : ℕ) (switch : SwitchRec) (chans : Ends) (windows : List (Option Window)) (rec : NodeRec) : Type 0 where
+pub record StandsIn (slot : ℕ) (switch : SwitchRec) (ends : Ends) (row : List (Option Window)) (rec : NodeRec) : Type 0 where
   pub inputs : switch.inputs ≡ rec.core.inputs
-  pub chans : chans.chans ≡ rec.core.chans
-  pub windows : WindowsOf windows rec.links
+  pub chans : ends.chans ≡ rec.core.chans
+  pub windows : WindowsOf row rec.links
   pub credited : CreditedBy slot rec.links
 
 -- a node with these inputs, channel ends and link records, and all else as it was

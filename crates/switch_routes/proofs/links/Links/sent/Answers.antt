@@ -1,0 +1,15 @@
+use Rattle.std.proofs.Common.{◌≡◌, ap, sym, ◌∙◌, Some, refl}
+use Rattle.net_model.specs.Switch.{sent_in}
+use Rattle.switch_routes.proofs.Rows.{change-there, gaps-set}
+use Rattle.link_ends.specs.Window.{Window}
+use Rattle.switch_routes.specs.Rows.{gap_of}
+use Rattle.switch_routes.proofs.links.Links.sent.Goals as goal
+
+pub returns-in-Some-clause-stands : goal.returns-in-Some-clause-stands
+returns-in-Some-clause-stands c =
+    λ links of.
+    change-there (sent_in c.args.slot) c.args.self.now links c.args.end c.in-Some.link.now c.sent.new.self c.in-Some.ensures.cases c.sent.ensures.stands of
+
+pub returns-in-Some-clause-gaps : goal.returns-in-Some-clause-gaps
+returns-in-Some-clause-gaps c =
+    gaps-set c.args.self.now c.args.end (Some c.sent.new.self) (ap (λ (w : Window). w.gap) c.sent.ensures.noted ∙ sym (ap gap_of c.in-Some.ensures.cases))
