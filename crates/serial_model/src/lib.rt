@@ -1,0 +1,10 @@
+//! The serial machine as a definition: what all nodes of a system, stepped together, have become after so many
+//! slots. See docs/DEFINITIONS.md.
+#![tactic(auto)]
+
+ghost use Rattle.serial_model.specs.Worked.{WorkedSystems};
+
+/// The definitions give what was worked out by hand for systems of two nodes.
+pub fn worked_systems()
+    ensures { WorkedSystems }
+{}
