@@ -1,7 +1,8 @@
 -- The events of all nodes in one order.
-use Rattle.std.specs.Prelude.{ℕ, Bool, nat_lt, List, [], ◌∷◌, ◌++◌, map, take, drop}
+use Rattle.std.specs.Prelude.{ℕ, Bool, nat_lt, List, [], ◌∷◌, ◌++◌, map, take, drop, All}
 use Rattle.std.specs.List.{prefix_len}
 use Rattle.xs_model.specs.declared.event.Event.{Event}
+use Rattle.xs_model.specs.Events.{IsWithinCounts}
 use Rattle.trace_model.specs.declared.NodeEvent.{NodeEvent}
 
 -- a node's events, each with the node's number
@@ -21,3 +22,7 @@ earlier e others = prefix_len (is_earlier_than e) others
 unfoldable pub merged : List NodeEvent → List NodeEvent → List NodeEvent
 merged [] others = others
 merged (e ∷ events) others = take (earlier e others) others ++ (e ∷ merged events (drop (earlier e others) others))
+
+-- each of the events names what is there
+abbrev pub AreWithinCounts : List NodeEvent → Type 0
+AreWithinCounts events = All (λ (e : NodeEvent). IsWithinCounts e.event) events
