@@ -43,11 +43,15 @@ credits_in history = length (filter (λ (e : Entry). is_credit e.what) history)
 abbrev pub link_end_text : ℕ → ℕ → List ℕ
 link_end_text node end = decimal node ++ (codes ":" ++ decimal end)
 
+-- ` tokens A credits B`, and the line's end
+abbrev pub counts_text : List Entry → List ℕ
+counts_text history =
+    codes " tokens " ++ (decimal (tokens_in history) ++ (codes " credits " ++ (decimal (credits_in history) ++ (10 ∷ []))))
+
 -- `link N:E>M:F tokens A credits B`
 abbrev pub link_line : ℕ → ℕ → ℕ → ℕ → List Entry → List ℕ
 link_line from from_end to to_end history =
-    codes "link " ++ (link_end_text from from_end ++ (codes ">" ++ (link_end_text to to_end
-    ++ (codes " tokens " ++ (decimal (tokens_in history) ++ (codes " credits " ++ (decimal (credits_in history) ++ (10 ∷ []))))))))
+    codes "link " ++ (link_end_text from from_end ++ (codes ">" ++ (link_end_text to to_end ++ counts_text history)))
 
 abbrev pub is_halted : Run → Bool
 is_halted Halted = true

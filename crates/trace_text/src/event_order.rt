@@ -1,5 +1,5 @@
 //! The events of all nodes in one order: by slot, and within a slot by node.
-ghost use Rattle.std.specs.Prelude.{◌≡◌, ◌≤◌, length, IfOk, All};
+ghost use Rattle.std.specs.Prelude.{◌≡◌, ◌≤◌, ◌++◌, length, take, drop, IfOk, OnOk, All};
 ghost use Rattle.xs_model.specs.Events.{IsWithinCounts};
 ghost use Rattle.trace_model.specs.EventOrder.{earlier, merged, told_by, AreWithinCounts};
 
@@ -24,13 +24,25 @@ pub(crate) fn merge(
     let mut rest = others;
     for e in events {
         let told = NodeEvent { node, event: *e };
-        let count = earlier(&told, rest);
-        all.extend_from_slice(&rest[..count])?;
+        rest = take_earlier(&mut all, &told, rest)?;
         all.push(told)?;
-        rest = &rest[count..];
     }
     all.extend_from_slice(rest)?;
     Ok(all)
+}
+
+// Takes the others that are in an earlier slot than the event, and gives those that are left.
+fn take_earlier<'a>(
+    all: &mut Vec<NodeEvent>,
+    e: &NodeEvent,
+    others: &'a [NodeEvent],
+) -> Result<&'a [NodeEvent], AllocError>
+    ensures taken { OnOk result (all.new.items ≡ all.old.items ++ take (earlier e.now others.now) others.now) }
+    ensures rest { IfOk result (λ rest. rest.now ≡ drop (earlier e.now others.now) others.now) }
+{
+    let (front, rest) = others.split_at(earlier(e, others));
+    all.extend_from_slice(front)?;
+    Ok(rest)
 }
 
 // How many events at the front of the others are in an earlier slot than this one.

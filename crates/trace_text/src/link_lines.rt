@@ -1,6 +1,6 @@
 //! The line of a directed link: how many tokens and credits were sent on it.
 ghost use Rattle.std.specs.Prelude.{◌≡◌, ◌++◌, OnOk};
-ghost use Rattle.trace_model.specs.Trace.{tokens_in, credits_in, link_end_text, link_line};
+ghost use Rattle.trace_model.specs.Trace.{tokens_in, credits_in, link_end_text, counts_text, link_line};
 
 use std::alloc::AllocError;
 use trace_lines::append_decimal;
@@ -38,6 +38,18 @@ fn append_link_end(out: &mut Text, node: u8, end: u8) -> Result<(), AllocError>
     append_decimal(out, u64::from(end))
 }
 
+// ` tokens A credits B`, what the history has of each, and the line's end.
+fn append_counts(out: &mut Text, history: &[Entry]) -> Result<(), AllocError>
+    ensures { OnOk result (out.new ≡ out.old ++ counts_text history.now) }
+{
+    let sent = count_sent(history);
+    out.append(b" tokens ")?;
+    append_decimal(out, sent.tokens)?;
+    out.append(b" credits ")?;
+    append_decimal(out, sent.credits)?;
+    out.append(b"\n")
+}
+
 // `link N:E>M:F tokens A credits B`, with what the history has of each.
 pub(crate) fn append_link_line(
     out: &mut Text,
@@ -49,14 +61,9 @@ pub(crate) fn append_link_line(
 ) -> Result<(), AllocError>
     ensures { OnOk result (out.new ≡ out.old ++ link_line from from_end to to_end history.now) }
 {
-    let sent = count_sent(history);
     out.append(b"link ")?;
     append_link_end(out, from, from_end)?;
     out.append(b">")?;
     append_link_end(out, to, to_end)?;
-    out.append(b" tokens ")?;
-    append_decimal(out, sent.tokens)?;
-    out.append(b" credits ")?;
-    append_decimal(out, sent.credits)?;
-    out.append(b"\n")
+    append_counts(out, history)
 }
