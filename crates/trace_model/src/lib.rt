@@ -1,0 +1,11 @@
+//! The text that a run writes: definitions alone, with the plain type that they speak of. See docs/OUTPUT.md.
+#![tactic(auto)]
+
+use xs_model::Event;
+
+/// An event, and the number of the node on which it happened. See docs/OUTPUT.md.
+#[derive(Clone, Copy)]
+pub struct NodeEvent {
+    pub node: u8,
+    pub event: Event,
+}
