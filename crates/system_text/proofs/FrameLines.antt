@@ -5,7 +5,7 @@ use Rattle.std.proofs.lemmas.Bool.{cond-true, cond-false}
 use Rattle.xs_text.specs.Bytes.{all_allowed}
 use Rattle.xs_text.specs.Lines.{lines_of}
 use Rattle.xs_text.specs.Words.{words_of_line, without_comment, parted}
-use Rattle.system_model.specs.System.{next_words, words_or}
+use Rattle.system_text.specs.Parts.{next_words, words_or}
 
 pub lines_of-nothing : (text : List ℕ) → text ≡ [] → lines_of text ≡ []
 unfolding lines_of

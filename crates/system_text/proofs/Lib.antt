@@ -1,3 +1,2 @@
 pub mod FrameLines
 pub mod Sections
-pub mod Outcomes

@@ -7,7 +7,8 @@ use Rattle.std.proofs.lemmas.List.{length-take}
 use Rattle.xs_text.specs.Bytes.{all_allowed}
 use Rattle.xs_text.specs.Lines.{lines_of, line_bytes, IsLineOfParts}
 use Rattle.xs_text.specs.declared.line_reader.Line.{Line}
-use Rattle.system_model.specs.System.{Section, section_of, is_end, with_line}
+use Rattle.system_model.specs.System.{is_end}
+use Rattle.system_text.specs.Parts.{Section, section_of, with_line}
 use Rattle.system_text.proofs.FrameLines.{lines_of-nothing}
 
 -- lines put in front of a section
