@@ -15,7 +15,7 @@ pub words-nothing : words_of_line [] ≡ []
 unfolding without_comment parted
 words-nothing = refl
 
-next_words-cons : (l : List ℕ) (ls : List (List ℕ)) → next_words (l ∷ ls) ≡ (cond (all_allowed l) (words_or (words_of_line l) ls (next_words ls)) None)
+pub next_words-cons : (l : List ℕ) (ls : List (List ℕ)) → next_words (l ∷ ls) ≡ (cond (all_allowed l) (words_or (words_of_line l) ls (next_words ls)) None)
 unfolding next_words
 next_words-cons l ls = refl
 

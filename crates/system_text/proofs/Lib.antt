@@ -1,2 +1,3 @@
 pub mod FrameLines
 pub mod Sections
+pub mod PartByPart

@@ -16,7 +16,7 @@ abbrev pub with_front : List (List ℕ) → Option Section → Option Section
 with_front front None = None
 with_front front (Some section) = Some (record { lines = front ++ section.lines; rest = section.rest })
 
-section_of-cons : (l : List ℕ) (ls : List (List ℕ)) → section_of (l ∷ ls) ≡ cond (is_end l) (cond (all_allowed l) (Some (record { lines = []; rest = ls })) None) (option_and_then (λ section. Some (with_line l section)) (section_of ls))
+pub section_of-cons : (l : List ℕ) (ls : List (List ℕ)) → section_of (l ∷ ls) ≡ cond (is_end l) (cond (all_allowed l) (Some (record { lines = []; rest = ls })) None) (option_and_then (λ section. Some (with_line l section)) (section_of ls))
 unfolding section_of
 section_of-cons l ls = refl
 
