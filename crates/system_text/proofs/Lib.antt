@@ -1,3 +1,3 @@
 pub mod FrameLines
 pub mod Sections
-pub mod Outcomes
+pub mod PartByPart

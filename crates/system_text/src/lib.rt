@@ -1,15 +1,7 @@
 //! Reads a system text: the frame of a system, and the sources of its nodes. See docs/SYSTEM_TEXT.md.
 #![tactic(auto)]
 
-mod frame;
 mod frame_lines;
 mod section;
-mod system_error;
-mod system_reader;
-#[cfg(test)]
-mod tests;
-
-pub use source_model::AsmKind;
-pub use system_error::SystemError;
-pub use system_model::SysKind;
-pub use system_reader::{LONGEST_INPUT, read_system};
+mod words;
+mod parts;
