@@ -68,7 +68,7 @@ arrivals_of by_end = record { tokens = map token_among by_end; credits = map cre
 abbrev pub arrivals_at : PlanRec → List (List Entry) → ℕ → ℕ → Arrivals
 arrivals_at plan histories slot node = arrivals_of (map (λ end. arriving_by plan histories slot (incoming plan node end)) link_ends)
 
--- no pin shows anything
+-- each pin shows 0
 abbrev pub low_pins : PinView
 low_pins = record { level = replicate 29 0 }
 

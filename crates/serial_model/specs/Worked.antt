@@ -1,5 +1,5 @@
 -- Systems worked out by hand.
-use Rattle.std.specs.Prelude.{ℕ, ◌≡◌, ◌∷◌, List, [], map, replicate}
+use Rattle.std.specs.Prelude.{ℕ, ◌≡◌, true, false, Some, None, ◌∷◌, List, [], map, replicate}
 use Rattle.xs_base.specs.declared.token.Token.{Token}
 use Rattle.xs_base.specs.declared.token.Token.TheVariants.{Byte, Ctrl}
 use Rattle.xs_base.specs.declared.entry.Entry.{Entry}
@@ -8,6 +8,7 @@ use Rattle.xs_model.specs.declared.event.Event.{Event}
 use Rattle.xs_model.specs.declared.event.Happen.{Happen}
 use Rattle.xs_model.specs.declared.event.Happen.TheVariants as happen
 use Rattle.xs_model.specs.Record.{NodeRec, thread_of}
+use Rattle.xs_model.specs.Outside.{Emitted}
 use Rattle.xs_instructions.specs.declared.instr.Instr.{Instr}
 use Rattle.xs_instructions.specs.declared.instr.Instr.TheVariants.{Words, Memory, Threads, Resources}
 use Rattle.xs_instructions.specs.declared.instr.WordIns.TheVariants as words
@@ -16,7 +17,7 @@ use Rattle.xs_instructions.specs.declared.instr.ThreadIns.TheVariants as threads
 use Rattle.xs_instructions.specs.declared.instr.ResIns.TheVariants as resources
 use Rattle.sys_plan.specs.declared.NodePlan.{NodePlan}
 use Rattle.sys_plan.specs.Plan.{PlanRec}
-use Rattle.serial_model.specs.Serial.{SystemRec, serial}
+use Rattle.serial_model.specs.Serial.{SystemRec, sent_by, serial}
 
 -- a node whose number is its id, with this code and these bytes of data, that knows no way
 abbrev pub plain_node : ℕ → List Instr → List ℕ → NodePlan
@@ -94,3 +95,29 @@ pub record WorkedPair : Type 0 where
   pub events : (serial pair 60).events ≡ [] ∷ (happened 30 (happen.Chan 0 (Ctrl 1)) ∷ []) ∷ []
   pub waits : pcs (serial pair 30) ≡ 0x00040014 ∷ 0x00040004 ∷ []
   pub goes_on : pcs (serial pair 31) ≡ 0x00040014 ∷ 0x00040008 ∷ []
+
+-- the byte 1 and a credit leave by link end 0
+abbrev pub both_sent : Emitted
+both_sent = record { events = []; tokens = Some (Byte 1) ∷ replicate 7 None; credits = true ∷ replicate 7 false }
+
+pub record WorkedOrder : Type 0 where
+  -- the token stands before the credit of its slot, and nothing leaves by the next link end
+  pub token_first : sent_by 5 both_sent 0 ≡ token_in 5 (Byte 1) ∷ credit_in 5 ∷ []
+  pub other_end : sent_by 5 both_sent 1 ≡ []
+
+-- the pair where node 1 has no channel end in use
+abbrev pub lone_receiver : NodePlan
+lone_receiver = record (plain_node 1 (Threads threads.Freet ∷ []) []) { ways = 1 ∷ replicate 15 0 }
+
+abbrev pub lost_pair : PlanRec
+lost_pair = record pair { nodes = sender ∷ lone_receiver ∷ [] }
+
+-- The destination is whole in slot 26. The packet is lost in the slot after it, and its END is dropped on arrival, with
+-- its credit.
+pub record WorkedLost : Type 0 where
+  pub events : (serial lost_pair 40).events ≡ [] ∷ (happened 27 (happen.Lost 0x00010002) ∷ []) ∷ []
+  pub not_yet : (serial lost_pair 27).events ≡ [] ∷ [] ∷ []
+  pub histories : (serial lost_pair 40).histories
+      ≡ (token_in 13 (Byte 0) ∷ token_in 17 (Byte 1) ∷ token_in 21 (Byte 0) ∷ token_in 25 (Ctrl 1) ∷ [])
+      ∷ (credit_in 18 ∷ credit_in 22 ∷ credit_in 26 ∷ credit_in 30 ∷ [])
+      ∷ []

@@ -30,3 +30,10 @@ returns-clause-pair c = record {
   waits = refl;
   goes_on = refl;
 }
+
+pub returns-clause-order : goal.returns-clause-order
+returns-clause-order c = record { token_first = refl; other_end = refl }
+
+pub returns-clause-lost : goal.returns-clause-lost
+unfolding pick_from first_difference free_chan links_after_arrivals moves_from free_end node_step serial
+returns-clause-lost c = record { events = refl; not_yet = refl; histories = refl }
