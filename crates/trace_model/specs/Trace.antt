@@ -125,17 +125,16 @@ halted_at system k node = halted_lines node.number 0 (node_at system k).core.thr
 abbrev pub memory_at : SystemRec → ℕ → NodePlan → List ℕ
 memory_at system k node = memory_lines node.number memory_base (words_of (node_at system k).core.memory)
 
--- the text of a system that ran so many slots
-abbrev pub system_text : PlanRec → ℕ → SystemRec → List ℕ
-system_text plan slots system =
+-- all lines but the last: the events in order, what of them was left out, what was sent on each directed link, the
+-- halted threads, and the words of the memories that aren't 0
+abbrev pub lines_text : PlanRec → SystemRec → List ℕ
+lines_text plan system =
     event_lines (events_in_order system 0 plan.nodes)
     ++ (by_position (more_at system) 0 plan.nodes
     ++ (by_position (link_at plan.nodes system) 0 (directions plan.links)
     ++ (by_position (halted_at system) 0 plan.nodes
-    ++ (by_position (memory_at system) 0 plan.nodes
-    ++ end_line slots))))
+    ++ by_position (memory_at system) 0 plan.nodes)))
 
--- the trace of a run: its events in order, what of them was left out, what was sent on each directed link, the halted
--- threads, the words of the memories that aren't 0, and the end
+-- the trace of a run of so many slots
 unfoldable pub trace_text : PlanRec → ℕ → List ℕ
-trace_text plan slots = system_text plan slots (serial plan slots)
+trace_text plan slots = lines_text plan (serial plan slots) ++ end_line slots

@@ -4,3 +4,6 @@
 mod event_order;
 mod link_lines;
 mod node_lines;
+mod whole_trace;
+
+pub use whole_trace::trace;
