@@ -270,7 +270,7 @@ abbrev pub by_number : List NodeText → List NodeText
 by_number [] = []
 by_number (text ∷ texts) = put_by_number text (by_number texts)
 
--- the link ends by which a node sends what differs from its id at a bit first: link end 0, or none
+-- the link ends by which a node sends what differs from its id at a bit first, as a mask: 1 is link end 0 alone, 0 none
 abbrev pub way : List BitLine → ℕ → ℕ → ℕ
 way bits number bit = if list_any (λ (b : BitLine). (b.node == number) && (b.bit == bit)) bits then 1 else 0
 

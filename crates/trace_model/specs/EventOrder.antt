@@ -9,16 +9,16 @@ use Rattle.trace_model.specs.declared.NodeEvent.{NodeEvent}
 abbrev pub told_by : ℕ → List Event → List NodeEvent
 told_by node events = map (λ (e : Event). record { node = node; event = e }) events
 
--- whether an event is in an earlier slot than the first one
-abbrev pub is_earlier_than : NodeEvent → NodeEvent → Bool
-is_earlier_than first e = nat_lt e.event.slot first.event.slot
+-- whether another event is in an earlier slot than this one
+abbrev pub is_preceded_by : NodeEvent → NodeEvent → Bool
+is_preceded_by e other = nat_lt other.event.slot e.event.slot
 
 -- how many events at the front of a list are earlier than an event
 abbrev pub earlier : NodeEvent → List NodeEvent → ℕ
-earlier e others = prefix_len (is_earlier_than e) others
+earlier e others = prefix_len (is_preceded_by e) others
 
--- Two lists as one: before each event of the first list come those of the second that are earlier, and after it
--- those that are not, so that within a slot the first list's come first.
+-- Two lists as one: before each event of the first list come those at the second one's front that are earlier, and
+-- after it the rest. Of two lists that ascend by slot this is all by slot, and within a slot the first list's first.
 unfoldable pub merged : List NodeEvent → List NodeEvent → List NodeEvent
 merged [] others = others
 merged (e ∷ events) others = take (earlier e others) others ++ (e ∷ merged events (drop (earlier e others) others))

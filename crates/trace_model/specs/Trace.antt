@@ -104,7 +104,7 @@ events_in_order system k [] = []
 events_in_order system k (node ∷ nodes) =
     merged (told_by node.number (first_events (events_at system k))) (events_in_order system (k + 1) nodes)
 
--- how many events of the node at position k were left out
+-- the line that tells how many events of the node at position k were left out, where some were
 abbrev pub more_at : SystemRec → ℕ → NodePlan → List ℕ
 more_at system k node = more_line node.number (left_out (events_at system k))
 
@@ -112,16 +112,16 @@ more_at system k node = more_line node.number (left_out (events_at system k))
 abbrev pub number_at : List NodePlan → ℕ → ℕ
 number_at nodes k = slice_index (map (λ (node : NodePlan). node.number) nodes) k
 
--- what was sent on the directed link with number k
+-- the line that tells what was sent on the directed link with number k
 abbrev pub link_at : List NodePlan → SystemRec → ℕ → Direction → List ℕ
 link_at nodes system k d =
     link_line (number_at nodes d.from) d.from_end (number_at nodes d.to) d.to_end (history_at system k)
 
--- the halted threads of the node at position k
+-- the lines of the halted threads of the node at position k
 abbrev pub halted_at : SystemRec → ℕ → NodePlan → List ℕ
 halted_at system k node = halted_lines node.number 0 (node_at system k).core.threads
 
--- the words of its memory that aren't 0
+-- the lines of the words of its memory that aren't 0
 abbrev pub memory_at : SystemRec → ℕ → NodePlan → List ℕ
 memory_at system k node = memory_lines node.number memory_base (words_of (node_at system k).core.memory)
 
