@@ -24,10 +24,10 @@ pub record WorkedDirections : Type 0 where
   pub forth_comes : incoming one_link 0 7 ≡ Some 0
   pub back_leaves : outgoing one_link 0 7 ≡ Some 1
   pub back_comes : incoming one_link 1 2 ≡ Some 1
-  -- no link is at link end 0 of the first node, nor at the same link ends of the other one
+  -- no link is at link ends 0 and 2 of the first node
   pub none_leaves : outgoing one_link 0 0 ≡ None
   pub none_comes : incoming one_link 0 0 ≡ None
-  pub other_node : outgoing one_link 0 2 ≡ None
+  pub none_leaves_by_2 : outgoing one_link 0 2 ≡ None
   -- a link end with a link has its gap, in both directions
   pub gaps_of_second : gaps_of one_link 1 ≡ 0 ∷ 0 ∷ 4 ∷ 0 ∷ 0 ∷ 0 ∷ 0 ∷ 0 ∷ []
   pub gaps_of_first : gaps_of one_link 0 ≡ 0 ∷ 0 ∷ 0 ∷ 0 ∷ 0 ∷ 0 ∷ 0 ∷ 4 ∷ []
