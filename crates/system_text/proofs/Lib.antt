@@ -1,3 +1,4 @@
 pub mod FrameLines
 pub mod Sections
 pub mod PartByPart
+pub mod Checks
