@@ -2,3 +2,4 @@ pub mod FrameLines
 pub mod Sections
 pub mod PartByPart
 pub mod Checks
+pub mod FrameParts

@@ -1,4 +1,4 @@
-ghost use Rattle.std.specs.Prelude.{◌≡◌, ◌^◌, ◌<◌, length};
+ghost use Rattle.std.specs.Prelude.{◌≡◌, true, false, None};
 ghost use Rattle.xs_text.specs.Lines.{lines_of, bytes_left};
 ghost use Rattle.system_model.specs.System.{framed, rank, is_frame, when};
 ghost use Rattle.system_text.specs.Frames.{ReadsFrame, read_on, no_lines};
@@ -17,9 +17,23 @@ pub fn read_frame<'a>(alloc: Global, text: &'a [u8]) -> Result<Frame<'a>, System
     ensures { ReadsFrame (framed (lines_of text.now)) result }
 {
     let mut lines = Lines::new(text);
-    match next_part(text, &mut lines) {
-        Some(Some(part)) if rank(part.line) == 0 => read_lines(alloc, text, &mut lines),
-        _ => Err(bad_line()),
+    if !read_header(text, &mut lines) {
+        return Err(bad_line());
+    }
+    read_lines(alloc, text, &mut lines)
+}
+
+// Passes over the header, and says whether it is there.
+fn read_header(text: &[u8], lines: &mut Lines) -> bool
+    requires { lines.old.text ≡ text.now }
+    ensures there { result ≡ true → framed (lines_of (bytes_left lines.old)) ≡ read_on no_lines 1 (lines_of (bytes_left lines.new)) }
+    ensures missing { result ≡ false → framed (lines_of (bytes_left lines.old)) ≡ None }
+    ensures same_text { lines.new.text ≡ lines.old.text }
+{
+    match next_part(text, lines) {
+        Some(Some(part)) => rank(part.line) == 0,
+        Some(None) => false,
+        None => false,
     }
 }
 
