@@ -1,5 +1,5 @@
 -- The serial machine: all nodes of a system stepped together, slot by slot.
-use Rattle.std.specs.Prelude.{ℕ, zero, suc, ◌+◌, ◌-◌, Bool, true, false, ◌==◌, nat_lt, if◌then◌else◌, Option, Some, None, List, [], ◌∷◌, ◌++◌, map, filter, replicate, slice_index_or}
+use Rattle.std.specs.Prelude.{ℕ, zero, suc, ◌+◌, Bool, true, false, ◌==◌, Option, Some, None, List, [], ◌∷◌, ◌++◌, map, filter, replicate, slice_index_or}
 use Rattle.std.specs.List.{list_any}
 use Rattle.xs_base.specs.declared.token.Token.{Token}
 use Rattle.xs_base.specs.declared.entry.Entry.{Entry}
@@ -36,7 +36,7 @@ system_at_start plan = record {
 
 -- the entries of a directed link that arrive in a slot: those that were sent a delay before
 abbrev pub arriving : ℕ → ℕ → List Entry → List Entry
-arriving slot delay history = if nat_lt slot delay then [] else filter (λ (e : Entry). e.slot == (slot - delay)) history
+arriving slot delay history = filter (λ (e : Entry). (e.slot + delay) == slot) history
 
 -- what arrives in a slot by the directed link with a number, where there is one
 abbrev pub arriving_by : PlanRec → List (List Entry) → ℕ → Option ℕ → List Entry

@@ -2,9 +2,10 @@
 //! slots. See docs/DEFINITIONS.md.
 #![tactic(auto)]
 
-ghost use Rattle.serial_model.specs.Worked.{WorkedSystems};
+ghost use Rattle.serial_model.specs.Worked.{WorkedSystems, WorkedPair};
 
 /// The definitions give what was worked out by hand for systems of two nodes.
 pub fn worked_systems()
-    ensures { WorkedSystems }
+    ensures small { WorkedSystems }
+    ensures pair { WorkedPair }
 {}

@@ -1,15 +1,16 @@
--- What a line of a source says: at most one label, and then at most one instruction.
+-- What the statement of a line says: an instruction, or a word of data.
 use Rattle.std.specs.Prelude.{ℕ, Bool, true, false, ◌&&◌, if◌then◌else◌, Option, Some, None, option_and_then, List, [], ◌∷◌, codes}
 use Rattle.xs_text.specs.Tokens.{Token}
 use Rattle.xs_text.specs.declared.token_reader.TokKind.{TokKind}
 use Rattle.xs_text.specs.declared.token_reader.TokKind.TheVariants.{Name, Number}
 use Rattle.xs_instructions.specs.Image.{same_name}
 use Rattle.xs_instructions.specs.declared.instr.Instr.{Instr}
-use Rattle.xs_instructions.specs.declared.instr.Instr.TheVariants.{Words, Memory, Flow, Threads}
+use Rattle.xs_instructions.specs.declared.instr.Instr.TheVariants.{Words, Memory, Flow, Threads, Resources}
 use Rattle.xs_instructions.specs.declared.instr.WordIns.TheVariants as words
 use Rattle.xs_instructions.specs.declared.instr.MemIns.TheVariants as memory
 use Rattle.xs_instructions.specs.declared.instr.FlowIns.TheVariants as flow
 use Rattle.xs_instructions.specs.declared.instr.ThreadIns.TheVariants as threads
+use Rattle.xs_instructions.specs.declared.instr.ResIns.TheVariants as resources
 use Rattle.xs_text.specs.Numbers.{source_number_of, at_most}
 
 infixl 10 ◌>>=◌
@@ -77,13 +78,21 @@ common_first toks = register_first 11 toks
 abbrev pub any_first : List Token → Option (ℕ × List Token)
 any_first toks = register_first 15 toks
 
--- a number of at most 65,535
-unfoldable pub short_first : List Token → Option (ℕ × List Token)
-short_first [] = None
-short_first (t ∷ rest) =
+-- a number that is at most the limit
+unfoldable pub number_first : ℕ → List Token → Option (ℕ × List Token)
+number_first limit [] = None
+number_first limit (t ∷ rest) =
     if is_of_kind_number t.kind
-    then option_and_then (λ n. Some (n, rest)) (at_most 65535 (source_number_of t.bytes))
+    then option_and_then (λ n. Some (n, rest)) (at_most limit (source_number_of t.bytes))
     else None
+
+-- 0 to 65,535
+abbrev pub short_first : List Token → Option (ℕ × List Token)
+short_first toks = number_first 65535 toks
+
+-- 0 to 11: the number of a kind of resource, or a control token
+abbrev pub small_first : List Token → Option (ℕ × List Token)
+small_first toks = number_first 11 toks
 
 -- nothing follows
 abbrev pub ended : {A : Type 0} → List Token → A → Option A
@@ -144,7 +153,49 @@ lone_label places toks = do
   l ← label_first places toks
   ended l.1 l.0
 
--- the instruction with a name and operands
+-- `res[s]`
+unfoldable pub resource_first : List Token → Option (ℕ × List Token)
+resource_first toks = do
+  name ← name_first toks
+  a ← (if same_name (codes "res") name.0 then mark_first 91 name.1 else None)
+  s ← common_first a
+  b ← mark_first 93 s.1
+  Some (s.0, b)
+
+-- `d, i`
+unfoldable pub register_and_small : List Token → Option (ℕ × ℕ)
+register_and_small toks = do
+  d ← common_first toks
+  a ← mark_first 44 d.1
+  i ← small_first a
+  ended i.1 (d.0, i.0)
+
+-- `res[s], x`
+unfoldable pub resource_and_register : List Token → Option (ℕ × ℕ)
+resource_and_register toks = do
+  s ← resource_first toks
+  a ← mark_first 44 s.1
+  x ← common_first a
+  ended x.1 (s.0, x.0)
+
+-- `res[s], i`
+unfoldable pub resource_and_small : List Token → Option (ℕ × ℕ)
+resource_and_small toks = do
+  s ← resource_first toks
+  a ← mark_first 44 s.1
+  i ← small_first a
+  ended i.1 (s.0, i.0)
+
+-- the instruction with a name and operands, among the rows on resources
+unfoldable pub resource_instruction : List ℕ → List Token → Option Instr
+resource_instruction name operands =
+    if same_name (codes "getr") name then (register_and_small operands >>= λ o. Some (Resources (resources.Getr o.0 o.1)))
+    else (if same_name (codes "setd") name then (resource_and_register operands >>= λ o. Some (Resources (resources.Setd o.0 o.1)))
+    else (if same_name (codes "outct") name then (resource_and_small operands >>= λ o. Some (Resources (resources.OutctImm o.0 o.1)))
+    else (if same_name (codes "chkct") name then (resource_and_small operands >>= λ o. Some (Resources (resources.ChkctImm o.0 o.1)))
+    else None)))
+
+-- the same among all rows
 unfoldable pub instruction : Places → List ℕ → List Token → Option Instr
 instruction places name operands =
     if same_name (codes "add") name then (three_registers operands >>= λ o. Some (Words (words.Add o.0 o.1 o.2)))
@@ -158,10 +209,18 @@ instruction places name operands =
     else (if same_name (codes "bf") name then (register_and_label places operands >>= λ o. Some (Flow (flow.Bf o.0 o.1)))
     else (if same_name (codes "bu") name then (lone_label places operands >>= λ l. Some (Flow (flow.Bu l)))
     else (if same_name (codes "freet") name then ended operands (Threads threads.Freet)
-    else None))))))))))
+    else resource_instruction name operands))))))))))
 
 -- a line's statement: a name and its operands
 unfoldable pub statement : Places → List Token → Option Instr
 statement places toks = do
   name ← name_first toks
   instruction places name.0 name.1
+
+-- a line's word of data: `.word` and its value
+unfoldable pub word_value : List Token → Option ℕ
+word_value toks = do
+  name ← name_first toks
+  a ← (if same_name (codes ".word") name.0 then Some name.1 else None)
+  n ← number_first 4294967295 a
+  ended n.1 n.0

@@ -3,3 +3,4 @@ pub mod Effect
 pub mod Start
 pub mod Step
 pub mod Worked
+pub mod WorkedChannels

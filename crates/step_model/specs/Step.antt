@@ -56,9 +56,9 @@ abbrev pub illegal_pc : ℕ
 illegal_pc = 2
 
 -- the instruction at the thread's pc is executed, or none stands there
-abbrev pub executed : List Instr → CoreRec → ℕ → Option Instr → Issued
-executed code core k None = trap code core k illegal_pc (thread_of core k).pc (thread_of core k).pc
-executed code core k (Some ins) = settled code core k (effect core k ins)
+abbrev pub executed : Fixed → CoreRec → ℕ → Option Instr → Issued
+executed fixed core k None = trap fixed.code core k illegal_pc (thread_of core k).pc (thread_of core k).pc
+executed fixed core k (Some ins) = settled fixed.code core k (effect fixed.id core k ins)
 
 -- the slot is thread k's last issue now, and its pause is over
 abbrev pub begun : CoreRec → ℕ → ℕ → CoreRec
@@ -70,7 +70,7 @@ abbrev pub issued_by : Fixed → CoreRec → ℕ → Option ℕ → Issued
 issued_by fixed core slot None = quietly core
 issued_by fixed core slot (Some k) =
     let core' = begun core slot k in
-    executed fixed.code core' k (code_at fixed.code (thread_of core' k).pc)
+    executed fixed core' k (code_at fixed.code (thread_of core' k).pc)
 
 -- phase 4: at most one issue, by the thread that is picked
 abbrev pub issued : Fixed → CoreRec → ℕ → Issued

@@ -2,6 +2,7 @@
 #![tactic(auto)]
 
 ghost use Rattle.step_model.specs.Worked.{WorkedIssues, WorkedWords, WorkedBranches, WorkedMemory, WorkedTraps, WorkedEnd};
+ghost use Rattle.step_model.specs.WorkedChannels.{WorkedChannels};
 
 /// The definitions give what was worked out by hand: what a node keeps after its first slots, for small code.
 pub fn worked_slots()
@@ -11,4 +12,5 @@ pub fn worked_slots()
     ensures memory { WorkedMemory }
     ensures traps { WorkedTraps }
     ensures end { WorkedEnd }
+    ensures channels { WorkedChannels }
 {}

@@ -49,25 +49,25 @@ outgoing plan node end = first_link (leaves_by node end) 0 (directions plan.link
 abbrev pub incoming : PlanRec → ℕ → ℕ → Option ℕ
 incoming plan node end = first_link (comes_to node end) 0 (directions plan.links)
 
--- the delay of the directed link with a number, in slots
+-- the delay and the gap of the directed link with a number, in slots
 abbrev pub delay_of : PlanRec → ℕ → ℕ
 delay_of plan link = slice_index (map (λ (d : Direction). d.delay) (directions plan.links)) link
 
--- the gap of the first of these directed links that leaves by a link end, 0 where none does
-abbrev pub first_gap : (Direction → Bool) → List Direction → ℕ
-first_gap test [] = 0
-first_gap test (d ∷ ds) = if test d then d.gap else first_gap test ds
+abbrev pub gap_of : PlanRec → ℕ → ℕ
+gap_of plan link = slice_index (map (λ (d : Direction). d.gap) (directions plan.links)) link
 
-abbrev pub gap_of : PlanRec → ℕ → ℕ → ℕ
-gap_of plan node end = first_gap (leaves_by node end) (directions plan.links)
+-- the gap of the directed link that leaves by a link end, 0 where none does
+abbrev pub gap_by : PlanRec → Option ℕ → ℕ
+gap_by plan None = 0
+gap_by plan (Some link) = gap_of plan link
 
 -- the numbers of a node's link ends
 abbrev pub link_ends : List ℕ
 link_ends = 0 ∷ 1 ∷ 2 ∷ 3 ∷ 4 ∷ 5 ∷ 6 ∷ 7 ∷ []
 
--- the gap of each link end of a node, 0 where there is no such link end
+-- the gap of each link end of a node, 0 where no link is
 abbrev pub gaps_of : PlanRec → ℕ → List ℕ
-gaps_of plan node = map (gap_of plan node) link_ends
+gaps_of plan node = map (λ end. gap_by plan (outgoing plan node end)) link_ends
 
 -- nothing stands twice
 abbrev pub AreDistinct : {X : Type 0} → List X → Type 0

@@ -1,6 +1,11 @@
 //! The plan of a system: its nodes, and the links between them. See docs/SYSTEM_TEXT.md.
 #![tactic(auto)]
 
+mod system_plan;
+#[cfg(test)]
+mod tests;
+
+pub use system_plan::Plan;
 use xs_instructions::Image;
 
 /// A node: its number, which names it in texts (0 to 99), its id on the network, its image, and for each bit of an

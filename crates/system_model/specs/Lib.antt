@@ -4,4 +4,5 @@ pub mod Trace
 pub mod Top
 pub mod Worked
 pub mod WorkedEdges
+pub mod WorkedSystems
 pub mod StatusNumber

@@ -40,6 +40,19 @@ pub enum ThreadIns {
     Freet,
 }
 
+/// The rows on resources. Registers are 0 to 11.
+#[derive(Clone, Copy)]
+pub enum ResIns {
+    /// `getr d, i`, where i is the number of a kind, 0 to 11.
+    Getr(u8, u8),
+    /// `setd res[s], x`
+    Setd(u8, u8),
+    /// `outct res[s], i`, where i is a control token, 0 to 11.
+    OutctImm(u8, u8),
+    /// `chkct res[s], i`, where i is a control token, 0 to 11.
+    ChkctImm(u8, u8),
+}
+
 /// An instruction: a row of the instruction table with its operands, in the order in which they are written.
 #[derive(Clone, Copy)]
 pub enum Instr {
@@ -47,4 +60,5 @@ pub enum Instr {
     Memory(MemIns),
     Flow(FlowIns),
     Threads(ThreadIns),
+    Resources(ResIns),
 }

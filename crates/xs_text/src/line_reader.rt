@@ -79,6 +79,13 @@ impl<'a> Lines<'a> {
             to,
         })
     }
+
+    /// The bytes that are still to be read, those of the lines to come.
+    pub fn rest(&self) -> &'a [u8]
+        ensures { result.now ≡ bytes_left self.now }
+    {
+        &self.text[self.at..]
+    }
 }
 
 // Whether a line's end begins at the index.

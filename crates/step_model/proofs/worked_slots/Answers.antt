@@ -1,7 +1,9 @@
 use Rattle.std.proofs.Common.{refl}
 use Rattle.xs_model.specs.Picks.{pick_from}
+use Rattle.net_model.specs.Chans.{free_chan}
+use Rattle.net_model.specs.Ids.{first_difference}
 use Rattle.net_model.specs.Links.{links_after_arrivals}
-use Rattle.net_model.specs.Switch.{moves_from}
+use Rattle.net_model.specs.Switch.{moves_from, free_end}
 use Rattle.step_model.specs.Step.{node_step}
 use Rattle.step_model.proofs.worked_slots.Goals as goal
 
@@ -88,4 +90,85 @@ returns-clause-end c = record {
   free = refl;
   no_event = refl;
   stays = refl;
+}
+
+pub returns-clause-channels : goal.returns-clause-channels
+unfolding moves_from links_after_arrivals node_step pick_from free_chan free_end first_difference
+returns-clause-channels c = record {
+  getr = record {
+    first_got = refl;
+    is_in_use = refl;
+    second_got = refl;
+    one_in_use = refl;
+    of_other_kind = refl;
+    none_got = refl;
+  };
+  setd = record {
+    is_set = refl;
+    goes_on = refl;
+    again = refl;
+    low_byte = refl;
+    low_byte_keeps = refl;
+    unused = refl;
+    chan_32 = refl;
+    other_node = refl;
+    other_kind = refl;
+    no_number = refl;
+  };
+  outct = record {
+    is_put = refl;
+    goes_on = refl;
+    no_dest = refl;
+    no_dest_keeps = refl;
+    not_in_use = refl;
+    pauses = refl;
+    keeps = refl;
+    is_issue = refl;
+    still_full = refl;
+    one_out = refl;
+    wakes = refl;
+    put_then = refl;
+  };
+  chkct = record {
+    is_taken = refl;
+    goes_on = refl;
+    other_token = refl;
+    other_stays = refl;
+    data_byte = refl;
+    not_in_use = refl;
+    pauses = refl;
+    waits = refl;
+  };
+  dependency = record {
+    tokens = refl;
+    other_stays = refl;
+    more_tokens = refl;
+    room = refl;
+    room_keeps = refl;
+    other_side = refl;
+    side_of_room = refl;
+    other_chan = refl;
+    refused_first = refl;
+    need_not_wait = refl;
+  };
+  network = record {
+    taken = refl;
+    credit_back = refl;
+    credit_counted = refl;
+    end_told = refl;
+    end_taken = refl;
+    woken = refl;
+    packet_over = refl;
+    end_out = refl;
+    no_more = refl;
+    given_up = refl;
+    noted = refl;
+    not_yet = refl;
+    high_byte = refl;
+    in_gap = refl;
+    low_byte = refl;
+    chan_byte = refl;
+    end_sent = refl;
+    all_sent = refl;
+  };
 }

@@ -1,7 +1,7 @@
 use Rattle.std.proofs.Common.{refl, sym, ◌∙◌}
 use Rattle.system_text.proofs.FrameLines.{next_refused, next_found, next_over, next_end, lines_of-nothing, has_words, has_no_words}
 use Rattle.system_text.proofs.Sections.{line_in_text}
-use Rattle.system_text.proofs.frame_lines.next_words.Goals as goal
+use Rattle.system_text.proofs.words.next_words.Goals as goal
 
 pub returns-then-not-all_allowed-clause-words : goal.returns-then-not-all_allowed-clause-words
 returns-then-not-all_allowed-clause-words c =

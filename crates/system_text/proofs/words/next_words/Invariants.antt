@@ -1,7 +1,7 @@
 use Rattle.std.proofs.Common.{◌≡◌, ◌-◌, length}
 use Rattle.xs_text.specs.Lines.{lines_of, bytes_left}
-use Rattle.system_model.specs.System.{next_words}
-use Rattle.system_text.proofs.frame_lines.next_words.Given as goal
+use Rattle.system_text.specs.Parts.{next_words}
+use Rattle.system_text.proofs.words.next_words.Given as goal
 
 abbrev pub invariant-loop-line : goal.invariant-loop-line
 invariant-loop-line l =
