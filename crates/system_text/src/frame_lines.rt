@@ -2,7 +2,7 @@ ghost use Rattle.std.specs.Prelude.{◌≡◌, ◌≤◌, ◌<◌, ◌∷◌, []
 ghost use Rattle.xs_text.specs.Words.{words_of_line};
 ghost use Rattle.xs_text.specs.Numbers.{number_of};
 ghost use Rattle.system_model.specs.System.{is_header, node_line, link_line, bit_line, source_line, frame_line, node_of_end, before_colon, between};
-ghost use Rattle.system_text.specs.Frames.{IsRanged, IsLinkRanged};
+ghost use Rattle.system_text.specs.Ranges.{IsRanged, IsLinkRanged};
 
 use crate::words::{is_empty, same_name};
 use system_model::{BitLine, FrameLine, LinkLine, NodeLine};

@@ -1,7 +1,13 @@
 //! Reads a system text: the frame of a system, and the sources of its nodes. See docs/SYSTEM_TEXT.md.
 #![tactic(auto)]
 
+mod frame;
+mod frame_checks;
 mod frame_lines;
-mod section;
-mod words;
+mod frame_reader;
 mod parts;
+mod section;
+mod system_error;
+mod words;
+
+pub use system_error::SystemError;

@@ -1,6 +1,6 @@
 ghost use Rattle.std.specs.Prelude.{◌≡◌, ◌≤◌, length, option_map, IfSome};
 ghost use Rattle.xs_text.specs.Lines.{lines_of, bytes_left};
-ghost use Rattle.system_text.specs.Frames.{IsRanged};
+ghost use Rattle.system_text.specs.Ranges.{IsRanged};
 ghost use Rattle.system_text.specs.Parts.{next_part, section_after};
 
 use crate::frame_lines::frame_line;

@@ -1,6 +1,6 @@
 -- Two lists of events as one, an event more each time.
-use Rattle.std.proofs.Common.{◌≡◌, ℕ, ◌+◌, ◌<◌, ◌≤◌, List, [], ◌∷◌, ◌++◌, length, get_or, take, drop, map, refl, ap, sym, ◌∙◌, append_assoc}
-use Rattle.std.proofs.lemmas.List.{at_drop_more, drop_all, append-nil}
+use Rattle.std.proofs.Common.{◌≡◌, ℕ, ◌+◌, ◌<◌, ◌≤◌, List, [], ◌∷◌, ◌++◌, length, get_or, take, drop, refl, ap, sym, ◌∙◌, append_assoc}
+use Rattle.std.proofs.lemmas.List.{at_drop_more, drop_all}
 use Rattle.xs_model.specs.declared.event.Event.{Event}
 use Rattle.trace_model.specs.declared.NodeEvent.{NodeEvent}
 use Rattle.xs_model.specs.Events.{IsWithinCounts}

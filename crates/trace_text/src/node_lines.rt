@@ -109,4 +109,3 @@ pub(crate) fn append_end_line(out: &mut Text, slots: u32) -> Result<(), AllocErr
     append_decimal(out, u64::from(slots))?;
     out.append(b"\n")
 }
-

@@ -1,6 +1,6 @@
 //! The trace of a run.
 ghost use Rattle.std.specs.Prelude.{◌≡◌, ◌<◌, ◌≤◌, ◌++◌, length, IfOk, OnOk, ◌+◌, ◌*◌, [], ◌∷◌};
-ghost use Rattle.sys_plan.specs.Plan.{directions, IsPlan};
+ghost use Rattle.sys_plan.specs.Plan.{directions, forth, back};
 ghost use Rattle.serial_model.specs.Serial.{serial};
 ghost use Rattle.trace_model.specs.EventOrder.{AreWithinCounts};
 ghost use Rattle.trace_model.specs.Trace.{by_position, events_in_order, halted_at, memory_at, more_at, link_at, lines_text, trace_text};
@@ -98,11 +98,7 @@ fn append_more_at(
 }
 
 // The line of each directed link: of each link forth, and back.
-fn append_links(
-    out: &mut Text,
-    plan: &Plan,
-    machine: &SerialMachine,
-) -> Result<(), AllocError>
+fn append_links(out: &mut Text, plan: &Plan, machine: &SerialMachine) -> Result<(), AllocError>
     requires plan { machine.now.plan ≡ plan.now }
     ensures { OnOk result (out.new ≡ out.old ++ by_position (link_at plan.now.nodes (serial machine.now.plan machine.now.now)) 0 (directions plan.now.links)) }
 {
@@ -126,12 +122,19 @@ fn append_link_at(
     requires few { k < 48 }
     requires a { link.now.a < length nodes.now }
     requires b { link.now.b < length nodes.now }
-    ensures { OnOk result (out.new ≡ out.old ++ by_position (link_at nodes.now (serial machine.now.plan machine.now.now)) (2 * k) (directions (link.now ∷ []))) }
+    ensures { OnOk result (out.new ≡ out.old ++ (link_at nodes.now (serial machine.now.plan machine.now.now) (2 * k) (forth link.now) ++ link_at nodes.now (serial machine.now.plan machine.now.now) (2 * k + 1) (back link.now))) }
 {
     let a = nodes[link.a as usize].number;
     let b = nodes[link.b as usize].number;
     append_link_line(out, a, link.a_end, b, link.b_end, machine.history(2 * k))?;
-    append_link_line(out, b, link.b_end, a, link.a_end, machine.history(2 * k + 1))
+    append_link_line(
+        out,
+        b,
+        link.b_end,
+        a,
+        link.a_end,
+        machine.history(2 * k + 1),
+    )
 }
 
 // The line of each halted thread of each node.

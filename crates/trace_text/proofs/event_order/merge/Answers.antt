@@ -1,6 +1,4 @@
-use Rattle.std.proofs.Common.{◌≡◌, ◌++◌, ap, sym, ◌∙◌, arith, refl}
-use Rattle.std.proofs.lemmas.List.{append-nil}
-use Rattle.trace_model.specs.declared.NodeEvent.{NodeEvent}
+use Rattle.std.proofs.Common.{◌++◌, ap, sym, ◌∙◌, arith, refl}
 use Rattle.trace_text.proofs.EventOrder.{merged-next, merged-end, merged-step, within-step, within-rest}
 use Rattle.trace_text.proofs.event_order.merge.Goals as goal
 
