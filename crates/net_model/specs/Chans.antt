@@ -29,7 +29,7 @@ has_room count tokens = nat_le (length tokens + count) buffer_room
 
 -- what a program finds at a channel end
 pub data Found : Type 0 where
-  -- the channel end after it, and the word that was found
+  -- the channel end after it, and the word that was found: 0 where a token was put or checked
   Got : (chan : ChanRec) (word : ℕ) → Found
   Waits : Found
   Refused : Found

@@ -3,7 +3,8 @@ use Rattle.std.specs.Prelude.{ℕ, ◌+◌, Bool, true, false, ◌&&◌, nat_le,
 use Rattle.xs_base.specs.declared.token.Token.{Token}
 use Rattle.xs_model.specs.Record.{LinkRec}
 
--- how many tokens fit into a link end's buffer, and how many may be on their way to it
+-- how many tokens fit into a link end's buffer, and how many that it sent may be without a credit: those on their way,
+-- and those in the other end's buffer too
 abbrev pub window : ℕ
 window = 8
 

@@ -33,7 +33,7 @@ is_word name t = is_of_kind_name t.kind && same_name name t.bytes
 abbrev pub is_the_mark : ℕ → Token → Bool
 is_the_mark mark t = same_name (mark ∷ []) t.bytes
 
--- Each of these takes one token from the front: what it stands for, and the tokens after it.
+-- Each of these takes one or more tokens from the front: what they stand for, and the tokens after them.
 
 -- a name
 unfoldable pub name_first : List Token → Option (List ℕ × List Token)

@@ -29,6 +29,7 @@ node_of_code code = record { id = 0; code = code; ways = replicate 16 0; gaps = 
 abbrev pub no_arrivals : Arrivals
 no_arrivals = record { tokens = replicate 8 None; credits = replicate 8 false }
 
+-- each pin shows 0
 abbrev pub low_pins : PinView
 low_pins = record { level = replicate 29 0 }
 

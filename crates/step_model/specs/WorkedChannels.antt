@@ -85,12 +85,16 @@ getr_twice = Resources (resources.Getr 0 2) ∷ Resources (resources.Getr 1 2) �
 abbrev pub getr_timer : Instr
 getr_timer = Resources (resources.Getr 0 1)
 
+-- 7 is in r1
+abbrev pub seven_in_r1 : NodeRec
+seven_in_r1 = start_as (with_three 0 7 0)
+
 pub record WorkedGetr : Type 0 where
-  pub first_got : thread_of (after_from getr_twice start 0 1).core 0 ≡ record first { r = three_and_zeros own_id 0 0; pc = 0x00040004 }
-  pub is_in_use : (after_from getr_twice start 0 1).core.chans ≡ got_chan ∷ replicate 31 unused_chan
-  -- none is left for the second
-  pub second_got : thread_of (after_from getr_twice start 0 5).core 0 ≡ record first { r = three_and_zeros own_id 0 0; pc = 0x00040008 }
-  pub one_in_use : (after_from getr_twice start 0 5).core.chans ≡ got_chan ∷ replicate 31 unused_chan
+  pub first_got : thread_of (after_from getr_twice seven_in_r1 0 1).core 0 ≡ record first { r = three_and_zeros own_id 7 0; pc = 0x00040004 }
+  pub is_in_use : (after_from getr_twice seven_in_r1 0 1).core.chans ≡ got_chan ∷ replicate 31 unused_chan
+  -- none is left for the second: r1 becomes 0
+  pub second_got : thread_of (after_from getr_twice seven_in_r1 0 5).core 0 ≡ record first { r = three_and_zeros own_id 0 0; pc = 0x00040008 }
+  pub one_in_use : (after_from getr_twice seven_in_r1 0 5).core.chans ≡ got_chan ∷ replicate 31 unused_chan
   -- 0 for a timer, and no channel end is got
   pub of_other_kind : thread_in_1 getr_timer (start_as (with_three 7 0 0)) ≡ record first { pc = 0x00040004 }
   pub none_got : (quiet_slot (getr_timer ∷ []) start 1).rec.core.chans ≡ replicate 32 unused_chan
@@ -209,12 +213,23 @@ one_nop = Words words.Nop ∷ []
 abbrev pub both_come : Stepped
 both_come = node_step (node_3 one_nop) (with_network start got_chan sent_in_0 Idle) 3 (come (Some (Byte 5)) (true ∷ replicate 7 false)) low_pins
 
--- END comes for channel end 0 in slot 3, where thread 0 waits for it
-abbrev pub end_comes : Stepped
-end_comes =
+-- a token comes for channel end 0 in slot 3, where thread 0 waits for it at `chkct`
+abbrev pub token_comes : Token → Stepped
+token_comes token =
     node_step (node_3 (chkct_end ∷ []))
     (with_state (with_chan_0 (start_as (record own_word { run = Paused (Tokens 0 1) })) got_chan) 0 (Local 0)) 3
-    (come (Some (Ctrl 1)) (replicate 8 false)) low_pins
+    (come (Some token) (replicate 8 false)) low_pins
+
+-- the token for which it waits, and another one
+abbrev pub end_comes : Stepped
+end_comes = token_comes (Ctrl 1)
+
+abbrev pub byte_comes : Stepped
+byte_comes = token_comes (Byte 5)
+
+-- slot 1, where END waits in channel end 0 for channel end 0 itself, and thread 0 is at `chkct`
+abbrev pub to_itself : Stepped
+to_itself = quiet_slot (chkct_end ∷ []) (with_chan_0 (start_as own_word) (record got_chan { dest = Some own_id; output = Ctrl 1 ∷ [] })) 1
 
 -- END waits at channel end 0, and its header is out
 abbrev pub end_leaves : Stepped
@@ -241,6 +256,14 @@ pub record WorkedNetwork : Type 0 where
   pub end_taken : chan_of end_comes.rec.core 0 ≡ got_chan
   pub woken : thread_of end_comes.rec.core 0 ≡ record own_word { pc = 0x00040004 }
   pub packet_over : state_at end_comes.rec 0 ≡ Idle
+  -- a byte wakes it too. It issues `chkct` again, which traps and leaves the byte: the byte is told before the trap.
+  pub byte_told : byte_comes.emitted.events ≡ happened 3 (happen.Chan 0 (Byte 5)) ∷ happened 3 (happen.Trap 0 4 0x00040000 own_id) ∷ happened 3 (happen.Halt 0) ∷ []
+  pub byte_stays : (chan_of byte_comes.rec.core 0).input ≡ Byte 5 ∷ []
+  -- END from channel end 0 to itself is put, told and taken by `chkct` in one slot, and no packet is left
+  pub own_end_told : to_itself.emitted.events ≡ happened 1 (happen.Chan 0 (Ctrl 1)) ∷ []
+  pub own_end_taken : chan_of to_itself.rec.core 0 ≡ record got_chan { dest = Some own_id }
+  pub own_end_wakes : thread_of to_itself.rec.core 0 ≡ record own_word { pc = 0x00040004 }
+  pub own_packet_over : state_at to_itself.rec 8 ≡ Idle
   -- END leaves, and the link end is free again
   pub end_out : end_leaves.emitted.tokens ≡ Some (Ctrl 1) ∷ replicate 7 None
   pub no_more : chan_of end_leaves.rec.core 0 ≡ far_chan [] []

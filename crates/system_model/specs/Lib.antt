@@ -1,7 +1,7 @@
 pub mod System
-pub mod Run
-pub mod Trace
 pub mod Top
 pub mod Worked
 pub mod WorkedEdges
+pub mod WorkedPairs
+pub mod WorkedSystems
 pub mod StatusNumber

@@ -12,7 +12,7 @@ use Rattle.system_model.specs.declared.Form.TheVariants.{Run}
 use Rattle.system_model.specs.declared.Answer.{Answer}
 use Rattle.system_model.specs.declared.Status.TheVariants as status
 use Rattle.system_model.specs.System.{System, Plan, Frame, Source, system_of, longest_input}
-use Rattle.system_model.specs.Trace.{trace_text}
+use Rattle.trace_model.specs.Trace.{trace_text}
 
 -- one to ten decimal digits, of a value of at most a limit
 abbrev pub count_of : ℕ → List ℕ → Option ℕ

@@ -6,6 +6,12 @@ ghost use Rattle.std.specs.Prelude.{◌≡◌};
 ghost use Rattle.system_model.specs.StatusNumber.{number_of_status};
 ghost use Rattle.system_model.specs.Worked.{WorkedAnswers};
 ghost use Rattle.system_model.specs.WorkedEdges.{WorkedFrames, WorkedSources, WorkedRuns};
+ghost use Rattle.system_model.specs.WorkedPairs.{WorkedPairs};
+ghost use Rattle.system_model.specs.WorkedSystems.{WorkedSystems};
+
+mod frame_line;
+
+pub use frame_line::{BitLine, FrameLine, LinkLine, NodeLine};
 
 use xs_base::Text;
 
@@ -80,4 +86,14 @@ pub fn worked_sources()
 /// The same at runs.
 pub fn worked_runs()
     ensures { WorkedRuns }
+{}
+
+/// The same at the frames of systems of several nodes.
+pub fn worked_systems_read()
+    ensures { WorkedSystems }
+{}
+
+/// The same at runs of two nodes.
+pub fn worked_pairs()
+    ensures { WorkedPairs }
 {}

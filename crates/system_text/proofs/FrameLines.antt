@@ -5,7 +5,7 @@ use Rattle.std.proofs.lemmas.Bool.{cond-true, cond-false}
 use Rattle.xs_text.specs.Bytes.{all_allowed}
 use Rattle.xs_text.specs.Lines.{lines_of}
 use Rattle.xs_text.specs.Words.{words_of_line, without_comment, parted}
-use Rattle.system_model.specs.System.{next_words, words_or}
+use Rattle.system_text.specs.Parts.{next_words, words_or}
 
 pub lines_of-nothing : (text : List ℕ) → text ≡ [] → lines_of text ≡ []
 unfolding lines_of
@@ -15,7 +15,7 @@ pub words-nothing : words_of_line [] ≡ []
 unfolding without_comment parted
 words-nothing = refl
 
-next_words-cons : (l : List ℕ) (ls : List (List ℕ)) → next_words (l ∷ ls) ≡ (cond (all_allowed l) (words_or (words_of_line l) ls (next_words ls)) None)
+pub next_words-cons : (l : List ℕ) (ls : List (List ℕ)) → next_words (l ∷ ls) ≡ (cond (all_allowed l) (words_or (words_of_line l) ls (next_words ls)) None)
 unfolding next_words
 next_words-cons l ls = refl
 

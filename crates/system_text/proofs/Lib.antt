@@ -1,3 +1,5 @@
 pub mod FrameLines
 pub mod Sections
-pub mod Outcomes
+pub mod PartByPart
+pub mod Checks
+pub mod FrameParts

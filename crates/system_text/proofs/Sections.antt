@@ -7,7 +7,8 @@ use Rattle.std.proofs.lemmas.List.{length-take}
 use Rattle.xs_text.specs.Bytes.{all_allowed}
 use Rattle.xs_text.specs.Lines.{lines_of, line_bytes, IsLineOfParts}
 use Rattle.xs_text.specs.declared.line_reader.Line.{Line}
-use Rattle.system_model.specs.System.{Section, section_of, is_end, with_line}
+use Rattle.system_model.specs.System.{is_end}
+use Rattle.system_text.specs.Parts.{Section, section_of, with_line}
 use Rattle.system_text.proofs.FrameLines.{lines_of-nothing}
 
 -- lines put in front of a section
@@ -15,7 +16,7 @@ abbrev pub with_front : List (List ℕ) → Option Section → Option Section
 with_front front None = None
 with_front front (Some section) = Some (record { lines = front ++ section.lines; rest = section.rest })
 
-section_of-cons : (l : List ℕ) (ls : List (List ℕ)) → section_of (l ∷ ls) ≡ cond (is_end l) (cond (all_allowed l) (Some (record { lines = []; rest = ls })) None) (option_and_then (λ section. Some (with_line l section)) (section_of ls))
+pub section_of-cons : (l : List ℕ) (ls : List (List ℕ)) → section_of (l ∷ ls) ≡ cond (is_end l) (cond (all_allowed l) (Some (record { lines = []; rest = ls })) None) (option_and_then (λ section. Some (with_line l section)) (section_of ls))
 unfolding section_of
 section_of-cons l ls = refl
 

@@ -1,1 +1,3 @@
-pub mod Reads
+pub mod Ranges
+pub mod Parts
+pub mod Frames

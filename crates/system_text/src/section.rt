@@ -1,8 +1,8 @@
 ghost use Rattle.std.specs.Prelude.{◌≡◌, ◌≤◌, length, option_map, IfSome};
 ghost use Rattle.xs_text.specs.Lines.{lines_of, bytes_left};
-ghost use Rattle.system_model.specs.System.{section_of};
+ghost use Rattle.system_text.specs.Parts.{section_of};
 
-use crate::frame_lines::is_end;
+use crate::words::is_end;
 use xs_text::{Lines, all_allowed};
 
 // The lines of the section that begins here, as the part of the text that they are. The line that ends the section

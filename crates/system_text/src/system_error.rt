@@ -1,4 +1,8 @@
+ghost use Rattle.std.specs.Prelude.{◌≡◌};
+ghost use Rattle.system_text.specs.declared.system_error.SystemError.TheVariants.{Memory};
+
 use source_model::AsmKind;
+use std::alloc::{AllocError, AllocFailed};
 use system_model::SysKind;
 use thiserror::Error;
 
@@ -15,4 +19,30 @@ pub enum SystemError {
     /// Memory was wanting.
     #[error("out of memory")]
     Memory,
+}
+
+impl From<AllocError> for SystemError {
+    ghost from_gives = { λ _ e. e ≡ Memory };
+
+    fn from(_e: AllocError) -> SystemError {
+        SystemError::Memory
+    }
+}
+
+impl<T: Drop> From<AllocFailed<T>> for SystemError {
+    ghost from_gives = { λ _ e. e ≡ Memory };
+
+    fn from(_e: AllocFailed<T>) -> SystemError {
+        SystemError::Memory
+    }
+}
+
+// The one refusal of a frame so far that is not of its length.
+pub fn bad_line() -> SystemError
+    ensures { result ≡ SystemError.Frame 0 SysKind.BadLine }
+{
+    SystemError::Frame {
+        line: 0,
+        kind: SysKind::BadLine,
+    }
 }

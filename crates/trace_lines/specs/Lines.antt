@@ -1,5 +1,5 @@
--- The lines of the trace that tell of events. Slots, counts, token values and trap numbers are decimal; the rest
--- is 0x and eight lower-case hex digits.
+-- The lines of the trace that tell of events. Slots, counts, token values and the numbers of traps, nodes, threads and
+-- channel ends are decimal; pin values, addresses, trap data and identifiers are 0x and eight lower-case hex digits.
 use Rattle.std.specs.Prelude.{ℕ, ◌+◌, ◌-◌, ◌/◌, ◌%◌, nat_lt, if◌then◌else◌, List, [], ◌∷◌, ◌++◌, codes, decimal}
 use Rattle.xs_base.specs.declared.token.Token.{Token}
 use Rattle.xs_base.specs.declared.token.Token.TheVariants.{Byte, Ctrl}

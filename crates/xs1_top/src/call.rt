@@ -3,18 +3,18 @@ ghost use Rattle.std.specs.Prelude.{ℕ, ◌≡◌, ◌≢◌, ◌<◌, ◌+◌,
 ghost use Rattle.xs_edge.specs.Edge.{HasRisen, Wrote, WrotePart};
 ghost use Rattle.system_model.specs.System.{system_of, longest_input};
 ghost use Rattle.system_model.specs.Top.{answer_to, form_of};
-ghost use Rattle.xs1_top.specs.Call.{HasFewSlots, IsWhole, IsRead, IsSilent, Answers, AnswersInPart, TookInput, IsFrame, IsSource, IsPlan};
+ghost use Rattle.xs1_top.specs.Call.{IsWhole, IsRead, IsSilent, Answers, AnswersInPart, TookInput, IsFrame, IsSource, IsPlan};
 ghost use Rattle.xs1_top.specs.Reads.{ReadsAtMost};
 
 use crate::input::{ReadError, read_all};
 use crate::output::write_all;
 use crate::refusals::{frame_line, source_line, usage_line};
-use crate::trace::trace;
 use crate::words::form_of;
 use std::alloc::{AllocError, Global};
 pub use system_model::Status;
 use system_model::{Answer, Form};
 use system_text::{SystemError, read_system};
+use trace_text::trace;
 use xs_edge::{Gate, Sink, Source};
 
 /// The whole program: takes the form of the words, reads the input to its end, runs the system that the input
@@ -80,7 +80,6 @@ pub fn top<S: Source, K: Sink, G: Gate>(
 
 // The answer of a form to the system that the input stands for. The error is want of memory.
 fn answer_of(alloc: Global, form: Form, input: &[u8]) -> Result<Answer, AllocError>
-    requires { HasFewSlots form }
     ensures { IfOk result (λ answer. answer ≡ answer_to form (system_of input.now)) }
 {
     let Form::Run(slots) = form;

@@ -6,10 +6,8 @@ mod call;
 mod input;
 mod output;
 mod refusals;
-pub mod run;
 #[cfg(test)]
 mod tests;
-pub mod trace;
 mod words;
 
 pub use call::top;

@@ -1,6 +1,6 @@
 use Rattle.std.proofs.Common.{◌≡◌, ◌-◌, length}
 use Rattle.xs_text.specs.Lines.{lines_of, bytes_left}
-use Rattle.system_model.specs.System.{section_of}
+use Rattle.system_text.specs.Parts.{section_of}
 use Rattle.system_text.proofs.Sections.{SectionSoFar}
 use Rattle.system_text.proofs.section.read_section.Given as goal
 

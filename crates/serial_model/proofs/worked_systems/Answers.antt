@@ -1,0 +1,39 @@
+use Rattle.std.proofs.Common.{refl}
+use Rattle.xs_model.specs.Picks.{pick_from}
+use Rattle.net_model.specs.Ids.{first_difference}
+use Rattle.net_model.specs.Chans.{free_chan}
+use Rattle.net_model.specs.Links.{links_after_arrivals}
+use Rattle.net_model.specs.Switch.{moves_from, free_end}
+use Rattle.step_model.specs.Step.{node_step}
+use Rattle.serial_model.specs.Serial.{serial}
+use Rattle.serial_model.proofs.worked_systems.Goals as goal
+
+pub returns-clause-small : goal.returns-clause-small
+unfolding pick_from links_after_arrivals moves_from node_step serial
+returns-clause-small c = record {
+  apart_events = refl;
+  apart_histories = refl;
+  apart_after_4 = refl;
+  apart_after_5 = refl;
+  joined_histories = refl;
+}
+
+pub returns-clause-pair : goal.returns-clause-pair
+unfolding pick_from first_difference free_chan links_after_arrivals moves_from free_end node_step serial
+returns-clause-pair c = record {
+  nothing_sent = refl;
+  before_arrival = refl;
+  first_credit = refl;
+  histories = refl;
+  not_delivered = refl;
+  events = refl;
+  waits = refl;
+  goes_on = refl;
+}
+
+pub returns-clause-order : goal.returns-clause-order
+returns-clause-order c = record { token_first = refl; other_end = refl }
+
+pub returns-clause-lost : goal.returns-clause-lost
+unfolding pick_from first_difference free_chan links_after_arrivals moves_from free_end node_step serial
+returns-clause-lost c = record { events = refl; not_yet = refl; histories = refl }

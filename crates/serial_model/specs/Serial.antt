@@ -1,0 +1,129 @@
+-- The serial machine: all nodes of a system stepped together, slot by slot.
+use Rattle.std.specs.Prelude.{ℕ, zero, suc, ◌+◌, Bool, true, false, ◌==◌, Option, Some, None, List, [], ◌∷◌, ◌++◌, map, filter, replicate, slice_index_or}
+use Rattle.std.specs.List.{list_any}
+use Rattle.xs_base.specs.declared.token.Token.{Token}
+use Rattle.xs_base.specs.declared.entry.Entry.{Entry}
+use Rattle.xs_base.specs.declared.entry.What.{What}
+use Rattle.xs_base.specs.declared.entry.What.TheVariants as what
+use Rattle.xs_model.specs.declared.event.Event.{Event}
+use Rattle.xs_model.specs.declared.outside.Arrivals.{Arrivals}
+use Rattle.xs_model.specs.declared.outside.PinView.{PinView}
+use Rattle.xs_model.specs.Record.{NodeRec}
+use Rattle.xs_model.specs.Outside.{Emitted, emitted_events}
+use Rattle.sys_plan.specs.declared.NodePlan.{NodePlan}
+use Rattle.sys_plan.specs.Plan.{PlanRec, Direction, directions, incoming, delay_of, gaps_of, link_ends}
+use Rattle.step_model.specs.Start.{fixed_of, node_of}
+use Rattle.step_model.specs.Step.{Stepped, node_step}
+
+-- a system after some slots: nodes and their events by position, histories by the number of the directed link
+pub record SystemRec : Type 0 where
+  pub nodes : List NodeRec
+  pub histories : List (List Entry)
+  pub events : List (List Event)
+
+-- the nodes as they start, the first of which stands at position n
+abbrev pub nodes_at_start : PlanRec → ℕ → List NodePlan → List NodeRec
+nodes_at_start plan n [] = []
+nodes_at_start plan n (node ∷ nodes) = node_of node (gaps_of plan n) ∷ nodes_at_start plan (n + 1) nodes
+
+-- before the first slot nothing was sent, and nothing happened
+abbrev pub system_at_start : PlanRec → SystemRec
+system_at_start plan = record {
+  nodes = nodes_at_start plan 0 plan.nodes;
+  histories = map (λ (d : Direction). []) (directions plan.links);
+  events = map (λ (node : NodePlan). []) plan.nodes;
+}
+
+-- the entries of a directed link that arrive in a slot: those that were sent a delay before
+abbrev pub arriving : ℕ → ℕ → List Entry → List Entry
+arriving slot delay history = filter (λ (e : Entry). (e.slot + delay) == slot) history
+
+-- what arrives in a slot by the directed link with a number, where there is one
+abbrev pub arriving_by : PlanRec → List (List Entry) → ℕ → Option ℕ → List Entry
+arriving_by plan histories slot None = []
+arriving_by plan histories slot (Some link) = arriving slot (delay_of plan link) (slice_index_or histories link [])
+
+abbrev pub token_or : What → Option Token → Option Token
+token_or (what.Token t) other = Some t
+token_or what.Credit other = other
+
+-- the first token among entries
+abbrev pub token_among : List Entry → Option Token
+token_among [] = None
+token_among (e ∷ es) = token_or e.what (token_among es)
+
+abbrev pub is_credit : What → Bool
+is_credit (what.Token t) = false
+is_credit what.Credit = true
+
+-- whether a credit is among entries
+abbrev pub credit_among : List Entry → Bool
+credit_among entries = list_any (λ (e : Entry). is_credit e.what) entries
+
+-- what arrives by the link ends, of the entries that arrive by each of them
+abbrev pub arrivals_of : List (List Entry) → Arrivals
+arrivals_of by_end = record { tokens = map token_among by_end; credits = map credit_among by_end }
+
+-- what arrives at a node in a slot
+abbrev pub arrivals_at : PlanRec → List (List Entry) → ℕ → ℕ → Arrivals
+arrivals_at plan histories slot node = arrivals_of (map (λ end. arriving_by plan histories slot (incoming plan node end)) link_ends)
+
+-- each pin shows 0
+abbrev pub low_pins : PinView
+low_pins = record { level = replicate 29 0 }
+
+-- the step of each node in a slot, the first of which stands at position n
+abbrev pub steps_from : PlanRec → List (List Entry) → ℕ → ℕ → List NodePlan → List NodeRec → List Stepped
+steps_from plan histories slot n (node ∷ nodes) (rec ∷ recs) =
+    node_step (fixed_of node (gaps_of plan n)) rec slot (arrivals_at plan histories slot n) low_pins
+    ∷ steps_from plan histories slot (n + 1) nodes recs
+steps_from plan histories slot n _ _ = []
+
+-- the steps of all nodes in a slot
+abbrev pub steps_of : PlanRec → ℕ → SystemRec → List Stepped
+steps_of plan slot system = steps_from plan system.histories slot 0 plan.nodes system.nodes
+
+abbrev pub token_entries : ℕ → Option Token → List Entry
+token_entries slot None = []
+token_entries slot (Some t) = record { slot = slot; what = what.Token t } ∷ []
+
+abbrev pub credit_entries : ℕ → Bool → List Entry
+credit_entries slot false = []
+credit_entries slot true = record { slot = slot; what = what.Credit } ∷ []
+
+-- what a node's slot sends by a link end: the token, then the credit
+abbrev pub sent_by : ℕ → Emitted → ℕ → List Entry
+sent_by slot emitted end =
+    token_entries slot (slice_index_or emitted.tokens end None) ++ credit_entries slot (slice_index_or emitted.credits end false)
+
+-- what the node at a position emitted
+abbrev pub emitted_by : List Stepped → ℕ → Emitted
+emitted_by steps node = slice_index_or (map (λ (s : Stepped). s.emitted) steps) node (emitted_events [])
+
+-- each history goes on with what its sender's link end sent
+abbrev pub longer_histories : ℕ → List Stepped → List Direction → List (List Entry) → List (List Entry)
+longer_histories slot steps (d ∷ ds) (history ∷ histories) =
+    (history ++ sent_by slot (emitted_by steps d.from) d.from_end) ∷ longer_histories slot steps ds histories
+longer_histories slot steps _ _ = []
+
+-- the events of each node go on with those of its slot
+abbrev pub longer_events : List Stepped → List (List Event) → List (List Event)
+longer_events (s ∷ steps) (events ∷ all) = (events ++ s.emitted.events) ∷ longer_events steps all
+longer_events _ _ = []
+
+-- the system after the steps of a slot
+abbrev pub system_after : PlanRec → ℕ → SystemRec → List Stepped → SystemRec
+system_after plan slot system steps = record {
+  nodes = map (λ (s : Stepped). s.rec) steps;
+  histories = longer_histories slot steps (directions plan.links) system.histories;
+  events = longer_events steps system.events;
+}
+
+-- one slot of the whole system
+abbrev pub system_step : PlanRec → ℕ → SystemRec → SystemRec
+system_step plan slot system = system_after plan slot system (steps_of plan slot system)
+
+-- the system after so many slots
+unfoldable pub serial : PlanRec → ℕ → SystemRec
+serial plan zero = system_at_start plan
+serial plan (suc slot) = system_step plan slot (serial plan slot)

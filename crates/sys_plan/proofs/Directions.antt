@@ -1,0 +1,25 @@
+-- The directed links of a list of links, by number.
+use Rattle.std.proofs.Common.{◌≡◌, ℕ, zero, suc, ◌+◌, ◌*◌, ◌/◌, ◌<◌, List, [], ◌∷◌, length, map, get_or, refl, ◌∙◌, sym, ap, arith}
+use Rattle.std.specs.List.{AllByRecursion}
+use Rattle.sys_plan.specs.declared.LinkPlan.{LinkPlan}
+use Rattle.sys_plan.specs.Plan.{Direction, forth, back, directions}
+
+pub directions_length : (links : List LinkPlan) → length (directions links) ≡ 2 * length links
+directions_length [] = refl
+directions_length (link ∷ links) = omega (arith, directions_length links)
+
+-- what both directions of a link share stands at half the number
+module _ (of_direction : Direction → ℕ) (of_link : LinkPlan → ℕ) (forth_is : (l : LinkPlan) → of_direction (forth l) ≡ of_link l) (back_is : (l : LinkPlan) → of_direction (back l) ≡ of_link l) where
+  pub shared-at : (links : List LinkPlan) (k : ℕ) (d : LinkPlan) → k < 2 * length links → get_or (map of_direction (directions links)) k 0 ≡ of_link (get_or links (k / 2) d)
+  shared-at [] k d h = absurd (omega arith)
+  shared-at (link ∷ links) zero d h = forth_is link
+  shared-at (link ∷ links) (suc zero) d h = back_is link
+  shared-at (link ∷ links) (suc (suc k)) d h =
+      let half : suc (suc k) / 2 ≡ suc (k / 2) = omega arith in
+      shared-at links k d (omega arith) ∙ ap of_link (ap (λ i. get_or (link ∷ links) i d) (sym half))
+
+-- what holds of each element holds at each place
+pub all-at : {X : Type 0} (P : X → Type 0) (xs : List X) (k : ℕ) (d : X) → AllByRecursion P xs → k < length xs → P (get_or xs k d)
+all-at P [] k d all h = absurd (omega arith)
+all-at P (x ∷ xs) zero d all h = all.0
+all-at P (x ∷ xs) (suc k) d all h = all-at P xs k d all.1 (omega arith)

@@ -1,0 +1,119 @@
+-- The plan of a system: its nodes, and the links between them.
+use Rattle.std.specs.Prelude.{ℕ, ◌≡◌, ◌≢◌, ◌+◌, ◌<◌, ◌≤◌, Bool, ◌&&◌, ◌==◌, if◌then◌else◌, Option, Some, None, IsSome, List, [], ◌∷◌, length, map, slice_index, slice_index_or}
+use Rattle.std.specs.List.{AllByRecursion}
+use Rattle.std.specs.Int.{bit_at}
+use Rattle.sys_plan.specs.declared.NodePlan.{NodePlan}
+use Rattle.sys_plan.specs.declared.LinkPlan.{LinkPlan}
+
+-- nodes by ascending number, and links in the order of their lines; a link names its nodes by position
+pub record PlanRec : Type 0 where
+  pub nodes : List NodePlan
+  pub links : List LinkPlan
+
+-- one direction of a link: from a link end of a node to one of another, with the delay and the gap in slots
+pub record Direction : Type 0 where
+  pub from : ℕ
+  pub from_end : ℕ
+  pub to : ℕ
+  pub to_end : ℕ
+  pub delay : ℕ
+  pub gap : ℕ
+
+-- from the first end of a link to the second, and back
+abbrev pub forth : LinkPlan → Direction
+forth link = record { from = link.a; from_end = link.a_end; to = link.b; to_end = link.b_end; delay = link.delay; gap = link.gap }
+
+abbrev pub back : LinkPlan → Direction
+back link = record { from = link.b; from_end = link.b_end; to = link.a; to_end = link.a_end; delay = link.delay; gap = link.gap }
+
+-- the directed links by number: 2k leads from the first to the second end of link k, and 2k + 1 leads back
+abbrev pub directions : List LinkPlan → List Direction
+directions [] = []
+directions (link ∷ links) = forth link ∷ (back link ∷ directions links)
+
+abbrev pub leaves_by : ℕ → ℕ → Direction → Bool
+leaves_by node end d = (d.from == node) && (d.from_end == end)
+
+abbrev pub comes_to : ℕ → ℕ → Direction → Bool
+comes_to node end d = (d.to == node) && (d.to_end == end)
+
+-- the number of the first of these directed links, counted from n, that passes a test
+abbrev pub first_link : (Direction → Bool) → ℕ → List Direction → Option ℕ
+first_link test n [] = None
+first_link test n (d ∷ ds) = if test d then Some n else first_link test (n + 1) ds
+
+-- the directed link that leaves by a link end of a node, and the one that comes to it, where there is one
+abbrev pub outgoing : PlanRec → ℕ → ℕ → Option ℕ
+outgoing plan node end = first_link (leaves_by node end) 0 (directions plan.links)
+
+abbrev pub incoming : PlanRec → ℕ → ℕ → Option ℕ
+incoming plan node end = first_link (comes_to node end) 0 (directions plan.links)
+
+-- the delay and the gap of the directed link with a number, in slots
+abbrev pub delay_of : PlanRec → ℕ → ℕ
+delay_of plan link = slice_index (map (λ (d : Direction). d.delay) (directions plan.links)) link
+
+abbrev pub gap_of : PlanRec → ℕ → ℕ
+gap_of plan link = slice_index (map (λ (d : Direction). d.gap) (directions plan.links)) link
+
+-- the gap of the directed link that leaves by a link end, 0 where none does
+abbrev pub gap_by : PlanRec → Option ℕ → ℕ
+gap_by plan None = 0
+gap_by plan (Some link) = gap_of plan link
+
+-- the numbers of a node's link ends
+abbrev pub link_ends : List ℕ
+link_ends = 0 ∷ 1 ∷ 2 ∷ 3 ∷ 4 ∷ 5 ∷ 6 ∷ 7 ∷ []
+
+-- the gap of each link end of a node, 0 where no link is
+abbrev pub gaps_of : PlanRec → ℕ → List ℕ
+gaps_of plan node = map (λ end. gap_by plan (outgoing plan node end)) link_ends
+
+-- nothing stands twice
+abbrev pub AreDistinct : {X : Type 0} → List X → Type 0
+AreDistinct [] = Unit {0}
+AreDistinct (x ∷ xs) = AllByRecursion (λ y. x ≢ y) xs × AreDistinct xs
+
+-- each number is above the one before it
+abbrev pub AreAscending : List ℕ → Type 0
+AreAscending [] = Unit {0}
+AreAscending (x ∷ []) = Unit {0}
+AreAscending (x ∷ y ∷ rest) = (x < y) × AreAscending (y ∷ rest)
+
+-- the link ends of both ends of each link: the node and the number
+abbrev pub places_of : List LinkPlan → List (ℕ × ℕ)
+places_of [] = []
+places_of (link ∷ links) = (link.a, link.a_end) ∷ ((link.b, link.b_end) ∷ places_of links)
+
+-- a link joins link ends of two of so many nodes, and its delay and gap are within their ranges
+pub record IsLink (nodes : ℕ) (link : LinkPlan) : Type 0 where
+  pub a : link.a < nodes
+  pub b : link.b < nodes
+  pub apart : link.a ≢ link.b
+  pub a_end : link.a_end < 8
+  pub b_end : link.b_end < 8
+  pub least_delay : 1 ≤ link.delay
+  pub most_delay : link.delay ≤ 1000
+  pub least_gap : 4 ≤ link.gap
+  pub most_gap : link.gap ≤ 1000
+
+-- each link end that the ways of a node name, for some bit of an id, is there
+abbrev pub WaysLead : PlanRec → ℕ → List ℕ → Type 0
+WaysLead plan node ways = (bit end : ℕ) → bit < 16 → end < 8 → bit_at (slice_index ways bit) end ≡ 1 → IsSome (outgoing plan node end)
+
+-- that is so of these nodes, the first of which stands at position n
+abbrev pub AllWaysLead : PlanRec → ℕ → List NodePlan → Type 0
+AllWaysLead plan n [] = Unit {0}
+AllWaysLead plan n (node ∷ nodes) = WaysLead plan n node.ways × AllWaysLead plan (n + 1) nodes
+
+-- what every plan keeps
+pub record IsPlan (plan : PlanRec) : Type 0 where
+  pub few_nodes : length plan.nodes ≤ 16
+  pub few_links : length plan.links ≤ 48
+  pub numbers : AllByRecursion (λ (node : NodePlan). node.number < 100) plan.nodes
+  pub order : AreAscending (map (λ (node : NodePlan). node.number) plan.nodes)
+  pub ids : AreDistinct (map (λ (node : NodePlan). node.id) plan.nodes)
+  pub links : AllByRecursion (IsLink (length plan.nodes)) plan.links
+  -- no link end belongs to two links
+  pub places : AreDistinct (places_of plan.links)
+  pub ways : AllWaysLead plan 0 plan.nodes

@@ -1,0 +1,155 @@
+//! `Plan`, the plan of a system.
+ghost use Rattle.std.specs.Prelude.{◌≡◌, ◌<◌, ◌≤◌, ◌+◌, ◌*◌, ℕ, length, slice_index, IfSome, IsSome};
+ghost use Rattle.sys_plan.specs.Plan.{PlanRec, IsPlan, outgoing, incoming, directions, first_link, leaves_by, comes_to, delay_of, gap_of, gap_by, gaps_of};
+
+use crate::{LinkPlan, NodePlan};
+use std::marker::Model;
+
+/// The plan of a system: its nodes by ascending number, and its links. The record `IsPlan` says what every plan
+/// keeps. See docs/SYSTEM_TEXT.md.
+///
+/// A directed link is one direction of a link. Number 2k leads from the first to the second end of link k, counted
+/// from 0, and 2k + 1 leads back. See docs/LINKS.md.
+#[derive(Drop)]
+pub struct Plan {
+    nodes: Vec<NodePlan>,
+    links: Vec<LinkPlan>,
+}
+
+impl Model for Plan {
+    ghost use Rattle.sys_plan.specs.Plan.{PlanRec, IsPlan};
+
+    ghost Value = { PlanRec };
+
+    ghost view = { λ p. record { nodes = p.nodes.items; links = p.links.items } };
+
+    ghost invariant = { λ p. IsPlan (record { nodes = p.nodes.items; links = p.links.items }) };
+}
+
+impl Plan {
+    /// The plan of these nodes and links. It takes no memory.
+    pub fn of(nodes: Vec<NodePlan>, links: Vec<LinkPlan>) -> Plan
+        requires parts { IsPlan (record { nodes = nodes.items; links = links.items }) }
+        ensures value { result ≡ record { nodes = nodes.items; links = links.items } }
+    {
+        Plan { nodes, links }
+    }
+
+    /// The nodes by ascending number, at most 16.
+    pub fn nodes(&self) -> &[NodePlan]
+        ensures value { result.now ≡ self.now.nodes }
+        ensures plan { IsPlan self.now }
+    {
+        self.nodes.as_slice()
+    }
+
+    /// The links, at most 48, which name their nodes by position in `nodes`.
+    pub fn links(&self) -> &[LinkPlan]
+        ensures value { result.now ≡ self.now.links }
+        ensures plan { IsPlan self.now }
+    {
+        self.links.as_slice()
+    }
+
+    /// The number of the directed link that leaves by a link end of the node at a position. `None` comes exactly
+    /// where no link is there; any link end may be asked for.
+    pub fn outgoing(&self, node: u8, end: u8) -> Option<u32>
+        ensures value { result ≡ outgoing self.now node end }
+        ensures bound { IfSome result (λ link. link < length (directions self.now.links)) }
+    {
+        first_leaving(self.links(), node, end)
+    }
+
+    /// The number of the directed link that comes to a link end of the node at a position. `None` comes exactly
+    /// where no link is there; any link end may be asked for.
+    pub fn incoming(&self, node: u8, end: u8) -> Option<u32>
+        ensures value { result ≡ incoming self.now node end }
+        ensures bound { IfSome result (λ link. link < length (directions self.now.links)) }
+    {
+        first_coming(self.links(), node, end)
+    }
+
+    /// The delay of the directed link with a number, 1 to 1,000 slots.
+    #[tactic(auto, using(crate::proofs::Directions::directions_length))]
+    pub fn delay(&self, link: u32) -> u32
+        requires number { link < length (directions self.now.links) }
+        ensures value { result ≡ delay_of self.now link }
+        ensures least { 1 ≤ result }
+        ensures most { result ≤ 1000 }
+    {
+        let link = &self.links[(link / 2) as usize];
+        link.delay
+    }
+
+    /// The gap of each link end of the node at a position, in slots, 0 where no link is.
+    pub fn gaps(&self, node: u8) -> [u32; 8]
+        ensures value { result ≡ gaps_of self.now node }
+        ensures there { (end : ℕ) → end < 8 → IsSome (outgoing self.now node end) → 4 ≤ slice_index result end }
+    {
+        [
+            self.gap(node, 0),
+            self.gap(node, 1),
+            self.gap(node, 2),
+            self.gap(node, 3),
+            self.gap(node, 4),
+            self.gap(node, 5),
+            self.gap(node, 6),
+            self.gap(node, 7),
+        ]
+    }
+
+    // The gap of a link end, 0 where no link is.
+    #[tactic(auto, using(crate::proofs::Directions::directions_length))]
+    fn gap(&self, node: u8, end: u8) -> u32
+        ensures value { result ≡ gap_by self.now (outgoing self.now node end) }
+        ensures there { IsSome (outgoing self.now node end) → 4 ≤ result }
+    {
+        match self.outgoing(node, end) {
+            None => 0,
+            Some(link) => {
+                let link = &self.links[(link / 2) as usize];
+                link.gap
+            }
+        }
+    }
+}
+
+// The number of the first directed link that leaves by a link end.
+#[tactic(auto, using(crate::proofs::Directions::directions_length))]
+fn first_leaving(links: &[LinkPlan], node: u8, end: u8) -> Option<u32>
+    requires few { length links.now ≤ 48 }
+    ensures value { result ≡ first_link (leaves_by node end) 0 (directions links.now) }
+    ensures bound { IfSome result (λ link. link < length (directions links.now)) }
+{
+    let mut number = 0;
+    for link in links {
+        if link.a == node && link.a_end == end {
+            return Some(number);
+        }
+        if link.b == node && link.b_end == end {
+            return Some(number + 1);
+        }
+        number += 2;
+    }
+    None
+}
+
+// The number of the first directed link that comes to a link end.
+#[tactic(auto, using(crate::proofs::Directions::directions_length))]
+fn first_coming(links: &[LinkPlan], node: u8, end: u8) -> Option<u32>
+    requires few { length links.now ≤ 48 }
+    ensures value { result ≡ first_link (comes_to node end) 0 (directions links.now) }
+    ensures bound { IfSome result (λ link. link < length (directions links.now)) }
+{
+    let mut number = 0;
+    for link in links {
+        if link.b == node && link.b_end == end {
+            return Some(number);
+        }
+        if link.a == node && link.a_end == end {
+            return Some(number + 1);
+        }
+        number += 2;
+    }
+    None
+}

@@ -1,0 +1,22 @@
+use Rattle.std.proofs.Common.{refl}
+use Rattle.std.specs.Fmt.{digits}
+use Rattle.xs_model.specs.Memory.{words_of}
+use Rattle.xs_model.specs.Picks.{pick_from}
+use Rattle.net_model.specs.Ids.{first_difference}
+use Rattle.net_model.specs.Chans.{free_chan}
+use Rattle.net_model.specs.Links.{links_after_arrivals}
+use Rattle.net_model.specs.Switch.{moves_from, free_end}
+use Rattle.step_model.specs.Step.{node_step}
+use Rattle.serial_model.specs.Serial.{serial}
+use Rattle.trace_lines.specs.Lines.{hex_word}
+use Rattle.trace_model.specs.EventOrder.{merged}
+use Rattle.trace_model.specs.Trace.{halted_lines, memory_lines, by_position, events_in_order, trace_text}
+use Rattle.trace_model.proofs.worked_texts.Goals as goal
+
+pub returns-clause-order : goal.returns-clause-order
+unfolding digits merged
+returns-clause-order c = record { in_order = refl; some_left_out = refl; none_left_out = refl }
+
+pub returns-clause-traces : goal.returns-clause-traces
+unfolding digits words_of pick_from first_difference free_chan links_after_arrivals moves_from free_end node_step serial hex_word merged halted_lines memory_lines by_position events_in_order trace_text
+returns-clause-traces c = record { delivered = refl; cut = refl; lost = refl; halted = refl }

@@ -1,0 +1,140 @@
+-- The text that a run writes.
+use Rattle.std.specs.Prelude.{ℕ, ◌+◌, Bool, true, false, ◌==◌, if◌then◌else◌, List, [], ◌∷◌, ◌++◌, length, map, filter, slice_index, slice_index_or, codes, decimal}
+use Rattle.std.specs.List.{flat_map}
+use Rattle.xs_base.specs.declared.entry.Entry.{Entry}
+use Rattle.xs_base.specs.declared.entry.What.{What}
+use Rattle.xs_base.specs.declared.entry.What.TheVariants.{Token, Credit}
+use Rattle.xs_model.specs.declared.thread.Run.{Run}
+use Rattle.xs_model.specs.declared.thread.Run.TheVariants.{Halted}
+use Rattle.xs_model.specs.declared.thread.Thread.{Thread}
+use Rattle.xs_model.specs.declared.event.Event.{Event}
+use Rattle.xs_model.specs.Memory.{memory_base, words_of}
+use Rattle.xs_model.specs.Record.{NodeRec, first_node}
+use Rattle.trace_lines.specs.Lines.{event_line, hex_word}
+use Rattle.trace_lines.specs.Kept.{first_events, left_out}
+use Rattle.sys_plan.specs.declared.NodePlan.{NodePlan}
+use Rattle.sys_plan.specs.Plan.{PlanRec, Direction, directions}
+use Rattle.serial_model.specs.Serial.{SystemRec, serial, is_credit}
+use Rattle.trace_model.specs.declared.NodeEvent.{NodeEvent}
+use Rattle.trace_model.specs.EventOrder.{told_by, merged}
+
+-- the line of each event
+abbrev pub event_lines : List NodeEvent → List ℕ
+event_lines events = flat_map (λ (e : NodeEvent). event_line e.node e.event) events
+
+-- `nN more C`, where events were left out
+abbrev pub more_line : ℕ → ℕ → List ℕ
+more_line node count =
+    if count == 0 then []
+    else codes "n" ++ (decimal node ++ (codes " more " ++ (decimal count ++ (10 ∷ []))))
+
+abbrev pub is_token : What → Bool
+is_token (Token token) = true
+is_token Credit = false
+
+-- how many tokens a directed link's history has, and how many credits
+abbrev pub tokens_in : List Entry → ℕ
+tokens_in history = length (filter (λ (e : Entry). is_token e.what) history)
+
+abbrev pub credits_in : List Entry → ℕ
+credits_in history = length (filter (λ (e : Entry). is_credit e.what) history)
+
+-- `N:E`, a link end of a node
+abbrev pub link_end_text : ℕ → ℕ → List ℕ
+link_end_text node end = decimal node ++ (codes ":" ++ decimal end)
+
+-- ` tokens A credits B`, and the line's end
+abbrev pub counts_text : List Entry → List ℕ
+counts_text history =
+    codes " tokens " ++ (decimal (tokens_in history) ++ (codes " credits " ++ (decimal (credits_in history) ++ (10 ∷ []))))
+
+-- `link N:E>M:F tokens A credits B`
+abbrev pub link_line : ℕ → ℕ → ℕ → ℕ → List Entry → List ℕ
+link_line from from_end to to_end history =
+    codes "link " ++ (link_end_text from from_end ++ (codes ">" ++ (link_end_text to to_end ++ counts_text history)))
+
+abbrev pub is_halted : Run → Bool
+is_halted Halted = true
+is_halted _ = false
+
+-- `nN.tT halted`, where the thread halted
+abbrev pub halted_line : ℕ → ℕ → Run → List ℕ
+halted_line node k run =
+    if is_halted run then codes "n" ++ (decimal node ++ (codes ".t" ++ (decimal k ++ codes " halted\n"))) else []
+
+-- the lines of the threads from number k on
+unfoldable pub halted_lines : ℕ → ℕ → List Thread → List ℕ
+halted_lines node k [] = []
+halted_lines node k (th ∷ threads) = halted_line node k th.run ++ halted_lines node (k + 1) threads
+
+-- `nN mem ADDRESS WORD`, where the word isn't 0
+abbrev pub memory_line : ℕ → ℕ → ℕ → List ℕ
+memory_line node at w =
+    if w == 0 then []
+    else codes "n" ++ (decimal node ++ (codes " mem " ++ (hex_word at ++ (codes " " ++ (hex_word w ++ (10 ∷ []))))))
+
+-- the lines of the words from an address on
+unfoldable pub memory_lines : ℕ → ℕ → List ℕ → List ℕ
+memory_lines node at [] = []
+memory_lines node at (w ∷ words) = memory_line node at w ++ memory_lines node (at + 4) words
+
+-- `end SLOTS`
+abbrev pub end_line : ℕ → List ℕ
+end_line slots = codes "end " ++ (decimal slots ++ (10 ∷ []))
+
+-- a piece of text for each element with its position, from position k on
+unfoldable pub by_position : {A : Type 0} → (ℕ → A → List ℕ) → ℕ → List A → List ℕ
+by_position piece k [] = []
+by_position piece k (x ∷ xs) = piece k x ++ by_position piece (k + 1) xs
+
+-- the node at a position, the history of the directed link with a number, and the events of the node at a position
+abbrev pub node_at : SystemRec → ℕ → NodeRec
+node_at system k = slice_index_or system.nodes k (first_node 0 0 [])
+
+abbrev pub history_at : SystemRec → ℕ → List Entry
+history_at system link = slice_index_or system.histories link []
+
+abbrev pub events_at : SystemRec → ℕ → List Event
+events_at system k = slice_index_or system.events k []
+
+-- The kept events of the nodes, the first of which stands at position k: by slot, within a slot by node, and each
+-- node's in its own order.
+unfoldable pub events_in_order : SystemRec → ℕ → List NodePlan → List NodeEvent
+events_in_order system k [] = []
+events_in_order system k (node ∷ nodes) =
+    merged (told_by node.number (first_events (events_at system k))) (events_in_order system (k + 1) nodes)
+
+-- the line that tells how many events of the node at position k were left out, where some were
+abbrev pub more_at : SystemRec → ℕ → NodePlan → List ℕ
+more_at system k node = more_line node.number (left_out (events_at system k))
+
+-- the number of the node at a position
+abbrev pub number_at : List NodePlan → ℕ → ℕ
+number_at nodes k = slice_index (map (λ (node : NodePlan). node.number) nodes) k
+
+-- the line that tells what was sent on the directed link with number k
+abbrev pub link_at : List NodePlan → SystemRec → ℕ → Direction → List ℕ
+link_at nodes system k d =
+    link_line (number_at nodes d.from) d.from_end (number_at nodes d.to) d.to_end (history_at system k)
+
+-- the lines of the halted threads of the node at position k
+abbrev pub halted_at : SystemRec → ℕ → NodePlan → List ℕ
+halted_at system k node = halted_lines node.number 0 (node_at system k).core.threads
+
+-- the lines of the words of its memory that aren't 0
+abbrev pub memory_at : SystemRec → ℕ → NodePlan → List ℕ
+memory_at system k node = memory_lines node.number memory_base (words_of (node_at system k).core.memory)
+
+-- all lines but the last: the events in order, what of them was left out, what was sent on each directed link, the
+-- halted threads, and the words of the memories that aren't 0
+abbrev pub lines_text : PlanRec → SystemRec → List ℕ
+lines_text plan system =
+    event_lines (events_in_order system 0 plan.nodes)
+    ++ (by_position (more_at system) 0 plan.nodes
+    ++ (by_position (link_at plan.nodes system) 0 (directions plan.links)
+    ++ (by_position (halted_at system) 0 plan.nodes
+    ++ by_position (memory_at system) 0 plan.nodes)))
+
+-- the trace of a run of so many slots
+unfoldable pub trace_text : PlanRec → ℕ → List ℕ
+trace_text plan slots = lines_text plan (serial plan slots) ++ end_line slots

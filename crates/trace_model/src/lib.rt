@@ -1,0 +1,19 @@
+//! The text that a run writes: definitions alone, with the plain type that they speak of. See docs/OUTPUT.md.
+#![tactic(auto)]
+
+ghost use Rattle.trace_model.specs.Worked.{WorkedOrder, WorkedTraces};
+
+use xs_model::Event;
+
+/// An event, and the number of the node on which it happened. See docs/OUTPUT.md.
+#[derive(Clone, Copy)]
+pub struct NodeEvent {
+    pub node: u8,
+    pub event: Event,
+}
+
+/// A law: the definitions give the order and the texts that were worked out by hand. It does nothing.
+pub fn worked_texts()
+    ensures order { WorkedOrder }
+    ensures traces { WorkedTraces }
+{}

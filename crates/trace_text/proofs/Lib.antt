@@ -1,0 +1,4 @@
+pub mod ByPosition
+pub mod EventOrder
+pub mod EventsInOrder
+pub mod TraceLines

@@ -1,0 +1,9 @@
+//! The text that a run of a system writes. See docs/OUTPUT.md.
+#![tactic(auto)]
+
+mod event_order;
+mod link_lines;
+mod node_lines;
+mod whole_trace;
+
+pub use whole_trace::trace;

@@ -1,0 +1,196 @@
+//! The trace of a run.
+ghost use Rattle.std.specs.Prelude.{◌≡◌, ◌<◌, ◌≤◌, ◌++◌, length, IfOk, OnOk, ◌+◌, ◌*◌, [], ◌∷◌};
+ghost use Rattle.sys_plan.specs.Plan.{directions, forth, back};
+ghost use Rattle.serial_model.specs.Serial.{serial};
+ghost use Rattle.trace_model.specs.EventOrder.{AreWithinCounts};
+ghost use Rattle.trace_model.specs.Trace.{by_position, events_in_order, halted_at, memory_at, more_at, link_at, lines_text, trace_text};
+
+use crate::event_order::merge;
+use crate::link_lines::append_link_line;
+use crate::node_lines::{
+    append_end_line, append_event_lines, append_halted_lines, append_memory_lines, append_more_line,
+};
+use run_plan::SerialMachine;
+use std::alloc::{AllocError, Global};
+use sys_plan::{LinkPlan, NodePlan, Plan};
+use trace_model::NodeEvent;
+use xs_base::Text;
+
+/// The trace of a system that runs for so many slots. The error is want of memory. See docs/OUTPUT.md.
+pub fn trace(alloc: Global, plan: &Plan, slots: u32) -> Result<Text, AllocError>
+    ensures text { IfOk result (λ t. t ≡ trace_text plan.now slots) }
+{
+    let mut machine = SerialMachine::new(alloc, plan)?;
+    machine.run(slots)?;
+    let mut out = Text::new(alloc);
+    append_system(&mut out, alloc, plan, &machine)?;
+    append_end_line(&mut out, slots)?;
+    Ok(out)
+}
+
+// All lines but the last.
+fn append_system(
+    out: &mut Text,
+    alloc: Global,
+    plan: &Plan,
+    machine: &SerialMachine,
+) -> Result<(), AllocError>
+    requires plan { machine.now.plan ≡ plan.now }
+    ensures { OnOk result (out.new ≡ out.old ++ lines_text plan.now (serial plan.now machine.now.now)) }
+{
+    let nodes = plan.nodes();
+    let events = events_in_order(alloc, nodes, machine)?;
+    append_event_lines(out, alloc, &events)?;
+    append_more(out, nodes, machine)?;
+    append_links(out, plan, machine)?;
+    append_halted(out, nodes, machine)?;
+    append_memory(out, nodes, machine)
+}
+
+// The kept events of all nodes: by slot, within a slot by node, and each node's in its own order.
+fn events_in_order(
+    alloc: Global,
+    nodes: &[NodePlan],
+    machine: &SerialMachine,
+) -> Result<Vec<NodeEvent>, AllocError>
+    requires nodes { nodes.now ≡ machine.now.plan.nodes }
+    requires few { length nodes.now ≤ 16 }
+    ensures order { IfOk result (λ all. all.items ≡ events_in_order (serial machine.now.plan machine.now.now) 0 nodes.now) }
+    ensures within { IfOk result (λ all. AreWithinCounts all.items) }
+{
+    let mut all = Vec::new(alloc);
+    let mut k = nodes.len();
+    while k > 0 {
+        k -= 1;
+        let events = machine.events(k as u8);
+        all = merge(alloc, nodes[k].number, events.events(), &all)?;
+    }
+    Ok(all)
+}
+
+// How many events of each node were left out, where some were.
+fn append_more(
+    out: &mut Text,
+    nodes: &[NodePlan],
+    machine: &SerialMachine,
+) -> Result<(), AllocError>
+    requires nodes { nodes.now ≡ machine.now.plan.nodes }
+    requires few { length nodes.now ≤ 16 }
+    ensures { OnOk result (out.new ≡ out.old ++ by_position (more_at (serial machine.now.plan machine.now.now)) 0 nodes.now) }
+{
+    for k in 0..nodes.len() {
+        append_more_at(out, k as u8, &nodes[k], machine)?;
+    }
+    Ok(())
+}
+
+// The same of the node at position k.
+fn append_more_at(
+    out: &mut Text,
+    k: u8,
+    node: &NodePlan,
+    machine: &SerialMachine,
+) -> Result<(), AllocError>
+    requires position { k < length machine.now.plan.nodes }
+    ensures { OnOk result (out.new ≡ out.old ++ more_at (serial machine.now.plan machine.now.now) k node.now) }
+{
+    append_more_line(out, node.number, machine.events(k).more())
+}
+
+// The line of each directed link: of each link forth, and back.
+fn append_links(out: &mut Text, plan: &Plan, machine: &SerialMachine) -> Result<(), AllocError>
+    requires plan { machine.now.plan ≡ plan.now }
+    ensures { OnOk result (out.new ≡ out.old ++ by_position (link_at plan.now.nodes (serial machine.now.plan machine.now.now)) 0 (directions plan.now.links)) }
+{
+    let links = plan.links();
+    let nodes = plan.nodes();
+    for k in 0..links.len() {
+        append_link_at(out, k as u32, &links[k], nodes, machine)?;
+    }
+    Ok(())
+}
+
+// The two lines of link k.
+fn append_link_at(
+    out: &mut Text,
+    k: u32,
+    link: &LinkPlan,
+    nodes: &[NodePlan],
+    machine: &SerialMachine,
+) -> Result<(), AllocError>
+    requires number { 2 * k + 1 < length (directions machine.now.plan.links) }
+    requires few { k < 48 }
+    requires a { link.now.a < length nodes.now }
+    requires b { link.now.b < length nodes.now }
+    ensures { OnOk result (out.new ≡ out.old ++ (link_at nodes.now (serial machine.now.plan machine.now.now) (2 * k) (forth link.now) ++ link_at nodes.now (serial machine.now.plan machine.now.now) (2 * k + 1) (back link.now))) }
+{
+    let a = nodes[link.a as usize].number;
+    let b = nodes[link.b as usize].number;
+    append_link_line(out, a, link.a_end, b, link.b_end, machine.history(2 * k))?;
+    append_link_line(
+        out,
+        b,
+        link.b_end,
+        a,
+        link.a_end,
+        machine.history(2 * k + 1),
+    )
+}
+
+// The line of each halted thread of each node.
+fn append_halted(
+    out: &mut Text,
+    nodes: &[NodePlan],
+    machine: &SerialMachine,
+) -> Result<(), AllocError>
+    requires nodes { nodes.now ≡ machine.now.plan.nodes }
+    requires few { length nodes.now ≤ 16 }
+    ensures { OnOk result (out.new ≡ out.old ++ by_position (halted_at (serial machine.now.plan machine.now.now)) 0 nodes.now) }
+{
+    for k in 0..nodes.len() {
+        append_halted_at(out, k as u8, &nodes[k], machine)?;
+    }
+    Ok(())
+}
+
+// The same of the node at position k.
+fn append_halted_at(
+    out: &mut Text,
+    k: u8,
+    node: &NodePlan,
+    machine: &SerialMachine,
+) -> Result<(), AllocError>
+    requires position { k < length machine.now.plan.nodes }
+    ensures { OnOk result (out.new ≡ out.old ++ halted_at (serial machine.now.plan machine.now.now) k node.now) }
+{
+    append_halted_lines(out, node.number, machine.core(k))
+}
+
+// The line of each word that isn't 0 of each node's memory.
+fn append_memory(
+    out: &mut Text,
+    nodes: &[NodePlan],
+    machine: &SerialMachine,
+) -> Result<(), AllocError>
+    requires nodes { nodes.now ≡ machine.now.plan.nodes }
+    requires few { length nodes.now ≤ 16 }
+    ensures { OnOk result (out.new ≡ out.old ++ by_position (memory_at (serial machine.now.plan machine.now.now)) 0 nodes.now) }
+{
+    for k in 0..nodes.len() {
+        append_memory_at(out, k as u8, &nodes[k], machine)?;
+    }
+    Ok(())
+}
+
+// The same of the node at position k.
+fn append_memory_at(
+    out: &mut Text,
+    k: u8,
+    node: &NodePlan,
+    machine: &SerialMachine,
+) -> Result<(), AllocError>
+    requires position { k < length machine.now.plan.nodes }
+    ensures { OnOk result (out.new ≡ out.old ++ memory_at (serial machine.now.plan machine.now.now) k node.now) }
+{
+    append_memory_lines(out, node.number, machine.core(k))
+}
