@@ -1,25 +1,38 @@
-//! Runs each example through the program's call, and says whether it wrote the text that stands beside it.
+//! Runs each example through the program's call, and says whether it wrote the text that stands beside it. The
+//! timeline of two nodes is compared too, slot by slot.
 #![tactic(auto)]
+
+mod timeline;
 
 use anyhow::{Context, Result};
 use std::fs;
 use std::rt::Files;
+use timeline::text_after;
 use xs_edge::{ListSink, ListSource, OpenGate};
 use xs1_top::{Status, top};
 
 /// The text of no example is longer, in bytes.
 const LONGEST_TEXT: usize = 65_536;
 
+/// The timeline is compared after each number of slots up to this one.
+const TIMELINE_SLOTS: u32 = 40;
+
 fn main(rt: HostRuntime) -> Result<()> {
     for name in names(&rt)? {
-        let verdict = if is_as_expected(&rt, &name)? {
-            "as expected"
-        } else {
-            "differs"
-        };
+        let verdict = verdict(is_as_expected(&rt, &name)?);
         println!(rt; "{name}: {verdict}")?;
     }
+    let verdict = verdict(timeline_is_as_expected(&rt)?);
+    println!(rt; "pair.timeline: {verdict}")?;
     Ok(())
+}
+
+fn verdict(as_expected: bool) -> &'static str {
+    if as_expected {
+        "as expected"
+    } else {
+        "differs"
+    }
 }
 
 // The names of the examples, in order: of the files that end in .xs1.
@@ -37,18 +50,36 @@ fn names(rt: &HostRuntime) -> Result<Vec<String>> {
 
 // Whether a run of the example ends well and writes what it should.
 fn is_as_expected(rt: &HostRuntime, name: &str) -> Result<bool> {
-    let words = words(rt, name)?;
-    let input = fs::read(rt, format!(in rt.alloc(); "{name}.xs1")?)?;
+    let line = fs::read_to_string(rt, format!(in rt.alloc(); "{name}.args")?)?;
     let expected = fs::read(rt, format!(in rt.alloc(); "{name}.txt")?)?;
+    writes(rt, name, &line, &expected)
+}
+
+// Whether the pair, after each number of slots, wrote what its timeline says.
+fn timeline_is_as_expected(rt: &HostRuntime) -> Result<bool> {
+    let timeline = fs::read_to_string(rt, "pair.timeline")?;
+    for slots in 0..=TIMELINE_SLOTS {
+        let line = format!(in rt.alloc(); "run {slots}")?;
+        let expected = text_after(rt.alloc(), &timeline, slots)?;
+        if !writes(rt, "pair", &line, expected.as_bytes())? {
+            return Ok(false);
+        }
+    }
+    Ok(true)
+}
+
+// Whether the example, run with the words of a line, ends well and writes this text.
+fn writes(rt: &HostRuntime, name: &str, line: &str, expected: &[u8]) -> Result<bool> {
+    let words = words(rt, line)?;
+    let input = fs::read(rt, format!(in rt.alloc(); "{name}.xs1")?)?;
     let mut source = ListSource::new(input);
     let mut sink = ListSink::with_room(rt.alloc(), LONGEST_TEXT)?;
     let status = top(rt.alloc(), &words, &mut source, &mut sink, &OpenGate);
-    Ok(status == Status::Done && sink.bytes() == expected.as_slice())
+    Ok(status == Status::Done && sink.bytes() == expected)
 }
 
-// The words that the example is run with: one line.
-fn words(rt: &HostRuntime, name: &str) -> Result<Vec<String>> {
-    let line = fs::read_to_string(rt, format!(in rt.alloc(); "{name}.args")?)?;
+// The words of a line.
+fn words(rt: &HostRuntime, line: &str) -> Result<Vec<String>> {
     let mut words = Vec::new(rt.alloc());
     for word in line.split_whitespace() {
         words.push(word.to_string(rt.alloc())?)?;
