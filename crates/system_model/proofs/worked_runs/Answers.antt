@@ -13,10 +13,10 @@ use Rattle.net_model.specs.Links.{links_after_arrivals}
 use Rattle.net_model.specs.Switch.{moves_from}
 use Rattle.step_model.specs.Step.{node_step}
 use Rattle.trace_lines.specs.Lines.{hex_word}
-use Rattle.source_model.specs.Statement.{name_first, mark_first, register_number, register_first, short_first, label_first, three_registers, register_and_short, register_and_dp, register_and_label, lone_label, instruction, statement}
-use Rattle.source_model.specs.Source.{labels_from, are_labels, code_of, assembled_lines}
+use Rattle.source_model.specs.Statement.{name_first, mark_first, register_number, register_first, number_first, label_first, three_registers, register_and_short, register_and_dp, register_and_label, lone_label, resource_first, register_and_small, resource_and_register, resource_and_small, resource_instruction, instruction, statement, word_value}
+use Rattle.source_model.specs.Source.{labels_from, are_labels, gathered, code_lines, data_lines, assembled_sections}
 use Rattle.system_model.proofs.worked_runs.Goals as goal
 
 pub returns : goal.returns
-unfolding digits lone_node without_comment parted next_words node_line source_line section_of framed system_of halted_lines memory_lines trace_text form_of answer lines_of tokens_after pick_from words_of moves_from links_after_arrivals node_step hex_word name_first mark_first register_number register_first short_first label_first three_registers register_and_short register_and_dp register_and_label lone_label instruction statement labels_from are_labels code_of assembled_lines
+unfolding digits lone_node without_comment parted next_words node_line source_line section_of framed system_of halted_lines memory_lines trace_text form_of answer lines_of tokens_after pick_from words_of moves_from links_after_arrivals node_step hex_word name_first mark_first register_number register_first number_first label_first three_registers register_and_short register_and_dp register_and_label lone_label resource_first register_and_small resource_and_register resource_and_small resource_instruction instruction statement word_value labels_from are_labels gathered code_lines data_lines assembled_sections
 returns c = record { binary_numbers = refl; label_at_the_end = refl; main_at_the_end = refl; main_later = refl; named_registers = refl; address_wraps = refl; unaligned_address = refl; branches_and_eq = refl; last_word = refl; no_slots = refl; signed_slots = refl; empty_slots = refl; a_million_slots = refl }
