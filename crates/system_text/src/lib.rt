@@ -11,6 +11,10 @@ mod node_texts;
 mod parts;
 mod section;
 mod system_error;
+mod system_reader;
 mod words;
 
+pub use source_model::AsmKind;
 pub use system_error::SystemError;
+pub use system_model::SysKind;
+pub use system_reader::{LONGEST_INPUT, read_system};

@@ -1,5 +1,5 @@
-ghost use Rattle.std.specs.Prelude.{◌≡◌, map};
-ghost use Rattle.std.specs.List.{AllByRecursion};
+ghost use Rattle.std.specs.Prelude.{◌≡◌, ◌==◌, ◌&&◌, map};
+ghost use Rattle.std.specs.List.{AllByRecursion, list_any};
 ghost use Rattle.xs_text.specs.Lines.{lines_of};
 ghost use Rattle.source_model.specs.Source.{assembled_lines};
 ghost use Rattle.system_model.specs.System.{node_plans, ways_of, way};
@@ -32,7 +32,7 @@ pub fn node_plans(
 // The plan of a node, or the refusal of its source.
 fn node_plan(alloc: Global, bits: &[BitLine], text: NodeText) -> Result<NodePlan, SystemError>
     requires short { IsShort text.source.now }
-    ensures { GivesNode bits.now (record { number = text.number; id = text.id; source = lines_of text.source.now }) (assembled_lines (lines_of text.source.now)) result }
+    ensures { GivesNode bits.now (record { number = text.entry.number; id = text.entry.id; source = lines_of text.entry.source.now }) (assembled_lines (lines_of text.entry.source.now)) result }
 {
     match assemble(alloc, text.source) {
         Ok(image) => Ok(NodePlan {
@@ -78,12 +78,17 @@ fn ways_of(bits: &[BitLine], number: u8) -> [u8; 16]
 fn way(bits: &[BitLine], number: u8, bit: u8) -> u8
     ensures { result ≡ way bits.now number bit }
 {
-    if bits
-        .iter()
-        .any(|named| named.node == number && named.bit == bit)
-    {
+    if has_way(bits, number, bit) {
         1
     } else {
         0
     }
+}
+
+// Whether a line gives this bit of the node.
+fn has_way(bits: &[BitLine], number: u8, bit: u8) -> bool
+    ensures { result ≡ list_any (λ named. (named.node == number) && (named.bit == bit)) bits.now }
+{
+    bits.iter()
+        .any(|named| named.node == number && named.bit == bit)
 }

@@ -27,13 +27,25 @@ pub fn texts_by_number<'a>(
     ensures texts { IfOk result (λ texts. map (λ t. record { number = t.number; id = t.id; source = lines_of t.source.now }) texts.items ≡ by_number (node_texts nodes.now (map (λ s. lines_of s.text.now) sources.now))) }
     ensures short { IfOk result (λ texts. AllByRecursion (λ t. IsShort t.source.now) texts.items) }
 {
-    let mut texts = node_texts(alloc, nodes, sources)?;
-    if let [first, second] = texts.as_slice() {
-        if second.number < first.number {
-            texts.swap(0, 1);
-        }
+    let texts = node_texts(alloc, nodes, sources)?;
+    Ok(put_in_order(texts))
+}
+
+// At most two nodes, by ascending number.
+fn put_in_order(mut texts: Vec<NodeText>) -> Vec<NodeText>
+    requires few { length texts.items ≤ 2 }
+    requires short { AllByRecursion (λ t. IsShort t.source.now) texts.items }
+    ensures texts { map (λ t. record { number = t.number; id = t.id; source = lines_of t.source.now }) result.items ≡ by_number (map (λ t. record { number = t.number; id = t.id; source = lines_of t.source.now }) texts.entry.items) }
+    ensures short { AllByRecursion (λ t. IsShort t.source.now) result.items }
+{
+    if texts.len() < 2 {
+        return texts;
     }
-    Ok(texts)
+    if texts[0].number <= texts[1].number {
+        return texts;
+    }
+    texts.swap(0, 1);
+    texts
 }
 
 // The nodes with their sources, as far as there are both.
@@ -44,6 +56,7 @@ fn node_texts<'a>(
 ) -> Result<Vec<NodeText<'a>>, AllocError>
     requires short { AllByRecursion (λ s. IsShort s.text.now) sources.now }
     ensures texts { IfOk result (λ texts. map (λ t. record { number = t.number; id = t.id; source = lines_of t.source.now }) texts.items ≡ node_texts nodes.now (map (λ s. lines_of s.text.now) sources.now)) }
+    ensures few { IfOk result (λ texts. length texts.items ≤ length nodes.now) }
     ensures short { IfOk result (λ texts. AllByRecursion (λ t. IsShort t.source.now) texts.items) }
 {
     let mut texts = Vec::new(alloc);
