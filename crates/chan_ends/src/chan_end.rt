@@ -1,6 +1,8 @@
 //! `ChanEnd`, one channel end.
-ghost use Rattle.std.specs.Prelude.{◌≡◌, ◌↔◌, ◌&&◌, false, Some, None, [], ◌∷◌, ◌++◌, drop, slice_get, OnOk, OnErr, IsErr, IsTrue, IsFalse};
+ghost use Rattle.std.specs.Prelude.{◌≡◌, ◌↔◌, ◌&&◌, false, Some, None, [], ◌∷◌, ◌++◌, ◌-◌, nat_le, length, drop, slice_get, OnOk, OnErr, IsErr, IsTrue, IsFalse};
+ghost use Rattle.std.specs.List.{list_any};
 ghost use Rattle.xs_model.specs.Record.{unused_chan};
+ghost use Rattle.xs_model.specs.Picks.{has_tokens, is_control};
 ghost use Rattle.net_model.specs.Chans.{got_chan, has_room, is_chan_id, chan_after};
 ghost use Rattle.chan_ends.specs.Answers.{found_at_put, put_answer, found_at_check, check_answer};
 
@@ -125,6 +127,20 @@ impl ChanEnd {
         }
     }
 
+    /// Whether so many tokens still fit into the output buffer.
+    pub(crate) fn has_room(&self, count: u8) -> bool
+        ensures { result ≡ nat_le (length self.now.output) (8 - count) }
+    {
+        self.output.len() <= usize::from(8u8.saturating_sub(count))
+    }
+
+    /// Whether so many tokens are in the input buffer, or a control token is among the first so many.
+    pub(crate) fn has_tokens(&self, count: u8) -> bool
+        ensures { result ≡ has_tokens count self.now.input }
+    {
+        has_tokens(self.input.as_slice(), count)
+    }
+
     /// Takes the token that waits longest from the output buffer.
     pub(crate) fn pop_out(&mut self) -> Option<Token>
         ensures token { result ≡ slice_get self.old.output 0 }
@@ -145,6 +161,32 @@ impl ChanEnd {
         self.input.push(t);
         true
     }
+}
+
+/// Whether so many tokens are there, or a control token is among the first so many.
+fn has_tokens(tokens: &[Token], count: u8) -> bool
+    ensures { result ≡ has_tokens count tokens.now }
+{
+    let count = usize::from(count);
+    tokens.len() >= count || any_control(tokens)
+}
+
+// Whether a control token is among them.
+fn any_control(tokens: &[Token]) -> bool
+    ensures { result ≡ list_any is_control tokens.now }
+{
+    for token in tokens {
+        if is_control(token) {
+            return true;
+        }
+    }
+    false
+}
+
+fn is_control(token: &Token) -> bool
+    ensures { result ≡ is_control token.now }
+{
+    matches!(token, Token::Ctrl(_))
 }
 
 /// The token that waits longest in a buffer.

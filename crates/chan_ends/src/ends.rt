@@ -1,6 +1,7 @@
 //! `ChanEnds`, the channel ends of a core.
-ghost use Rattle.std.specs.Prelude.{ℕ, ◌≡◌, ◌<◌, ◌↔◌, ◌&&◌, true, false, Some, None, [], ◌∷◌, ◌++◌, drop, length, slice_get, OnOk, OnErr, IfSome, IsErr, IsTrue, IsFalse};
+ghost use Rattle.std.specs.Prelude.{ℕ, ◌≡◌, ◌<◌, ◌↔◌, ◌&&◌, ◌-◌, nat_le, true, false, Some, None, [], ◌∷◌, ◌++◌, drop, length, slice_get, OnOk, OnErr, IfSome, IsErr, IsTrue, IsFalse};
 ghost use Rattle.net_model.specs.Chans.{free_chan, got_chan, has_room, is_chan_id};
+ghost use Rattle.xs_model.specs.Picks.{has_tokens};
 ghost use Rattle.chan_ends.specs.Ends.{chan_at, with_chan_at, with_got, unused_ends, ends_after};
 ghost use Rattle.chan_ends.specs.Answers.{found_at_put, put_answer, found_at_check, check_answer};
 
@@ -8,6 +9,9 @@ use crate::answers::{Bad, Put, Take};
 use crate::chan_end::ChanEnd;
 use std::marker::Model;
 use xs_base::Token;
+
+/// How many channel ends a core has.
+const CHANS: u8 = 32;
 
 /// A core's 32 channel ends, numbered from 0: each is in use or not, may have a destination, and has an output and
 /// an input buffer of 8 tokens. Contracts see them as `Ends` of `Rattle.chan_ends.specs.Ends`, beside the id of the
@@ -109,6 +113,28 @@ impl ChanEnds {
         ensures count { length self.new.chans ≡ 32 }
     {
         self.ends[c as usize].check(v)
+    }
+
+    /// Whether `count` tokens, 0 to 8, still fit into the output buffer of channel end `c`, which holds 8. With a `c` of
+    /// 32 or more it speaks of an empty buffer. See docs/LINKS.md.
+    pub fn has_room(&self, c: u8, count: u8) -> bool
+        ensures value { result ≡ nat_le (length (chan_at self.now c).output) (8 - count) }
+        ensures count { length self.now.chans ≡ 32 }
+    {
+        c >= CHANS || self.ends[c as usize].has_room(count)
+    }
+
+    /// Whether `count` tokens are in the input buffer of channel end `c`, or a control token is among the first
+    /// `count`. With a `c` of 32 or more it speaks of an empty buffer. See docs/LINKS.md.
+    pub fn has_tokens(&self, c: u8, count: u8) -> bool
+        ensures value { result ≡ has_tokens count (chan_at self.now c).input }
+        ensures count { length self.now.chans ≡ 32 }
+    {
+        if c < CHANS {
+            self.ends[c as usize].has_tokens(count)
+        } else {
+            count == 0
+        }
     }
 
     /// The token that waits longest in the output buffer of channel end `c`, 0 to 31: `None` exactly where none is

@@ -15,13 +15,15 @@ enum Call {
     PopOut(Option<Token>),
     PushIn(Token, bool),
     FirstIn(Option<Token>),
+    HasRoom(u8, bool),
+    HasTokens(u8, bool),
     Check(u32, Take),
 }
 
 const END: Token = Token::Ctrl(1);
 
 /// The calls on channel end 1, which is in use.
-const OF_USED: [Call; 28] = [
+const OF_USED: [Call; 38] = [
     Call::Used(true),
     Call::Dest(None),
     Call::Put(END, Put::Bad),
@@ -38,16 +40,26 @@ const OF_USED: [Call; 28] = [
     Call::Put(Token::Byte(15), Put::Done),
     Call::Put(Token::Byte(16), Put::Done),
     Call::Put(Token::Byte(17), Put::Done),
+    Call::HasRoom(1, false),
+    Call::HasRoom(0, true),
     Call::Put(END, Put::Full),
     Call::FirstOut(Some(Token::Byte(10))),
     Call::PopOut(Some(Token::Byte(10))),
     Call::PopOut(Some(Token::Byte(11))),
+    Call::HasRoom(2, true),
+    Call::HasRoom(3, false),
     Call::Put(END, Put::Done),
+    Call::HasTokens(0, true),
+    Call::HasTokens(1, false),
     Call::Check(1, Take::Wait),
     Call::PushIn(END, true),
     Call::PushIn(Token::Byte(1), true),
     Call::Check(2, Take::Bad),
+    Call::HasTokens(4, true),
     Call::Check(1, Take::Got(1)),
+    Call::HasTokens(1, true),
+    Call::HasTokens(2, false),
+    Call::HasTokens(0, true),
     Call::Check(1, Take::Bad),
     Call::FirstIn(Some(Token::Byte(1))),
 ];
@@ -73,6 +85,8 @@ fn make(rt: &impl Abort, ends: &mut ChanEnds, c: u8, call: Call)
         Call::PopOut(want) => assert_eq!(rt; ends.pop_out(c), want),
         Call::PushIn(t, want) => assert_eq!(rt; ends.push_in(c, t), want),
         Call::FirstIn(want) => assert_eq!(rt; ends.first_in(c), want),
+        Call::HasRoom(count, want) => assert_eq!(rt; ends.has_room(c, count), want),
+        Call::HasTokens(count, want) => assert_eq!(rt; ends.has_tokens(c, count), want),
         Call::Check(v, want) => assert_eq!(rt; ends.check(c, v), want),
     }
 }

@@ -1,3 +1,3 @@
-pub mod AtStart
+pub mod Units
 pub mod Core
 pub mod Inside

@@ -3,6 +3,8 @@
 
 mod execute;
 mod node_core;
+mod resources;
+mod start;
 mod traps;
 mod waits;
 

@@ -1,26 +1,28 @@
 //! `Core`, one node's core.
-ghost use Rattle.std.specs.Prelude.{◌≡◌, ◌≢◌, ◌<◌, ◌≤◌, ◌+◌, ◌↔◌, ℕ, Option, Some, None, Bool, false, List, [], ◌∷◌, ◌++◌, length, map, slice_index, slice_index_or, slice_set, replicate, IfOk, IfSome, IsErr, MatchResult};
+ghost use Rattle.std.specs.Prelude.{◌≡◌, ◌<◌, ◌≤◌, ◌+◌, ◌↔◌, ℕ, Some, false, List, [], length, map, IfOk, IsErr};
 ghost use Rattle.std.specs.Result.{result_ok};
-ghost use Rattle.std.specs.List.{AllByRecursion};
 ghost use Rattle.xs_model.specs.Record.{NodeRec, thread_of, free_thread};
-ghost use Rattle.xs_model.specs.Threads.{fresh_thread};
 ghost use Rattle.xs_model.specs.Memory.{load_word, is_word_address, memory_size};
 ghost use Rattle.xs_model.specs.Picks.{may_issue};
-ghost use Rattle.xs_model.specs.Outside.{LevelsFit, emitted_events, in_slot};
+ghost use Rattle.xs_model.specs.Outside.{LevelsFit, emitted_events};
 ghost use Rattle.xs_instructions.specs.Instr.{InRange, MemoryInRange};
 ghost use Rattle.step_model.specs.Start.{fixed_of, node_of, WaysHaveGaps};
 ghost use Rattle.step_model.specs.Effect.{effect, memory_row};
-ghost use Rattle.step_model.specs.Step.{node_step, resumed, begun, settled, trap, issued_by};
-ghost use Rattle.core_step.specs.Core.{CoreValue, StandsAt, SlotsBefore, Ends, effect_of};
-ghost use Rattle.std.specs.Int.{bit_at};
+ghost use Rattle.step_model.specs.Step.{node_step, resumed, begun, settled, trap, issued, issued_by};
+ghost use Rattle.core_step.specs.Core.{StandsAt, StandsFor, SlotsBefore, AreBefore, SentBefore, Ends, effect_of, and_happened, brought, brought_out};
+ghost use Rattle.switch_routes.specs.Rows.{CreditedBy};
 ghost use Rattle.thread_slots.specs.Able.{is_able};
 
 use crate::execute::{dp_address, flow, free, go_on, refused, words};
+use crate::resources::resources;
+use crate::start::links_with;
 use crate::traps::{enter_trap, stands_at};
 use crate::waits::able_of;
+use chan_ends::ChanEnds;
 use core_memory::{BadAddress, Ram};
 use std::alloc::{AllocError, Global};
 use std::marker::Model;
+use switch_routes::{Links, Switch};
 use sys_plan::NodePlan;
 use thread_slots::Slots;
 use trace_lines::Emissions;
@@ -30,16 +32,18 @@ use xs_model::{Arrivals, Event, Happen, Outcome, PinView, Run, Thread};
 /// The number of the trap where no code stands at a thread's pc.
 const ILLEGAL_PC: u32 = 2;
 
-/// A node's core. Contracts see what it keeps of its node's plan, and the core record.
+/// A node's core, its switch and its link ends. Contracts see what it keeps of its node's plan, the core record, and
+/// the windows of its link ends.
 #[derive(Drop)]
 pub struct Core {
     id: u16,
-    ways: [u8; 16],
-    gaps: [u32; 8],
     code: Vec<Instr>,
     ram: Ram,
     slots: Slots,
     threads: [Thread; 8],
+    chans: ChanEnds,
+    links: Links,
+    switch: Switch,
 }
 
 impl Model for Core {
@@ -63,21 +67,19 @@ impl Core {
         ensures start { IfOk result (λ core. StandsAt core (node_of plan.now gaps.now) 0) }
         ensures before { IfOk result (λ core. SlotsBefore core 0) }
     {
-        if *gaps != [0; 8] {
-            return Err(AllocError);
-        }
         let code = Vec::from_slice(alloc, plan.image.code())?;
         let ram = Ram::new(alloc, plan.image.bytes())?;
         let mut threads = [free_thread(); 8];
         threads[0] = Thread::first(plan.image.entry(), plan.image.cp_at());
         Ok(Core {
             id: plan.id,
-            ways: plan.ways,
-            gaps: *gaps,
             code,
             ram,
             slots: Slots::new(),
             threads,
+            chans: ChanEnds::new(plan.id),
+            links: links_with(gaps),
+            switch: Switch::new(plan.id, plan.ways),
         })
     }
 
@@ -103,18 +105,50 @@ impl Core {
 
     /// One slot of the node: what arrives by the link ends, the edges of the ports' clocks, the switch, and at most
     /// one issue. `out` is emptied first, and then holds what the slot gives. See docs/MACHINE.md.
-    pub fn slot(&mut self, slot: u32, _arrivals: &Arrivals, _pins: &PinView, out: &mut Emissions)
+    pub fn slot(&mut self, slot: u32, arrivals: &Arrivals, _pins: &PinView, out: &mut Emissions)
         requires before { SlotsBefore self.old slot }
         requires levels { LevelsFit _pins.now.level }
 
         ensures fixed { self.new.fixed ≡ self.old.fixed }
         ensures step { (rec : NodeRec) → StandsAt self.old rec slot →
-            StandsAt self.new (node_step self.old.fixed rec slot _arrivals.now _pins.now).rec (slot + 1) }
+            StandsAt self.new (node_step self.old.fixed rec slot arrivals.now _pins.now).rec (slot + 1) }
         ensures emissions { (rec : NodeRec) → StandsAt self.old rec slot →
-            out.new ≡ (node_step self.old.fixed rec slot _arrivals.now _pins.now).emitted }
+            out.new ≡ (node_step self.old.fixed rec slot arrivals.now _pins.now).emitted }
         ensures after { SlotsBefore self.new (slot + 1) }
     {
         out.clear();
+        self.bring(slot, arrivals, out);
+        self.pick_and_issue(slot, out);
+    }
+
+    // What arrives by the link ends, and then the switch.
+    fn bring(&mut self, slot: u32, arrivals: &Arrivals, out: &mut Emissions)
+        requires empty { out.old ≡ emitted_events [] }
+        requires before { SentBefore slot self.old.windows }
+
+        ensures fixed { self.new.fixed ≡ self.old.fixed }
+        ensures last { self.new.core.last ≡ self.old.core.last }
+        ensures stands { (rec : NodeRec) → StandsAt self.old rec slot → StandsFor self.new (brought self.old.fixed rec slot arrivals.now).rec }
+        ensures credited { (rec : NodeRec) → StandsAt self.old rec slot → CreditedBy slot (brought self.old.fixed rec slot arrivals.now).rec.links }
+        ensures emissions { (rec : NodeRec) → StandsAt self.old rec slot → out.new ≡ brought_out slot (brought self.old.fixed rec slot arrivals.now) }
+        ensures sent { SentBefore (slot + 1) self.new.windows }
+        ensures count { length out.new.events ≤ 40 }
+    {
+        self.links.arrivals(arrivals);
+        self.switch.moves(&mut self.chans, &mut self.links, slot, out);
+    }
+
+    // At most one issue, by the thread that is picked.
+    fn pick_and_issue(&mut self, slot: u32, out: &mut Emissions)
+        requires room { length out.old.events ≤ 40 }
+        requires before { AreBefore slot self.old.core.last }
+
+        ensures fixed { self.new.fixed ≡ self.old.fixed }
+        ensures windows { self.new.windows ≡ self.old.windows }
+        ensures core { self.new.core ≡ (issued self.old.fixed self.old.core slot).core }
+        ensures events { out.new ≡ and_happened out.old slot (issued self.old.fixed self.old.core slot).happened }
+        ensures after { AreBefore (slot + 1) self.new.core.last }
+    {
         let able = self.able(slot);
         if let Some(k) = self.slots.pick(able, slot) {
             self.issue(k, slot, out);
@@ -125,16 +159,17 @@ impl Core {
     fn able(&self, slot: u32) -> u8
         ensures { (k : ℕ) → k < 8 → may_issue self.now.core slot k ≡ is_able result k }
     {
-        able_of(&self.threads)
+        able_of(&self.threads, &self.chans)
     }
 
     // Thread k issues.
     fn issue(&mut self, k: u8, slot: u32, out: &mut Emissions)
         requires thread { k < 8 }
-        requires empty { out.old ≡ emitted_events [] }
+        requires room { length out.old.events ≤ 40 }
         ensures fixed { self.new.fixed ≡ self.old.fixed }
+        ensures windows { self.new.windows ≡ self.old.windows }
         ensures core { self.new.core ≡ (issued_by self.old.fixed self.old.core slot (Some k)).core }
-        ensures events { out.new ≡ emitted_events (map (in_slot slot) (issued_by self.old.fixed self.old.core slot (Some k)).happened) }
+        ensures events { out.new ≡ and_happened out.old slot (issued_by self.old.fixed self.old.core slot (Some k)).happened }
     {
         self.begin(k, slot);
         let pc = self.threads[k as usize].pc;
@@ -151,6 +186,7 @@ impl Core {
     fn begin(&mut self, k: u8, slot: u32)
         requires thread { k < 8 }
         ensures fixed { self.new.fixed ≡ self.old.fixed }
+        ensures windows { self.new.windows ≡ self.old.windows }
         ensures core { self.new.core ≡ begun self.old.core slot k }
     {
         self.slots.mark_issue(k, slot);
@@ -163,7 +199,8 @@ impl Core {
         requires thread { k < 8 }
         requires range { InRange ins }
         ensures fixed { self.new.fixed ≡ self.old.fixed }
-        ensures row { Ends result self.old.core self.new.core (effect self.old.core k ins) }
+        ensures windows { self.new.windows ≡ self.old.windows }
+        ensures row { Ends result self.old.core self.new.core (effect self.old.fixed.id self.old.core k ins) }
     {
         match ins {
             Instr::Words(ins) => {
@@ -180,6 +217,7 @@ impl Core {
                 free(&mut self.threads[k as usize]);
                 Outcome::Gone
             }
+            Instr::Resources(ins) => resources(self.id, k, ins, &mut self.threads, &mut self.chans),
         }
     }
 
@@ -188,6 +226,7 @@ impl Core {
         requires thread { k < 8 }
         requires register { g < 16 }
         ensures fixed { self.new.fixed ≡ self.old.fixed }
+        ensures windows { self.new.windows ≡ self.old.windows }
         ensures row { Ends result self.old.core self.new.core (memory_row self.old.core k (MemIns.LdwDp g u)) }
     {
         let thread = &mut self.threads[k as usize];
@@ -207,6 +246,7 @@ impl Core {
         requires thread { k < 8 }
         requires register { g < 16 }
         ensures fixed { self.new.fixed ≡ self.old.fixed }
+        ensures windows { self.new.windows ≡ self.old.windows }
         ensures row { Ends result self.old.core self.new.core (memory_row self.old.core k (MemIns.StwDp g u)) }
     {
         let thread = &mut self.threads[k as usize];
@@ -223,10 +263,11 @@ impl Core {
     // What the outcome of its instruction makes of thread k.
     fn settle(&mut self, k: u8, outcome: Outcome, slot: u32, out: &mut Emissions)
         requires thread { k < 8 }
-        requires empty { out.old ≡ emitted_events [] }
+        requires room { length out.old.events ≤ 40 }
         ensures fixed { self.new.fixed ≡ self.old.fixed }
+        ensures windows { self.new.windows ≡ self.old.windows }
         ensures core { self.new.core ≡ (settled self.old.fixed.code self.old.core k (effect_of outcome self.old.core)).core }
-        ensures events { out.new ≡ emitted_events (map (in_slot slot) (settled self.old.fixed.code self.old.core k (effect_of outcome self.old.core)).happened) }
+        ensures events { out.new ≡ and_happened out.old slot (settled self.old.fixed.code self.old.core k (effect_of outcome self.old.core)).happened }
     {
         match outcome {
             Outcome::Done | Outcome::Gone => {}
@@ -238,10 +279,11 @@ impl Core {
     // Thread k traps, to return to its pc.
     fn trap(&mut self, k: u8, et: u32, ed: u32, slot: u32, out: &mut Emissions)
         requires thread { k < 8 }
-        requires empty { out.old ≡ emitted_events [] }
+        requires room { length out.old.events ≤ 40 }
         ensures fixed { self.new.fixed ≡ self.old.fixed }
+        ensures windows { self.new.windows ≡ self.old.windows }
         ensures core { self.new.core ≡ (trap self.old.fixed.code self.old.core k et ed (thread_of self.old.core k).pc).core }
-        ensures events { out.new ≡ emitted_events (map (in_slot slot) (trap self.old.fixed.code self.old.core k et ed (thread_of self.old.core k).pc).happened) }
+        ensures events { out.new ≡ and_happened out.old slot (trap self.old.fixed.code self.old.core k et ed (thread_of self.old.core k).pc).happened }
     {
         let thread = &mut self.threads[k as usize];
         let pc = thread.pc;

@@ -60,6 +60,7 @@ impl LinkEnd {
         ensures dropped { length self.old.buffer ≡ window → self.new ≡ self.old }
         ensures fits { length self.new.buffer ≤ window }
         ensures gap { self.new.gap ≡ self.old.gap }
+        ensures last_sent { self.new.last_sent ≡ self.old.last_sent }
         ensures stands { (link : LinkRec) → WindowOf self.old link → WindowOf self.new (token_arrives (Some t) link) }
     {
         if !self.buffer.is_full() {

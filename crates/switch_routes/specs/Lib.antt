@@ -1,3 +1,9 @@
 pub mod Inside
 pub mod Rows
 pub mod Switch
+pub mod Lends
+pub mod Inputs
+pub mod Work
+pub mod Ways
+pub mod InsideSwitch
+pub mod Rest

@@ -1,8 +1,9 @@
 -- The row of a node's link ends, and the link records that it stands for.
-use Rattle.std.specs.Prelude.{ℕ, ◌≤◌, Bool, false, Option, Some, None, List, [], ◌∷◌, map, replicate, slice_index_or, slice_set, drop, IfSome}
+use Rattle.std.specs.Prelude.{ℕ, ◌≤◌, Bool, false, Option, Some, None, List, [], ◌∷◌, map, replicate, slice_index_or, drop, IfSome}
 use Rattle.std.specs.List.{AllByRecursion}
 use Rattle.xs_base.specs.declared.token.Token.{Token}
 use Rattle.xs_model.specs.Record.{LinkRec}
+use Rattle.net_model.specs.Links.{may_send}
 use Rattle.link_ends.specs.Window.{Window, WindowOf, can_send}
 
 -- no link end is there
@@ -36,6 +37,10 @@ gaps_of windows = map gap_of windows
 abbrev pub CreditedBy : ℕ → List (Option LinkRec) → Type 0
 CreditedBy slot links = AllByRecursion (λ l. IfSome l (λ link. AllByRecursion (λ s. s ≤ slot) link.credited)) links
 
+-- each link end sent its last token in this slot or earlier, or never
+abbrev pub SentBy : ℕ → List (Option Window) → Type 0
+SentBy slot windows = AllByRecursion (λ w. IfSome w (λ window. IfSome window.last_sent (λ s. s ≤ slot))) windows
+
 -- the tokens that wait at a link end
 abbrev pub buffer_of : Option Window → List Token
 buffer_of None = []
@@ -50,3 +55,8 @@ may_send_by slot (Some window) = can_send window slot
 abbrev pub without_first : Option Window → Option Window
 without_first None = None
 without_first (Some window) = Some (record window { buffer = drop 1 window.buffer })
+
+-- whether a link record is there and its link end, with this gap, may send in a slot
+abbrev pub link_may_send : ℕ → ℕ → Option LinkRec → Bool
+link_may_send gap slot None = false
+link_may_send gap slot (Some link) = may_send gap slot link

@@ -1,7 +1,7 @@
 -- What contracts see of a switch, and what it stands for.
 use Rattle.std.specs.Prelude.{ℕ, ◌≡◌, Bool, true, false, ◌||◌, not, ◌+◌, slice_index_or, List, replicate, Option, map, ◌++◌}
 use Rattle.std.specs.List.{list_any}
-use Rattle.xs_model.specs.Record.{NodeRec, InputRec, Idle, Head1, Head2, Want, Local, Out, Lost}
+use Rattle.xs_model.specs.Record.{NodeRec, InputRec, Idle}
 use Rattle.xs_model.specs.Outside.{Emitted, in_slot}
 use Rattle.net_model.specs.Switch.{Routes, Moving, moves, is_local_to}
 use Rattle.link_ends.specs.Window.{Window}
@@ -27,10 +27,10 @@ abbrev pub switched : SwitchRec → List (Option Window) → ℕ → NodeRec →
 switched switch windows slot rec = moves (routes_of switch windows) slot rec
 
 -- a switch, channel ends and a row of link ends stand for a node's record in a slot
-pub record StandsIn (slot : ℕ) (switch : SwitchRec) (chans : Ends) (windows : List (Option Window)) (rec : NodeRec) : Type 0 where
+pub record StandsIn (slot : ℕ) (switch : SwitchRec) (ends : Ends) (row : List (Option Window)) (rec : NodeRec) : Type 0 where
   pub inputs : switch.inputs ≡ rec.core.inputs
-  pub chans : chans.chans ≡ rec.core.chans
-  pub windows : WindowsOf windows rec.links
+  pub chans : ends.chans ≡ rec.core.chans
+  pub windows : WindowsOf row rec.links
   pub credited : CreditedBy slot rec.links
 
 -- a node with these inputs, channel ends and link records, and all else as it was

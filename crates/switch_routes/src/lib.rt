@@ -1,8 +1,17 @@
 //! The switch of a node, and the row of its link ends. See docs/LINKS.md.
 #![tactic(auto)]
 
+mod inputs;
 mod links;
+mod parts;
+mod steps;
+mod switch;
+#[cfg(test)]
+mod tests;
+mod wants;
+mod ways;
 
 pub use link_ends::LinkEnd;
 pub use links::Links;
+pub use switch::Switch;
 pub use xs_base::Token;

@@ -1,11 +1,16 @@
 //! `Links`, the row of a node's link ends.
-ghost use Rattle.std.specs.Prelude.{ℕ, ◌≡◌, ◌<◌, true, Some, None, Option, List, length, slice_set, slice_get};
+ghost use Rattle.std.specs.Prelude.{ℕ, ◌≡◌, ◌<◌, true, Some, None, Option, List, [], ◌∷◌, drop, length, slice_set, slice_index, slice_index_or, MatchOption};
+ghost use Rattle.std.specs.Borrow.{sem};
+ghost use Rattle.std.specs.List.{list_all};
+ghost use Rattle.switch_routes.specs.Rest.{holds_nothing};
 ghost use Rattle.xs_model.specs.Record.{LinkRec};
-ghost use Rattle.net_model.specs.Links.{links_after_arrivals};
-ghost use Rattle.net_model.specs.Switch.{link_without_first, sent_in, end_may_send, Routes};
-ghost use Rattle.link_ends.specs.Window.{Window};
-ghost use Rattle.switch_routes.specs.Rows.{no_windows, window_at, WindowsOf, gaps_of, CreditedBy, buffer_of, may_send_by, without_first};
+ghost use Rattle.net_model.specs.Links.{links_after_arrivals, link_after_arrivals, token_arrives, credit_arrives};
+ghost use Rattle.net_model.specs.Switch.{sent_in};
+ghost use Rattle.link_ends.specs.Window.{WindowOf};
+ghost use Rattle.switch_routes.specs.Rows.{no_windows, window_at, WindowsOf, gaps_of, CreditedBy, SentBy, buffer_of, may_send_by, link_may_send, without_first};
+ghost use Rattle.switch_routes.specs.Lends.{LendsEnd};
 
+use arrayvec::ArrayVec;
 use link_ends::LinkEnd;
 use std::marker::Model;
 use xs_base::Token;
@@ -15,21 +20,22 @@ use xs_model::Arrivals;
 /// `Window`s. See docs/LINKS.md.
 #[derive(Drop)]
 pub struct Links {
-    ends: [LinkEnd; 8],
+    // Where a link end is not there, some other one stands in its place.
+    ends: ArrayVec<LinkEnd, 8>,
     present: [bool; 8],
 }
 
 impl Model for Links {
-    ghost use Rattle.std.specs.Prelude.{◌≡◌, Option, List, length};
+    ghost use Rattle.std.specs.Prelude.{Option, List};
     ghost use Rattle.link_ends.specs.Window.{Window};
 
     ghost Value = { List (Option Window) };
 
-    ghost use Rattle.switch_routes.specs.Inside.{windows_in};
+    ghost use Rattle.switch_routes.specs.Inside.{windows_in, AreEnds};
 
-    ghost view = { λ row. windows_in row.present row.ends };
+    ghost view = { λ row. windows_in row.present row.ends.items };
 
-    ghost invariant = { λ row. length row.ends ≡ 8 };
+    ghost invariant = { λ row. AreEnds row.present row.ends.items };
 }
 
 impl Links {
@@ -37,8 +43,9 @@ impl Links {
     pub fn new() -> Links
         ensures value { result ≡ no_windows }
     {
+        let ends: [LinkEnd; 8] = Default::default();
         Links {
-            ends: Default::default(),
+            ends: ArrayVec::from(ends),
             present: [false; 8],
         }
     }
@@ -49,8 +56,22 @@ impl Links {
         ensures value { self.new ≡ slice_set self.old end (Some link) }
         ensures count { length self.new ≡ 8 }
     {
-        self.ends[end as usize] = link;
+        self.ends.as_mut_slice()[end as usize] = link;
         self.present[end as usize] = true;
+    }
+
+    /// The link end with a number, 0 to 7: `None` exactly where the node has no such link end.
+    pub fn end(&mut self, end: u8) -> Option<&mut LinkEnd>
+        requires within { end < 8 }
+        ensures* writes_back { sem 𝓛 (LendsEnd self.entry end result) }
+        ensures cases { MatchOption result (window_at self.old end ≡ None) (λ link. window_at self.old end ≡ Some link.now) }
+        ensures count { length self.old ≡ 8 }
+    {
+        if self.present[end as usize] {
+            self.ends.get_mut(end as usize)
+        } else {
+            None
+        }
     }
 
     /// What arrives in a slot at each link end: the token, then the credit. For a link end that is not there it is
@@ -61,9 +82,115 @@ impl Links {
         ensures credited { (slot : ℕ) (links : List (Option LinkRec)) → CreditedBy slot links →
             CreditedBy slot (links_after_arrivals slot arrivals.now.tokens arrivals.now.credits 0 links) }
         ensures gaps { gaps_of self.new ≡ gaps_of self.old }
+        ensures sent { (slot : ℕ) → SentBy slot self.old → SentBy slot self.new }
     {
         for end in 0..8u8 {
-            self.arrive(end, arrivals.tokens[end as usize], arrivals.credits[end as usize]);
+            self.arrive(
+                end,
+                arrivals.tokens[end as usize],
+                arrivals.credits[end as usize],
+            );
         }
+    }
+
+    // What arrives in a slot at one link end.
+    fn arrive(&mut self, end: u8, token: Option<Token>, credit: bool)
+        requires within { end < 8 }
+        ensures stands { (slot : ℕ) (links : List (Option LinkRec)) → WindowsOf self.old links →
+            WindowsOf self.new (slice_set links end (link_after_arrivals slot token credit (slice_index_or links end None))) }
+        ensures gaps { gaps_of self.new ≡ gaps_of self.old }
+        ensures sent { (slot : ℕ) → SentBy slot self.old → SentBy slot self.new }
+        ensures count { length self.new ≡ 8 }
+    {
+        if let Some(link) = self.end(end) {
+            receive(link, token);
+            count(link, credit);
+        }
+    }
+
+    /// The token that waits longest at a link end, 0 to 7: `None` exactly where none waits.
+    pub(crate) fn first(&self, end: u8) -> Option<Token>
+        requires within { end < 8 }
+        ensures cases { MatchOption result (buffer_of (window_at self.now end) ≡ [])
+            (λ t. buffer_of (window_at self.now end) ≡ t ∷ drop 1 (buffer_of (window_at self.now end))) }
+        ensures count { length self.now ≡ 8 }
+    {
+        let link = &self.ends.as_slice()[end as usize];
+        if self.present[end as usize] {
+            link.first()
+        } else {
+            None
+        }
+    }
+
+    /// Whether no token waits at any link end.
+    pub(crate) fn hold_nothing(&self) -> bool
+        ensures value { result ≡ list_all holds_nothing self.now }
+    {
+        for end in 0..8u8 {
+            if self.first(end).is_some() {
+                return false;
+            }
+        }
+        true
+    }
+
+    /// Takes the token that waits longest out of a link end's buffer, where one waits.
+    pub(crate) fn pop(&mut self, end: u8)
+        requires within { end < 8 }
+        ensures value { self.new ≡ slice_set self.old end (without_first (window_at self.old end)) }
+        ensures gaps { gaps_of self.new ≡ gaps_of self.old }
+        ensures sent { (slot : ℕ) → SentBy slot self.old → SentBy slot self.new }
+    {
+        if let Some(link) = self.end(end) {
+            let _ = link.pop();
+        }
+    }
+
+    /// Whether a link end is there and may send in a slot.
+    pub(crate) fn can_send(&self, end: u8, slot: u32) -> bool
+        requires within { end < 8 }
+        ensures value { result ≡ may_send_by slot (window_at self.now end) }
+        ensures stands { (links : List (Option LinkRec)) → WindowsOf self.now links → CreditedBy slot links →
+            result ≡ link_may_send (slice_index (gaps_of self.now) end) slot (slice_index_or links end None) }
+    {
+        let link = &self.ends.as_slice()[end as usize];
+        self.present[end as usize] && link.can_send(slot)
+    }
+
+    /// Notes that a link end sends a token in a slot in which it may.
+    pub(crate) fn sent(&mut self, end: u8, slot: u32)
+        requires within { end < 8 }
+        requires allowed { may_send_by slot (window_at self.old end) ≡ true }
+        ensures stands { (links : List (Option LinkRec)) → WindowsOf self.old links →
+            WindowsOf self.new (slice_set links end (sent_in slot (slice_index_or links end None))) }
+        ensures gaps { gaps_of self.new ≡ gaps_of self.old }
+        ensures sent { SentBy slot self.old → SentBy slot self.new }
+    {
+        if let Some(link) = self.end(end) {
+            link.sent(slot);
+        }
+    }
+}
+
+// A token arrives at a link end, if one does.
+fn receive(link: &mut LinkEnd, token: Option<Token>)
+    ensures stands { (rec : LinkRec) → WindowOf link.old rec → WindowOf link.new (token_arrives token rec) }
+    ensures gap { link.new.gap ≡ link.old.gap }
+    ensures last_sent { link.new.last_sent ≡ link.old.last_sent }
+{
+    if let Some(token) = token {
+        link.arrive(token);
+    }
+}
+
+// A credit arrives at a link end, if one does.
+fn count(link: &mut LinkEnd, credit: bool)
+    ensures stands { (rec : LinkRec) (slot : ℕ) → WindowOf link.old rec → WindowOf link.new (credit_arrives slot credit rec) }
+    ensures gap { link.new.gap ≡ link.old.gap }
+    ensures last_sent { link.new.last_sent ≡ link.old.last_sent }
+{
+    if credit {
+        link.credit();
     }
 }

@@ -1,0 +1,9 @@
+use Rattle.std.proofs.Common.{◌≡◌, drop}
+use Rattle.std.specs.List.{list_any}
+use Rattle.net_model.specs.Switch.{is_local_to}
+use Rattle.switch_routes.specs.Inputs.{states_in}
+use Rattle.switch_routes.proofs.inputs.Inputs.chan_is_held.Given as goal
+
+-- none of the inputs before this one does
+abbrev pub invariant-loop-state : goal.invariant-loop-state
+invariant-loop-state l = list_any (is_local_to l.chan) l.self ≡ list_any (is_local_to l.chan) (states_in (drop l.state-index l.state-items))

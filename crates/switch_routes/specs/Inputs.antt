@@ -1,0 +1,33 @@
+-- What an input of the switch is at, in code and in the node record.
+use Rattle.std.specs.Prelude.{◌≡◌, ◌<◌, ◌≤◌, List, length, map, replicate}
+use Rattle.std.specs.List.{AllByRecursion}
+use Rattle.xs_model.specs.Record.{InputRec, Idle, Head1, Head2, Want, Local, Out, Lost}
+use Rattle.switch_routes.specs.declared.inputs.Input.{Input}
+use Rattle.switch_routes.specs.declared.inputs.Input.TheVariants as input
+
+abbrev pub state_of : Input → InputRec
+state_of input.Idle = Idle
+state_of (input.Head1 high) = Head1 high
+state_of (input.Head2 high low) = Head2 high low
+state_of (input.Want dest) = Want dest
+state_of (input.Local chan) = Local chan
+state_of (input.Out end headers dest) = Out end headers dest
+state_of input.Lost = Lost
+
+-- a channel end that is held is one of 32, a link end one of 8, and three header bytes go out
+abbrev pub InputFits : Input → Type 0
+InputFits (input.Local chan) = chan < 32
+InputFits (input.Out end headers dest) = (end < 8) × (headers ≤ 3)
+InputFits _ = Unit {0}
+
+abbrev pub states_in : List Input → List InputRec
+states_in states = map state_of states
+
+-- there are 40 inputs, and each state fits
+pub record AreInputs (states : List Input) : Type 0 where
+  pub count : length states ≡ 40
+  pub fit : AllByRecursion InputFits states
+
+-- every input is idle
+abbrev pub idle_inputs : List InputRec
+idle_inputs = replicate 40 Idle

@@ -1,0 +1,22 @@
+-- A switch at rest: every input is idle, and no token waits at any of them.
+use Rattle.std.specs.Prelude.{Bool, true, false, ◌&&◌, Option, List, [], ◌∷◌}
+use Rattle.std.specs.List.{list_all}
+use Rattle.xs_base.specs.declared.token.Token.{Token}
+use Rattle.xs_model.specs.Record.{ChanRec}
+use Rattle.link_ends.specs.Window.{Window}
+use Rattle.chan_ends.specs.Ends.{Ends}
+use Rattle.switch_routes.specs.Rows.{buffer_of}
+use Rattle.switch_routes.specs.Switch.{SwitchRec, is_idle}
+
+abbrev pub none_waits : List Token → Bool
+none_waits [] = true
+none_waits (t ∷ rest) = false
+
+abbrev pub sends_nothing : ChanRec → Bool
+sends_nothing chan = none_waits chan.output
+
+abbrev pub holds_nothing : Option Window → Bool
+holds_nothing window = none_waits (buffer_of window)
+
+abbrev pub at_rest : SwitchRec → Ends → List (Option Window) → Bool
+at_rest switch ends row = list_all is_idle switch.inputs && (list_all sends_nothing ends.chans && list_all holds_nothing row)

@@ -1,0 +1,142 @@
+//! What the switch's inputs are at.
+ghost use Rattle.std.specs.Prelude.{ℕ, ◌≡◌, ◌<◌, Bool, length, slice_set, slice_index_or};
+ghost use Rattle.std.specs.List.{list_all, list_any};
+ghost use Rattle.switch_routes.specs.Switch.{is_idle};
+ghost use Rattle.xs_model.specs.Record.{Idle};
+ghost use Rattle.net_model.specs.Switch.{is_local_to, is_out_by};
+ghost use Rattle.switch_routes.specs.Inputs.{state_of, InputFits, idle_inputs};
+
+use std::marker::Model;
+
+/// What an input of the switch is at. See docs/LINKS.md.
+#[derive(Clone, Copy)]
+pub(crate) enum Input {
+    Idle,
+    /// A link end's, after the high byte of a node's id.
+    Head1 { high: u8 },
+    /// A link end's, after both bytes of a node's id.
+    Head2 { high: u8, low: u8 },
+    /// Its packet wants to go to a destination.
+    Want { dest: u32 },
+    /// It holds a channel end of its node, 0 to 31.
+    Local { chan: u8 },
+    /// It holds a link end, 0 to 7, by which so many header bytes, 0 to 3, went out.
+    Out { end: u8, headers: u8, dest: u32 },
+    /// Its packet is lost.
+    Lost,
+}
+
+/// The 40 inputs: those of link ends 0 to 7, then those of channel ends 0 to 31. Contracts see them as a list of
+/// `InputRec`s.
+#[derive(Drop)]
+pub(crate) struct Inputs {
+    states: [Input; 40],
+}
+
+impl Model for Inputs {
+    ghost use Rattle.std.specs.Prelude.{List};
+    ghost use Rattle.xs_model.specs.Record.{InputRec};
+
+    ghost Value = { List InputRec };
+
+    ghost use Rattle.switch_routes.specs.Inputs.{states_in, AreInputs};
+
+    ghost view = { λ inputs. states_in inputs.states };
+
+    ghost invariant = { λ inputs. AreInputs inputs.states };
+}
+
+impl Inputs {
+    /// Every input is idle.
+    pub(crate) fn new() -> Inputs
+        ensures value { result ≡ idle_inputs }
+    {
+        Inputs {
+            states: [Input::Idle; 40],
+        }
+    }
+
+    /// What an input, 0 to 39, is at.
+    pub(crate) fn state(&self, input: u8) -> Input
+        requires within { input < 40 }
+        ensures value { state_of result ≡ slice_index_or self.now input Idle }
+        ensures fits { InputFits result }
+    {
+        self.states[input as usize]
+    }
+
+    /// Puts an input, 0 to 39, into a state.
+    pub(crate) fn set(&mut self, input: u8, state: Input)
+        requires within { input < 40 }
+        requires fits { InputFits state }
+        ensures value { self.new ≡ slice_set self.old input (state_of state) }
+    {
+        self.states[input as usize] = state;
+    }
+
+    /// Whether every input is idle.
+    pub(crate) fn are_idle(&self) -> bool
+        ensures value { result ≡ list_all is_idle self.now }
+    {
+        for state in &self.states {
+            if !is_idle(*state) {
+                return false;
+            }
+        }
+        true
+    }
+
+    /// Whether some input holds a channel end.
+    pub(crate) fn chan_is_held(&self, chan: u8) -> bool
+        ensures value { result ≡ list_any (is_local_to chan) self.now }
+    {
+        for state in &self.states {
+            if is_local_to(*state, chan) {
+                return true;
+            }
+        }
+        false
+    }
+
+    /// Whether some input holds a link end.
+    pub(crate) fn end_is_held(&self, end: u8) -> bool
+        ensures value { result ≡ list_any (is_out_by end) self.now }
+    {
+        for state in &self.states {
+            if is_out_by(*state, end) {
+                return true;
+            }
+        }
+        false
+    }
+}
+
+// Whether an input in this state is idle.
+fn is_idle(state: Input) -> bool
+    ensures value { result ≡ is_idle (state_of state) }
+{
+    match state {
+        Input::Idle => true,
+        _ => false,
+    }
+}
+
+// Whether an input in this state holds a channel end.
+fn is_local_to(state: Input, chan: u8) -> bool
+    ensures value { result ≡ is_local_to chan (state_of state) }
+{
+    match state {
+        Input::Local { chan: held } => held == chan,
+        _ => false,
+    }
+}
+
+// Whether an input in this state holds a link end.
+fn is_out_by(state: Input, end: u8) -> bool
+    ensures value { result ≡ is_out_by end (state_of state) }
+{
+    match state {
+        Input::Out { end: held, .. } => held == end,
+        _ => false,
+    }
+}

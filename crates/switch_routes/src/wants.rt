@@ -1,0 +1,268 @@
+//! The rules of the switch: where a packet goes on, and the step of an input.
+ghost use Rattle.std.specs.Prelude.{ℕ, ◌≡◌, ◌<◌, ◌≤◌, ◌+◌, ◌||◌, ◌&&◌, ◌==◌, not, nat_lt, ◌-◌, length, Option, IfSome, IsTrue};
+ghost use Rattle.std.specs.List.{list_any};
+ghost use Rattle.std.specs.Int.{bit_at};
+ghost use Rattle.xs_model.specs.Record.{NodeRec, Idle};
+ghost use Rattle.net_model.specs.Ids.{chan_of_dest, Behind};
+ghost use Rattle.net_model.specs.Switch.{Routes, Moving, want_step, want_chan, want_way, free_end, is_out_by, packet_step, start_packet, link_head_step, step_at, input_step, waiting_at};
+ghost use Rattle.chan_ends.specs.Ends.{chan_at};
+ghost use Rattle.switch_routes.specs.Rows.{gaps_of, SentBy};
+ghost use Rattle.switch_routes.specs.Inputs.{state_of, InputFits};
+ghost use Rattle.switch_routes.specs.Work.{Begun, Stands};
+ghost use Rattle.switch_routes.specs.Ways.{routes_with};
+
+use crate::inputs::{Input, Inputs};
+use crate::links::Links;
+use crate::parts::{LINK_INPUTS, first_waiting};
+use crate::steps::{Held, Turn, head_step, local_step, lose, lost_step, out_step};
+use crate::ways::{Way, Ways, chan_of_dest, is_in_mask};
+use chan_ends::ChanEnds;
+use trace_lines::Emissions;
+
+/// How many channel ends a node has.
+const CHAN_ENDS: u8 = 32;
+
+/// How many link ends a node may have.
+const LINK_ENDS: u8 = 8;
+
+/// The step of an input, by its state.
+pub(crate) fn step(
+    turn: Turn,
+    ways: &Ways,
+    inputs: &mut Inputs,
+    chans: &mut ChanEnds,
+    links: &mut Links,
+    out: &mut Emissions,
+)
+    requires input { turn.input < 40 }
+    requires room { length out.old.events < 112 }
+    ensures stands { (begun : Begun) (m : Moving) → Stands begun turn.slot inputs.old chans.old links.old out.old m →
+        Stands begun turn.slot inputs.new chans.new links.new out.new (input_step (routes_with ways.now begun.gaps) turn.slot turn.input m) }
+    ensures events { length out.new.events ≤ length out.old.events + 1 }
+    ensures node { chans.new.node ≡ chans.old.node }
+    ensures gaps { gaps_of links.new ≡ gaps_of links.old }
+    ensures sent { SentBy turn.slot links.old → SentBy turn.slot links.new }
+{
+    let state = inputs.state(turn.input);
+    match state {
+        Input::Idle => idle_step(turn, ways, inputs, chans, links, out),
+        Input::Head1 { .. } => link_head_step(turn, state, inputs, chans, links, out),
+        Input::Head2 { .. } => link_head_step(turn, state, inputs, chans, links, out),
+        Input::Want { dest } => want_step(turn, dest, ways, inputs, chans, links, out),
+        Input::Local { chan } => local_step(turn, chan, inputs, chans, links, out),
+        Input::Out { end, headers, dest } => {
+            let held = Held { end, headers, dest };
+            out_step(turn, held, inputs, chans, links, out);
+        }
+        Input::Lost => lost_step(turn, inputs, chans, links, out),
+    }
+}
+
+// An idle input: a link end's takes a header byte, a channel end's begins a packet.
+fn idle_step(
+    turn: Turn,
+    ways: &Ways,
+    inputs: &mut Inputs,
+    chans: &mut ChanEnds,
+    links: &mut Links,
+    out: &mut Emissions,
+)
+    requires input { turn.input < 40 }
+    requires room { length out.old.events < 112 }
+    ensures stands { (begun : Begun) (m : Moving) → Stands begun turn.slot inputs.old chans.old links.old out.old m →
+        Stands begun turn.slot inputs.new chans.new links.new out.new (step_at (routes_with ways.now begun.gaps) turn.slot turn.input Idle m) }
+    ensures events { length out.new.events ≤ length out.old.events + 1 }
+    ensures node { chans.new.node ≡ chans.old.node }
+    ensures gaps { gaps_of links.new ≡ gaps_of links.old }
+    ensures sent { SentBy turn.slot links.old → SentBy turn.slot links.new }
+{
+    if turn.input < LINK_INPUTS {
+        head_step(turn, Input::Idle, inputs, chans, links, out);
+    } else {
+        packet_step(turn, ways, inputs, chans, links, out);
+    }
+}
+
+// Only a link end takes header bytes.
+fn link_head_step(
+    turn: Turn,
+    state: Input,
+    inputs: &mut Inputs,
+    chans: &mut ChanEnds,
+    links: &mut Links,
+    out: &mut Emissions,
+)
+    requires input { turn.input < 40 }
+    requires fits { InputFits state }
+    ensures stands { (begun : Begun) (m : Moving) → Stands begun turn.slot inputs.old chans.old links.old out.old m →
+        Stands begun turn.slot inputs.new chans.new links.new out.new (link_head_step turn.input (state_of state) m) }
+    ensures events { out.new.events ≡ out.old.events }
+    ensures node { chans.new.node ≡ chans.old.node }
+    ensures gaps { gaps_of links.new ≡ gaps_of links.old }
+    ensures sent { SentBy turn.slot links.old → SentBy turn.slot links.new }
+{
+    if turn.input < LINK_INPUTS {
+        head_step(turn, state, inputs, chans, links, out);
+    }
+}
+
+// A channel end with tokens that wait begins a packet.
+fn packet_step(
+    turn: Turn,
+    ways: &Ways,
+    inputs: &mut Inputs,
+    chans: &mut ChanEnds,
+    links: &mut Links,
+    out: &mut Emissions,
+)
+    requires input { turn.input < 40 }
+    requires chan_end { 8 ≤ turn.input }
+    requires room { length out.old.events < 112 }
+    ensures stands { (begun : Begun) (m : Moving) → Stands begun turn.slot inputs.old chans.old links.old out.old m →
+        Stands begun turn.slot inputs.new chans.new links.new out.new
+        (packet_step (routes_with ways.now begun.gaps) turn.slot turn.input (waiting_at m.rec turn.input) m) }
+    ensures events { length out.new.events ≤ length out.old.events + 1 }
+    ensures node { chans.new.node ≡ chans.old.node }
+    ensures gaps { gaps_of links.new ≡ gaps_of links.old }
+    ensures sent { SentBy turn.slot links.old → SentBy turn.slot links.new }
+{
+    if let Some(_) = first_waiting(turn.input, chans, links) {
+        start_packet(turn, ways, inputs, chans, links, out);
+    }
+}
+
+// A packet to the channel end's destination begins, if it has one.
+fn start_packet(
+    turn: Turn,
+    ways: &Ways,
+    inputs: &mut Inputs,
+    chans: &mut ChanEnds,
+    links: &mut Links,
+    out: &mut Emissions,
+)
+    requires input { turn.input < 40 }
+    requires chan_end { 8 ≤ turn.input }
+    requires room { length out.old.events < 112 }
+    ensures stands { (begun : Begun) (m : Moving) → Stands begun turn.slot inputs.old chans.old links.old out.old m →
+        Stands begun turn.slot inputs.new chans.new links.new out.new
+        (start_packet (routes_with ways.now begun.gaps) turn.slot turn.input (chan_at chans.old (turn.input - 8)).dest m) }
+    ensures events { length out.new.events ≤ length out.old.events + 1 }
+    ensures node { chans.new.node ≡ chans.old.node }
+    ensures gaps { gaps_of links.new ≡ gaps_of links.old }
+    ensures sent { SentBy turn.slot links.old → SentBy turn.slot links.new }
+{
+    if let Some(dest) = chans.dest(turn.input - LINK_INPUTS) {
+        inputs.set(turn.input, Input::Want { dest });
+        want_step(turn, dest, ways, inputs, chans, links, out);
+    }
+}
+
+// An input that wants to go on to a destination.
+fn want_step(
+    turn: Turn,
+    dest: u32,
+    ways: &Ways,
+    inputs: &mut Inputs,
+    chans: &mut ChanEnds,
+    links: &mut Links,
+    out: &mut Emissions,
+)
+    requires input { turn.input < 40 }
+    requires room { length out.old.events < 112 }
+    ensures stands { (begun : Begun) (m : Moving) → Stands begun turn.slot inputs.old chans.old links.old out.old m →
+        Stands begun turn.slot inputs.new chans.new links.new out.new (want_step (routes_with ways.now begun.gaps) turn.slot turn.input dest m) }
+    ensures events { length out.new.events ≤ length out.old.events + 1 }
+    ensures node { chans.new.node ≡ chans.old.node }
+    ensures gaps { gaps_of links.new ≡ gaps_of links.old }
+    ensures sent { SentBy turn.slot links.old → SentBy turn.slot links.new }
+{
+    match ways.way_to(dest) {
+        Way::Here => want_chan(turn, dest, inputs, chans, links, out),
+        Way::Behind { ends } => want_end(turn, dest, ends, inputs, chans, links, out),
+    }
+}
+
+// To a channel end of this node: it is held from now on, unless another input holds it.
+fn want_chan(
+    turn: Turn,
+    dest: u32,
+    inputs: &mut Inputs,
+    chans: &mut ChanEnds,
+    links: &mut Links,
+    out: &mut Emissions,
+)
+    requires input { turn.input < 40 }
+    requires room { length out.old.events < 112 }
+    ensures stands { (begun : Begun) (m : Moving) → Stands begun turn.slot inputs.old chans.old links.old out.old m →
+        Stands begun turn.slot inputs.new chans.new links.new out.new (want_chan turn.input (chan_of_dest dest) dest m) }
+    ensures events { length out.new.events ≤ length out.old.events + 1 }
+    ensures node { chans.new.node ≡ chans.old.node }
+    ensures gaps { gaps_of links.new ≡ gaps_of links.old }
+    ensures sent { SentBy turn.slot links.old → SentBy turn.slot links.new }
+{
+    let chan = chan_of_dest(dest);
+    if !is_in_use(chan, chans) {
+        lose(turn, dest, inputs, out);
+    } else if !inputs.chan_is_held(chan) {
+        inputs.set(turn.input, Input::Local { chan });
+        local_step(turn, chan, inputs, chans, links, out);
+    }
+}
+
+// Whether a channel end is there and in use.
+fn is_in_use(chan: u8, chans: &ChanEnds) -> bool
+    ensures value { (nat_lt 31 chan || not (chan_at chans.now chan).used) ≡ not result }
+    ensures within { IsTrue result → chan < 32 }
+{
+    chan < CHAN_ENDS && chans.used(chan)
+}
+
+// To another node, behind some of the link ends in a mask: the lowest that is free is held from now on.
+fn want_end(
+    turn: Turn,
+    dest: u32,
+    mask: u8,
+    inputs: &mut Inputs,
+    chans: &mut ChanEnds,
+    links: &mut Links,
+    out: &mut Emissions,
+)
+    requires input { turn.input < 40 }
+    requires room { length out.old.events < 112 }
+    ensures stands { (begun : Begun) (routes : Routes) (m : Moving) → routes.gaps ≡ begun.gaps →
+        Stands begun turn.slot inputs.old chans.old links.old out.old m →
+        Stands begun turn.slot inputs.new chans.new links.new out.new (want_way routes turn.slot turn.input dest (Behind mask) m) }
+    ensures events { length out.new.events ≤ length out.old.events + 1 }
+    ensures node { chans.new.node ≡ chans.old.node }
+    ensures gaps { gaps_of links.new ≡ gaps_of links.old }
+    ensures sent { SentBy turn.slot links.old → SentBy turn.slot links.new }
+{
+    if mask == 0 {
+        lose(turn, dest, inputs, out);
+    } else if let Some(end) = free_end(mask, inputs) {
+        let headers = 0;
+        inputs.set(turn.input, Input::Out { end, headers, dest });
+        out_step(turn, Held { end, headers, dest }, inputs, chans, links, out);
+    }
+}
+
+// The lowest link end in a mask that no input holds.
+fn free_end(mask: u8, inputs: &Inputs) -> Option<u8>
+    ensures value { (rec : NodeRec) → inputs.now ≡ rec.core.inputs → result ≡ free_end rec mask 0 8 }
+    ensures within { IfSome result (λ end. end < 8) }
+{
+    for end in 0..LINK_ENDS {
+        if is_free(mask, end, inputs) {
+            return Some(end);
+        }
+    }
+    None
+}
+
+// Whether a link end is in a mask, and no input holds it.
+fn is_free(mask: u8, end: u8, inputs: &Inputs) -> bool
+    requires within { end < 8 }
+    ensures value { result ≡ ((bit_at mask end == 1) && not (list_any (is_out_by end) inputs.now)) }
+{
+    is_in_mask(mask, end) && !inputs.end_is_held(end)
+}

@@ -1,0 +1,71 @@
+//! The way from a node to a destination.
+ghost use Rattle.std.specs.Prelude.{ℕ, ◌≡◌, ◌<◌, ◌==◌, Bool, IfSome};
+ghost use Rattle.std.specs.Int.{bit_at};
+ghost use Rattle.net_model.specs.Ids.{first_difference, way_to, chan_of_dest};
+ghost use Rattle.switch_routes.specs.Ways.{way_of};
+
+/// For each bit of an id, the link ends that lead on, as a mask. They are the ways from the node with this id.
+#[derive(Clone, Copy)]
+pub(crate) struct Ways {
+    pub(crate) id: u16,
+    pub(crate) ends: [u8; 16],
+}
+
+/// Where a destination lies.
+#[derive(Clone, Copy)]
+pub(crate) enum Way {
+    /// On the node itself.
+    Here,
+    /// Behind one of these link ends, as a mask.
+    Behind { ends: u8 },
+}
+
+impl Ways {
+    /// Where a destination lies: the highest bit in which its node's id differs from the node's own says it.
+    pub(crate) fn way_to(&self, dest: u32) -> Way
+        ensures value { way_of result ≡ way_to self.now.id self.now.ends dest }
+    {
+        match first_difference(self.id, (dest >> 16) as u16) {
+            None => Way::Here,
+            Some(bit) => Way::Behind {
+                ends: self.ends[bit as usize],
+            },
+        }
+    }
+}
+
+/// The number of the channel end that a destination names.
+pub(crate) fn chan_of_dest(dest: u32) -> u8
+    ensures value { result ≡ chan_of_dest dest }
+{
+    ((dest >> 8) & 0xff) as u8
+}
+
+// The highest bit in which two ids differ.
+fn first_difference(a: u16, b: u16) -> Option<u8>
+    ensures value { result ≡ first_difference 16 a b }
+    ensures within { IfSome result (λ bit. bit < 16) }
+{
+    for bit in (0..16u8).rev() {
+        if bit_at(a, bit) != bit_at(b, bit) {
+            return Some(bit);
+        }
+    }
+    None
+}
+
+// A bit of an id.
+fn bit_at(id: u16, bit: u8) -> u16
+    requires within { bit < 16 }
+    ensures value { result ≡ bit_at id bit }
+{
+    (id >> bit) & 1
+}
+
+/// Whether a link end, 0 to 7, is in a mask.
+pub(crate) fn is_in_mask(mask: u8, end: u8) -> bool
+    requires within { end < 8 }
+    ensures value { result ≡ (bit_at mask end == 1) }
+{
+    (mask >> end) & 1 == 1
+}
