@@ -31,7 +31,7 @@ returns-clause-stands c = λ rec at.
     let rec_is = c.moves.ensures.rec after (its_parts c rec at) in
     record {
       core = ap (λ (core : CoreRec). record core { chans = c.moves.new.chans.chans; inputs = c.moves.new.self.inputs }) value_at.stands.core
-      ∙ sym (ap (λ (r : NodeRec). r.core) rec_is) ∙ ap (λ (m : Moving). m.rec.core) (its_moves c rec);
+          ∙ sym (ap (λ (r : NodeRec). r.core) rec_is) ∙ ap (λ (m : Moving). m.rec.core) (its_moves c rec);
       links = subst (λ (m : Moving). WindowsOf c.moves.new.links m.rec.links) (its_moves c rec) (c.moves.ensures.windows after (its_parts c rec at));
     }
 
