@@ -24,7 +24,10 @@ pub fn node_plans(
 {
     let mut plans = Vec::new(alloc);
     for text in texts {
-        plans.push(node_plan(alloc, bits, *text)?)?;
+        match node_plan(alloc, bits, *text) {
+            Ok(plan) => plans.push(plan)?,
+            Err(error) => return Err(error),
+        }
     }
     Ok(plans)
 }

@@ -41,7 +41,7 @@ fn put_in_order(mut texts: Vec<NodeText>) -> Vec<NodeText>
     if texts.len() < 2 {
         return texts;
     }
-    if texts[0].number <= texts[1].number {
+    if texts[0].number < texts[1].number {
         return texts;
     }
     texts.swap(0, 1);
