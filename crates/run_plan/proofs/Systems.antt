@@ -20,9 +20,9 @@ use Rattle.run_plan.specs.declared.seat.Seat.{Seat}
 use Rattle.run_plan.specs.Tracks.{crossing_of, nothing, IsInOrder, IsDueFrom, IsTrack}
 use Rattle.run_plan.specs.Seats.{IsBelow, IsSeat, Steps, arrived_of, arrived_by, arrivals_by, step_of}
 use Rattle.run_plan.specs.Passes.{IsReadyTrack, Advances, SameSeat, SameTrack, given_by}
-use Rattle.run_plan.specs.Run.{Plays, AllPlay, Carries, AllCarry, IsSystem, incoming_of}
+use Rattle.run_plan.specs.Run.{Plays, AllPlay, Carries, AllCarry, IsSystem, IsRun, incoming_of}
 
-use Rattle.run_plan.proofs.Through.{all-at, all-zip}
+use Rattle.run_plan.proofs.Through.{all-at, all-zip, zip-length, zip-refl}
 
 map-same : {X Y : Type 0} (f g : X → Y) → ((x : X) → f x ≡ g x) → (xs : List X) → map f xs ≡ map g xs
 map-same f g h [] = refl
@@ -110,14 +110,17 @@ module _ (plan : PlanRec) (slot nodes_count : ℕ) where
       )
   all-carry steps seats given _ _ _ _ carry zip = absurd carry
 
+serial-next : (plan : PlanRec) (slot : ℕ) → serial plan (slot + 1) ≡ system_step plan slot (serial plan slot)
+unfolding serial
+serial-next plan slot = rw add-one refl
+
 -- the nodes and directed links after a slot are the serial machine's
 pub system-next : (plan : PlanRec) (slot count : ℕ) (seats after : List Seat) (tracks tracks_after : List Track) → IsSystem plan slot seats tracks (serial plan slot) → AllByRecursion (IsReadyTrack slot count) tracks
     → AllZip (Steps slot tracks) seats after → AllZip (Advances slot after) tracks tracks_after → IsSystem plan (slot + 1) after tracks_after (serial plan (slot + 1))
-unfolding serial
 system-next plan slot count seats after tracks tracks_after is ready steps advances =
     let system = serial plan slot in
     let given = all-given plan slot count tracks system.histories is.carry ready 0 plan.nodes seats system.nodes system.events after is.play steps in
-    rw add-one (record {
+    subst (IsSystem plan (slot + 1) after tracks_after) (sym (serial-next plan slot)) (record {
       play = all-play plan slot count tracks system.histories is.carry ready 0 plan.nodes seats system.nodes system.events after is.play steps;
       carry = all-carry plan slot count (steps_of plan slot system) after given (directions plan.links) tracks system.histories tracks_after is.carry advances;
     })
@@ -253,3 +256,21 @@ eight-arrivals tracks _ d0 d1 d2 d3 d4 d5 d6 d7 c0 c1 c2 c3 c4 c5 c6 c7 len e0 e
 -- the directed link at a place is ready
 pub ready-at : (slot count : ℕ) (tracks : List Track) (i : ℕ) (d t : Track) → AllByRecursion (IsReadyTrack slot count) tracks → i < length tracks → get_or tracks i d ≡ t → IsReadyTrack slot count t
 ready-at slot count tracks i d t all inside is = subst (IsReadyTrack slot count) is (all-at (IsReadyTrack slot count) tracks i d all inside)
+
+-- a run goes on, and stays what it is where room is made
+pub run-same : (plan : PlanRec) (slot : ℕ) (seats after : List Seat) (tracks tracks_after : List Track) → IsRun plan slot seats tracks → AllZip SameSeat seats after → AllZip SameTrack tracks tracks_after → IsRun plan slot after tracks_after
+run-same plan slot seats after tracks tracks_after run s t = record {
+  system = system-same plan slot seats after tracks tracks_after (serial plan slot) run.system s t;
+  seats = seats-same slot (length tracks) (length tracks_after) seats after (zip-length SameTrack tracks tracks_after t) s run.seats;
+  tracks = tracks-same slot (length seats) (length after) tracks tracks_after (zip-length SameSeat seats after s) t run.tracks;
+}
+
+pub run-next : (plan : PlanRec) (slot : ℕ) (seats after : List Seat) (tracks tracks_after : List Track) → IsRun plan slot seats tracks → AllZip (Steps slot tracks) seats after → AllZip (Advances slot after) tracks tracks_after → IsRun plan (slot + 1) after tracks_after
+run-next plan slot seats after tracks tracks_after run s t = record {
+  system = system-next plan slot (length seats) seats after tracks tracks_after run.system run.tracks s t;
+  seats = seats-next slot (length tracks) (length tracks_after) tracks seats after (zip-length (Advances slot after) tracks tracks_after t) s run.seats;
+  tracks = tracks-next slot (length seats) (length after) after tracks tracks_after (zip-length (Steps slot tracks) seats after s) t run.tracks;
+}
+
+pub tracks-refl : (tracks : List Track) → AllZip SameTrack tracks tracks
+tracks-refl tracks = zip-refl SameTrack (λ x. record { from = refl; from_end = refl; delay = refl; entries = refl; first = refl; arrived = refl }) tracks

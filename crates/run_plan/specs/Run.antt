@@ -1,5 +1,6 @@
 -- What nodes and directed links at work have to do with the serial machine.
-use Rattle.std.specs.Prelude.{ℕ, ◌≡◌, ◌+◌, Option, List, [], ◌∷◌, map}
+use Rattle.std.specs.Prelude.{ℕ, ◌≡◌, ◌+◌, Option, List, [], ◌∷◌, length, map}
+use Rattle.std.specs.List.{AllByRecursion}
 use Rattle.xs_base.specs.declared.entry.Entry.{Entry}
 use Rattle.xs_model.specs.declared.event.Event.{Event}
 use Rattle.xs_model.specs.Record.{NodeRec}
@@ -8,9 +9,11 @@ use Rattle.sys_plan.specs.Plan.{PlanRec, Direction, incoming, gaps_of, link_ends
 use Rattle.step_model.specs.Start.{fixed_of}
 use Rattle.trace_lines.specs.Kept.{Keeps}
 use Rattle.core_step.specs.Core.{StandsAt}
-use Rattle.serial_model.specs.Serial.{SystemRec}
+use Rattle.serial_model.specs.Serial.{SystemRec, serial}
 use Rattle.run_plan.specs.declared.track.Track.{Track}
 use Rattle.run_plan.specs.declared.seat.Seat.{Seat}
+use Rattle.run_plan.specs.Seats.{IsSeat}
+use Rattle.run_plan.specs.Passes.{IsReadyTrack}
 
 -- the links that come to the link ends of the node at a position
 abbrev pub incoming_of : PlanRec → ℕ → List (Option ℕ)
@@ -46,3 +49,9 @@ AllCarry _ _ _ = ⊥
 pub record IsSystem (plan : PlanRec) (slot : ℕ) (seats : List Seat) (tracks : List Track) (system : SystemRec) : Type 0 where
   pub play : AllPlay plan slot 0 plan.nodes seats system.nodes system.events
   pub carry : AllCarry (directions plan.links) tracks system.histories
+
+-- the nodes and directed links of a run before a slot
+pub record IsRun (plan : PlanRec) (slot : ℕ) (nodes : List Seat) (links : List Track) : Type 0 where
+  pub system : IsSystem plan slot nodes links (serial plan slot)
+  pub seats : AllByRecursion (IsSeat slot (length links)) nodes
+  pub tracks : AllByRecursion (IsReadyTrack slot (length nodes)) links

@@ -1,7 +1,7 @@
 //! The nodes and the directed links of a plan as they start.
 ghost use Rattle.std.specs.Prelude.{◌≡◌, IfOk, length};
 ghost use Rattle.std.specs.List.{AllByRecursion};
-ghost use Rattle.sys_plan.specs.Plan.{directions, WaysLead};
+ghost use Rattle.sys_plan.specs.Plan.{directions, IsPlan, WaysLead};
 ghost use Rattle.run_plan.specs.Run.{incoming_of};
 ghost use Rattle.run_plan.specs.Starts.{Starts, AllStart, track_at_start, tracks_at_start};
 ghost use Rattle.run_plan.specs.Seats.{IsBelow};
@@ -60,6 +60,7 @@ fn incoming(plan: &Plan, n: u8) -> [Option<u32>; 8]
 /// The directed links of a plan as they start. The error is want of memory.
 pub(crate) fn tracks_of(alloc: Global, plan: &Plan) -> Result<Vec<Track>, AllocError>
     ensures start { IfOk result (λ v. v.items ≡ tracks_at_start (directions plan.now.links)) }
+    ensures plan { IsPlan plan.now }
 {
     let mut tracks = Vec::new(alloc);
     for link in plan.links() {
