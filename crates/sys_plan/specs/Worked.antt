@@ -1,5 +1,5 @@
 -- Directed links worked out by hand.
-use Rattle.std.specs.Prelude.{ℕ, ◌≡◌, Some, None, [], ◌∷◌, replicate}
+use Rattle.std.specs.Prelude.{◌≡◌, Some, None, [], ◌∷◌, replicate}
 use Rattle.sys_plan.specs.declared.LinkPlan.{LinkPlan}
 use Rattle.sys_plan.specs.Plan.{PlanRec, directions, outgoing, incoming, delay_of, gap_of, gaps_of}
 
