@@ -43,7 +43,6 @@ node_plans-none : (bits : List BitLine) → node_plans bits [] ≡ Ok []
 unfolding node_plans
 node_plans-none bits = refl
 
-
 one_more : (bits : List BitLine) (text : NodeText) (image : Option ImageRec) (rest : Result (List NodePlan) ℕ) (front : List NodePlan) (plan : NodePlan) → option_map (node_plan bits text) image ≡ Some plan → in_front (front ++ plan ∷ []) rest ≡ in_front front (with_node_plan bits text image rest)
 one_more bits text None rest front plan h = cc
 one_more bits text (Some image) (Err n) front plan h = refl
