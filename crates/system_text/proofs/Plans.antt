@@ -9,7 +9,7 @@ use Rattle.sys_plan.specs.declared.NodePlan.{NodePlan}
 use Rattle.xs_instructions.specs.Image.{ImageRec}
 use Rattle.system_text.specs.declared.system_error.SystemError.{SystemError}
 use Rattle.system_text.specs.declared.system_error.SystemError.TheVariants.{Frame, Source, Memory}
-use Rattle.system_text.specs.Plans.{GivesNode}
+use Rattle.system_text.specs.Plans.{GivesNode, GivesNodes}
 use Rattle.source_model.specs.Source.{assembled_lines}
 use Rattle.system_model.specs.declared.frame_line.BitLine.{BitLine}
 use Rattle.system_model.specs.declared.frame_line.NodeLine.{NodeLine}
@@ -43,7 +43,6 @@ node_plans-none : (bits : List BitLine) → node_plans bits [] ≡ Ok []
 unfolding node_plans
 node_plans-none bits = refl
 
-
 one_more : (bits : List BitLine) (text : NodeText) (image : Option ImageRec) (rest : Result (List NodePlan) ℕ) (front : List NodePlan) (plan : NodePlan) → option_map (node_plan bits text) image ≡ Some plan → in_front (front ++ plan ∷ []) rest ≡ in_front front (with_node_plan bits text image rest)
 one_more bits text None rest front plan h = cc
 one_more bits text (Some image) (Err n) front plan h = refl
@@ -74,3 +73,14 @@ pub plans_done : {X : Type 0} (bits : List BitLine) (f : X → NodeText) (xs : L
 plans_done bits f xs i front all h k =
     sym h ∙ (ap (λ ys. in_front front (node_plans bits (map f ys))) (no_more (drop i xs) (omega (arith, k, length-drop i xs)))
     ∙ (ap (in_front front) (node_plans-none bits) ∙ ap (λ (ps : List NodePlan). Ok ps) (append-nil front)))
+
+refused_by : (A : Type 0) (bits : List BitLine) (text : NodeText) (image : Option ImageRec) (rest : Result (List NodePlan) ℕ) (front : List NodePlan) (e : SystemError) → GivesNode bits text image (Err e) → GivesNodes {A = A} (in_front front (with_node_plan bits text image rest)) (Err e)
+refused_by A bits text image rest front (Frame line kind) h = h
+refused_by A bits text image rest front (Source n line kind) h = (ap (λ i. in_front front (with_node_plan bits text i rest)) h.0 ∙ ap (λ (k : ℕ). Err k) (sym h.1), h.2, h.3)
+refused_by A bits text image rest front Memory h = tt
+
+-- a node's source is refused
+pub plans_refused : {X : Type 0} (A : Type 0) (bits : List BitLine) (f : X → NodeText) (xs : List X) (i : ℕ) (d : X) (front : List NodePlan) (all : Result (List NodePlan) ℕ) (e : SystemError) → in_front front (node_plans bits (map f (drop i xs))) ≡ all → i < length xs → GivesNode bits (f (get_or xs i d)) (assembled_lines (f (get_or xs i d)).source) (Err e) → GivesNodes {A = A} all (Err e)
+plans_refused A bits f xs i d front all e h k r =
+    let is : in_front front (with_node_plan bits (f (get_or xs i d)) (assembled_lines (f (get_or xs i d)).source) (node_plans bits (map f (drop (i + 1) xs)))) ≡ all = ap (in_front front) (sym (plans_from bits f xs i d k)) ∙ h in
+    subst (λ (plans : Result (List NodePlan) ℕ). GivesNodes {A = A} plans (Err e)) is (refused_by A bits (f (get_or xs i d)) _ _ front e r)

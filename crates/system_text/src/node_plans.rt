@@ -81,11 +81,7 @@ fn ways_of(bits: &[BitLine], number: u8) -> [u8; 16]
 fn way(bits: &[BitLine], number: u8, bit: u8) -> u8
     ensures { result ≡ way bits.now number bit }
 {
-    if has_way(bits, number, bit) {
-        1
-    } else {
-        0
-    }
+    if has_way(bits, number, bit) { 1 } else { 0 }
 }
 
 // Whether a line gives this bit of the node.
