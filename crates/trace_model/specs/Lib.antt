@@ -1,2 +1,3 @@
 pub mod EventOrder
 pub mod Trace
+pub mod Worked
