@@ -1,3 +1,4 @@
 pub mod EventOrder
 pub mod Trace
 pub mod Worked
+pub mod WorkedLinks

@@ -2,6 +2,7 @@
 #![tactic(auto)]
 
 ghost use Rattle.trace_model.specs.Worked.{WorkedOrder, WorkedTraces};
+ghost use Rattle.trace_model.specs.WorkedLinks.{WorkedLinks};
 
 use xs_model::Event;
 
@@ -16,4 +17,5 @@ pub struct NodeEvent {
 pub fn worked_texts()
     ensures order { WorkedOrder }
     ensures traces { WorkedTraces }
+    ensures links { WorkedLinks }
 {}

@@ -20,3 +20,7 @@ returns-clause-order c = record { in_order = refl; some_left_out = refl; none_le
 pub returns-clause-traces : goal.returns-clause-traces
 unfolding digits words_of pick_from first_difference free_chan links_after_arrivals moves_from free_end node_step serial hex_word merged halted_lines memory_lines by_position events_in_order trace_text
 returns-clause-traces c = record { delivered = refl; cut = refl; lost = refl; halted = refl }
+
+pub returns-clause-links : goal.returns-clause-links
+unfolding digits words_of pick_from links_after_arrivals moves_from node_step serial hex_word merged halted_lines memory_lines by_position events_in_order trace_text
+returns-clause-links c = record { link = refl; two_nodes = refl; no_slots = refl }

@@ -1,0 +1,28 @@
+-- The lines of links, and nodes whose numbers and link ends differ, worked out by hand.
+use Rattle.std.specs.Prelude.{ℕ, ◌≡◌, List, [], ◌∷◌, codes}
+use Rattle.xs_base.specs.declared.entry.Entry.{Entry}
+use Rattle.xs_base.specs.declared.entry.What.TheVariants as what
+use Rattle.xs_base.specs.declared.token.Token.TheVariants.{Ctrl}
+use Rattle.xs_instructions.specs.declared.instr.Instr.TheVariants.{Words}
+use Rattle.xs_instructions.specs.declared.instr.WordIns.TheVariants as words
+use Rattle.sys_plan.specs.Plan.{PlanRec}
+use Rattle.serial_model.specs.Worked.{plain_node}
+use Rattle.trace_model.specs.Trace.{link_line, trace_text}
+
+-- a token and two credits, the last of which is not yet there at the end
+abbrev pub three_entries : List Entry
+three_entries =
+    record { slot = 4; what = what.Token (Ctrl 1) } ∷ record { slot = 4; what = what.Credit } ∷ record { slot = 9; what = what.Credit } ∷ []
+
+-- node 3 executes one instruction, and node 7 none; link end 2 of node 7 is joined to link end 6 of node 3
+abbrev pub three_and_seven : PlanRec
+three_and_seven = record {
+  nodes = plain_node 3 (Words words.Nop ∷ []) (1 ∷ 0 ∷ 0 ∷ 0 ∷ 2 ∷ []) ∷ plain_node 7 [] (3 ∷ []) ∷ [];
+  links = record { a = 1; a_end = 2; b = 0; b_end = 6; delay = 5; gap = 4 } ∷ [];
+}
+
+pub record WorkedLinks : Type 0 where
+  pub link : link_line 7 2 3 6 three_entries ≡ codes "link 7:2>3:6 tokens 1 credits 2\n"
+  -- the event of the node that stands second comes first, since its slot is earlier
+  pub two_nodes : trace_text three_and_seven 5 ≡ codes "0 n7.t0 trap 2 pc 0x00040000 data 0x00040000\n0 n7.t0 halt\n4 n3.t0 trap 2 pc 0x00040004 data 0x00040004\n4 n3.t0 halt\nlink 7:2>3:6 tokens 0 credits 0\nlink 3:6>7:2 tokens 0 credits 0\nn3.t0 halted\nn7.t0 halted\nn3 mem 0x00010000 0x00000001\nn3 mem 0x00010004 0x00000002\nn7 mem 0x00010000 0x00000003\nend 5\n"
+  pub no_slots : trace_text three_and_seven 0 ≡ codes "link 7:2>3:6 tokens 0 credits 0\nlink 3:6>7:2 tokens 0 credits 0\nn3 mem 0x00010000 0x00000001\nn3 mem 0x00010004 0x00000002\nn7 mem 0x00010000 0x00000003\nend 0\n"
