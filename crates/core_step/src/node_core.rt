@@ -135,6 +135,9 @@ impl Core {
         ensures count { length out.new.events ≤ 40 }
     {
         self.links.arrivals(arrivals);
+        if self.switch.is_at_rest(&self.chans, &self.links) {
+            return;
+        }
         self.switch
             .moves(&mut self.chans, &mut self.links, slot, out);
     }
