@@ -1,3 +1,4 @@
 pub mod Due
 pub mod Through
 pub mod Systems
+pub mod Starts
