@@ -1,5 +1,5 @@
 -- What arrives of a history that is in order stands at one place of it.
-use Rattle.std.proofs.Common.{◌≡◌, ℕ, zero, suc, ◌+◌, ◌*◌, ◌<◌, ◌≤◌, Bool, true, false, eqb, Option, Some, None, List, [], ◌∷◌, ◌++◌, refl, sym, ◌∙◌, subst, arith, inl, inr}
+use Rattle.std.proofs.Common.{◌≡◌, ℕ, zero, suc, ◌+◌, ◌<◌, ◌≤◌, Bool, true, false, eqb, Option, Some, None, List, [], ◌∷◌, ◌++◌, refl, sym, ◌∙◌, subst, arith, inl, inr}
 use mathlib.Core.Logic.{◌⊎◌}
 use Rattle.std.specs.Prelude.{slice_get, is_some}
 use Rattle.std.specs.List.{AllByRecursion}
@@ -226,9 +226,9 @@ module _ (slot : ℕ) (track : Track) (is : IsTrack slot track) (delayed : 1 ≤
           before = subst (AllByRecursion (λ (e : Entry). e.slot < slot + 1)) (sym is_entries) before_all;
           few = omega (arith, is_first, is.few, count-most track.arrived);
           due =
-            subst (λ (d : ℕ). IsDueFrom (slot + 1) d after.first after.history.entries) (sym delay)
-            (subst (λ (n : ℕ). IsDueFrom (slot + 1) track.delay n after.history.entries) (sym is_first)
-            (subst (IsDueFrom (slot + 1) track.delay first) (sym is_entries) due_all));
+              subst (λ (d : ℕ). IsDueFrom (slot + 1) d after.first after.history.entries) (sym delay)
+              (subst (λ (n : ℕ). IsDueFrom (slot + 1) track.delay n after.history.entries) (sym is_first)
+              (subst (IsDueFrom (slot + 1) track.delay first) (sym is_entries) due_all));
           arrived = seen ∙ (λ i. crossing_of (arriving (slot + 1) (sym delay i) (sym is_entries i)));
         };
       }

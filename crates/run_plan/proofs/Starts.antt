@@ -1,11 +1,11 @@
 -- A run as it starts.
-use Rattle.std.proofs.Common.{◌≡◌, ℕ, zero, suc, ◌+◌, ◌*◌, ◌<◌, ◌≤◌, List, [], ◌∷◌, ◌++◌, length, map, take, get_or, refl, sym, ap, ◌∙◌, subst, arith}
+use Rattle.std.proofs.Common.{◌≡◌, ℕ, zero, suc, ◌+◌, ◌<◌, List, [], ◌∷◌, ◌++◌, length, map, take, get_or, refl, sym, ap, ◌∙◌, subst, arith}
 use Rattle.std.specs.List.{AllByRecursion}
 use Rattle.std.proofs.lemmas.List.{take_more}
 use Rattle.sys_plan.specs.declared.NodePlan.{NodePlan}
 use Rattle.sys_plan.specs.declared.LinkPlan.{LinkPlan}
-use Rattle.sys_plan.specs.Plan.{PlanRec, Direction, IsPlan, IsLink, WaysLead, AllWaysLead, directions, forth, back}
-use Rattle.serial_model.specs.Serial.{SystemRec, system_at_start, nodes_at_start, serial}
+use Rattle.sys_plan.specs.Plan.{PlanRec, Direction, IsPlan, IsLink, WaysLead, AllWaysLead, directions}
+use Rattle.serial_model.specs.Serial.{system_at_start, nodes_at_start, serial}
 use Rattle.run_plan.specs.declared.track.Track.{Track}
 use Rattle.run_plan.specs.declared.seat.Seat.{Seat}
 use Rattle.run_plan.specs.Seats.{IsBelow, IsSeat}
@@ -36,9 +36,9 @@ tracks-append : (links : List LinkPlan) (link : LinkPlan) → tracks_at_start (d
 tracks-append [] link = refl
 tracks-append (l ∷ links) link = λ i. track_at_start l.a l.a_end l.delay ∷ (track_at_start l.b l.b_end l.delay ∷ tracks-append links link i)
 
-pub tracks-more : (links : List LinkPlan) (i : ℕ) (link : LinkPlan) → i < length links → get_or links i link ≡ link → tracks_at_start (directions (take (i + 1) links)) ≡ (tracks_at_start (directions (take i links)) ++ track_at_start link.a link.a_end link.delay ∷ []) ++ track_at_start link.b link.b_end link.delay ∷ []
-tracks-more links i link h e =
-    ap (λ (ls : List LinkPlan). tracks_at_start (directions ls)) (take_more links i link h ∙ ap (λ (l : LinkPlan). take i links ++ l ∷ []) e)
+pub tracks-more : (links : List LinkPlan) (i : ℕ) (d link : LinkPlan) → i < length links → get_or links i d ≡ link → tracks_at_start (directions (take (i + 1) links)) ≡ (tracks_at_start (directions (take i links)) ++ track_at_start link.a link.a_end link.delay ∷ []) ++ track_at_start link.b link.b_end link.delay ∷ []
+tracks-more links i d link h e =
+    ap (λ (ls : List LinkPlan). tracks_at_start (directions ls)) (take_more links i d h ∙ ap (λ (l : LinkPlan). take i links ++ l ∷ []) e)
     ∙ tracks-append (take i links) link
 
 start-play : (plan : PlanRec) (n : ℕ) (nodes : List NodePlan) (seats : List Seat) → AllStart plan n nodes seats → AllPlay plan 0 n nodes seats (nodes_at_start plan n nodes) (map (λ (node : NodePlan). []) nodes)

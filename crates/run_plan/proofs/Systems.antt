@@ -1,27 +1,24 @@
 -- The nodes and directed links at work, from slot to slot, are those of the serial machine.
-use Rattle.std.proofs.Common.{◌≡◌, ℕ, zero, suc, ◌+◌, ◌*◌, ◌<◌, ◌≤◌, Option, Some, None, List, [], ◌∷◌, ◌++◌, length, map, get_or, refl, sym, ap, ◌∙◌, subst, arith, add-one}
+use Rattle.std.proofs.Common.{◌≡◌, ℕ, zero, suc, ◌+◌, ◌<◌, Option, Some, None, List, [], ◌∷◌, ◌++◌, length, map, get_or, refl, sym, ap, ◌∙◌, subst, arith, add-one}
 use Rattle.std.specs.List.{AllByRecursion, AllZip}
 use Rattle.xs_base.specs.declared.entry.Entry.{Entry}
 use Rattle.xs_model.specs.declared.event.Event.{Event}
-use Rattle.xs_model.specs.declared.outside.Arrivals.{Arrivals}
 use Rattle.xs_model.specs.Record.{NodeRec}
 use Rattle.xs_model.specs.Outside.{Emitted, emitted_events}
 use Rattle.sys_plan.specs.declared.NodePlan.{NodePlan}
-use Rattle.sys_plan.specs.Plan.{PlanRec, Direction, directions, incoming, gaps_of, link_ends}
-use Rattle.step_model.specs.Fixed.{Fixed}
+use Rattle.sys_plan.specs.Plan.{PlanRec, Direction, directions, gaps_of}
 use Rattle.step_model.specs.Start.{fixed_of}
 use Rattle.step_model.specs.Step.{Stepped, node_step}
 use Rattle.trace_lines.specs.Kept.{Keeps}
 use Rattle.core_step.specs.Core.{CoreValue, StandsAt, SlotsBefore}
-use Rattle.serial_model.specs.Serial.{SystemRec, arriving, arriving_by, token_among, credit_among, arrivals_at, low_pins, steps_from, steps_of, sent_by, longer_histories, longer_events, system_at_start, system_step, nodes_at_start, serial}
+use Rattle.serial_model.specs.Serial.{SystemRec, arriving, arriving_by, token_among, credit_among, arrivals_at, low_pins, steps_from, steps_of, sent_by, longer_histories, longer_events, system_step, serial}
 use Rattle.run_plan.specs.declared.track.Crossing.{Crossing}
 use Rattle.run_plan.specs.declared.track.Track.{Track}
 use Rattle.run_plan.specs.declared.seat.Seat.{Seat}
 use Rattle.run_plan.specs.Tracks.{crossing_of, nothing, IsInOrder, IsDueFrom, IsTrack}
 use Rattle.run_plan.specs.Seats.{IsBelow, IsSeat, Steps, arrived_of, arrived_by, arrivals_by, step_of}
-use Rattle.run_plan.specs.Passes.{IsReadyTrack, Advances, SameSeat, SameTrack, given_by}
-use Rattle.run_plan.specs.Run.{Plays, AllPlay, Carries, AllCarry, IsSystem, IsRun, incoming_of}
-
+use Rattle.run_plan.specs.Passes.{IsReadyTrack, Advances, SameSeat, SameTrack}
+use Rattle.run_plan.specs.Run.{Plays, AllPlay, AllCarry, IsSystem, IsRun, incoming_of}
 use Rattle.run_plan.proofs.Through.{all-at, all-zip, zip-length, zip-refl}
 
 map-same : {X Y : Type 0} (f g : X → Y) → ((x : X) → f x ≡ g x) → (xs : List X) → map f xs ≡ map g xs
@@ -98,8 +95,7 @@ module _ (plan : PlanRec) (slot nodes_count : ℕ) where
   all-carry steps seats given (d ∷ ds) (t ∷ ts) (h ∷ hs) [] carry zip = absurd zip
   all-carry steps seats given (d ∷ ds) (t ∷ ts) (h ∷ hs) (a ∷ afters) carry zip =
       let c = carry.0 in
-      let z = zip.0 in
-      (
+      let z = zip.0 in (
         record {
           from = z.from ∙ c.from;
           from_end = z.from_end ∙ c.from_end;
@@ -150,8 +146,7 @@ module _ (plan : PlanRec) (slot : ℕ) where
   play-same n (node ∷ nodes) (seat ∷ seats) (rec ∷ recs) (es ∷ all_events) [] play zip = absurd zip
   play-same n (node ∷ nodes) (seat ∷ seats) (rec ∷ recs) (es ∷ all_events) (a ∷ afters) play zip =
       let p = play.0 in
-      let z = zip.0 in
-      (
+      let z = zip.0 in (
         record {
           fixed = ap (λ (c : CoreValue). c.fixed) z.core ∙ p.fixed;
           incoming = z.incoming ∙ p.incoming;
@@ -168,8 +163,7 @@ module _ (plan : PlanRec) (slot : ℕ) where
   carry-same (d ∷ ds) (t ∷ ts) (h ∷ hs) [] carry zip = absurd zip
   carry-same (d ∷ ds) (t ∷ ts) (h ∷ hs) (a ∷ afters) carry zip =
       let c = carry.0 in
-      let z = zip.0 in
-      (
+      let z = zip.0 in (
         record { from = z.from ∙ c.from; from_end = z.from_end ∙ c.from_end; delay = z.delay ∙ c.delay; entries = z.entries ∙ c.entries },
         carry-same ds ts hs afters carry.1 zip.1,
       )

@@ -6,7 +6,7 @@ use Rattle.xs_model.specs.declared.outside.Arrivals.{Arrivals}
 use Rattle.xs_model.specs.Record.{NodeRec}
 use Rattle.trace_lines.specs.Kept.{Keeps}
 use Rattle.step_model.specs.Step.{Stepped, node_step}
-use Rattle.core_step.specs.Core.{CoreValue, StandsAt, SlotsBefore}
+use Rattle.core_step.specs.Core.{StandsAt, SlotsBefore}
 use Rattle.serial_model.specs.Serial.{low_pins}
 use Rattle.run_plan.specs.declared.track.Crossing.{Crossing}
 use Rattle.run_plan.specs.declared.track.Track.{Track}

@@ -58,8 +58,14 @@ fn arrivals(incoming: &[Option<u32>; 8], tracks: &[Track]) -> Arrivals
             at_7.token,
         ],
         credits: [
-            at_0.credit, at_1.credit, at_2.credit, at_3.credit, at_4.credit, at_5.credit,
-            at_6.credit, at_7.credit,
+            at_0.credit,
+            at_1.credit,
+            at_2.credit,
+            at_3.credit,
+            at_4.credit,
+            at_5.credit,
+            at_6.credit,
+            at_7.credit,
         ],
     }
 }

@@ -1,10 +1,10 @@
-use Rattle.std.proofs.Common.{◌≡◌, ◌<◌, ◌≤◌, length, sym, subst, ap, ◌∙◌, arith}
+use Rattle.std.proofs.Common.{◌≡◌, ◌<◌, length, sym, subst, ap, ◌∙◌, arith}
 use Rattle.xs_model.specs.Outside.{Emitted, emitted_events}
 use Rattle.std.specs.Prelude.{[], map, slice_index_or}
 use Rattle.serial_model.specs.Serial.{sent_by}
 use Rattle.run_plan.specs.declared.seat.Seat.{Seat}
 use Rattle.run_plan.specs.Tracks.{GoesOn}
-use Rattle.run_plan.specs.Passes.{HasEntryRoom, IsReadyTrack, Advances}
+use Rattle.run_plan.specs.Passes.{HasEntryRoom, Advances}
 use Rattle.run_plan.proofs.Through.{all-at, through-here, through-length, through-more, through-all}
 use Rattle.run_plan.proofs.Systems.{given-at, ready-at}
 use Rattle.run_plan.proofs.passes.advance_all.Goals as goal
@@ -64,7 +64,7 @@ loop-track-preserved c =
     let here = sym (through-here R i c.args.tracks.now c.loop-track.tracks c.track-item.result through) in
     let from = (ready-at c.args.slot (length c.args.seats.now) c.args.tracks.now i c.track-item.result before c.requires.tracks inside here).from in
     let sender : c.index-seats-track.result.given ≡ slice_index_or (map (λ (s : Seat). s.given) c.args.seats.now) before.from (emitted_events []) =
-      ap (λ (s : Seat). s.given) c.index-seats-track.is ∙ sym (given-at c.args.seats.now before.from (emitted_events []) c.index-seats-track.result from) in
+    ap (λ (s : Seat). s.given) c.index-seats-track.is ∙ sym (given-at c.args.seats.now before.from (emitted_events []) c.index-seats-track.result from) in
     record {
       through =
           through-more R i c.args.tracks.now c.loop-track.tracks c.track-item.result c.go_on.new.self through (omega arith)

@@ -1,4 +1,4 @@
-use Rattle.std.proofs.Common.{◌≡◌, ◌+◌, ◌≤◌, length, refl, arith}
+use Rattle.std.proofs.Common.{◌+◌, refl, arith}
 use Rattle.run_plan.specs.Passes.{MakesEventRoom, SameSeat, HasEventRoom}
 use Rattle.run_plan.proofs.Through.{through-to, through-more, through-all, through-weaker, zip-second}
 use Rattle.run_plan.proofs.passes.make_event_room.Goals as goal

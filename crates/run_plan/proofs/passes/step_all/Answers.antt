@@ -1,4 +1,4 @@
-use Rattle.std.proofs.Common.{◌≡◌, ◌<◌, ◌≤◌, length, sym, subst, arith}
+use Rattle.std.proofs.Common.{◌<◌, length, sym, subst, arith}
 use Rattle.run_plan.specs.Seats.{IsSeat, Steps}
 use Rattle.run_plan.specs.Passes.{HasEventRoom}
 use Rattle.run_plan.proofs.Through.{all-at, through-here, through-length, through-more, through-all}

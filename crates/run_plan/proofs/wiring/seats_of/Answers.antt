@@ -4,7 +4,6 @@ use Rattle.std.proofs.lemmas.List.{take_more, length-take}
 use Rattle.sys_plan.specs.declared.NodePlan.{NodePlan}
 use Rattle.sys_plan.specs.Plan.{WaysLead}
 use Rattle.run_plan.specs.Starts.{AllStart}
-use Rattle.run_plan.specs.declared.seat.Seat.{Seat}
 use Rattle.run_plan.proofs.Starts.{ways-at, start-more}
 use Rattle.run_plan.proofs.wiring.seats_of.Goals as goal
 
@@ -30,7 +29,7 @@ loop-n-preserved c =
     let inside : n < length plan.nodes = omega (arith, ap (λ (xs : List NodePlan). length xs) c.nodes-node-items.ensures.value) in
     let count : n ≡ 0 + length (take n plan.nodes) = omega (arith, length-take n plan.nodes) in
     let longer : take (n + 1) plan.nodes ≡ take n plan.nodes ++ node ∷ [] =
-      take_more plan.nodes n node inside ∙ ap (λ (x : NodePlan). take n plan.nodes ++ x ∷ []) (sym item) in
+    take_more plan.nodes n node inside ∙ ap (λ (x : NodePlan). take n plan.nodes ++ x ∷ []) (sym item) in
     let pushed : c.push.new.self.items ≡ seats ++ c.in_ok-seat.seat ∷ [] = grind (arith, common_steps) in
     record {
       start =

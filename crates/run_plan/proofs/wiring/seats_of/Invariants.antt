@@ -1,4 +1,4 @@
-use Rattle.std.proofs.Common.{◌≡◌, take}
+use Rattle.std.proofs.Common.{take}
 use Rattle.run_plan.specs.Starts.{AllStart}
 use Rattle.run_plan.proofs.wiring.seats_of.Given as goal
 

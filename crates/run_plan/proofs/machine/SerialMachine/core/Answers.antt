@@ -1,7 +1,6 @@
-use Rattle.std.proofs.Common.{◌≡◌, ◌<◌, length, sym, subst, ap, arith, []}
+use Rattle.std.proofs.Common.{◌<◌, length, sym, subst, ap, arith, []}
 use Rattle.std.specs.Prelude.{slice_index_or}
 use Rattle.xs_model.specs.Record.{first_node}
-use Rattle.trace_lines.specs.Kept.{Keeps}
 use Rattle.core_step.specs.Core.{StandsAt}
 use Rattle.serial_model.specs.Serial.{serial}
 use Rattle.run_plan.specs.declared.seat.Seat.{Seat}

@@ -1,4 +1,4 @@
-use Rattle.std.proofs.Common.{◌≡◌, ◌<◌, length, sym, subst, ap, ◌∙◌, arith, []}
+use Rattle.std.proofs.Common.{◌<◌, length, ap, ◌∙◌, arith, []}
 use Rattle.std.specs.Prelude.{slice_index_or}
 use Rattle.sys_plan.specs.Plan.{directions}
 use Rattle.serial_model.specs.Serial.{serial}

@@ -1,4 +1,4 @@
-use Rattle.std.proofs.Common.{◌≡◌, sym, subst}
+use Rattle.std.proofs.Common.{sym, subst}
 use Rattle.sys_plan.specs.Plan.{PlanRec}
 use Rattle.run_plan.specs.Run.{IsRun}
 use Rattle.run_plan.proofs.Starts.{run-start}

@@ -1,4 +1,4 @@
-use Rattle.std.proofs.Common.{◌≡◌, ◌+◌, List, length, sym, subst, ◌∙◌, ap, arith}
+use Rattle.std.proofs.Common.{◌+◌, List, length, sym, subst, ◌∙◌, ap, arith}
 use Rattle.std.specs.Vec.{with_items}
 use Rattle.std.proofs.lemmas.List.{with_items_is}
 use Rattle.std.specs.List.{AllByRecursion, AllZip}
@@ -68,8 +68,8 @@ advance_all-requires-clause-tracks c =
     let roomy = run-same plan now seats seats_1 tracks tracks_1 c.self.invariant same_seats same_tracks in
     let seats_2 = c.step_all.new.seats in
     let steps =
-      subst (λ (ts : List Track). AllZip (Steps now ts) seats_1 seats_2) (c.deref.ensures.value ∙ tracks_are)
-      (subst (λ (xs : List Seat). AllZip (Steps now c.deref.result.now) xs seats_2) (c.deref_mut-3.ensures.value ∙ seats_are) c.step_all.ensures.steps) in
+    subst (λ (ts : List Track). AllZip (Steps now ts) seats_1 seats_2) (c.deref.ensures.value ∙ tracks_are)
+    (subst (λ (xs : List Seat). AllZip (Steps now c.deref.result.now) xs seats_2) (c.deref_mut-3.ensures.value ∙ seats_are) c.step_all.ensures.steps) in
     let stepped = with_items c.self.inside.seats seats_1 in
     let seats_2_are = with_items_is stepped seats_2 (omega (arith, zip-length (Steps now tracks_1) seats_1 seats_2 steps, zip-length SameSeat seats seats_1 same_seats, c.deref_mut.ensures.len)) in
     let count = zip-length (Steps now tracks_1) seats_1 seats_2 steps in
@@ -91,13 +91,13 @@ invariant_of-self-2 c =
     let roomy = run-same plan now seats seats_1 tracks tracks_1 c.self.invariant same_seats same_tracks in
     let seats_2 = c.step_all.new.seats in
     let steps =
-      subst (λ (ts : List Track). AllZip (Steps now ts) seats_1 seats_2) (c.deref.ensures.value ∙ tracks_are)
-      (subst (λ (xs : List Seat). AllZip (Steps now c.deref.result.now) xs seats_2) (c.deref_mut-3.ensures.value ∙ seats_are) c.step_all.ensures.steps) in
+    subst (λ (ts : List Track). AllZip (Steps now ts) seats_1 seats_2) (c.deref.ensures.value ∙ tracks_are)
+    (subst (λ (xs : List Seat). AllZip (Steps now c.deref.result.now) xs seats_2) (c.deref_mut-3.ensures.value ∙ seats_are) c.step_all.ensures.steps) in
     let stepped = with_items c.self.inside.seats seats_1 in
     let seats_2_are = with_items_is stepped seats_2 (omega (arith, zip-length (Steps now tracks_1) seats_1 seats_2 steps, zip-length SameSeat seats seats_1 same_seats, c.deref_mut.ensures.len)) in
     let advances =
-      subst (λ (xs : List Seat). AllZip (Advances now xs) tracks_1 c.advance_all.new.tracks) (c.deref-2.ensures.value ∙ seats_2_are)
-      (subst (λ (ts : List Track). AllZip (Advances now c.deref-2.result.now) ts c.advance_all.new.tracks) (c.deref_mut-4.ensures.value ∙ tracks_are) c.advance_all.ensures.advances) in
+    subst (λ (xs : List Seat). AllZip (Advances now xs) tracks_1 c.advance_all.new.tracks) (c.deref-2.ensures.value ∙ seats_2_are)
+    (subst (λ (ts : List Track). AllZip (Advances now c.deref-2.result.now) ts c.advance_all.new.tracks) (c.deref_mut-4.ensures.value ∙ tracks_are) c.advance_all.ensures.advances) in
     let wired = with_items c.self.inside.tracks tracks_1 in
     let tracks_2 = c.advance_all.new.tracks in
     let tracks_2_are = with_items_is wired tracks_2 (omega (arith, zip-length (Advances now seats_2) tracks_1 tracks_2 advances, zip-length SameTrack tracks tracks_1 same_tracks, c.deref_mut-2.ensures.len)) in

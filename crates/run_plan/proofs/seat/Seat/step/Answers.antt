@@ -1,4 +1,4 @@
-use Rattle.std.proofs.Common.{◌≡◌, ◌+◌, ◌≤◌, List, ◌++◌, refl, ap, ◌∙◌, subst, arith}
+use Rattle.std.proofs.Common.{◌+◌, List, ◌++◌, refl, ap, ◌∙◌, subst, arith}
 use Rattle.xs_model.specs.declared.event.Event.{Event}
 use Rattle.xs_model.specs.declared.outside.Arrivals.{Arrivals}
 use Rattle.trace_lines.specs.Kept.{Keeps}

@@ -1,8 +1,8 @@
-use Rattle.std.proofs.Common.{◌≡◌, ◌+◌, ◌<◌, ◌≤◌, ◌++◌, ap, ◌∙◌, arith, None, false}
+use Rattle.std.proofs.Common.{◌+◌, ap, ◌∙◌, arith, None, false}
 use Rattle.std.specs.Prelude.{slice_get, slice_index_or}
 use Rattle.run_plan.specs.declared.track.Track.{Track}
 use Rattle.run_plan.specs.Tracks.{due_of, seen_of}
-use Rattle.run_plan.proofs.Due.{goes-on, count-most}
+use Rattle.run_plan.proofs.Due.{goes-on}
 use Rattle.run_plan.proofs.track.Track.go_on.Goals as goal
 
 pub seen-self-requires : goal.seen-self-requires
