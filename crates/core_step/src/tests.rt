@@ -57,8 +57,8 @@ fn halts_where_no_code_stands(rt: HostRuntime) -> Result<(), Fail> {
     Ok(())
 }
 
-// Link end 0 alone is there, with a gap of 4 slots.
-const ONE_GAP: [u32; 8] = [4, 0, 0, 0, 0, 0, 0, 0];
+// Each link end is there, with a gap of 4 slots.
+const FOUR_SLOTS: [u32; 8] = [4; 8];
 
 // What leaves by link end 0, by slots: the header to channel end 1 of node 5, and END.
 const SENT: [(u32, Token); 4] = [
@@ -83,7 +83,7 @@ fn sends_a_packet(rt: HostRuntime) -> Result<(), Fail> {
         image: Image::of(code, bytes, 0x0001_0004, Symbols::new(rt.alloc())),
         ways: [1; 16],
     };
-    let mut core = Core::boot(rt.alloc(), &plan, &ONE_GAP)?;
+    let mut core = Core::boot(rt.alloc(), &plan, &FOUR_SLOTS)?;
     let arrivals = Arrivals {
         tokens: [None; 8],
         credits: [false; 8],
