@@ -1,5 +1,5 @@
 -- The directed links of a list of links, by number.
-use Rattle.std.proofs.Common.{◌≡◌, ℕ, zero, suc, ◌+◌, ◌*◌, ◌/◌, ◌<◌, List, [], ◌∷◌, length, map, get_or, refl, ◌∙◌, sym, ap, arith}
+use Rattle.std.proofs.Common.{◌≡◌, ℕ, zero, suc, ◌*◌, ◌/◌, ◌<◌, List, [], ◌∷◌, length, map, get_or, refl, ◌∙◌, sym, ap, arith}
 use Rattle.std.specs.List.{AllByRecursion}
 use Rattle.sys_plan.specs.declared.LinkPlan.{LinkPlan}
 use Rattle.sys_plan.specs.Plan.{Direction, forth, back, directions}

@@ -1,5 +1,5 @@
 -- The plan of a system: its nodes, and the links between them.
-use Rattle.std.specs.Prelude.{ℕ, ◌≡◌, ◌≢◌, ◌+◌, ◌<◌, ◌≤◌, Bool, ◌&&◌, ◌==◌, if◌then◌else◌, Option, Some, None, IsSome, List, [], ◌∷◌, length, map, slice_index, slice_index_or}
+use Rattle.std.specs.Prelude.{ℕ, ◌≡◌, ◌≢◌, ◌+◌, ◌<◌, ◌≤◌, Bool, ◌&&◌, ◌==◌, if◌then◌else◌, Option, Some, None, IsSome, List, [], ◌∷◌, length, map, slice_index}
 use Rattle.std.specs.List.{AllByRecursion}
 use Rattle.std.specs.Int.{bit_at}
 use Rattle.sys_plan.specs.declared.NodePlan.{NodePlan}

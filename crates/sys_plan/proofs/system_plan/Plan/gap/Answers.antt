@@ -1,4 +1,4 @@
-use Rattle.std.proofs.Common.{◌≡◌, ◌<◌, ◌≤◌, ◌*◌, ◌/◌, length, ap, sym, subst, refl, ◌∙◌, arith}
+use Rattle.std.proofs.Common.{◌≡◌, ◌<◌, ◌*◌, ◌/◌, length, ap, sym, subst, refl, ◌∙◌, arith}
 use Rattle.std.specs.Prelude.{IfSome}
 use Rattle.sys_plan.specs.declared.LinkPlan.{LinkPlan}
 use Rattle.sys_plan.specs.Plan.{Direction, PlanRec, IsLink, directions, gap_of, gap_by}

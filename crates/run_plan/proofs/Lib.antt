@@ -1,0 +1,4 @@
+pub mod Due
+pub mod Through
+pub mod Systems
+pub mod Starts

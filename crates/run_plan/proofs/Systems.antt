@@ -1,0 +1,270 @@
+-- The nodes and directed links at work, from slot to slot, are those of the serial machine.
+use Rattle.std.proofs.Common.{◌≡◌, ℕ, zero, suc, ◌+◌, ◌<◌, Option, Some, None, List, [], ◌∷◌, ◌++◌, length, map, get_or, refl, sym, ap, ◌∙◌, subst, arith, add-one}
+use Rattle.std.specs.List.{AllByRecursion, AllZip}
+use Rattle.xs_base.specs.declared.entry.Entry.{Entry}
+use Rattle.xs_model.specs.declared.event.Event.{Event}
+use Rattle.xs_model.specs.Record.{NodeRec}
+use Rattle.xs_model.specs.Outside.{Emitted, emitted_events}
+use Rattle.sys_plan.specs.declared.NodePlan.{NodePlan}
+use Rattle.sys_plan.specs.Plan.{PlanRec, Direction, directions, gaps_of}
+use Rattle.step_model.specs.Start.{fixed_of}
+use Rattle.step_model.specs.Step.{Stepped, node_step}
+use Rattle.trace_lines.specs.Kept.{Keeps}
+use Rattle.core_step.specs.Core.{CoreValue, StandsAt, SlotsBefore}
+use Rattle.serial_model.specs.Serial.{SystemRec, arriving, arriving_by, token_among, credit_among, arrivals_at, low_pins, steps_from, steps_of, sent_by, longer_histories, longer_events, system_step, serial}
+use Rattle.run_plan.specs.declared.track.Crossing.{Crossing}
+use Rattle.run_plan.specs.declared.track.Track.{Track}
+use Rattle.run_plan.specs.declared.seat.Seat.{Seat}
+use Rattle.run_plan.specs.Tracks.{crossing_of, nothing, IsInOrder, IsDueFrom, IsTrack}
+use Rattle.run_plan.specs.Seats.{IsBelow, IsSeat, Steps, arrived_of, arrived_by, arrivals_by, step_of}
+use Rattle.run_plan.specs.Passes.{IsReadyTrack, Advances, SameSeat, SameTrack}
+use Rattle.run_plan.specs.Run.{Plays, AllPlay, AllCarry, IsSystem, IsRun, incoming_of}
+use Rattle.run_plan.proofs.Through.{all-at, all-zip, zip-length, zip-refl}
+
+map-same : {X Y : Type 0} (f g : X → Y) → ((x : X) → f x ≡ g x) → (xs : List X) → map f xs ≡ map g xs
+map-same f g h [] = refl
+map-same f g h (x ∷ xs) = λ i. h x i ∷ map-same f g h xs i
+
+module _ (plan : PlanRec) (slot nodes_count : ℕ) where
+  -- what arrives by the directed link with a number
+  arrived-at : (ds : List Direction) (tracks : List Track) (histories : List (List Entry)) (k : ℕ) → AllCarry ds tracks histories → AllByRecursion (IsReadyTrack slot nodes_count) tracks
+      → get_or (arrived_of tracks) k nothing ≡ crossing_of (arriving slot (get_or (map (λ (d : Direction). d.delay) ds) k 0) (get_or histories k []))
+  arrived-at [] [] [] k carry all = refl
+  arrived-at (d ∷ ds) (t ∷ ts) (h ∷ hs) zero carry all =
+      all.0.here.arrived ∙ (λ i. crossing_of (arriving slot (carry.0.delay i) (carry.0.entries i)))
+  arrived-at (d ∷ ds) (t ∷ ts) (h ∷ hs) (suc k) carry all = arrived-at ds ts hs k carry.1 all.1
+  arrived-at _ _ _ k carry all = absurd carry
+
+  module _ (tracks : List Track) (histories : List (List Entry)) (carry : AllCarry (directions plan.links) tracks histories) (all : AllByRecursion (IsReadyTrack slot nodes_count) tracks) where
+    arrived-by : (link : Option ℕ) → arrived_by tracks link ≡ crossing_of (arriving_by plan histories slot link)
+    arrived-by None = refl
+    arrived-by (Some k) = arrived-at (directions plan.links) tracks histories k carry all
+
+    arrivals-same : (n : ℕ) → arrivals_by tracks (incoming_of plan n) ≡ arrivals_at plan histories slot n
+    arrivals-same n =
+        let tokens = map-same (λ link. (arrived_by tracks link).token) (λ link. token_among (arriving_by plan histories slot link)) (λ link. ap (λ (c : Crossing). c.token) (arrived-by link)) (incoming_of plan n) in
+        let credits = map-same (λ link. (arrived_by tracks link).credit) (λ link. credit_among (arriving_by plan histories slot link)) (λ link. ap (λ (c : Crossing). c.credit) (arrived-by link)) (incoming_of plan n) in
+        λ i. record { tokens = tokens i; credits = credits i }
+
+    -- the step of a node that plays its part is the serial machine's
+    step-same : (n : ℕ) (node : NodePlan) (seat : Seat) (rec : NodeRec) (events : List Event) → Plays plan slot n node seat rec events
+        → step_of slot tracks seat rec ≡ node_step (fixed_of node (gaps_of plan n)) rec slot (arrivals_at plan histories slot n) low_pins
+    step-same n node seat rec events p =
+        let arrivals = ap (arrivals_by tracks) p.incoming ∙ arrivals-same n in
+        λ i. node_step (p.fixed i) rec slot (arrivals i) low_pins
+
+    plays-next : (n : ℕ) (node : NodePlan) (before after : Seat) (rec : NodeRec) (events : List Event) → Plays plan slot n node before rec events → Steps slot tracks before after
+        → (step : Stepped) → step_of slot tracks before rec ≡ step → Plays plan (slot + 1) n node after step.rec (events ++ step.emitted.events)
+    plays-next n node before after rec events p s step same = record {
+      fixed = s.fixed ∙ p.fixed;
+      incoming = s.incoming ∙ p.incoming;
+      stands = subst (λ (st : Stepped). StandsAt after.core st.rec (slot + 1)) same (s.stands rec p.stands);
+      keeps =
+          subst (λ (es : List Event). Keeps after.events (events ++ es))
+          (ap (λ (g : Emitted). g.events) (s.given rec p.stands ∙ ap (λ (st : Stepped). st.emitted) same))
+          (s.keeps events p.keeps);
+    }
+
+    all-play : (n : ℕ) (nodes : List NodePlan) (seats : List Seat) (recs : List NodeRec) (events : List (List Event)) (after : List Seat) → AllPlay plan slot n nodes seats recs events → AllZip (Steps slot tracks) seats after
+        → AllPlay plan (slot + 1) n nodes after (map (λ (s : Stepped). s.rec) (steps_from plan histories slot n nodes recs)) (longer_events (steps_from plan histories slot n nodes recs) events)
+    all-play n [] [] [] [] [] play zip = tt
+    all-play n [] [] [] [] (a ∷ afters) play zip = absurd zip
+    all-play n (node ∷ nodes) (seat ∷ seats) (rec ∷ recs) (es ∷ all_events) [] play zip = absurd zip
+    all-play n (node ∷ nodes) (seat ∷ seats) (rec ∷ recs) (es ∷ all_events) (a ∷ afters) play zip = (
+      plays-next n node seat a rec es play.0 zip.0 _ (step-same n node seat rec es play.0),
+      all-play (n + 1) nodes seats recs all_events afters play.1 zip.1,
+    )
+    all-play n _ _ _ _ _ play zip = absurd play
+
+    all-given : (n : ℕ) (nodes : List NodePlan) (seats : List Seat) (recs : List NodeRec) (events : List (List Event)) (after : List Seat) → AllPlay plan slot n nodes seats recs events → AllZip (Steps slot tracks) seats after
+        → map (λ (s : Seat). s.given) after ≡ map (λ (s : Stepped). s.emitted) (steps_from plan histories slot n nodes recs)
+    all-given n [] [] [] [] [] play zip = refl
+    all-given n [] [] [] [] (a ∷ afters) play zip = absurd zip
+    all-given n (node ∷ nodes) (seat ∷ seats) (rec ∷ recs) (es ∷ all_events) [] play zip = absurd zip
+    all-given n (node ∷ nodes) (seat ∷ seats) (rec ∷ recs) (es ∷ all_events) (a ∷ afters) play zip =
+        let here = zip.0.given rec play.0.stands ∙ ap (λ (st : Stepped). st.emitted) (step-same n node seat rec es play.0) in
+        let rest = all-given (n + 1) nodes seats recs all_events afters play.1 zip.1 in
+        λ i. here i ∷ rest i
+    all-given n _ _ _ _ _ play zip = absurd play
+
+  all-carry : (steps : List Stepped) (after_seats : List Seat) → map (λ (s : Seat). s.given) after_seats ≡ map (λ (s : Stepped). s.emitted) steps
+      → (ds : List Direction) (tracks : List Track) (histories : List (List Entry)) (after : List Track) → AllCarry ds tracks histories → AllZip (Advances slot after_seats) tracks after
+      → AllCarry ds after (longer_histories slot steps ds histories)
+  all-carry steps seats given [] [] [] [] carry zip = tt
+  all-carry steps seats given [] [] [] (a ∷ afters) carry zip = absurd zip
+  all-carry steps seats given (d ∷ ds) (t ∷ ts) (h ∷ hs) [] carry zip = absurd zip
+  all-carry steps seats given (d ∷ ds) (t ∷ ts) (h ∷ hs) (a ∷ afters) carry zip =
+      let c = carry.0 in
+      let z = zip.0 in (
+        record {
+          from = z.from ∙ c.from;
+          from_end = z.from_end ∙ c.from_end;
+          delay = z.delay ∙ c.delay;
+          entries = z.entries ∙ (λ i. c.entries i ++ sent_by slot (get_or (given i) (c.from i) (emitted_events [])) (c.from_end i));
+        },
+        all-carry steps seats given ds ts hs afters carry.1 zip.1,
+      )
+  all-carry steps seats given _ _ _ _ carry zip = absurd carry
+
+serial-next : (plan : PlanRec) (slot : ℕ) → serial plan (slot + 1) ≡ system_step plan slot (serial plan slot)
+unfolding serial
+serial-next plan slot = rw add-one refl
+
+-- the nodes and directed links after a slot are the serial machine's
+pub system-next : (plan : PlanRec) (slot count : ℕ) (seats after : List Seat) (tracks tracks_after : List Track) → IsSystem plan slot seats tracks (serial plan slot) → AllByRecursion (IsReadyTrack slot count) tracks
+    → AllZip (Steps slot tracks) seats after → AllZip (Advances slot after) tracks tracks_after → IsSystem plan (slot + 1) after tracks_after (serial plan (slot + 1))
+system-next plan slot count seats after tracks tracks_after is ready steps advances =
+    let system = serial plan slot in
+    let given = all-given plan slot count tracks system.histories is.carry ready 0 plan.nodes seats system.nodes system.events after is.play steps in
+    subst (IsSystem plan (slot + 1) after tracks_after) (sym (serial-next plan slot)) (record {
+      play = all-play plan slot count tracks system.histories is.carry ready 0 plan.nodes seats system.nodes system.events after is.play steps;
+      carry = all-carry plan slot count (steps_of plan slot system) after given (directions plan.links) tracks system.histories tracks_after is.carry advances;
+    })
+
+-- each node and each directed link is ready for the next slot
+pub seats-next : (slot links links_after : ℕ) (tracks : List Track) (seats after : List Seat) → links_after ≡ links → AllZip (Steps slot tracks) seats after → AllByRecursion (IsSeat slot links) seats → AllByRecursion (IsSeat (slot + 1) links_after) after
+seats-next slot links links_after tracks seats after same = all-zip (Steps slot tracks) (IsSeat slot links) (IsSeat (slot + 1) links_after) (λ x y s h. record {
+  before = s.before_next;
+  eight = ap length s.incoming ∙ h.eight;
+  incoming = subst (λ (n : ℕ). AllByRecursion (IsBelow n) y.incoming) (sym same) (subst (AllByRecursion (IsBelow links)) (sym s.incoming) h.incoming);
+  more = omega (arith, s.more, h.more);
+}) seats after
+
+pub tracks-next : (slot count count_after : ℕ) (seats : List Seat) (tracks after : List Track) → count_after ≡ count → AllZip (Advances slot seats) tracks after → AllByRecursion (IsReadyTrack slot count) tracks → AllByRecursion (IsReadyTrack (slot + 1) count_after) after
+tracks-next slot count count_after seats tracks after same = all-zip (Advances slot seats) (IsReadyTrack slot count) (IsReadyTrack (slot + 1) count_after) (λ x y a h. record {
+  from = omega (arith, a.from, h.from, same);
+  from_end = omega (arith, a.from_end, h.from_end);
+  delay = omega (arith, a.delay, h.delay);
+  here = a.next;
+}) tracks after
+
+-- room that is made changes none of this
+module _ (plan : PlanRec) (slot : ℕ) where
+  play-same : (n : ℕ) (nodes : List NodePlan) (seats : List Seat) (recs : List NodeRec) (events : List (List Event)) (after : List Seat) → AllPlay plan slot n nodes seats recs events → AllZip SameSeat seats after → AllPlay plan slot n nodes after recs events
+  play-same n [] [] [] [] [] play zip = tt
+  play-same n [] [] [] [] (a ∷ afters) play zip = absurd zip
+  play-same n (node ∷ nodes) (seat ∷ seats) (rec ∷ recs) (es ∷ all_events) [] play zip = absurd zip
+  play-same n (node ∷ nodes) (seat ∷ seats) (rec ∷ recs) (es ∷ all_events) (a ∷ afters) play zip =
+      let p = play.0 in
+      let z = zip.0 in (
+        record {
+          fixed = ap (λ (c : CoreValue). c.fixed) z.core ∙ p.fixed;
+          incoming = z.incoming ∙ p.incoming;
+          stands = subst (λ (c : CoreValue). StandsAt c rec slot) (sym z.core) p.stands;
+          keeps = record { first = z.events ∙ p.keeps.first; rest = z.more ∙ p.keeps.rest };
+        },
+        play-same (n + 1) nodes seats recs all_events afters play.1 zip.1,
+      )
+  play-same n _ _ _ _ _ play zip = absurd play
+
+  carry-same : (ds : List Direction) (tracks : List Track) (histories : List (List Entry)) (after : List Track) → AllCarry ds tracks histories → AllZip SameTrack tracks after → AllCarry ds after histories
+  carry-same [] [] [] [] carry zip = tt
+  carry-same [] [] [] (a ∷ afters) carry zip = absurd zip
+  carry-same (d ∷ ds) (t ∷ ts) (h ∷ hs) [] carry zip = absurd zip
+  carry-same (d ∷ ds) (t ∷ ts) (h ∷ hs) (a ∷ afters) carry zip =
+      let c = carry.0 in
+      let z = zip.0 in (
+        record { from = z.from ∙ c.from; from_end = z.from_end ∙ c.from_end; delay = z.delay ∙ c.delay; entries = z.entries ∙ c.entries },
+        carry-same ds ts hs afters carry.1 zip.1,
+      )
+  carry-same _ _ _ _ carry zip = absurd carry
+
+  pub system-same : (seats after : List Seat) (tracks tracks_after : List Track) (system : SystemRec) → IsSystem plan slot seats tracks system → AllZip SameSeat seats after → AllZip SameTrack tracks tracks_after → IsSystem plan slot after tracks_after system
+  system-same seats after tracks tracks_after system is s t = record {
+    play = play-same 0 plan.nodes seats system.nodes system.events after is.play s;
+    carry = carry-same (directions plan.links) tracks system.histories tracks_after is.carry t;
+  }
+
+pub seats-same : (slot links links_after : ℕ) (seats after : List Seat) → links_after ≡ links → AllZip SameSeat seats after → AllByRecursion (IsSeat slot links) seats → AllByRecursion (IsSeat slot links_after) after
+seats-same slot links links_after seats after same = all-zip SameSeat (IsSeat slot links) (IsSeat slot links_after) (λ x y s h. record {
+  before = subst (λ (c : CoreValue). SlotsBefore c slot) (sym s.core) h.before;
+  eight = ap length s.incoming ∙ h.eight;
+  incoming = subst (λ (n : ℕ). AllByRecursion (IsBelow n) y.incoming) (sym same) (subst (AllByRecursion (IsBelow links)) (sym s.incoming) h.incoming);
+  more = omega (arith, s.more, h.more);
+}) seats after
+
+track-same : (slot : ℕ) (x y : Track) → SameTrack x y → IsTrack slot x → IsTrack slot y
+track-same slot x y s h = record {
+  in_order = subst IsInOrder (sym s.entries) h.in_order;
+  before = subst (AllByRecursion (λ (e : Entry). e.slot < slot)) (sym s.entries) h.before;
+  few = omega (arith, s.first, h.few);
+  due =
+      subst (λ (d : ℕ). IsDueFrom slot d y.first y.history.entries) (sym s.delay)
+      (subst (λ (n : ℕ). IsDueFrom slot x.delay n y.history.entries) (sym s.first)
+      (subst (IsDueFrom slot x.delay x.first) (sym s.entries) h.due));
+  arrived = s.arrived ∙ (h.arrived ∙ (λ i. crossing_of (arriving slot (sym s.delay i) (sym s.entries i))));
+}
+
+pub tracks-same : (slot count count_after : ℕ) (tracks after : List Track) → count_after ≡ count → AllZip SameTrack tracks after → AllByRecursion (IsReadyTrack slot count) tracks → AllByRecursion (IsReadyTrack slot count_after) after
+tracks-same slot count count_after tracks after same = all-zip SameTrack (IsReadyTrack slot count) (IsReadyTrack slot count_after) (λ x y s h. record {
+  from = omega (arith, s.from, h.from, same);
+  from_end = omega (arith, s.from_end, h.from_end);
+  delay = omega (arith, s.delay, h.delay);
+  here = track-same slot x y s h.here;
+}) tracks after
+
+-- the node and the directed link at a place
+pub play-at : (plan : PlanRec) (slot n : ℕ) (nodes : List NodePlan) (seats : List Seat) (recs : List NodeRec) (events : List (List Event)) (k : ℕ) (s : Seat) (r : NodeRec) → AllPlay plan slot n nodes seats recs events → k < length nodes
+    → StandsAt (get_or seats k s).core (get_or recs k r) slot × Keeps (get_or seats k s).events (get_or events k [])
+play-at plan slot n [] [] [] [] k s r play h = absurd (omega arith)
+play-at plan slot n (node ∷ nodes) (seat ∷ seats) (rec ∷ recs) (es ∷ events) zero s r play h = (play.0.stands, play.0.keeps)
+play-at plan slot n (node ∷ nodes) (seat ∷ seats) (rec ∷ recs) (es ∷ events) (suc k) s r play h = play-at plan slot (n + 1) nodes seats recs events k s r play.1 (omega arith)
+play-at plan slot n _ _ _ _ k s r play h = absurd play
+
+pub play-length : (plan : PlanRec) (slot n : ℕ) (nodes : List NodePlan) (seats : List Seat) (recs : List NodeRec) (events : List (List Event)) → AllPlay plan slot n nodes seats recs events → length seats ≡ length nodes
+play-length plan slot n [] [] [] [] play = refl
+play-length plan slot n (node ∷ nodes) (seat ∷ seats) (rec ∷ recs) (es ∷ events) play = omega (arith, play-length plan slot (n + 1) nodes seats recs events play.1)
+play-length plan slot n _ _ _ _ play = absurd play
+
+pub carry-at : (ds : List Direction) (tracks : List Track) (histories : List (List Entry)) (k : ℕ) (t : Track) → AllCarry ds tracks histories → k < length ds → (get_or tracks k t).history.entries ≡ get_or histories k []
+carry-at [] [] [] k t carry h = absurd (omega arith)
+carry-at (d ∷ ds) (x ∷ xs) (hist ∷ hists) zero t carry h = carry.0.entries
+carry-at (d ∷ ds) (x ∷ xs) (hist ∷ hists) (suc k) t carry h = carry-at ds xs hists k t carry.1 (omega arith)
+carry-at _ _ _ k t carry h = absurd carry
+
+pub carry-length : (ds : List Direction) (tracks : List Track) (histories : List (List Entry)) → AllCarry ds tracks histories → length tracks ≡ length ds
+carry-length [] [] [] carry = refl
+carry-length (d ∷ ds) (x ∷ xs) (h ∷ hs) carry = omega (arith, carry-length ds xs hs carry.1)
+carry-length _ _ _ carry = absurd carry
+
+-- what a node gave
+pub given-at : (seats : List Seat) (k : ℕ) (d : Emitted) (s : Seat) → k < length seats → get_or (map (λ (x : Seat). x.given) seats) k d ≡ (get_or seats k s).given
+given-at [] k d s h = absurd (omega arith)
+given-at (x ∷ xs) zero d s h = refl
+given-at (x ∷ xs) (suc k) d s h = given-at xs k d s (omega arith)
+
+-- what arrives by eight link ends
+pub eight-arrivals : (tracks : List Track) (xs : List (Option ℕ)) (d0 d1 d2 d3 d4 d5 d6 d7 : Option ℕ) (c0 c1 c2 c3 c4 c5 c6 c7 : Crossing) → length xs ≡ 8
+    → c0 ≡ arrived_by tracks (get_or xs 0 d0) → c1 ≡ arrived_by tracks (get_or xs 1 d1) → c2 ≡ arrived_by tracks (get_or xs 2 d2) → c3 ≡ arrived_by tracks (get_or xs 3 d3)
+    → c4 ≡ arrived_by tracks (get_or xs 4 d4) → c5 ≡ arrived_by tracks (get_or xs 5 d5) → c6 ≡ arrived_by tracks (get_or xs 6 d6) → c7 ≡ arrived_by tracks (get_or xs 7 d7)
+    → record {
+      tokens = c0.token ∷ c1.token ∷ c2.token ∷ c3.token ∷ c4.token ∷ c5.token ∷ c6.token ∷ c7.token ∷ [];
+      credits = c0.credit ∷ c1.credit ∷ c2.credit ∷ c3.credit ∷ c4.credit ∷ c5.credit ∷ c6.credit ∷ c7.credit ∷ [];
+    } ≡ arrivals_by tracks xs
+eight-arrivals tracks (x0 ∷ x1 ∷ x2 ∷ x3 ∷ x4 ∷ x5 ∷ x6 ∷ x7 ∷ []) d0 d1 d2 d3 d4 d5 d6 d7 c0 c1 c2 c3 c4 c5 c6 c7 len e0 e1 e2 e3 e4 e5 e6 e7 = λ i. record {
+  tokens = (e0 i).token ∷ (e1 i).token ∷ (e2 i).token ∷ (e3 i).token ∷ (e4 i).token ∷ (e5 i).token ∷ (e6 i).token ∷ (e7 i).token ∷ [];
+  credits = (e0 i).credit ∷ (e1 i).credit ∷ (e2 i).credit ∷ (e3 i).credit ∷ (e4 i).credit ∷ (e5 i).credit ∷ (e6 i).credit ∷ (e7 i).credit ∷ [];
+}
+eight-arrivals tracks _ d0 d1 d2 d3 d4 d5 d6 d7 c0 c1 c2 c3 c4 c5 c6 c7 len e0 e1 e2 e3 e4 e5 e6 e7 = absurd (omega (arith, len))
+
+-- the directed link at a place is ready
+pub ready-at : (slot count : ℕ) (tracks : List Track) (i : ℕ) (d t : Track) → AllByRecursion (IsReadyTrack slot count) tracks → i < length tracks → get_or tracks i d ≡ t → IsReadyTrack slot count t
+ready-at slot count tracks i d t all inside is = subst (IsReadyTrack slot count) is (all-at (IsReadyTrack slot count) tracks i d all inside)
+
+-- a run goes on, and stays what it is where room is made
+pub run-same : (plan : PlanRec) (slot : ℕ) (seats after : List Seat) (tracks tracks_after : List Track) → IsRun plan slot seats tracks → AllZip SameSeat seats after → AllZip SameTrack tracks tracks_after → IsRun plan slot after tracks_after
+run-same plan slot seats after tracks tracks_after run s t = record {
+  system = system-same plan slot seats after tracks tracks_after (serial plan slot) run.system s t;
+  seats = seats-same slot (length tracks) (length tracks_after) seats after (zip-length SameTrack tracks tracks_after t) s run.seats;
+  tracks = tracks-same slot (length seats) (length after) tracks tracks_after (zip-length SameSeat seats after s) t run.tracks;
+}
+
+pub run-next : (plan : PlanRec) (slot : ℕ) (seats after : List Seat) (tracks tracks_after : List Track) → IsRun plan slot seats tracks → AllZip (Steps slot tracks) seats after → AllZip (Advances slot after) tracks tracks_after → IsRun plan (slot + 1) after tracks_after
+run-next plan slot seats after tracks tracks_after run s t = record {
+  system = system-next plan slot (length seats) seats after tracks tracks_after run.system run.tracks s t;
+  seats = seats-next slot (length tracks) (length tracks_after) tracks seats after (zip-length (Advances slot after) tracks tracks_after t) s run.seats;
+  tracks = tracks-next slot (length seats) (length after) after tracks tracks_after (zip-length (Steps slot tracks) seats after s) t run.tracks;
+}
+
+pub tracks-refl : (tracks : List Track) → AllZip SameTrack tracks tracks
+tracks-refl tracks = zip-refl SameTrack (λ x. record { from = refl; from_end = refl; delay = refl; entries = refl; first = refl; arrived = refl }) tracks

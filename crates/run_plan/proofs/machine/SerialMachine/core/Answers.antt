@@ -1,0 +1,29 @@
+use Rattle.std.proofs.Common.{◌<◌, length, sym, subst, ap, arith, []}
+use Rattle.std.specs.Prelude.{slice_index_or}
+use Rattle.xs_model.specs.Record.{first_node}
+use Rattle.core_step.specs.Core.{StandsAt}
+use Rattle.serial_model.specs.Serial.{serial}
+use Rattle.run_plan.specs.declared.seat.Seat.{Seat}
+use Rattle.run_plan.specs.Machine.{MachineRec}
+use Rattle.run_plan.proofs.Systems.{play-at, play-length}
+use Rattle.run_plan.proofs.machine.SerialMachine.core.Goals as goal
+
+pub index-seat-requires : goal.index-seat-requires
+index-seat-requires c =
+    let plan = c.self.inside.plan.value in
+    let now = c.self.inside.clock in
+    let system = serial plan now in
+    omega (arith, play-length plan now 0 plan.nodes c.self.inside.seats.items system.nodes system.events c.self.invariant.system.play, ap (λ (m : MachineRec). length m.plan.nodes) c.self.view_is)
+
+pub returns : goal.returns
+returns c =
+    let plan = c.self.inside.plan.value in
+    let now = c.self.inside.clock in
+    let system = serial plan now in
+    let inside : c.args.node < length plan.nodes = omega (arith, ap (λ (m : MachineRec). length m.plan.nodes) c.self.view_is) in
+    let at = play-at plan now 0 plan.nodes c.self.inside.seats.items system.nodes system.events c.args.node c.index-seat.result.now (first_node 0 0 []) c.self.invariant.system.play inside in
+    record {
+      stands =
+          subst (λ (m : MachineRec). StandsAt c.index-seat.result.now.core (slice_index_or (serial m.plan m.now).nodes c.args.node (first_node 0 0 [])) m.now) c.self.view_is
+          (subst (λ (s : Seat). StandsAt s.core (slice_index_or (serial plan now).nodes c.args.node (first_node 0 0 [])) now) (sym c.index-seat.ensures) at.0);
+    }

@@ -1,0 +1,7 @@
+pub mod Tracks
+pub mod Seats
+pub mod Passes
+pub mod Run
+pub mod Starts
+pub mod Machine
+pub mod Inside

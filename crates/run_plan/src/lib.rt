@@ -1,0 +1,11 @@
+//! The serial machine: all nodes of a system, stepped together slot by slot. See docs/MACHINE.md.
+#![tactic(auto)]
+
+mod machine;
+mod passes;
+mod seat;
+mod track;
+mod wiring;
+
+pub use machine::SerialMachine;
+pub use xs_base::Entry;

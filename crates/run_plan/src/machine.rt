@@ -1,0 +1,121 @@
+//! `SerialMachine`, all nodes of a system stepped together.
+ghost use Rattle.std.specs.Prelude.{◌≡◌, ◌+◌, ◌-◌, ◌^◌, ◌<◌, ◌≤◌, max, [], length, slice_index_or, IfOk, OnOk, OnErr};
+ghost use Rattle.sys_plan.specs.Plan.{directions};
+ghost use Rattle.serial_model.specs.Serial.{serial};
+ghost use Rattle.trace_lines.specs.Kept.{Keeps};
+ghost use Rattle.core_step.specs.Core.{StandsAt};
+ghost use Rattle.xs_model.specs.Record.{first_node};
+
+use crate::passes::{advance_all, make_entry_room, make_event_room, step_all};
+use crate::seat::Seat;
+use crate::track::Track;
+use crate::wiring::{seats_of, tracks_of};
+use core_step::Core;
+use known_value::Known;
+use std::alloc::{AllocError, Global};
+use std::marker::Model;
+use sys_plan::Plan;
+use trace_lines::NodeEvents;
+use xs_base::Entry;
+
+/// All nodes of a system, stepped together slot by slot from slot 0 on. Contracts see the plan and how many slots
+/// have passed; what the machine has become is `serial` of `Rattle.serial_model.specs.Serial`. See docs/MACHINE.md.
+#[derive(Drop)]
+pub struct SerialMachine {
+    plan: Known<Plan>,
+    clock: u32,
+    seats: Vec<Seat>,
+    tracks: Vec<Track>,
+}
+
+impl Model for SerialMachine {
+    ghost use Rattle.run_plan.specs.Machine.{MachineRec};
+
+    ghost Value = { MachineRec };
+
+    ghost use Rattle.run_plan.specs.Inside.{IsMachine};
+
+    ghost view = { λ m. record { plan = m.plan.value; now = m.clock } };
+
+    ghost invariant = { IsMachine };
+}
+
+impl SerialMachine {
+    /// The nodes of a plan as they start. The error is want of memory.
+    pub fn new(alloc: Global, plan: &Plan) -> Result<SerialMachine, AllocError>
+        ensures plan { IfOk result (λ m. m.plan ≡ plan.now) }
+        ensures now { IfOk result (λ m. m.now ≡ 0) }
+    {
+        let seats = seats_of(alloc, plan)?;
+        let tracks = tracks_of(alloc, plan)?;
+        Ok(SerialMachine {
+            plan: Known::of(plan),
+            clock: 0,
+            seats,
+            tracks,
+        })
+    }
+
+    /// One slot of the whole system. The error is want of memory, and leaves the machine as it was.
+    pub fn slot(&mut self) -> Result<(), AllocError>
+        requires now { self.old.now < 2 ^ 32 - 1 }
+        ensures plan { self.new.plan ≡ self.old.plan }
+        ensures passed { OnOk result (self.new.now ≡ self.old.now + 1) }
+        ensures err { OnErr result (self.new ≡ self.old) }
+    {
+        make_event_room(&mut self.seats)?;
+        make_entry_room(&mut self.tracks)?;
+        step_all(&mut self.seats, &self.tracks, self.clock);
+        advance_all(&mut self.tracks, &self.seats, self.clock);
+        self.clock += 1;
+        Ok(())
+    }
+
+    /// Steps on until so many slots have passed since the start; does nothing where they have. The error is want of
+    /// memory, and leaves the machine at a whole slot before the limit.
+    pub fn run(&mut self, limit: u32) -> Result<(), AllocError>
+        ensures plan { self.new.plan ≡ self.old.plan }
+        ensures ran { OnOk result (self.new.now ≡ max self.old.now limit) }
+        ensures on { self.old.now ≤ self.new.now }
+        ensures err { OnErr result (self.new.now < limit) }
+    {
+        for _ in self.clock..limit {
+            self.slot()?;
+        }
+        Ok(())
+    }
+
+    /// How many slots have passed.
+    pub fn now(&self) -> u32
+        ensures value { result ≡ self.now.now }
+    {
+        self.clock
+    }
+
+    /// The core of the node at a position.
+    pub fn core(&self, node: u8) -> &Core
+        requires node { node < length self.now.plan.nodes }
+        ensures stands { StandsAt result.now (slice_index_or (serial self.now.plan self.now.now).nodes node (first_node 0 0 [])) self.now.now }
+    {
+        let seat = &self.seats[node as usize];
+        &seat.core
+    }
+
+    /// The history of the directed link with a number: what was sent on it so far, in order.
+    pub fn history(&self, link: u32) -> &[Entry]
+        requires link { link < length (directions self.now.plan.links) }
+        ensures value { result.now ≡ slice_index_or (serial self.now.plan self.now.now).histories link [] }
+    {
+        let track = &self.tracks[link as usize];
+        track.history.entries()
+    }
+
+    /// What is kept of the events of the node at a position.
+    pub fn events(&self, node: u8) -> &NodeEvents
+        requires node { node < length self.now.plan.nodes }
+        ensures keeps { Keeps result.now (slice_index_or (serial self.now.plan self.now.now).events node []) }
+    {
+        let seat = &self.seats[node as usize];
+        &seat.events
+    }
+}

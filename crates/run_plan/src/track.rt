@@ -1,0 +1,115 @@
+//! `Track`, one directed link: its history, and what of it arrives. See docs/LINKS.md.
+ghost use Rattle.std.specs.Prelude.{◌≡◌, ◌+◌, ◌-◌, ◌^◌, ◌<◌, ◌≤◌, ◌++◌, slice_get};
+ghost use Rattle.serial_model.specs.Serial.{sent_by};
+ghost use Rattle.run_plan.specs.Tracks.{due_of, seen_of, nothing, count_of, IsTrack, GoesOn};
+
+use trace_lines::Emissions;
+use xs_base::{Batch, Entry, Token, What};
+
+/// What a directed link carries in one slot.
+#[derive(Clone, Copy)]
+pub(crate) struct Crossing {
+    pub(crate) token: Option<Token>,
+    pub(crate) credit: bool,
+}
+
+impl Crossing {
+    // How many entries of the history it is made of.
+    fn count(self) -> usize
+        ensures value { result ≡ count_of self }
+        ensures most { result ≤ 2 }
+    {
+        usize::from(self.token.is_some()) + usize::from(self.credit)
+    }
+}
+
+/// A directed link: it leads from a link end of the node at a position, with a delay in slots.
+#[derive(Drop)]
+pub(crate) struct Track {
+    pub(crate) from: u8,
+    pub(crate) from_end: u8,
+    pub(crate) delay: u32,
+    pub(crate) history: Batch,
+    // The place in the history of the first entry that has not arrived before this slot.
+    pub(crate) first: usize,
+    // What arrives in this slot.
+    pub(crate) arrived: Crossing,
+}
+
+impl Track {
+    // What stands at a place of the history, if it arrives in a slot.
+    fn due_at(&self, at: usize, slot: u32) -> Option<What>
+        ensures { result ≡ due_of slot self.now.delay (slice_get self.now.history.entries at) }
+    {
+        let e = self.history.entries().get(at).copied()?;
+        if u64::from(e.slot) + u64::from(self.delay) == u64::from(slot) {
+            Some(e.what)
+        } else {
+            None
+        }
+    }
+
+    // What arrives in a slot, of the first two entries that may.
+    fn seen(&self, slot: u32) -> Crossing
+        requires { self.now.first < 2 ^ 63 }
+        ensures { result ≡ seen_of (due_of slot self.now.delay (slice_get self.now.history.entries self.now.first)) (due_of slot self.now.delay (slice_get self.now.history.entries (self.now.first + 1))) }
+    {
+        match self.due_at(self.first, slot) {
+            None => nothing(),
+            Some(What::Token(t)) => Crossing {
+                token: Some(t),
+                credit: self.due_at(self.first + 1, slot).is_some(),
+            },
+            Some(What::Credit) => Crossing {
+                token: None,
+                credit: true,
+            },
+        }
+    }
+
+    // Puts what the sender's link end sent in a slot after the history.
+    fn append(&mut self, slot: u32, sent: &Emissions)
+        requires end { self.old.from_end < 8 }
+        requires room { 2 ≤ self.old.history.spare }
+        ensures entries { self.new.history.entries ≡ self.old.history.entries ++ sent_by slot sent.now self.old.from_end }
+        ensures rest { self.new ≡ record self.old { history = self.new.history } }
+    {
+        if let Some(t) = sent.token(self.from_end) {
+            self.history.add(Entry {
+                slot,
+                what: What::Token(t),
+            });
+        }
+        if sent.credit(self.from_end) {
+            self.history.add(Entry {
+                slot,
+                what: What::Credit,
+            });
+        }
+    }
+
+    /// Goes on to the next slot: what arrived in this one is behind it, and what the sender's link end sent stands
+    /// in the history, in room that was made for two entries.
+    pub(crate) fn go_on(&mut self, slot: u32, sent: &Emissions)
+        requires slot { slot < 2 ^ 32 - 1 }
+        requires track { IsTrack slot self.old }
+        requires delay { 1 ≤ self.old.delay }
+        requires end { self.old.from_end < 8 }
+        requires room { 2 ≤ self.old.history.spare }
+        ensures next { GoesOn slot (sent_by slot sent.now self.old.from_end) self.old self.new }
+    {
+        self.first += self.arrived.count();
+        self.append(slot, sent);
+        self.arrived = self.seen(slot + 1);
+    }
+}
+
+// Nothing crosses.
+pub(crate) fn nothing() -> Crossing
+    ensures { result ≡ nothing }
+{
+    Crossing {
+        token: None,
+        credit: false,
+    }
+}
