@@ -99,11 +99,14 @@ data_of_line l = if all_allowed l then data_of_tokens (tokens_of l) else None
 abbrev pub data_of : List (List ℕ) → Option (List ℕ)
 data_of ls = gathered data_of_line ls
 
+abbrev pub nothing_follows : List Token → Bool
+nothing_follows [] = true
+nothing_follows (t ∷ rest) = false
+
 -- whether the name stands alone
 abbrev pub is_lone_word : List ℕ → List Token → Bool
 is_lone_word name [] = false
-is_lone_word name (t ∷ []) = is_word name t
-is_lone_word name (t ∷ u ∷ rest) = false
+is_lone_word name (t ∷ rest) = is_word name t && nothing_follows rest
 
 -- whether the line is `.data`, after which the data comes
 abbrev pub begins_data : List ℕ → Bool

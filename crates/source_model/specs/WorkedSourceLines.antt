@@ -5,7 +5,6 @@ use Rattle.xs_instructions.specs.declared.instr.Instr.TheVariants.{Words, Flow, 
 use Rattle.xs_instructions.specs.declared.instr.WordIns.TheVariants.{Nop}
 use Rattle.xs_instructions.specs.declared.instr.FlowIns.TheVariants.{Bu}
 use Rattle.xs_instructions.specs.declared.instr.ResIns.TheVariants.{Getr, Setd, OutctImm, ChkctImm}
-use Rattle.xs_instructions.specs.Image.{ImageRec}
 use Rattle.source_model.specs.Source.{assembled}
 
 abbrev pub code_of_source : List ℕ → Option (List Instr)

@@ -47,3 +47,20 @@ pub record WorkedSystems : Type 0 where
   pub bit_before_link : pair (codes "bit 3 0 0\nlink 7:0 3:0 delay 5 gap 4\n") ≡ None
   pub bit_alone : pair (codes "bit 3 0 0\n") ≡ None
   pub bit_by_end_1 : pair (codes "link 7:0 3:0 delay 5 gap 4\nbit 3 0 1\n") ≡ None
+  pub bit_twice : pair (codes "link 7:0 3:0 delay 5 gap 4\nbit 3 0 0\nbit 0x3 0x0 0\n") ≡ None
+  pub bit_of_a_third_node : pair (codes "link 7:0 3:0 delay 5 gap 4\nbit 4 0 0\n") ≡ None
+  pub hex_bit : pair (codes "link 7:0 3:0 delay 5 gap 4\nbit 7 0x0 0x0\n") ≡ pair_of (joins 7 3 5 4) (record { node = 7; bit = 0 } ∷ [])
+  pub delay_0 : pair (codes "link 7:0 3:0 delay 0 gap 4\n") ≡ None
+  pub delay_1001 : pair (codes "link 7:0 3:0 delay 1001 gap 4\n") ≡ None
+  pub gap_3 : pair (codes "link 7:0 3:0 delay 5 gap 3\n") ≡ None
+  pub gap_1001 : pair (codes "link 7:0 3:0 delay 5 gap 1001\n") ≡ None
+  pub other_end : pair (codes "link 7:0 3:1 delay 5 gap 4\n") ≡ None
+  pub parted_end : pair (codes "link 7 :0 3:0 delay 5 gap 4\n") ≡ None
+  pub two_colons : pair (codes "link 7:0:0 3:0 delay 5 gap 4\n") ≡ None
+  pub link_to_itself : pair (codes "link 7:0 7:0 delay 5 gap 4\n") ≡ None
+  pub two_links : pair (codes "link 7:0 3:0 delay 5 gap 4\nlink 7:0 3:0 delay 5 gap 4\n") ≡ None
+  pub third_node : pair (codes "node 4 id 4\n") ≡ None
+  pub id_twice : frame (codes "xs1 1\nnode 7 id 1\nnode 3 id 1\nsource 7\nend\nsource 3\nend\n") ≡ None
+  pub number_twice : frame (codes "xs1 1\nnode 7 id 1\nnode 7 id 0\nsource 7\nend\nsource 7\nend\n") ≡ None
+  pub sources_in_another_order : frame (codes "xs1 1\nnode 7 id 1\nnode 3 id 0\nsource 3\nend\nsource 7\nend\n") ≡ None
+  pub source_missing : frame (codes "xs1 1\nnode 7 id 1\nnode 3 id 0\nsource 7\nend\n") ≡ None

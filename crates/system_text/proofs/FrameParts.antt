@@ -191,3 +191,16 @@ end_found part result next found e h k = sym (ap (option_map (option_map part)) 
 
 pub refusal_found : {X : Type 0} (part : X → PartRec) (result : Option (Option X)) (found : Option (Option PartRec)) → option_map (option_map part) result ≡ found → result ≡ None → None ≡ found
 refusal_found part result found e h = sym (ap (option_map (option_map part)) h) ∙ e
+
+whole_by : (order whole : Bool) (frame given : Framed) → is_frame frame ≡ whole → when (order && whole) frame ≡ Some given → is_frame given ≡ true
+whole_by true true frame given e h = let same : frame ≡ given = cc in rw (sym same) e
+whole_by true false frame given e h = cc
+whole_by false whole frame given e h = cc
+
+parts_whole : (o : Option Parts) (given : Framed) → option_and_then frame_of_parts o ≡ Some given → is_frame given ≡ true
+parts_whole None given h = cc
+parts_whole (Some parts) given h = whole_by _ (is_frame (frame_of parts)) (frame_of parts) given refl h
+
+-- a frame that a text has is whole
+pub frame_is_whole : (ls : List (List ℕ)) (given : Framed) → framed ls ≡ Some given → is_frame given ≡ true
+frame_is_whole ls given h = parts_whole (parts_of false ls) given (sym (framed_is ls) ∙ h)

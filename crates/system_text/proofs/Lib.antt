@@ -3,3 +3,5 @@ pub mod Sections
 pub mod PartByPart
 pub mod Checks
 pub mod FrameParts
+pub mod Outcomes
+pub mod Plans

@@ -1,3 +1,5 @@
 pub mod Ranges
+pub mod Reads
 pub mod Parts
 pub mod Frames
+pub mod Plans

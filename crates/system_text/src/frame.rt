@@ -1,8 +1,9 @@
-ghost use Rattle.std.specs.Prelude.{◌≡◌, ◌≤◌, ◌^◌, ◌<◌, length, OnOk};
+ghost use Rattle.std.specs.Prelude.{◌≡◌, ◌<◌, length, map, OnOk};
+ghost use Rattle.std.specs.List.{AllByRecursion};
 ghost use Rattle.xs_text.specs.Lines.{lines_of};
 ghost use Rattle.system_model.specs.System.{is_frame};
 ghost use Rattle.system_text.specs.Frames.{no_lines, added};
-ghost use Rattle.system_text.specs.Ranges.{IsRanged, IsShort};
+ghost use Rattle.system_text.specs.Ranges.{IsRanged, IsShort, IsLinkRanged};
 
 use crate::frame_checks::{are_bits, are_links, are_nodes, are_numbers};
 use crate::parts::Part;
@@ -80,5 +81,33 @@ impl<'a> Frame<'a> {
             && are_links(&self.nodes, &self.links)
             && are_bits(&self.nodes, &self.links, &self.bits)
             && are_numbers(&self.nodes, &self.sources)
+    }
+
+    pub fn nodes(&self) -> &[NodeLine]
+        ensures value { result.now ≡ self.now.nodes }
+        ensures numbers { AllByRecursion (λ node. node.number < 100) self.now.nodes }
+    {
+        &self.nodes
+    }
+
+    pub fn links(&self) -> &[LinkLine]
+        ensures value { result.now ≡ self.now.links }
+        ensures ranges { AllByRecursion IsLinkRanged self.now.links }
+    {
+        &self.links
+    }
+
+    pub fn bits(&self) -> &[BitLine]
+        ensures { result.now ≡ self.now.bits }
+    {
+        &self.bits
+    }
+
+    pub fn sources(&self) -> &[Source<'a>]
+        ensures texts { map (λ s. lines_of s.text.now) result.now ≡ self.now.sources }
+        ensures numbers { length self.now.sources ≡ length self.now.numbers }
+        ensures short { AllByRecursion (λ s. IsShort s.text.now) result.now }
+    {
+        &self.sources
     }
 }

@@ -8,10 +8,12 @@ use Rattle.xs_text.specs.Tokens.{Token}
 use Rattle.xs_instructions.specs.Code.{code_start, place_address}
 use Rattle.xs_instructions.specs.Instr.{InRange, IsShort}
 use Rattle.xs_instructions.specs.declared.instr.Instr.{Instr}
-use Rattle.xs_instructions.specs.Image.{Symbol, ImageRec, IsImage, AreLabels, AreInOrder, address_of, same_name, may_be_label, may_follow, has_symbol_at, is_place}
+use Rattle.xs_instructions.specs.Image.{Symbol, ImageRec, IsImage, AreLabels, AreInOrder, address_of, same_name, may_be_label, may_follow, has_symbol_at, is_place, data_start}
 use Rattle.source_model.specs.Statement.{Places, statement}
-use Rattle.source_model.specs.Source.{labels_of, labels_from, are_labels, line_of_bytes, size_of_line, symbol_of_label, place_of, places_of, code_of, code_of_line, code_of_tokens, joined, image_with, image_if_it_fits, assembled_lines}
+use Rattle.source_model.specs.Source.{labels_of, labels_from, are_labels, line_of_bytes, size_of_line, symbol_of_label, place_of, places_of, code_of, code_of_line, code_of_tokens, gathered, joined, data_of, round_up_to_word, image_with, image_of, limited, assembled_sections}
 use Rattle.xs_assembler.specs.Labels.{HavePlaces, size_of_lines, AreLabelsOf}
+use Rattle.xs_assembler.specs.Assembles.{AreRefused}
+use Rattle.xs_assembler.proofs.Limits.{limited_is}
 use Rattle.xs_assembler.proofs.Some.{step, any_step, either, weaker, of_value}
 use Rattle.xs_assembler.proofs.Ranges.{PlacesAre, IsGood, statement_in_range}
 use Rattle.xs_assembler.proofs.LabelPass.{size_of_lines-cons, size_of_lines-none, none_is, are_labels-cons}
@@ -138,18 +140,18 @@ joined_good P n m k (Some xs) None e g h = tt
 joined_good P n m k (Some xs) (Some ys) e g h = (all_append (IsGood P) xs ys g.0 h.0, omega (arith, length-append xs ys, g.1, h.1, e))
 
 pub code_of_good : (P : ℕ → Type 0) (places : Places) → PlacesAre (λ p. IsShort p × P p) places → (ls : List (List ℕ)) → IfSome (code_of places ls) (GoodCode P (size_of_lines ls))
-unfolding code_of
+unfolding gathered
 code_of_good P places good [] = (tt, sym size_of_lines-none)
 code_of_good P places good (l ∷ ls) =
     joined_good P _ _ _ (code_of_line places l) (code_of places ls) (sym (size_of_lines-cons l ls)) (code_of_line_good P places good l) (code_of_good P places good ls)
 
-place_holds : (n p at : ℕ) → at ≡ place_address p → p ≤ n → IsTrue (is_place n 0 0x00010000 at)
-place_holds n p at e h =
+place_holds : (n m cp p at : ℕ) → at ≡ place_address p → p ≤ n → IsTrue (is_place n m cp at)
+place_holds n m cp p at e h =
     cond-true (nat_le code_start at) _ _ (le-leb code_start at (omega arith))
     ∙ and_from _ _ (le-leb at (place_address n) (omega arith)) (eq-eqb (at % 4) 0 (omega arith))
 
-pub image_of : (ls : List (List ℕ)) (symbols : List Symbol) (code : List Instr) → AreLabelsOf ls symbols → code_of (places_of symbols) ls ≡ Some code → IsImage (image_with symbols code)
-image_of ls symbols code h e =
+pub is_image : (ls : List (List ℕ)) (symbols : List Symbol) (code : List Instr) (bytes : List ℕ) → AreLabelsOf ls symbols → code_of (places_of symbols) ls ≡ Some code → length bytes ≤ 65536 → IsImage (image_with symbols code bytes)
+is_image ls symbols code bytes h e short =
     let most = size_of_lines ls in
     let fits : most ≤ 16384 = h.size in
     let to : SymbolsTo most symbols = labels_to ls symbols h.value in
@@ -158,40 +160,52 @@ image_of ls symbols code h e =
     let long : length code ≡ most = good.1 in
     record {
       code_fits = omega arith;
-      bytes_fit = omega arith;
+      bytes_fit = short;
       operands = all_weaker (IsGood (HasSymbol symbols)) InRange (λ ins k. k.0) code good.0;
       targets = all_weaker (IsGood (HasSymbol symbols)) _ (λ ins k. k.1) code good.0;
       names = labels_hold symbols h.labels;
       order = subst AreInOrder (sym h.value) (in_order 0 ls);
-      places = all_weaker _ _ (λ s k. place_holds (length code) k.0 s.1 k.1 (omega (arith, k.2, long))) symbols to;
-      cp_aligned = refl;
+      places = all_weaker _ _ (λ s k. place_holds (length code) (length bytes) _ k.0 s.1 k.1 (omega (arith, k.2, long))) symbols to;
+      cp_aligned = omega arith;
       cp_in_data = omega arith;
       cp_near_end = omega arith;
     }
 
--- what the lines stand for, by what the passes found
-pub assembled_some : (ls : List (List ℕ)) (symbols : List Symbol) (code : List Instr) → AreLabelsOf ls symbols → code_of (places_of symbols) ls ≡ Some code → assembled_lines ls ≡ Some (image_with symbols code)
-unfolding assembled_lines
-assembled_some ls symbols code h e =
-    let fits : length code ≤ 16384 = (image_of ls symbols code h e).code_fits in
+-- what the sections stand for, by the labels that the first pass found
+by_labels : (ls words : List (List ℕ)) (symbols : List Symbol) → AreLabelsOf ls symbols → assembled_sections ls words ≡ image_of symbols (limited 16384 (code_of (places_of symbols) ls)) (limited 65536 (data_of words))
+unfolding assembled_sections
+by_labels ls words symbols h =
     let is : labels_of ls ≡ symbols = sym h.value in
-    ap (λ ss. if are_labels ss then image_if_it_fits ss (code_of (places_of ss) ls) else None) is
-    ∙ (cond-true _ _ _ h.labels ∙ (ap (image_if_it_fits symbols) e ∙ cond-true _ _ _ (le-leb (length code) 16384 fits)))
+    ap (λ ss. if are_labels ss then image_of ss (limited 16384 (code_of (places_of ss) ls)) (limited 65536 (data_of words)) else None) is
+    ∙ cond-true _ _ _ h.labels
 
-pub assembled_no_code : (ls : List (List ℕ)) (symbols : List Symbol) → AreLabelsOf ls symbols → code_of (places_of symbols) ls ≡ None → assembled_lines ls ≡ None
-unfolding assembled_lines
-assembled_no_code ls symbols h e =
-    let is : labels_of ls ≡ symbols = sym h.value in
-    ap (λ ss. if are_labels ss then image_if_it_fits ss (code_of (places_of ss) ls) else None) is
-    ∙ (cond-true _ _ _ h.labels ∙ ap (image_if_it_fits symbols) e)
+-- the same by what all passes found
+pub assembled_some : (ls words : List (List ℕ)) (symbols : List Symbol) (code : List Instr) (bytes : List ℕ) → AreLabelsOf ls symbols → code_of (places_of symbols) ls ≡ Some code → limited 65536 (data_of words) ≡ Some bytes → length bytes ≤ 65536 → assembled_sections ls words ≡ Some (image_with symbols code bytes)
+assembled_some ls words symbols code bytes h e d short =
+    let fits : length code ≤ 16384 = (is_image ls symbols code bytes h e short).code_fits in
+    by_labels ls words symbols h
+    ∙ (ap (λ o. image_of symbols o (limited 65536 (data_of words))) (limited_is 16384 _ code e fits) ∙ ap (λ o. image_of symbols (Some code) o) d)
 
-pub assembled_no_labels : (ls : List (List ℕ)) → are_labels (labels_of ls) ≡ false → assembled_lines ls ≡ None
-unfolding assembled_lines
-assembled_no_labels ls e = cond-false _ _ _ e
+pub assembled_no_code : (ls words : List (List ℕ)) (symbols : List Symbol) → AreLabelsOf ls symbols → code_of (places_of symbols) ls ≡ None → assembled_sections ls words ≡ None
+assembled_no_code ls words symbols h e =
+    by_labels ls words symbols h ∙ ap (λ o. image_of symbols (limited 16384 o) (limited 65536 (data_of words))) e
 
-too_much : (symbols : List Symbol) (size : ℕ) (o : Option (List Instr)) → IfSome o (λ code. length code ≡ size) → 16384 < size → image_if_it_fits symbols o ≡ None
-too_much symbols size None h k = refl
-too_much symbols size (Some code) h k = cond-false _ _ _ (lt-leb (length code) 16384 (omega (arith, h, k)))
+no_bytes : (symbols : List Symbol) (o : Option (List Instr)) → image_of symbols o None ≡ None
+no_bytes symbols None = refl
+no_bytes symbols (Some code) = refl
+
+pub assembled_no_data : (ls words : List (List ℕ)) (symbols : List Symbol) → AreLabelsOf ls symbols → limited 65536 (data_of words) ≡ None → assembled_sections ls words ≡ None
+assembled_no_data ls words symbols h d =
+    by_labels ls words symbols h
+    ∙ (ap (λ o. image_of symbols (limited 16384 (code_of (places_of symbols) ls)) o) d ∙ no_bytes symbols _)
+
+pub assembled_no_labels : (ls : List (List ℕ)) → are_labels (labels_of ls) ≡ false → AreRefused ls
+unfolding assembled_sections
+assembled_no_labels ls e words = cond-false _ _ _ e
+
+too_much : (symbols : List Symbol) (size : ℕ) (o : Option (List Instr)) (p : Option (List ℕ)) → IfSome o (λ code. length code ≡ size) → 16384 < size → image_of symbols (limited 16384 o) p ≡ None
+too_much symbols size None p h k = refl
+too_much symbols size (Some code) p h k = ap (λ x. image_of symbols x p) (cond-false _ _ _ (lt-leb (length code) 16384 (omega (arith, h, k))))
 
 tokens_size : (places : Places) (toks : List Token) → IfSome (code_of_tokens places toks) (λ code. length code ≡ size_of_line toks)
 tokens_size places [] = refl
@@ -204,7 +218,7 @@ joined_size n m k (Some xs) (Some ys) e g h = omega (arith, length-append xs ys,
 
 -- the size of the code, wherever labels lead
 sizes : (places : Places) (ls : List (List ℕ)) → IfSome (code_of places ls) (λ code. length code ≡ size_of_lines ls)
-unfolding code_of
+unfolding gathered
 sizes places [] = sym size_of_lines-none
 sizes places (l ∷ ls) =
     joined_size _ _ _ (code_of_line places l) (code_of places ls) (sym (size_of_lines-cons l ls))
@@ -215,12 +229,20 @@ both_none : {A : Type 0} (b : Bool) (o : Option A) → o ≡ None → (if b then
 both_none true o e = e
 both_none false o e = refl
 
-pub assembled_too_much : (ls : List (List ℕ)) → 16384 < size_of_lines ls → assembled_lines ls ≡ None
-unfolding assembled_lines
-assembled_too_much ls h = both_none (are_labels (labels_of ls)) _ (too_much (labels_of ls) (size_of_lines ls) _ (sizes (places_of (labels_of ls)) ls) h)
+pub assembled_too_much : (ls : List (List ℕ)) → 16384 < size_of_lines ls → AreRefused ls
+unfolding assembled_sections
+assembled_too_much ls h words = both_none (are_labels (labels_of ls)) _ (too_much (labels_of ls) (size_of_lines ls) _ (limited 65536 (data_of words)) (sizes (places_of (labels_of ls)) ls) h)
 
--- the image that is made of the parts
-pub assembled_is : (ls : List (List ℕ)) (symbols : List Symbol) (code : List Instr) (bytes : List ℕ) (image : ImageRec) → AreLabelsOf ls symbols → code_of (places_of symbols) ls ≡ Some code → bytes ≡ [] → image ≡ record { code = code; bytes = bytes; cp_at = 0x00010000; symbols = symbols } → assembled_lines ls ≡ Some image
-assembled_is ls symbols code bytes image h e none is =
-    let made : image ≡ image_with symbols code = is ∙ ap (λ (b : List ℕ). record { code = code; bytes = b; cp_at = 0x00010000; symbols = symbols }) none in
-    assembled_some ls symbols code h e ∙ ap (λ i. Some i) (sym made)
+-- the same sections
+pub same_sections : (ls ls' words words' : List (List ℕ)) (o : Option ImageRec) → ls ≡ ls' → words ≡ words' → assembled_sections ls words ≡ o → assembled_sections ls' words' ≡ o
+same_sections ls ls' words words' o e d h =
+    ap (λ x. assembled_sections x words') (sym e) ∙ (ap (λ x. assembled_sections ls x) (sym d) ∙ h)
+
+-- the image as the code makes it, from what it reads of the bytes
+pub made_of : (symbols : List Symbol) (code : List Instr) (bytes read : List ℕ) (cp : ℕ) → read ≡ bytes → cp ≡ data_start + round_up_to_word (length read) → record { code = code; bytes = bytes; cp_at = cp; symbols = symbols } ≡ image_with symbols code bytes
+made_of symbols code bytes read cp e is =
+    let at : ℕ → ImageRec = λ cp. record { code = code; bytes = bytes; cp_at = cp; symbols = symbols } in
+    ap at (is ∙ ap (λ (b : List ℕ). data_start + round_up_to_word (length b)) e)
+
+pub is_image_made : (image made : ImageRec) → made ≡ image → IsImage image → IsImage made
+is_image_made image made e h = subst IsImage (sym e) h

@@ -1,8 +1,10 @@
 pub mod LineParts
 pub mod LabelPass
-pub mod CodePass
+pub mod Gathered
+pub mod SectionPass
 pub mod Some
 pub mod Ranges
 pub mod Places
 pub mod ImageOf
 pub mod Refusal
+pub mod Limits

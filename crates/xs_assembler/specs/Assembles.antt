@@ -1,8 +1,8 @@
 -- What the assembler returns for a source.
-use Rattle.std.specs.Prelude.{◌≡◌, ◌++◌, false, List, Option, Some, None, Result, Ok, Err}
+use Rattle.std.specs.Prelude.{ℕ, ◌≡◌, ◌++◌, false, List, Option, Some, None, Result, Ok, Err}
 use Rattle.xs_instructions.specs.Image.{ImageRec, Symbol}
 use Rattle.source_model.specs.declared.AsmKind.TheVariants.{UnknownName}
-use Rattle.source_model.specs.Source.{are_labels}
+use Rattle.source_model.specs.Source.{are_labels, assembled_sections}
 use Rattle.xs_assembler.specs.declared.asm_error.AsmError.{AsmError}
 use Rattle.xs_assembler.specs.declared.asm_error.AsmError.TheVariants.{Fault, Memory}
 
@@ -29,3 +29,7 @@ Refuses (Err e) = RefusesWhere e (Unit {0})
 -- the symbols are no labels, whatever comes after them
 abbrev pub RefusedLabels : List Symbol → Type 0
 RefusedLabels symbols = (more : List Symbol) → are_labels (symbols ++ more) ≡ false
+
+-- the lines of code are refused, whatever the data is
+abbrev pub AreRefused : List (List ℕ) → Type 0
+AreRefused ls = (words : List (List ℕ)) → assembled_sections ls words ≡ None

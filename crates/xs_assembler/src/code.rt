@@ -12,7 +12,7 @@ use std::alloc::Global;
 use xs_instructions::{Instr, Symbols};
 use xs_text::{Lines, all_allowed};
 
-// The code of the source, where labels lead as the symbols say.
+// The code of the code lines, where labels lead as the symbols say.
 pub fn read_code(alloc: Global, text: &[u8], symbols: &Symbols) -> Result<Vec<Instr>, AsmError>
     requires small { length text.now < 2 ^ 32 }
     requires places { HavePlaces symbols.now }

@@ -3,9 +3,9 @@ ghost use Rattle.xs_text.specs.Lines.{lines_of};
 ghost use Rattle.xs_text.specs.Tokens.{tokens_of};
 ghost use Rattle.xs_text.specs.Numbers.{at_most};
 ghost use Rattle.xs_instructions.specs.Image.{may_be_label};
-ghost use Rattle.source_model.specs.Source.{assembled, are_labels, size_of_line, symbol_of_label};
+ghost use Rattle.source_model.specs.Source.{are_labels, size_of_line, symbol_of_label};
 ghost use Rattle.xs_assembler.specs.Labels.{AreLabelsOf};
-ghost use Rattle.xs_assembler.specs.Assembles.{RefusesWhere, RefusedLabels};
+ghost use Rattle.xs_assembler.specs.Assembles.{RefusesWhere, AreRefused, RefusedLabels};
 
 use crate::asm_error::{AsmError, refusal};
 use crate::line_parts::line_parts;
@@ -14,12 +14,12 @@ use std::alloc::Global;
 use xs_instructions::{Symbols, is_reserved};
 use xs_text::{Lines, is_name};
 
-// The labels of the source, in the order of the lines. Each is the place of the instruction that comes next, so
+// The labels of the code lines, in the order of the lines. Each is the place of the instruction that comes next, so
 // this pass counts the instructions and refuses too many.
 pub fn read_labels(alloc: Global, text: &[u8]) -> Result<Symbols, AsmError>
     requires { length text.now < 2 ^ 32 }
     ensures ok { IfOk result (AreLabelsOf (lines_of text.now)) }
-    ensures fault { IfErr result (λ e. RefusesWhere e (assembled text.now ≡ None)) }
+    ensures fault { IfErr result (λ e. RefusesWhere e (AreRefused (lines_of text.now))) }
 {
     let mut lines = Lines::new(text);
     let mut symbols = Symbols::new(alloc);

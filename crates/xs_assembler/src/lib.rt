@@ -4,9 +4,11 @@
 mod asm_error;
 mod assembler;
 mod code;
+mod data;
 mod labels;
 mod line_parts;
 mod operands;
+mod sections;
 mod statement;
 #[cfg(test)]
 mod tests;

@@ -4,7 +4,7 @@ use crate::{AsmError, assemble};
 use std::alloc::Global;
 use std::process::Abort;
 use std::test::Fail;
-use xs_instructions::{FlowIns, Instr, MemIns, ThreadIns, WordIns};
+use xs_instructions::{FlowIns, Instr, MemIns, ResIns, ThreadIns, WordIns};
 
 #[test]
 fn sum(rt: HostRuntime) -> Result<(), Fail> {
@@ -36,6 +36,28 @@ fn countdown(rt: HostRuntime) -> Result<(), Fail> {
     Ok(())
 }
 
+#[test]
+fn channel_and_data(rt: HostRuntime) -> Result<(), Fail> {
+    let text =
+        b"getr r4, 2\nsetd res[r4], r0\noutct res[r4], 0b11\nchkct res [ r4 ] , 0x0b\nend:\n.data # two words\n.word 0x12345678\n\n.word 4294967295";
+    let image = assemble(rt.alloc(), text)?;
+    let code = image.code();
+    assert_eq!(rt; code.len(), 4);
+    assert!(rt; matches!(code[0], Instr::Resources(ResIns::Getr(4, 2))));
+    assert!(rt; matches!(code[1], Instr::Resources(ResIns::Setd(4, 0))));
+    assert!(rt; matches!(code[2], Instr::Resources(ResIns::OutctImm(4, 3))));
+    assert!(rt; matches!(code[3], Instr::Resources(ResIns::ChkctImm(4, 11))));
+    assert_eq!(rt;
+        image.bytes(),
+        [0x78, 0x56, 0x34, 0x12, 0xff, 0xff, 0xff, 0xff].as_slice()
+    );
+    assert_eq!(rt; image.cp_at(), 0x0001_0008);
+    let (name, at) = image.symbol(0).ok_or("a label")?;
+    assert_eq!(rt; name, "end");
+    assert_eq!(rt; at, 0x0004_0010);
+    Ok(())
+}
+
 // Asserts that the source is refused.
 fn expect_refused(rt: &impl Abort, alloc: Global, text: &[u8])
     requires { length text.now < 2 ^ 32 }
@@ -57,7 +79,10 @@ fn refused(rt: HostRuntime) {
         b"bt r0, gone",
         b"bu 1",
         b"freet r0",
-        b"getr r0, 2",
+        b"getr r0, 12",
+        b"outct res[r0], r1",
+        b".data\n.word 4294967296",
+        b".data\n.data",
         b"a: nop\na: nop",
         b"r0: nop",
         b"a: b: nop",

@@ -1,8 +1,8 @@
 ghost use Rattle.std.specs.Prelude.{◌≡◌, ◌∷◌, [], MatchOption, option_map};
 ghost use Rattle.xs_text.specs.Tokens.{tokens_of};
-ghost use Rattle.xs_instructions.specs.Image.{same_name};
 ghost use Rattle.source_model.specs.Statement.{name_first, mark_first, ended};
 
+use xs_instructions::same_name;
 use xs_text::{Line, TokKind, next_tok};
 
 // Each reader takes what is left of a line, and gives what it read and what is left then.
@@ -18,13 +18,6 @@ pub fn first_token(line: &[u8]) -> Option<(TokKind, &[u8], &[u8])>
     };
     let tok = next_tok(line, whole, 0)?;
     Some((tok.kind, &line[tok.from..tok.to], &line[tok.to..]))
-}
-
-// Whether two names are the same, byte for byte.
-pub fn same_name(known: &[u8], name: &[u8]) -> bool
-    ensures { result ≡ same_name known.now name.now }
-{
-    name == known
 }
 
 // A name.

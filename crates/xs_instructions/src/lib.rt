@@ -9,7 +9,7 @@ mod symbols;
 pub use code::{MOST_CODE, instr_at};
 pub use image::Image;
 pub use instr::{FlowIns, Instr, MemIns, ResIns, ThreadIns, WordIns};
-pub use symbols::{Symbols, is_reserved};
+pub use symbols::{Symbols, is_reserved, same_name};
 
 #[cfg(test)]
 mod tests;

@@ -1,6 +1,6 @@
 ghost use Rattle.std.specs.Prelude.{◌≡◌, [], ◌∷◌, ◌++◌, None, IsTrue, OnOk, OnErr, option_map};
 ghost use Rattle.xs_text.specs.Tokens.{is_name};
-ghost use Rattle.xs_instructions.specs.Image.{address_of, is_reserved, symbol_at, symbol_of_pair};
+ghost use Rattle.xs_instructions.specs.Image.{address_of, is_reserved, same_name, symbol_at, symbol_of_pair};
 
 use indexmap::IndexMap;
 use std::alloc::{AllocError, Global};
@@ -64,6 +64,13 @@ impl Symbols {
         let (name, at) = self.addresses.get_index(k)?;
         Some((name.as_str(), *at))
     }
+}
+
+/// Whether two names are the same, byte for byte. Case counts. See docs/ASSEMBLY.md.
+pub fn same_name(known: &[u8], name: &[u8]) -> bool
+    ensures value { result ≡ same_name known.now name.now }
+{
+    name == known
 }
 
 /// Whether the assembly language keeps a name for itself, so that no label has it: the registers, `t` and `res`. See

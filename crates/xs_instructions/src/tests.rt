@@ -63,4 +63,6 @@ fn begins_at_the_code_without_main(rt: HostRuntime) -> Result<(), Fail> {
 fn keeps_names_for_itself(rt: HostRuntime) {
     assert!(rt; is_reserved(b"sp"));
     assert!(rt; !is_reserved(b"main"));
+    assert!(rt; same_name(b"sp", b"sp"));
+    assert!(rt; !same_name(b"sp", b"SP"));
 }

@@ -17,7 +17,7 @@ pub loop-next-preserved : goal.loop-next-preserved
 loop-next-preserved c = (
   c.in-Some.ensures.same_text ∙ c.loop-next.invariant.0,
   rw (c.in_ok-add.ensures.added, c.rank-least.ensures)
-  (sym (line_read _ _ _ _ (part_there _ _ _ _ c.in-Some.ensures.part c.in-Some-next.is) (omega (arith, c.rank.ensures, c.if-rank-least.false))) ∙ c.loop-next.invariant.1),
+      (sym (line_read _ _ _ _ (part_there _ _ _ _ c.in-Some.ensures.part c.in-Some-next.is) (omega (arith, c.rank.ensures, c.if-rank-least.false))) ∙ c.loop-next.invariant.1),
 )
 
 pub returns : goal.returns

@@ -4,7 +4,7 @@ use Rattle.xs_text.specs.Tokens.{tokens_of}
 use Rattle.xs_text.specs.Lines.{lines_of, bytes_left}
 use Rattle.xs_text.specs.declared.line_reader.Line.{Line}
 use Rattle.std.specs.List.{slice_range}
-use Rattle.source_model.specs.Source.{assembled}
+use Rattle.xs_assembler.specs.Assembles.{AreRefused}
 use Rattle.xs_assembler.proofs.LabelPass.{labels_first, labels_next, labels_refused, size_refused, labels_done, IsNextLine, line_in_text}
 use Rattle.xs_assembler.proofs.ImageOf.{assembled_no_labels, assembled_too_much}
 use Rattle.xs_assembler.proofs.Refusal.{fails_so, refusal_is, given_err, lines_of-nothing}
@@ -38,7 +38,7 @@ returns-in_err-place-clause-fault c =
     let none : c.next_place.result ≡ None = c.in_err-place.ensures.ok_part in
     let is : c.in_err-place.field-0.0 ≡ c.refusal.result = given_err c.next_place.result _ _ c.in_err-place.ensures.value none in
     let much = size_refused _ _ _ _ _ _ _ _ c.loop-line.invariant.1 next (sym none ∙ c.next_place.ensures) in
-    fails_so c.from_residual-in_err-place.result c.in_err-place.field-0.0 (assembled c.args.text.now ≡ None) _ c.from_residual-in_err-place.ensures.1
+    fails_so c.from_residual-in_err-place.result c.in_err-place.field-0.0 (AreRefused (lines_of c.args.text.now)) _ c.from_residual-in_err-place.ensures.1
     (refusal_is _ _ (is ∙ c.refusal.ensures) (assembled_too_much _ much)) (λ h. h)
 
 pub returns-clause-ok : goal.returns-clause-ok
