@@ -33,9 +33,10 @@ fresh_window gap = record { buffer = refl; open_tokens = refl; last_sent = refl;
 pub windows_of_start : (gaps : List ℕ) → WindowsOf (map window_with_gap gaps) (map link_with_gap gaps)
 windows_of_start [] = tt
 windows_of_start (zero ∷ gaps) = (tt, windows_of_start gaps)
-windows_of_start (suc gap ∷ gaps) =
-    (subst (λ w. IsWindowOf w (link_with_gap (suc gap))) (sym (some_window gap)) (subst (λ l. IsWindowOf (Some (empty_window (suc gap))) l) (sym (some_link gap)) (fresh_window (suc gap))),
-    windows_of_start gaps)
+windows_of_start (suc gap ∷ gaps) = (
+  subst (λ w. IsWindowOf w (link_with_gap (suc gap))) (sym (some_window gap)) (subst (λ l. IsWindowOf (Some (empty_window (suc gap))) l) (sym (some_link gap)) (fresh_window (suc gap))),
+  windows_of_start gaps,
+)
 
 links_before_start : (gaps : List ℕ) → AllByRecursion (λ l. IfSome l (IsLinkBefore 0)) (map link_with_gap gaps)
 links_before_start [] = tt

@@ -1,5 +1,5 @@
 -- The one channel end that a program may get so far.
-use Rattle.std.proofs.Common.{ℕ, ◌≡◌, Bool, true, false, cond, Option, Some, None, List, [], ◌∷◌, take, get_or, refl, ap, sym, ◌∙◌}
+use Rattle.std.proofs.Common.{◌≡◌, true, false, cond, Some, None, List, [], ◌∷◌, take, get_or, refl, ap, sym, ◌∙◌}
 use Rattle.xs_model.specs.Record.{ChanRec, unused_chan}
 use Rattle.net_model.specs.Chans.{free_chan}
 

@@ -1,6 +1,6 @@
 -- From arrivals, the switch and an issue to a node step, and the slots that a core keeps.
-use Rattle.std.proofs.Common.{◌≡◌, ℕ, zero, suc, ◌+◌, ◌<◌, ◌≤◌, Bool, true, false, cond, List, [], ◌∷◌, ◌++◌, Option, Some, None, refl, ap, sym, ◌∙◌, arith, subst}
-use Rattle.std.specs.Prelude.{slice_set, map, IfSome, ◌==◌, ◌&&◌, take}
+use Rattle.std.proofs.Common.{◌≡◌, ℕ, zero, suc, ◌+◌, ◌<◌, ◌≤◌, Bool, true, false, cond, List, [], ◌∷◌, Option, Some, None, refl, ap, sym, ◌∙◌, arith, subst}
+use Rattle.std.specs.Prelude.{slice_set, IfSome, ◌==◌, ◌&&◌}
 use Rattle.std.specs.List.{AllByRecursion}
 use Rattle.std.proofs.lemmas.List.{map-append}
 use Rattle.xs_base.specs.declared.token.Token.{Token}
@@ -23,13 +23,13 @@ use Rattle.xs_instructions.specs.declared.instr.ResIns.{ResIns}
 use Rattle.xs_instructions.specs.declared.instr.ResIns.TheVariants.{Getr, Setd, OutctImm, ChkctImm}
 use Rattle.net_model.specs.Links.{latest, links_after_arrivals}
 use Rattle.net_model.specs.Chans.{Found, Got, Waits, Refused, is_chan_id}
-use Rattle.net_model.specs.Switch.{Routes, Moving, moves}
+use Rattle.net_model.specs.Switch.{Routes, moves}
 use Rattle.link_ends.specs.Window.{Window, WindowOf, NeverFall}
 use Rattle.chan_ends.specs.Ends.{Ends}
 use Rattle.switch_routes.specs.Rows.{WindowsOf, CreditedBy, SentBy, gaps_of}
 use Rattle.switch_routes.specs.Switch.{SwitchRec, StandsIn, switched}
 use Rattle.step_model.specs.Fixed.{Fixed}
-use Rattle.step_model.specs.Effect.{effect, memory_row, loaded, stored, resources_row, resource_got, chan_was_got, chan_kind, chan_to_get, goes_on_with, dest_set, found_there, token_put, token_checked, is_waited_at}
+use Rattle.step_model.specs.Effect.{effect, memory_row, loaded, stored, resources_row, chan_was_got, chan_kind, chan_to_get, goes_on_with, dest_set, found_there, token_put, token_checked, is_waited_at}
 use Rattle.step_model.specs.Step.{Issued, node_step, arrived, issued, issued_by, begun, executed, settled, trap, halt_unless}
 use Rattle.core_step.specs.Core.{CoreValue, StandsFor, StandsAt, AreBefore, SentBefore, IsLinkBefore, brought, brought_out, and_happened}
 

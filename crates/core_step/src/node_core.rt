@@ -135,7 +135,11 @@ impl Core {
         ensures count { length out.new.events ≤ 40 }
     {
         self.links.arrivals(arrivals);
-        self.switch.moves(&mut self.chans, &mut self.links, slot, out);
+        if self.switch.is_at_rest(&self.chans, &self.links) {
+            return;
+        }
+        self.switch
+            .moves(&mut self.chans, &mut self.links, slot, out);
     }
 
     // At most one issue, by the thread that is picked.

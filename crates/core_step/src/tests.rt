@@ -1,6 +1,7 @@
 use super::*;
 use std::test::Fail;
-use xs_instructions::{Image, Instr, Symbols, ThreadIns, WordIns};
+use switch_routes::Token;
+use xs_instructions::{Image, Instr, MemIns, ResIns, Symbols, ThreadIns, WordIns};
 
 // No link end is there.
 const NO_GAPS: [u32; 8] = [0; 8];
@@ -53,5 +54,50 @@ fn halts_where_no_code_stands(rt: HostRuntime) -> Result<(), Fail> {
     assert_eq!(rt; out.events().len(), 2);
     core.slot(1, &arrivals, &PinView { level: [0; 29] }, &mut out);
     assert_eq!(rt; out.events().len(), 0);
+    Ok(())
+}
+
+// Link end 0 alone is there, with a gap of 4 slots.
+const ONE_GAP: [u32; 8] = [4, 0, 0, 0, 0, 0, 0, 0];
+
+// What leaves by link end 0, by slots: the header to channel end 1 of node 5, and END.
+const SENT: [(u32, Token); 4] = [
+    (13, Token::Byte(0)),
+    (17, Token::Byte(5)),
+    (21, Token::Byte(1)),
+    (25, Token::Ctrl(1)),
+];
+
+#[test]
+fn sends_a_packet(rt: HostRuntime) -> Result<(), Fail> {
+    let mut code = Vec::new(rt.alloc());
+    code.push(Instr::Resources(ResIns::Getr(0, 2)))?;
+    code.push(Instr::Memory(MemIns::LdwDp(1, 0)))?;
+    code.push(Instr::Resources(ResIns::Setd(0, 1)))?;
+    code.push(Instr::Resources(ResIns::OutctImm(0, 1)))?;
+    code.push(Instr::Threads(ThreadIns::Freet))?;
+    let bytes = Vec::from_slice(rt.alloc(), &[0x02, 0x01, 0x05, 0x00])?;
+    let plan = NodePlan {
+        number: 0,
+        id: 3,
+        image: Image::of(code, bytes, 0x0001_0004, Symbols::new(rt.alloc())),
+        ways: [1; 16],
+    };
+    let mut core = Core::boot(rt.alloc(), &plan, &ONE_GAP)?;
+    let arrivals = Arrivals {
+        tokens: [None; 8],
+        credits: [false; 8],
+    };
+    let mut out = Emissions::new();
+    let mut sent = 0;
+    for slot in 0..30u32 {
+        core.slot(slot, &arrivals, &PinView { level: [0; 29] }, &mut out);
+        if let Some(token) = out.token(0) {
+            assert!(rt; sent < SENT.len());
+            assert_eq!(rt; (slot, token), SENT[sent]);
+            sent += 1;
+        }
+    }
+    assert_eq!(rt; sent, SENT.len());
     Ok(())
 }

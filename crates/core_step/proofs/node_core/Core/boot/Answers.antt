@@ -14,6 +14,7 @@ pub returns-clause-start : goal.returns-clause-start
 returns-clause-start c = stands_at_start _ c.args.plan.now c.args.gaps.now (grind (arith, common_steps)) c.links_with.ensures
 
 pub returns-clause-before : goal.returns-clause-before
-returns-clause-before c =
-    (subst (AreBefore 0) (sym c.new-2.ensures.never) (tt, (tt, (tt, (tt, (tt, (tt, (tt, (tt, tt)))))))),
-    subst (SentBefore 0) (sym c.links_with.ensures) (sent_before_start c.args.gaps.now))
+returns-clause-before c = (
+  subst (AreBefore 0) (sym c.new-2.ensures.never) (tt, (tt, (tt, (tt, (tt, (tt, (tt, (tt, tt)))))))),
+  subst (SentBefore 0) (sym c.links_with.ensures) (sent_before_start c.args.gaps.now),
+)

@@ -1,4 +1,4 @@
-use Rattle.std.proofs.Common.{◌≡◌, ℕ, ◌+◌, List, Option, Some, None, ap, sym, ◌∙◌, subst}
+use Rattle.std.proofs.Common.{◌≡◌, ℕ, ◌+◌, List, Option, Some, ap, sym, ◌∙◌, subst}
 use Rattle.xs_model.specs.Record.{CoreRec}
 use Rattle.xs_model.specs.Picks.{may_issue, pick, picked}
 use Rattle.step_model.specs.Step.{issued_by}

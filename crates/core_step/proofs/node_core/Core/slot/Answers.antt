@@ -1,4 +1,3 @@
-use Rattle.std.proofs.Common.{sym, ap, ◌∙◌}
 use Rattle.core_step.proofs.Steps.{stepped, gave}
 use Rattle.core_step.proofs.node_core.Core.slot.Goals as goal
 
