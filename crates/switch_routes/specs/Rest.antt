@@ -1,5 +1,5 @@
 -- A switch at rest: every input is idle, and no token waits at any of them.
-use Rattle.std.specs.Prelude.{Bool, true, false, ◌&&◌, Option, List, [], ◌∷◌}
+use Rattle.std.specs.Prelude.{ℕ, Bool, true, false, ◌&&◌, Option, List, [], ◌∷◌}
 use Rattle.std.specs.List.{list_all}
 use Rattle.xs_base.specs.declared.token.Token.{Token}
 use Rattle.xs_model.specs.Record.{ChanRec}
