@@ -2,8 +2,6 @@
 #![tactic(auto)]
 
 mod system_plan;
-#[cfg(test)]
-mod tests;
 mod worked;
 
 pub use system_plan::Plan;
