@@ -5,6 +5,7 @@ use std::alloc::Global;
 
 // What a line of the timeline has where a token leaves node 0, and where a credit leaves node 1.
 const TOKEN: &str = "--token-->";
+
 const CREDIT: &str = "<--credit--";
 
 // What a line has where the token is delivered; the trace has it too.
@@ -16,7 +17,10 @@ pub fn text_after(alloc: Global, timeline: &str, slots: u32) -> Result<String> {
     let credits = marks_before(timeline, CREDIT, slots);
     let mut text = String::new(alloc);
     for line in timeline.lines() {
-        if let Some(slot) = slot_of(line) && slot < slots && line.contains(DELIVERED) {
+        if let Some(slot) = slot_of(line)
+            && slot < slots
+            && line.contains(DELIVERED)
+        {
             text.push_str(&format!(in alloc; "{slot} n1 {DELIVERED}\n")?)?;
         }
     }
@@ -31,7 +35,10 @@ pub fn text_after(alloc: Global, timeline: &str, slots: u32) -> Result<String> {
 fn marks_before(timeline: &str, mark: &str, slots: u32) -> u32 {
     let mut count = 0u32;
     for line in timeline.lines() {
-        if let Some(slot) = slot_of(line) && slot < slots && line.contains(mark) {
+        if let Some(slot) = slot_of(line)
+            && slot < slots
+            && line.contains(mark)
+        {
             count = count.saturating_add(1);
         }
     }
