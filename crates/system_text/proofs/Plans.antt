@@ -35,11 +35,11 @@ few_in_order f [] h = refl
 few_in_order f (x ∷ []) h = refl
 few_in_order f (x ∷ y ∷ xs) h = absurd (omega (arith, h))
 
-node_plans-cons : (bits : List BitLine) (text : NodeText) (texts : List NodeText) → node_plans bits (text ∷ texts) ≡ with_node_plan bits text (assembled_lines text.source) (node_plans bits texts)
+pub node_plans-cons : (bits : List BitLine) (text : NodeText) (texts : List NodeText) → node_plans bits (text ∷ texts) ≡ with_node_plan bits text (assembled_lines text.source) (node_plans bits texts)
 unfolding node_plans
 node_plans-cons bits text texts = refl
 
-node_plans-none : (bits : List BitLine) → node_plans bits [] ≡ Ok []
+pub node_plans-none : (bits : List BitLine) → node_plans bits [] ≡ Ok []
 unfolding node_plans
 node_plans-none bits = refl
 
@@ -64,7 +64,7 @@ plans_next bits f xs i d front all plan h k e =
 pub all_next : {X : Type 0} (P : X → Type 0) (xs : List X) (i : ℕ) (d : X) → i < length xs → AllByRecursion P (drop i xs) → AllByRecursion P (drop (i + 1) xs)
 all_next P xs i d h a = (subst (λ (ys : List _). AllByRecursion P ys) (unrolled xs i d h) a).1
 
-no_more : {X : Type 0} (ys : List X) → length ys ≡ 0 → ys ≡ []
+pub no_more : {X : Type 0} (ys : List X) → length ys ≡ 0 → ys ≡ []
 no_more [] e = refl
 no_more (y ∷ ys) e = absurd (omega (arith, e))
 
