@@ -1,13 +1,13 @@
 -- The plan of a whole frame keeps what every plan keeps.
-use Rattle.std.proofs.Common.{◌≡◌, ℕ, zero, suc, ◌+◌, ◌<◌, ◌≤◌, Bool, true, false, not, ◌&&◌, ◌||◌, List, [], ◌∷◌, length, map, get_or, Option, Some, None, Result, Ok, Err, refl, ap, sym, ◌∙◌, subst, arith}
-use Rattle.std.specs.Prelude.{◌≢◌, ◌⊎◌, ◌==◌, nat_lt, nat_le, if◌then◌else◌, IsSome, filter}
-use Rattle.std.specs.List.{AllByRecursion, list_any, list_all}
+use Rattle.std.proofs.Common.{◌≡◌, ℕ, zero, suc, ◌+◌, ◌<◌, ◌≤◌, Bool, true, false, not, ◌&&◌, ◌||◌, List, [], ◌∷◌, length, map, get_or, Option, Some, None, Ok, refl, ap, sym, ◌∙◌, subst, arith}
+use Rattle.std.specs.Prelude.{◌≢◌, ◌⊎◌, ◌==◌, nat_lt, nat_le, if◌then◌else◌, IsSome}
+use Rattle.std.specs.List.{AllByRecursion, list_any}
 use Rattle.std.specs.Int.{bit_at}
 use Rattle.std.proofs.lemmas.Nat.Bits.{bit_at-zero, bit_at-suc}
 use Rattle.std.proofs.lemmas.Bool.Decides.{nat_tests}
 use Rattle.xs_instructions.specs.Image.{ImageRec}
 use Rattle.source_model.specs.Source.{assembled_lines}
-use Rattle.sys_plan.specs.Plan.{PlanRec, IsPlan, IsLink, WaysLead, AreDistinct, places_of, outgoing}
+use Rattle.sys_plan.specs.Plan.{PlanRec, IsPlan, WaysLead, outgoing}
 use Rattle.sys_plan.specs.declared.LinkPlan.{LinkPlan}
 use Rattle.sys_plan.specs.declared.NodePlan.{NodePlan}
 use Rattle.system_model.specs.declared.frame_line.BitLine.{BitLine}
@@ -216,13 +216,13 @@ two_is_plan m n x y links bits plans true less p q ne apart e f ranges h =
     let t : NodeText = record { number = n.number; id = n.id; source = y } in
     let is : ArePair s t = record { order = grind (arith, nat_tests); most = q; apart = apart } in
     two_plans bits s t plans (λ ps. IsPlan (record { nodes = ps; links = map (link_plan (m ∷ n ∷ [])) links })) (rw less at h)
-      (λ i j. pair_is_plan (m ∷ n ∷ []) s t links bits i j is (λ link. joins m n link ne) e f ranges)
+    (λ i j. pair_is_plan (m ∷ n ∷ []) s t links bits i j is (λ link. joins m n link ne) e f ranges)
 two_is_plan m n x y links bits plans false less p q ne apart e f ranges h =
     let s : NodeText = record { number = n.number; id = n.id; source = y } in
     let t : NodeText = record { number = m.number; id = m.id; source = x } in
     let is : ArePair s t = record { order = grind (arith, nat_tests); most = p; apart = λ same. apart (sym same) } in
     two_plans bits s t plans (λ ps. IsPlan (record { nodes = ps; links = map (link_plan (m ∷ n ∷ [])) links })) (rw less at h)
-      (λ i j. pair_is_plan (m ∷ n ∷ []) s t links bits i j is (λ link. joins m n link ne) e f ranges)
+    (λ i j. pair_is_plan (m ∷ n ∷ []) s t links bits i j is (λ link. joins m n link ne) e f ranges)
 
 few_nodes : (m n o : NodeLine) (nodes : List NodeLine) (rest : Bool) → ((nat_le 1 (length (m ∷ n ∷ o ∷ nodes)) && nat_le (length (m ∷ n ∷ o ∷ nodes)) 2) && rest) ≡ true → ⊥
 few_nodes m n o nodes rest e = grind (arith, nat_tests)

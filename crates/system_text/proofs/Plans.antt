@@ -1,10 +1,9 @@
 -- The plans of nodes.
-use Rattle.std.proofs.Common.{◌≡◌, ℕ, ◌+◌, ◌<◌, ◌≤◌, true, List, [], ◌∷◌, ◌++◌, length, map, drop, get_or, drop-cons, Option, Some, None, Result, Ok, Err, refl, ap, sym, ◌∙◌, append-nil, append_assoc, arith}
+use Rattle.std.proofs.Common.{◌≡◌, ℕ, ◌+◌, ◌<◌, ◌≤◌, List, [], ◌∷◌, ◌++◌, length, map, drop, get_or, drop-cons, Option, Some, None, Result, Ok, Err, refl, ap, sym, ◌∙◌, append-nil, append_assoc, arith}
 use Rattle.std.specs.Prelude.{option_map}
 use Rattle.std.specs.List.{AllByRecursion}
 use Rattle.std.proofs.Common.{length-drop, subst}
 use Prim.Native.Nat.{suc}
-use Rattle.source_model.specs.declared.AsmKind.TheVariants.{UnknownName}
 use Rattle.sys_plan.specs.declared.NodePlan.{NodePlan}
 use Rattle.xs_instructions.specs.Image.{ImageRec}
 use Rattle.system_text.specs.declared.system_error.SystemError.{SystemError}
@@ -13,7 +12,7 @@ use Rattle.system_text.specs.Plans.{GivesNode, GivesNodes}
 use Rattle.source_model.specs.Source.{assembled_lines}
 use Rattle.system_model.specs.declared.frame_line.BitLine.{BitLine}
 use Rattle.system_model.specs.declared.frame_line.NodeLine.{NodeLine}
-use Rattle.system_model.specs.System.{NodeText, node_texts, node_plans, with_node_plan, node_plan, Framed, framed, frame_of, frame_of_parts, is_frame, when, parts_of, by_number}
+use Rattle.system_model.specs.System.{NodeText, node_texts, node_plans, with_node_plan, node_plan, by_number}
 
 -- plans in front of others
 abbrev pub in_front : List NodePlan → Result (List NodePlan) ℕ → Result (List NodePlan) ℕ
