@@ -1,16 +1,16 @@
 -- A frame, read part by part.
-use Rattle.std.proofs.Common.{◌≡◌, ℕ, ◌+◌, ◌<◌, ◌≤◌, Bool, true, false, not, ◌&&◌, nat_eq, List, [], ◌∷◌, ◌++◌, length, Option, Some, None, refl, ap, sym, ◌∙◌, cond, option_map, IfSome, append_assoc, append-nil, arith}
-use Rattle.std.specs.Prelude.{option_and_then, nat_le, nat_lt}
+use Rattle.std.proofs.Common.{◌≡◌, ℕ, ◌+◌, ◌<◌, ◌≤◌, Bool, true, false, ◌&&◌, nat_eq, List, [], ◌∷◌, length, Option, Some, None, refl, ap, sym, ◌∙◌, cond, option_map, IfSome, append_assoc, append-nil, arith}
+use Rattle.std.specs.Prelude.{option_and_then, nat_le}
 use Rattle.xs_text.specs.Bytes.{all_allowed}
 use Rattle.xs_text.specs.Words.{words_of_line}
 use Rattle.system_model.specs.declared.frame_line.FrameLine.{FrameLine}
 use Rattle.system_model.specs.declared.frame_line.FrameLine.TheVariants as line
-use Rattle.system_model.specs.System.{Parts, parts_of, with_frame_line, Framed, framed, frame_of, frame_of_parts, are_ranked, rank, is_frame, is_end, frame_line, when}
+use Rattle.system_model.specs.System.{Parts, parts_of, with_frame_line, Framed, framed, frame_of, frame_of_parts, rank, is_frame, is_end, frame_line, when}
 use Rattle.system_text.specs.Frames.{no_lines, added, joined, with_rest, read_on}
 use Rattle.system_text.specs.Parts.{NextLine, next_words, words_or, Section, section_of, with_line, section_after, PartRec, part_of_section, part_at, next_part}
 use Rattle.system_text.proofs.FrameLines.{next_words-cons}
 use Rattle.system_text.proofs.Sections.{section_of-cons}
-use Rattle.system_text.proofs.PartByPart.{parts_are, after_part, put_part, into, no_parts}
+use Rattle.system_text.proofs.PartByPart.{parts_are, after_part, into, no_parts}
 
 framed_is : (ls : List (List ℕ)) → framed ls ≡ option_and_then frame_of_parts (parts_of false ls)
 unfolding framed

@@ -5,3 +5,4 @@ pub mod Checks
 pub mod FrameParts
 pub mod Outcomes
 pub mod Plans
+pub mod Planned

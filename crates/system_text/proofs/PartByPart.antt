@@ -1,5 +1,5 @@
 -- The parts of a text, read one by one.
-use Rattle.std.proofs.Common.{◌≡◌, ℕ, Bool, true, false, not, List, [], ◌∷◌, ◌++◌, length, Option, Some, None, refl, ap, sym, ◌∙◌, cond, option_map}
+use Rattle.std.proofs.Common.{◌≡◌, ℕ, Bool, true, false, not, List, [], ◌∷◌, Option, Some, None, refl, ap, cond, option_map}
 use Rattle.std.specs.Prelude.{option_and_then}
 use Rattle.xs_text.specs.Bytes.{all_allowed}
 use Rattle.xs_text.specs.Lines.{lines_of}

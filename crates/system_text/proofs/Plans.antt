@@ -1,10 +1,9 @@
 -- The plans of nodes.
-use Rattle.std.proofs.Common.{◌≡◌, ℕ, ◌+◌, ◌<◌, ◌≤◌, true, List, [], ◌∷◌, ◌++◌, length, map, drop, get_or, drop-cons, Option, Some, None, Result, Ok, Err, refl, ap, sym, ◌∙◌, append-nil, append_assoc, arith}
+use Rattle.std.proofs.Common.{◌≡◌, ℕ, ◌+◌, ◌<◌, ◌≤◌, List, [], ◌∷◌, ◌++◌, length, map, drop, get_or, drop-cons, Option, Some, None, Result, Ok, Err, refl, ap, sym, ◌∙◌, append-nil, append_assoc, arith}
 use Rattle.std.specs.Prelude.{option_map}
 use Rattle.std.specs.List.{AllByRecursion}
 use Rattle.std.proofs.Common.{length-drop, subst}
 use Prim.Native.Nat.{suc}
-use Rattle.source_model.specs.declared.AsmKind.TheVariants.{UnknownName}
 use Rattle.sys_plan.specs.declared.NodePlan.{NodePlan}
 use Rattle.xs_instructions.specs.Image.{ImageRec}
 use Rattle.system_text.specs.declared.system_error.SystemError.{SystemError}
@@ -13,7 +12,7 @@ use Rattle.system_text.specs.Plans.{GivesNode, GivesNodes}
 use Rattle.source_model.specs.Source.{assembled_lines}
 use Rattle.system_model.specs.declared.frame_line.BitLine.{BitLine}
 use Rattle.system_model.specs.declared.frame_line.NodeLine.{NodeLine}
-use Rattle.system_model.specs.System.{NodeText, node_texts, node_plans, with_node_plan, node_plan, Framed, framed, frame_of, frame_of_parts, is_frame, when, parts_of, by_number}
+use Rattle.system_model.specs.System.{NodeText, node_texts, node_plans, with_node_plan, node_plan, by_number}
 
 -- plans in front of others
 abbrev pub in_front : List NodePlan → Result (List NodePlan) ℕ → Result (List NodePlan) ℕ
@@ -35,11 +34,11 @@ few_in_order f [] h = refl
 few_in_order f (x ∷ []) h = refl
 few_in_order f (x ∷ y ∷ xs) h = absurd (omega (arith, h))
 
-node_plans-cons : (bits : List BitLine) (text : NodeText) (texts : List NodeText) → node_plans bits (text ∷ texts) ≡ with_node_plan bits text (assembled_lines text.source) (node_plans bits texts)
+pub node_plans-cons : (bits : List BitLine) (text : NodeText) (texts : List NodeText) → node_plans bits (text ∷ texts) ≡ with_node_plan bits text (assembled_lines text.source) (node_plans bits texts)
 unfolding node_plans
 node_plans-cons bits text texts = refl
 
-node_plans-none : (bits : List BitLine) → node_plans bits [] ≡ Ok []
+pub node_plans-none : (bits : List BitLine) → node_plans bits [] ≡ Ok []
 unfolding node_plans
 node_plans-none bits = refl
 
@@ -64,7 +63,7 @@ plans_next bits f xs i d front all plan h k e =
 pub all_next : {X : Type 0} (P : X → Type 0) (xs : List X) (i : ℕ) (d : X) → i < length xs → AllByRecursion P (drop i xs) → AllByRecursion P (drop (i + 1) xs)
 all_next P xs i d h a = (subst (λ (ys : List _). AllByRecursion P ys) (unrolled xs i d h) a).1
 
-no_more : {X : Type 0} (ys : List X) → length ys ≡ 0 → ys ≡ []
+pub no_more : {X : Type 0} (ys : List X) → length ys ≡ 0 → ys ≡ []
 no_more [] e = refl
 no_more (y ∷ ys) e = absurd (omega (arith, e))
 

@@ -1,13 +1,9 @@
 -- The frame as far as it was read.
-use Rattle.std.specs.Prelude.{ℕ, ◌≡◌, ◌≤◌, ◌<◌, false, ◌&&◌, Option, Some, None, option_and_then, Result, Ok, Err, List, [], ◌∷◌, ◌++◌, length}
-use Rattle.std.specs.List.{AllByRecursion}
-use Rattle.system_model.specs.declared.frame_line.LinkLine.{LinkLine}
-use Rattle.system_model.specs.declared.frame_line.NodeLine.{NodeLine}
+use Rattle.std.specs.Prelude.{ℕ, ◌≡◌, false, ◌&&◌, Option, Some, None, option_and_then, Result, Ok, Err, List, [], ◌∷◌, ◌++◌}
 use Rattle.system_model.specs.declared.frame_line.FrameLine.{FrameLine}
 use Rattle.system_model.specs.declared.frame_line.FrameLine.TheVariants as line
 use Rattle.system_model.specs.declared.SysKind.TheVariants.{BadLine}
 use Rattle.system_model.specs.System.{Framed, Parts, parts_of, frame_of, are_ranked, is_frame, when}
-use Rattle.system_text.specs.Ranges.{IsLinkRanged}
 use Rattle.system_text.specs.declared.system_error.SystemError.{SystemError}
 use Rattle.system_text.specs.declared.system_error.SystemError.TheVariants.{Frame, Source, Memory}
 

@@ -1,5 +1,4 @@
 use Rattle.std.proofs.Common.{◌≡◌, length}
-use Rattle.system_model.specs.declared.frame_line.BitLine.{BitLine}
 use Rattle.system_model.specs.System.{all_differ}
 use Rattle.system_text.proofs.Checks.{same_bit}
 use Rattle.system_text.proofs.frame_checks.all_differ.Given as goal

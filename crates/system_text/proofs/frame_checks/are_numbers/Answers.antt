@@ -1,4 +1,3 @@
-use Rattle.std.proofs.Common.{arith}
 use Rattle.system_text.proofs.Checks.{numbers_few}
 use Rattle.system_text.proofs.frame_checks.are_numbers.Goals as goal
 

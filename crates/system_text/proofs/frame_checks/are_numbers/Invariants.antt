@@ -1,4 +1,4 @@
-use Rattle.std.proofs.Common.{◌≡◌, length, map, drop}
+use Rattle.std.proofs.Common.{◌≡◌, map, drop}
 use Rattle.system_model.specs.System.{are_numbers}
 use Rattle.system_text.proofs.frame_checks.are_numbers.Given as goal
 
