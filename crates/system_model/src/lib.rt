@@ -1,4 +1,4 @@
-//! What a system text stands for, what a run of it leaves, and what the program answers: definitions alone, with
+//! What a system text stands for, and what the program answers: definitions alone, with
 //! the plain types that they speak of. See docs/DEFINITIONS.md.
 #![tactic(auto)]
 
