@@ -1,6 +1,6 @@
 -- What a system text stands for. So far a system has one or two nodes and at most one link, its lines come in a
 -- fixed order, and refusals name no line.
-use Rattle.std.specs.Prelude.{ℕ, ◌+◌, Bool, true, false, not, ◌&&◌, ◌||◌, ◌==◌, nat_le, nat_lt, if◌then◌else◌, Option, Some, None, option_map, option_and_then, Result, Ok, Err, List, [], ◌∷◌, map, filter, filter_map, length, take, drop, replicate, codes}
+use Rattle.std.specs.Prelude.{ℕ, ◌+◌, Bool, true, false, not, ◌&&◌, ◌||◌, ◌==◌, nat_le, nat_lt, if◌then◌else◌, Option, Some, None, option_map, option_and_then, Result, Ok, Err, List, [], ◌∷◌, map, filter, filter_map, length, take, drop, codes}
 use Rattle.std.specs.List.{list_any, list_all, prefix_len}
 use Rattle.xs_text.specs.Bytes.{all_allowed}
 use Rattle.xs_text.specs.Lines.{lines_of}
@@ -75,7 +75,7 @@ unfoldable pub link_line : List (List ℕ) → Option LinkLine
 link_line (k ∷ x ∷ y ∷ v ∷ d ∷ w ∷ g ∷ []) =
     if same_name (codes "link") k && (same_name (codes "delay") v && same_name (codes "gap") w)
     then (node_of_end x >>= λ a. node_of_end y >>= λ b. between 1 1000 (number_of d) >>= λ delay. between 4 1000 (number_of g) >>= λ gap.
-          Some (record { a = a; b = b; delay = delay; gap = gap }))
+    Some (record { a = a; b = b; delay = delay; gap = gap }))
     else None
 link_line _ = None
 

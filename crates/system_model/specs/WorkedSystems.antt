@@ -1,15 +1,12 @@
 -- Frames of systems, read by hand.
-use Rattle.std.specs.Prelude.{ℕ, ◌≡◌, Option, Some, None, option_and_then, List, [], ◌∷◌, ◌++◌, codes, map}
+use Rattle.std.specs.Prelude.{ℕ, ◌≡◌, Option, Some, None, List, [], ◌∷◌, ◌++◌, codes, replicate}
 use Rattle.xs_text.specs.Lines.{lines_of}
 use Rattle.source_model.specs.declared.AsmKind.TheVariants.{UnknownName}
+use Rattle.xs_instructions.specs.Image.{ImageRec}
 use Rattle.sys_plan.specs.Plan.{PlanRec}
-use Rattle.sys_plan.specs.declared.NodePlan.{NodePlan}
-use Rattle.sys_plan.specs.declared.LinkPlan.{LinkPlan}
-use Rattle.system_model.specs.declared.SysKind.TheVariants.{BadLine, TooLong}
-use Rattle.system_model.specs.declared.frame_line.NodeLine.{NodeLine}
 use Rattle.system_model.specs.declared.frame_line.LinkLine.{LinkLine}
 use Rattle.system_model.specs.declared.frame_line.BitLine.{BitLine}
-use Rattle.system_model.specs.System.{System, Frame, Source, Framed, framed, system_of}
+use Rattle.system_model.specs.System.{Plan, Source, Framed, framed, system_of}
 
 -- the header and two nodes in falling order
 abbrev pub nodes_7_and_3 : List ℕ
@@ -38,6 +35,24 @@ joins a b delay gap = record { a = a; b = b; delay = delay; gap = gap } ∷ []
 abbrev pub frame : List ℕ → Option Framed
 frame text = framed (lines_of text)
 
+-- these nodes with a link that the greater number's line names first, and a bit each
+abbrev pub linked_7_and_3 : List ℕ
+linked_7_and_3 = nodes_7_and_3 ++ (codes "link 7:0 3:0 delay 5 gap 4\nbit 3 0 0\nbit 7 15 0\n" ++ sources_7_and_3)
+
+-- what an empty source stands for: its constants begin where memory does
+abbrev pub empty_image : ImageRec
+empty_image = record { code = []; bytes = []; cp_at = 65536; symbols = [] }
+
+-- the least number comes first, so that the link leads from the second node to the first
+abbrev pub plan_of_3_and_7 : PlanRec
+plan_of_3_and_7 = record {
+  nodes =
+      record { number = 3; id = 0; image = empty_image; ways = 1 ∷ replicate 15 0 }
+      ∷ record { number = 7; id = 1; image = empty_image; ways = replicate 15 0 ++ 1 ∷ [] }
+      ∷ [];
+  links = record { a = 1; a_end = 0; b = 0; b_end = 0; delay = 5; gap = 4 } ∷ [];
+}
+
 pub record WorkedSystems : Type 0 where
   pub two_nodes : pair [] ≡ pair_of [] []
   pub link : pair (codes "link 7:0 3:0 delay 5 gap 4\n") ≡ pair_of (joins 7 3 5 4) []
@@ -64,3 +79,8 @@ pub record WorkedSystems : Type 0 where
   pub number_twice : frame (codes "xs1 1\nnode 7 id 1\nnode 7 id 0\nsource 7\nend\nsource 7\nend\n") ≡ None
   pub sources_in_another_order : frame (codes "xs1 1\nnode 7 id 1\nnode 3 id 0\nsource 3\nend\nsource 7\nend\n") ≡ None
   pub source_missing : frame (codes "xs1 1\nnode 7 id 1\nnode 3 id 0\nsource 7\nend\n") ≡ None
+  -- nodes by number, and the link and the bits by their places
+  pub plan : system_of linked_7_and_3 ≡ Plan plan_of_3_and_7
+  -- both sources are refused: the least number decides
+  pub both_sources_refused : system_of (codes "xs1 1\nnode 7 id 1\nnode 3 id 0\nsource 7\nfoo\nend\nsource 3\nfoo\nend\n") ≡ Source 3 0 UnknownName
+  pub greater_source_refused : system_of (codes "xs1 1\nnode 7 id 1\nnode 3 id 0\nsource 7\nfoo\nend\nsource 3\nend\n") ≡ Source 7 0 UnknownName

@@ -12,7 +12,6 @@ ghost use Rattle.system_model.specs.WorkedSystems.{WorkedSystems};
 mod frame_line;
 
 pub use frame_line::{BitLine, FrameLine, LinkLine, NodeLine};
-
 use xs_base::Text;
 
 /// Why a system text is refused.

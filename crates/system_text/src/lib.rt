@@ -12,6 +12,8 @@ mod parts;
 mod section;
 mod system_error;
 mod system_reader;
+#[cfg(test)]
+mod tests;
 mod words;
 
 pub use source_model::AsmKind;
