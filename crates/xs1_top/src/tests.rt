@@ -22,20 +22,24 @@ const COUNTDOWN: &[u8] =
 const PAST_THE_END: &[u8] = b"xs1 1\nnode 0 id 0\nsource 0\nldw r0, dp[16384]\nend\n";
 
 // Two nodes with empty sources.
-const TWO_EMPTY: &[u8] =
-    b"xs1 1\nnode 0 id 0\nnode 1 id 1\nsource 0\nend\nsource 1\nend\n";
+const TWO_EMPTY: &[u8] = b"xs1 1\nnode 0 id 0\nnode 1 id 1\nsource 0\nend\nsource 1\nend\n";
 
 // Node 0 sends an END to channel end 0 of node 1.
-const PAIR: &[u8] = b"xs1 1\nnode 0 id 0\nnode 1 id 1\nlink 0:0 1:0 delay 5 gap 4\nbit 0 0 0\nbit 1 0 0\nsource 0\ngetr r0, 2\nldw r1, dp[0]\nsetd res[r0], r1\noutct res[r0], 1\nfreet\n.data\n.word 0x00010002\nend\nsource 1\ngetr r0, 2\nchkct res[r0], 1\nfreet\nend\n";
+const PAIR: &[u8] =
+    b"xs1 1\nnode 0 id 0\nnode 1 id 1\nlink 0:0 1:0 delay 5 gap 4\nbit 0 0 0\nbit 1 0 0\nsource 0\ngetr r0, 2\nldw r1, dp[0]\nsetd res[r0], r1\noutct res[r0], 1\nfreet\n.data\n.word 0x00010002\nend\nsource 1\ngetr r0, 2\nchkct res[r0], 1\nfreet\nend\n";
 
-const PAIR_TRACE: &[u8] = b"30 n1 chan 0 ct 1\nlink 0:0>1:0 tokens 4 credits 0\nlink 1:0>0:0 tokens 0 credits 4\nn0 mem 0x00010000 0x00010002\nend 40\n";
+const PAIR_TRACE: &[u8] =
+    b"30 n1 chan 0 ct 1\nlink 0:0>1:0 tokens 4 credits 0\nlink 1:0>0:0 tokens 0 credits 4\nn0 mem 0x00010000 0x00010002\nend 40\n";
 
-const PAIR_CUT_TRACE: &[u8] = b"link 0:0>1:0 tokens 4 credits 0\nlink 1:0>0:0 tokens 0 credits 3\nn0 mem 0x00010000 0x00010002\nend 30\n";
+const PAIR_CUT_TRACE: &[u8] =
+    b"link 0:0>1:0 tokens 4 credits 0\nlink 1:0>0:0 tokens 0 credits 3\nn0 mem 0x00010000 0x00010002\nend 30\n";
 
 // The same, and node 1 has no channel end in use.
-const PAIR_LOST: &[u8] = b"xs1 1\nnode 0 id 0\nnode 1 id 1\nlink 0:0 1:0 delay 5 gap 4\nbit 0 0 0\nbit 1 0 0\nsource 0\ngetr r0, 2\nldw r1, dp[0]\nsetd res[r0], r1\noutct res[r0], 1\nfreet\n.data\n.word 0x00010002\nend\nsource 1\nfreet\nend\n";
+const PAIR_LOST: &[u8] =
+    b"xs1 1\nnode 0 id 0\nnode 1 id 1\nlink 0:0 1:0 delay 5 gap 4\nbit 0 0 0\nbit 1 0 0\nsource 0\ngetr r0, 2\nldw r1, dp[0]\nsetd res[r0], r1\noutct res[r0], 1\nfreet\n.data\n.word 0x00010002\nend\nsource 1\nfreet\nend\n";
 
-const PAIR_LOST_TRACE: &[u8] = b"27 n1 lost 0x00010002\nlink 0:0>1:0 tokens 4 credits 0\nlink 1:0>0:0 tokens 0 credits 4\nn0 mem 0x00010000 0x00010002\nend 40\n";
+const PAIR_LOST_TRACE: &[u8] =
+    b"27 n1 lost 0x00010002\nlink 0:0>1:0 tokens 4 credits 0\nlink 1:0>0:0 tokens 0 credits 4\nn0 mem 0x00010000 0x00010002\nend 40\n";
 
 const LONGEST: usize = 4_194_304;
 
