@@ -1,9 +1,11 @@
 -- What a core's fields stand for.
-use Rattle.std.specs.Prelude.{◌≡◌, length}
+use Rattle.std.specs.Prelude.{ℕ, ◌≡◌, true, length}
 use Rattle.std.specs.List.{AllByRecursion}
-use Rattle.xs_model.specs.Record.{core_with}
+use Rattle.xs_model.specs.Record.{NodeRec, core_with}
 use Rattle.xs_instructions.specs.Instr.{InRange}
+use Rattle.net_model.specs.Switch.{begun}
 use Rattle.switch_routes.specs.Rows.{gaps_of}
+use Rattle.switch_routes.specs.Switch.{StandsIn, switched}
 use Rattle.core_step.specs.Core.{CoreValue}
 use Rattle.core_step.specs.declared.node_core.Core.TheInside.{Inside}
 
@@ -19,3 +21,5 @@ pub record IsCore (c : Inside) : Type 0 where
   pub eight : length c.threads ≡ 8
   pub operands : AllByRecursion InRange c.code.items
   pub node : c.switch.id ≡ c.id
+  -- a switch that is known to rest does nothing to any node that its parts stand for
+  pub rest : c.resting ≡ true → (slot : ℕ) (rec : NodeRec) → StandsIn slot c.switch c.chans c.links rec → switched c.switch c.links slot rec ≡ begun rec

@@ -15,7 +15,7 @@ ghost use Rattle.thread_slots.specs.Able.{is_able};
 
 use crate::execute::{dp_address, flow, free, go_on, refused, words};
 use crate::resources::resources;
-use crate::start::links_with;
+use crate::start::{links_with, nothing_arrives};
 use crate::traps::{enter_trap, stands_at};
 use crate::waits::able_of;
 use chan_ends::ChanEnds;
@@ -44,6 +44,8 @@ pub struct Core {
     chans: ChanEnds,
     links: Links,
     switch: Switch,
+    // Whether it is known that the switch has nothing to do while nothing arrives.
+    resting: bool,
 }
 
 impl Model for Core {
@@ -80,6 +82,7 @@ impl Core {
             chans: ChanEnds::new(plan.id),
             links: links_with(gaps),
             switch: Switch::new(plan.id, plan.ways),
+            resting: false,
         })
     }
 
@@ -121,8 +124,27 @@ impl Core {
         self.pick_and_issue(slot, out);
     }
 
-    // What arrives by the link ends, and then the switch.
+    // What arrives by the link ends, and then the switch: nothing is done where it rests and nothing arrives.
     fn bring(&mut self, slot: u32, arrivals: &Arrivals, out: &mut Emissions)
+        requires empty { out.old ≡ emitted_events [] }
+        requires before { SentBefore slot self.old.windows }
+
+        ensures fixed { self.new.fixed ≡ self.old.fixed }
+        ensures last { self.new.core.last ≡ self.old.core.last }
+        ensures stands { (rec : NodeRec) → StandsAt self.old rec slot → StandsFor self.new (brought self.old.fixed rec slot arrivals.now).rec }
+        ensures credited { (rec : NodeRec) → StandsAt self.old rec slot → CreditedBy slot (brought self.old.fixed rec slot arrivals.now).rec.links }
+        ensures emissions { (rec : NodeRec) → StandsAt self.old rec slot → out.new ≡ brought_out slot (brought self.old.fixed rec slot arrivals.now) }
+        ensures sent { SentBefore (slot + 1) self.new.windows }
+        ensures count { length out.new.events ≤ 40 }
+    {
+        if self.resting && nothing_arrives(arrivals) {
+            return;
+        }
+        self.take_in(slot, arrivals, out);
+    }
+
+    // What arrives by the link ends, and then the switch, where it is not at rest.
+    fn take_in(&mut self, slot: u32, arrivals: &Arrivals, out: &mut Emissions)
         requires empty { out.old ≡ emitted_events [] }
         requires before { SentBefore slot self.old.windows }
 
@@ -136,8 +158,10 @@ impl Core {
     {
         self.links.arrivals(arrivals);
         if self.switch.is_at_rest(&self.chans, &self.links) {
+            self.resting = true;
             return;
         }
+        self.resting = false;
         self.switch
             .moves(&mut self.chans, &mut self.links, slot, out);
     }
@@ -221,7 +245,10 @@ impl Core {
                 free(&mut self.threads[k as usize]);
                 Outcome::Gone
             }
-            Instr::Resources(ins) => resources(self.id, k, ins, &mut self.threads, &mut self.chans),
+            Instr::Resources(ins) => {
+                self.resting = false;
+                resources(self.id, k, ins, &mut self.threads, &mut self.chans)
+            }
         }
     }
 

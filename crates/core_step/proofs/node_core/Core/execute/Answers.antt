@@ -1,4 +1,5 @@
 use Rattle.std.proofs.Common.{sym, subst}
+use Rattle.std.proofs.lemmas.Bool.{false≢true}
 use Rattle.step_model.specs.Effect.{effect, resources_row}
 use Rattle.core_step.specs.Core.{CoreValue, Ends}
 use Rattle.core_step.specs.Units.{with_units}
@@ -10,6 +11,7 @@ invariant_of-self-in-Resources c = record {
   eight = c.resources.ensures.count;
   operands = c.self-in-Resources.invariant.operands;
   node = c.self-in-Resources.invariant.node;
+  rest = λ known. absurd (false≢true known);
 }
 
 pub returns-in-Resources-clause-row : goal.returns-in-Resources-clause-row
