@@ -55,14 +55,12 @@ impl ChanEnd {
         self.input.clear();
     }
 
-    #[inline]
     pub(crate) fn used(&self) -> bool
         ensures { result ≡ self.now.used }
     {
         self.used
     }
 
-    #[inline]
     pub(crate) fn dest(&self) -> Option<u32>
         ensures { result ≡ self.now.dest }
     {
@@ -70,7 +68,6 @@ impl ChanEnd {
     }
 
     /// The token that waits longest in the output buffer.
-    #[inline]
     pub(crate) fn first_out(&self) -> Option<Token>
         ensures { result ≡ slice_get self.now.output 0 }
     {
@@ -78,7 +75,6 @@ impl ChanEnd {
     }
 
     /// The token that waits longest in the input buffer.
-    #[inline]
     pub(crate) fn first_in(&self) -> Option<Token>
         ensures { result ≡ slice_get self.now.input 0 }
     {
@@ -146,7 +142,6 @@ impl ChanEnd {
     }
 
     /// Takes the token that waits longest from the output buffer.
-    #[inline]
     pub(crate) fn pop_out(&mut self) -> Option<Token>
         ensures token { result ≡ slice_get self.old.output 0 }
         ensures rest { self.new ≡ record self.old { output = drop 1 self.old.output } }
@@ -155,7 +150,6 @@ impl ChanEnd {
     }
 
     /// Puts a token at the end of the input buffer, where it has room.
-    #[inline]
     pub(crate) fn push_in(&mut self, t: Token) -> bool
         ensures room { result ≡ has_room 1 self.old.input }
         ensures pushed { IsTrue result → self.new ≡ record self.old { input = self.old.input ++ t ∷ [] } }
@@ -196,7 +190,6 @@ fn is_control(token: &Token) -> bool
 }
 
 /// The token that waits longest in a buffer.
-#[inline]
 fn first_of(tokens: &ArrayVec<Token, 8>) -> Option<Token>
     ensures { result ≡ slice_get tokens.now.items 0 }
 {

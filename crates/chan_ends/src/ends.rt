@@ -62,7 +62,6 @@ impl ChanEnds {
     }
 
     /// Whether channel end `c`, 0 to 31, is in use.
-    #[inline]
     pub fn used(&self, c: u8) -> bool
         requires { c < 32 }
         ensures value { result ≡ (chan_at self.now c).used }
@@ -72,7 +71,6 @@ impl ChanEnds {
     }
 
     /// The destination of channel end `c`, 0 to 31: `None` exactly where it has none.
-    #[inline]
     pub fn dest(&self, c: u8) -> Option<u32>
         requires { c < 32 }
         ensures value { result ≡ (chan_at self.now c).dest }
@@ -96,7 +94,6 @@ impl ChanEnds {
     /// Puts a token at the end of the output buffer of channel end `c`, 0 to 31. `Bad` comes exactly where it is not
     /// in use or has no destination, and `Full` exactly where it has one and 8 tokens are there; then nothing
     /// changes. See docs/LINKS.md.
-    #[inline]
     pub fn put(&mut self, c: u8, t: Token) -> Put
         requires { c < 32 }
         ensures answer { result ≡ put_answer (found_at_put t (chan_at self.old c)) }
@@ -109,7 +106,6 @@ impl ChanEnds {
     /// Takes the control token of value `v` from the front of the input buffer of channel end `c`, 0 to 31, and
     /// answers `Got(v)`. `Wait` comes exactly where it is in use and no token is there, and `Bad` exactly where it
     /// is not in use or another token is first; then nothing changes. See docs/LINKS.md.
-    #[inline]
     pub fn check(&mut self, c: u8, v: u32) -> Take
         requires { c < 32 }
         ensures answer { result ≡ check_answer v (found_at_check v (chan_at self.old c)) }
@@ -121,7 +117,6 @@ impl ChanEnds {
 
     /// Whether `count` tokens, 0 to 8, still fit into the output buffer of channel end `c`, which holds 8. With a `c` of
     /// 32 or more it speaks of an empty buffer. See docs/LINKS.md.
-    #[inline]
     pub fn has_room(&self, c: u8, count: u8) -> bool
         ensures value { result ≡ nat_le (length (chan_at self.now c).output) (8 - count) }
         ensures count { length self.now.chans ≡ 32 }
@@ -131,7 +126,6 @@ impl ChanEnds {
 
     /// Whether `count` tokens are in the input buffer of channel end `c`, or a control token is among the first
     /// `count`. With a `c` of 32 or more it speaks of an empty buffer. See docs/LINKS.md.
-    #[inline]
     pub fn has_tokens(&self, c: u8, count: u8) -> bool
         ensures value { result ≡ has_tokens count (chan_at self.now c).input }
         ensures count { length self.now.chans ≡ 32 }
@@ -145,7 +139,6 @@ impl ChanEnds {
 
     /// The token that waits longest in the output buffer of channel end `c`, 0 to 31: `None` exactly where none is
     /// there.
-    #[inline]
     pub fn first_out(&self, c: u8) -> Option<Token>
         requires { c < 32 }
         ensures value { result ≡ slice_get (chan_at self.now c).output 0 }
@@ -156,7 +149,6 @@ impl ChanEnds {
 
     /// Takes the token that waits longest from the output buffer of channel end `c`, 0 to 31: `None` exactly where
     /// none is there.
-    #[inline]
     pub fn pop_out(&mut self, c: u8) -> Option<Token>
         requires { c < 32 }
         ensures token { result ≡ slice_get (chan_at self.old c).output 0 }
@@ -168,7 +160,6 @@ impl ChanEnds {
 
     /// The token that waits longest in the input buffer of channel end `c`, 0 to 31: `None` exactly where none is
     /// there.
-    #[inline]
     pub fn first_in(&self, c: u8) -> Option<Token>
         requires { c < 32 }
         ensures value { result ≡ slice_get (chan_at self.now c).input 0 }
@@ -179,7 +170,6 @@ impl ChanEnds {
 
     /// Puts a token at the end of the input buffer of channel end `c`, 0 to 31: `false` exactly where 8 tokens are
     /// there, and then nothing changes. See docs/LINKS.md.
-    #[inline]
     pub fn push_in(&mut self, c: u8, t: Token) -> bool
         requires { c < 32 }
         ensures room { result ≡ has_room 1 (chan_at self.old c).input }

@@ -55,7 +55,6 @@ impl LinkEnd {
     }
 
     /// A token arrives: it is put into the buffer, and dropped where 8 wait there. See docs/LINKS.md.
-    #[inline]
     pub fn arrive(&mut self, t: Token)
         ensures kept { length self.old.buffer < window → self.new ≡ record self.old { buffer = self.old.buffer ++ t ∷ [] } }
         ensures dropped { length self.old.buffer ≡ window → self.new ≡ self.old }
@@ -70,7 +69,6 @@ impl LinkEnd {
     }
 
     /// A credit arrives: it is counted, and dropped where each token sent has its credit. See docs/LINKS.md.
-    #[inline]
     pub fn credit(&mut self)
         ensures counted { self.new ≡ record self.old { outstanding = self.old.outstanding - 1 } }
         ensures stands { (link : LinkRec) (slot : ℕ) → WindowOf self.old link → WindowOf self.new (credit_arrives slot true link) }
@@ -83,7 +81,6 @@ impl LinkEnd {
     /// Whether a token may be sent in a slot: fewer than 8 tokens sent are without a credit, and the last was sent a
     /// gap ago or longer, or never. It agrees with the link record where no credit was counted after the slot. See
     /// docs/LINKS.md.
-    #[inline]
     pub fn can_send(&self, slot: u32) -> bool
         ensures value { result ≡ can_send self.now slot }
         ensures stands { (link : LinkRec) → WindowOf self.now link → All (λ s. s ≤ slot) link.credited → result ≡ may_send self.now.gap slot link }
@@ -92,7 +89,6 @@ impl LinkEnd {
     }
 
     /// Notes that a token is sent in a slot in which it may be, as `can_send` says. See docs/LINKS.md.
-    #[inline]
     pub fn sent(&mut self, slot: u32)
         requires { can_send self.old slot ≡ true }
         ensures noted { self.new ≡ record self.old { outstanding = self.old.outstanding + 1; last_sent = Some slot } }
@@ -103,7 +99,6 @@ impl LinkEnd {
     }
 
     /// The token that waits longest: `None` exactly where none waits. See docs/LINKS.md.
-    #[inline]
     pub fn first(&self) -> Option<Token>
         ensures none { result ≡ None ↔ self.now.buffer ≡ [] }
         ensures cases { MatchOption result (self.now.buffer ≡ []) (λ t. self.now.buffer ≡ t ∷ drop 1 self.now.buffer) }
@@ -115,7 +110,6 @@ impl LinkEnd {
     }
 
     /// Takes the token that waits longest out of the buffer: `None` exactly where none waits. See docs/LINKS.md.
-    #[inline]
     pub fn pop(&mut self) -> Option<Token>
         ensures none { result ≡ None ↔ self.old.buffer ≡ [] }
         ensures cases { MatchOption result (self.old.buffer ≡ []) (λ t. self.old.buffer ≡ t ∷ self.new.buffer) }

@@ -57,7 +57,6 @@ impl Inputs {
     }
 
     /// What an input, 0 to 39, is at.
-    #[inline]
     pub(crate) fn state(&self, input: u8) -> Input
         requires within { input < 40 }
         ensures value { state_of result ≡ slice_index_or self.now input Idle }
@@ -67,7 +66,6 @@ impl Inputs {
     }
 
     /// Puts an input, 0 to 39, into a state.
-    #[inline]
     pub(crate) fn set(&mut self, input: u8, state: Input)
         requires within { input < 40 }
         requires fits { InputFits state }
@@ -114,7 +112,6 @@ impl Inputs {
 }
 
 // Whether an input in this state is idle.
-#[inline]
 fn is_idle(state: Input) -> bool
     ensures value { result ≡ is_idle (state_of state) }
 {

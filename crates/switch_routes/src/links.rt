@@ -109,7 +109,6 @@ impl Links {
     }
 
     /// The token that waits longest at a link end, 0 to 7: `None` exactly where none waits.
-    #[inline]
     pub(crate) fn first(&self, end: u8) -> Option<Token>
         requires within { end < 8 }
         ensures cases { MatchOption result (buffer_of (window_at self.now end) ≡ [])
@@ -125,7 +124,6 @@ impl Links {
     }
 
     /// Whether no token waits at any link end.
-    #[inline]
     pub(crate) fn hold_nothing(&self) -> bool
         ensures value { result ≡ list_all holds_nothing self.now }
     {

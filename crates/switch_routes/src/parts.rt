@@ -26,7 +26,6 @@ const END: u8 = 1;
 const PAUSE: u8 = 2;
 
 /// The token that waits longest at an input: `None` exactly where none waits.
-#[inline]
 pub(crate) fn first_waiting(input: u8, chans: &ChanEnds, links: &Links) -> Option<Token>
     requires within { input < 40 }
     ensures cases { MatchOption result (waiting_in chans.now links.now input ≡ [])

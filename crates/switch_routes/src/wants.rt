@@ -26,7 +26,6 @@ const CHAN_ENDS: u8 = 32;
 const LINK_ENDS: u8 = 8;
 
 /// The step of an input, by its state.
-#[inline]
 pub(crate) fn step(
     turn: Turn,
     ways: &Ways,
@@ -60,7 +59,6 @@ pub(crate) fn step(
 }
 
 // An idle input: a link end's takes a header byte, a channel end's begins a packet.
-#[inline]
 fn idle_step(
     turn: Turn,
     ways: &Ways,
@@ -109,7 +107,6 @@ fn link_head_step(
 }
 
 // A channel end with tokens that wait begins a packet.
-#[inline]
 fn packet_step(
     turn: Turn,
     ways: &Ways,
