@@ -30,7 +30,7 @@ pub record IsLinkBefore (slot : ℕ) (link : LinkRec) : Type 0 where
   pub sent : AllByRecursion (λ s. s < slot) link.sent
   pub credited : AllByRecursion (λ s. s < slot) link.credited
 
--- every slot that the core keeps is before this one
+-- every last issue was before this slot, or never
 abbrev pub AreBefore : ℕ → List (Option ℕ) → Type 0
 AreBefore slot last = AllByRecursion (λ l. IfSome l (λ issued. issued < slot)) last
 
@@ -38,6 +38,7 @@ AreBefore slot last = AllByRecursion (λ l. IfSome l (λ issued. issued < slot))
 abbrev pub SentBefore : ℕ → List (Option Window) → Type 0
 SentBefore slot windows = AllByRecursion (λ w. IfSome w (λ window. IfSome window.last_sent (λ s. s < slot))) windows
 
+-- every slot that the core keeps is before this one
 abbrev pub SlotsBefore : CoreValue → ℕ → Type 0
 SlotsBefore value slot = AreBefore slot value.core.last × SentBefore slot value.windows
 

@@ -1,4 +1,4 @@
--- The units that an instruction on resources changes, and its effect by what calls on channel ends answer.
+-- The threads and channel ends of a core, by which its waits hold, and its link ends as they start.
 use Rattle.std.specs.Prelude.{ℕ, Bool, true, false, ◌==◌, if◌then◌else◌, nat_le, ◌-◌, Option, Some, None, List, length, slice_index_or}
 use Rattle.xs_model.specs.declared.thread.Thread.{Thread}
 use Rattle.xs_model.specs.declared.thread.Run.{Run}

@@ -5,6 +5,7 @@ use Rattle.xs_model.specs.Record.{InputRec, Idle, Head1, Head2, Want, Local, Out
 use Rattle.switch_routes.specs.declared.inputs.Input.{Input}
 use Rattle.switch_routes.specs.declared.inputs.Input.TheVariants as input
 
+-- the state that an input's value in code stands for
 abbrev pub state_of : Input → InputRec
 state_of input.Idle = Idle
 state_of (input.Head1 high) = Head1 high
@@ -20,6 +21,7 @@ InputFits (input.Local chan) = chan < 32
 InputFits (input.Out end headers dest) = (end < 8) × (headers ≤ 3)
 InputFits _ = Unit {0}
 
+-- the states of all inputs
 abbrev pub states_in : List Input → List InputRec
 states_in states = map state_of states
 

@@ -8,15 +8,19 @@ use Rattle.chan_ends.specs.Ends.{Ends}
 use Rattle.switch_routes.specs.Rows.{buffer_of}
 use Rattle.switch_routes.specs.Switch.{SwitchRec, is_idle}
 
+-- no token waits in a buffer
 abbrev pub none_waits : List Token → Bool
 none_waits [] = true
 none_waits (t ∷ rest) = false
 
+-- none waits in the output buffer of a channel end
 abbrev pub sends_nothing : ChanRec → Bool
 sends_nothing chan = none_waits chan.output
 
+-- none waits at a link end
 abbrev pub holds_nothing : Option Window → Bool
 holds_nothing window = none_waits (buffer_of window)
 
+-- every input is idle, and no token waits at any of them
 abbrev pub at_rest : SwitchRec → Ends → List (Option Window) → Bool
 at_rest switch ends row = list_all is_idle switch.inputs && (list_all sends_nothing ends.chans && list_all holds_nothing row)

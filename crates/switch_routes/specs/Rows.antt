@@ -10,6 +10,7 @@ use Rattle.link_ends.specs.Window.{Window, WindowOf, can_send}
 abbrev pub no_windows : List (Option Window)
 no_windows = replicate 8 None
 
+-- the link end in a place, where it is there
 abbrev pub window_at : List (Option Window) → ℕ → Option Window
 window_at windows end = slice_index_or windows end None
 
@@ -25,6 +26,7 @@ WindowsOf [] [] = Unit {0}
 WindowsOf (window ∷ windows) (link ∷ links) = IsWindowOf window link × WindowsOf windows links
 WindowsOf _ _ = ⊥
 
+-- the gap of a link end in slots, 0 where it is not there
 abbrev pub gap_of : Option Window → ℕ
 gap_of None = 0
 gap_of (Some window) = window.gap

@@ -44,6 +44,7 @@ node_after rec switch chans m = record rec {
 abbrev pub emitted_after : Emitted → ℕ → Moving → Emitted
 emitted_after before slot m = record { events = before.events ++ map (in_slot slot) m.happened; tokens = m.tokens; credits = m.credits }
 
+-- whether an input is at no packet
 abbrev pub is_idle : InputRec → Bool
 is_idle Idle = true
 is_idle _ = false

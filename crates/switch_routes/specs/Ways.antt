@@ -6,6 +6,7 @@ use Rattle.switch_routes.specs.declared.ways.Way.{Way as WayFound}
 use Rattle.switch_routes.specs.declared.ways.Way.TheVariants as way
 use Rattle.switch_routes.specs.declared.ways.Ways.{Ways}
 
+-- the way that a value in code stands for
 abbrev pub way_of : WayFound → Way
 way_of way.Here = Here
 way_of (way.Behind ends) = Behind ends
