@@ -1,3 +1,5 @@
+pub mod Operands
+pub mod Values
 pub mod Statement
+pub mod Layout
 pub mod Source
-pub mod WorkedSourceLines
