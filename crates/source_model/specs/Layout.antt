@@ -28,13 +28,13 @@ pub record Sofar : Type 0 where
 
 -- no lines
 abbrev pub nothing_yet : Sofar
-nothing_yet = record { layout = record { section = Text; code = 0; data = 0; constants = 0 }; labels = [] }
+nothing_yet = record { layout = record { section = Text; instructions = 0; data_bytes = 0; constant_bytes = 0 }; labels = [] }
 
 -- the length of a section, in instructions or in bytes
 abbrev pub section_length : Layout → Section → ℕ
-section_length layout Text = layout.code
-section_length layout Data = layout.data
-section_length layout Constants = layout.constants
+section_length layout Text = layout.instructions
+section_length layout Data = layout.data_bytes
+section_length layout Constants = layout.constant_bytes
 
 -- where the next instruction or byte comes
 abbrev pub here : Layout → Place
@@ -65,9 +65,9 @@ added long _ = 0
 
 -- the layout with the section that it is in so much longer
 abbrev pub longer_in : Section → Layout → ℕ → Layout
-longer_in Text layout more = record layout { code = layout.code + more }
-longer_in Data layout more = record layout { data = layout.data + more }
-longer_in Constants layout more = record layout { constants = layout.constants + more }
+longer_in Text layout more = record layout { instructions = layout.instructions + more }
+longer_in Data layout more = record layout { data_bytes = layout.data_bytes + more }
+longer_in Constants layout more = record layout { constant_bytes = layout.constant_bytes + more }
 
 abbrev pub longer : Layout → ℕ → Layout
 longer layout more = longer_in layout.section layout more
@@ -116,7 +116,7 @@ round_up_to_word n = (n + 3) / 4 * 4
 abbrev pub section_start : Layout → Section → ℕ
 section_start whole Text = code_start
 section_start whole Data = data_start
-section_start whole Constants = data_start + round_up_to_word whole.data
+section_start whole Constants = data_start + round_up_to_word whole.data_bytes
 
 -- the address of a place: an instruction takes 4 bytes
 abbrev pub offset_bytes : Section → ℕ → ℕ
@@ -128,4 +128,4 @@ address_in whole place = section_start whole place.section + offset_bytes place.
 
 -- the bytes of both sections together: constants begin at a word
 abbrev pub bytes_length : ℕ → ℕ → ℕ
-bytes_length data constants = if constants == 0 then data else round_up_to_word data + constants
+bytes_length bytes constants = if constants == 0 then bytes else round_up_to_word bytes + constants

@@ -5,10 +5,10 @@ use Rattle.xs_text.specs.Numbers.{source_number_of, at_most}
 use Rattle.xs_text.specs.declared.token_reader.TokKind.{TokKind}
 use Rattle.xs_text.specs.declared.token_reader.TokKind.TheVariants.{Name, Number, Mark, Stray}
 use Rattle.xs_instructions.specs.Image.{same_name, is_reserved}
-use Rattle.xs_instructions.specs.Table.{fixed, register_number, takes_value}
-use Rattle.xs_instructions.specs.declared.table.Row.{Row}
-use Rattle.xs_instructions.specs.declared.table.Shape.{Shape}
-use Rattle.xs_instructions.specs.declared.table.Shape.TheVariants as shape
+use Rattle.xs_instructions.specs.Table.{fixed, register_number, parts_of, values_among}
+use Rattle.xs_instructions.specs.declared.rows.Row.{Row}
+use Rattle.xs_instructions.specs.declared.shape.Shape.{Shape}
+use Rattle.xs_instructions.specs.declared.shape.Shape.TheVariants as shape
 use Rattle.source_model.specs.declared.layout.Section.{Section}
 use Rattle.source_model.specs.declared.layout.Section.TheVariants.{Data, Constants}
 
@@ -102,13 +102,6 @@ amount_by_kind Stray base bytes = Known None
 abbrev pub amount_of : Operand → Amount
 amount_of operand = amount_by_kind operand.token.kind operand.base operand.token.bytes
 
--- the amounts of the operands that are values of the row, the first of the operands having the number k
-unfoldable pub amounts_from : Row → ℕ → List Operand → List Amount
-amounts_from row k [] = []
-amounts_from row k (operand ∷ rest) =
-    if takes_value row k
-    then amount_of operand ∷ amounts_from row (k + 1) rest
-    else amounts_from row (k + 1) rest
-
+-- the amounts of the operands that are values of the row
 abbrev pub amounts_of : Row → List Operand → List Amount
-amounts_of row operands = amounts_from row 0 operands
+amounts_of row operands = values_among (parts_of row) (map amount_of operands)

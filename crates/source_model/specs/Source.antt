@@ -4,7 +4,7 @@ use Rattle.std.specs.List.{list_any}
 use Rattle.xs_text.specs.Lines.{lines_of}
 use Rattle.xs_instructions.specs.Image.{ImageRec, Symbol, is_reserved}
 use Rattle.xs_instructions.specs.Table.{build}
-use Rattle.xs_instructions.specs.declared.table.Row.{Row}
+use Rattle.xs_instructions.specs.declared.rows.Row.{Row}
 use Rattle.xs_instructions.specs.declared.instr.Instr.{Instr}
 use Rattle.xs_instructions.specs.declared.instr.Instr.TheVariants.{Words}
 use Rattle.xs_instructions.specs.declared.instr.WordIns.TheVariants.{Nop}
@@ -126,10 +126,10 @@ abbrev pub has_label_missing : Sofar → Sofar → Line → Bool
 has_label_missing whole before line = names_missing whole line.statement.says
 
 abbrev pub has_too_many_instructions : Sofar → Sofar → Line → Bool
-has_too_many_instructions whole before line = nat_lt 16384 (after_line before line).layout.code
+has_too_many_instructions whole before line = nat_lt 16384 (after_line before line).layout.instructions
 
 abbrev pub has_too_many_bytes : Sofar → Sofar → Line → Bool
-has_too_many_bytes whole before line = nat_lt 65536 (bytes_length (after_line before line).layout.data (after_line before line).layout.constants)
+has_too_many_bytes whole before line = nat_lt 65536 (bytes_length (after_line before line).layout.data_bytes (after_line before line).layout.constant_bytes)
 
 -- the tests of a line, in the order that decides
 abbrev pub tests : List (AsmKind × (Sofar → Sofar → Line → Bool))
@@ -191,7 +191,7 @@ same_section _ _ = false
 -- the code of a line after some lines
 abbrev pub code_of_line : Sofar → Sofar → Line → List Instr
 code_of_line whole before line =
-    if same_section Text before.layout.section then code_of whole before.layout.code line.statement.says else []
+    if same_section Text before.layout.section then code_of whole before.layout.instructions line.statement.says else []
 
 unfoldable pub code_from : Sofar → Sofar → List Line → List Instr
 code_from whole before [] = []
@@ -209,8 +209,8 @@ bytes_from section whole before (line ∷ lines) =
 
 -- the bytes of both sections: zeros come before the first constant, up to a word
 abbrev pub bytes_together : List ℕ → List ℕ → List ℕ
-bytes_together data [] = data
-bytes_together data (b ∷ constants) = data ++ (replicate (round_up_to_word (length data) - length data) 0 ++ (b ∷ constants))
+bytes_together bytes [] = bytes
+bytes_together bytes (b ∷ constants) = bytes ++ (replicate (round_up_to_word (length bytes) - length bytes) 0 ++ (b ∷ constants))
 
 abbrev pub symbol_of : Layout → Label → Symbol
 symbol_of whole label = (label.0, address_in whole label.1)

@@ -7,8 +7,8 @@ use Rattle.xs_text.specs.declared.token_reader.TokKind.{TokKind}
 use Rattle.xs_text.specs.declared.token_reader.TokKind.TheVariants.{Name, Number}
 use Rattle.xs_instructions.specs.Image.{same_name}
 use Rattle.xs_instructions.specs.Table.{find, known, is_built}
-use Rattle.xs_instructions.specs.declared.table.Row.{Row}
-use Rattle.xs_instructions.specs.declared.table.Shape.{Shape}
+use Rattle.xs_instructions.specs.declared.rows.Row.{Row}
+use Rattle.xs_instructions.specs.declared.shape.Shape.{Shape}
 use Rattle.source_model.specs.declared.layout.Home.{Home}
 use Rattle.source_model.specs.declared.layout.Home.TheVariants.{Anywhere, InText, InBytes, BeginsData, BeginsConstants, Nowhere}
 use Rattle.source_model.specs.declared.layout.Width.{Width}

@@ -34,12 +34,11 @@ pub enum Home {
 #[derive(Clone, Copy)]
 pub struct Layout {
     pub section: Section,
-    /// Instructions.
-    pub code: u64,
-    /// Bytes of `.data`.
-    pub data: u64,
-    /// Bytes of `.cp`.
-    pub constants: u64,
+    pub instructions: u64,
+    /// How many bytes `.data` has.
+    pub data_bytes: u64,
+    /// How many bytes `.cp` has.
+    pub constant_bytes: u64,
 }
 
 /// How many bytes a value of `.byte`, `.short` or `.word` takes.
