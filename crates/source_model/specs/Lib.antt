@@ -3,3 +3,5 @@ pub mod Values
 pub mod Statement
 pub mod Layout
 pub mod Source
+pub mod Faults
+pub mod WorkedSourceLines

@@ -1,5 +1,5 @@
 -- Operands of an instruction, token by token: the shape of each, and the amount that it stands for.
-use Rattle.std.specs.Prelude.{ℕ, ◌+◌, Bool, true, false, if◌then◌else◌, Option, Some, None, option_map, List, [], ◌∷◌, map, codes}
+use Rattle.std.specs.Prelude.{ℕ, if◌then◌else◌, Option, Some, None, option_map, List, [], ◌∷◌, map, codes}
 use Rattle.xs_text.specs.Tokens.{Token}
 use Rattle.xs_text.specs.Numbers.{source_number_of, at_most}
 use Rattle.xs_text.specs.declared.token_reader.TokKind.{TokKind}
