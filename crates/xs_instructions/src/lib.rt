@@ -2,6 +2,7 @@
 #![tactic(auto)]
 
 mod code;
+mod forms;
 mod image;
 mod instr;
 mod rows;
