@@ -1,6 +1,7 @@
 ghost use Rattle.std.specs.Prelude.{◌≡◌, ◌%◌, [], ◌∷◌, IfSome};
-ghost use Rattle.xs_instructions.specs.Operands.{at, made, row_of};
-ghost use Rattle.xs_instructions.specs.Instr.{InRange, value_parts, is_width};
+ghost use Rattle.xs_instructions.specs.Operands.{at, made, row_of, values_of};
+ghost use Rattle.std.specs.List.{filter};
+ghost use Rattle.xs_instructions.specs.Instr.{InRange, takes_value, value_parts};
 ghost use Rattle.xs_instructions.specs.Find.{is_in_range, are_in_range, build, takes_value_at};
 ghost use Rattle.xs_instructions.specs.Kept.{kept};
 
@@ -28,9 +29,35 @@ fn short(values: &[u32], number: usize) -> u16
 }
 
 impl Row {
+    /// The row's instruction with these values: one for each operand and for each number that the row itself names, in
+    /// the order in which they are written. None comes exactly where a value is outside its operand's range, or there
+    /// are more or fewer of them.
+    pub fn build(self, values: &[u32]) -> Option<Instr>
+        ensures value { result ≡ build self values.now }
+        ensures in_range { IfSome result InRange }
+        ensures row { IfSome result (λ ins. row_of ins ≡ self) }
+        ensures values { IfSome result (λ ins. values_of ins ≡ values.now) }
+    {
+        if are_in_range(self.parts(), values) {
+            Some(self.made(values))
+        } else {
+            None
+        }
+    }
+
+    /// Whether a value is written at the place with this number after the row's name, from 0.
+    pub fn takes_value(self, at: usize) -> bool
+        ensures value { result ≡ takes_value_at self at }
+    {
+        match self.parts().get(at) {
+            Some(part) => part.takes_value(),
+            None => false,
+        }
+    }
+
     // The row's instruction with these values, each as far as it fits its field.
     fn made(self, values: &[u32]) -> Instr
-        ensures { result ≡ made self (kept 0 (value_parts self) values.now) }
+        ensures { result ≡ made self (kept (value_parts self) values.now) }
     {
         let a = byte(values, 0);
         let b = byte(values, 1);
@@ -198,5 +225,33 @@ impl Row {
             Row::Setrdy => Instr::Resources(ResIns::Setrdy(a, b)),
             Row::Settw => Instr::Resources(ResIns::Settw(a, b)),
         }
+    }
+}
+
+// Whether a value is in the range of its part.
+fn is_in_range(part: Part, value: u32) -> bool
+    ensures { result ≡ is_in_range part value }
+{
+    match part {
+        Part::Common | Part::Small => value < 12,
+        Part::AnyRegister => value < 16,
+        Part::Width => matches!(value, 1..=8 | 16 | 24 | 32),
+        Part::Short | Part::Label => value < 65_536,
+        Part::Exactly(number) => value == number,
+        Part::Register(_) | Part::Word(_) => false,
+    }
+}
+
+// Whether there is one value for each part that takes one, and all are in range.
+fn are_in_range(parts: &[Part], values: &[u32]) -> bool
+    ensures { result ≡ are_in_range (filter takes_value parts.now) values.now }
+{
+    match parts {
+        [] => values.is_empty(),
+        [part, parts @ ..] if !part.takes_value() => are_in_range(parts, values),
+        [part, parts @ ..] => match values {
+            [] => false,
+            [value, values @ ..] => is_in_range(*part, *value) && are_in_range(parts, values),
+        },
     }
 }

@@ -1,6 +1,6 @@
 ghost use Rattle.std.specs.Prelude.{◌≡◌};
 ghost use Rattle.xs_instructions.specs.Rows.{name_of, parts_of, is_built};
-ghost use Rattle.xs_instructions.specs.Find.{takes_value_at};
+ghost use Rattle.xs_instructions.specs.Instr.{takes_value};
 
 use crate::rows::{Part, Row};
 
@@ -222,5 +222,14 @@ impl Row {
             self,
             Row::Add | Row::Sub | Row::Eq | Row::Ldc | Row::Nop | Row::LdwDp | Row::StwDp | Row::Bt | Row::Bf | Row::Bu | Row::Freet | Row::Getr | Row::Setd | Row::OutctImm | Row::ChkctImm
         )
+    }
+}
+
+impl Part {
+    /// Whether a value is written at the part: an operand's, or the number that the row itself names.
+    pub fn takes_value(self) -> bool
+        ensures value { result ≡ takes_value self }
+    {
+        !matches!(self, Part::Register(_) | Part::Word(_))
     }
 }

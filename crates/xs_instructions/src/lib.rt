@@ -3,6 +3,7 @@
 
 mod build;
 mod code;
+mod look_up;
 mod forms;
 mod image;
 mod instr;
@@ -12,6 +13,7 @@ mod symbols;
 mod words;
 
 pub use code::{MOST_CODE, instr_at};
+pub use look_up::{find, known};
 pub use image::Image;
 pub use instr::{FlowIns, Instr, KernelIns, MemIns, ResIns, ThreadIns, WordIns};
 pub use rows::{Part, ROWS, Row};
