@@ -1,4 +1,6 @@
 pub mod NameTable
 pub mod Steps
+pub mod LabelSteps
+pub mod ValueSteps
 pub mod Loops
 pub mod Sizes

@@ -13,7 +13,7 @@ abbrev pub before_all : {B : Type 0} → List B → Option (List B) → Option (
 before_all ys None = None
 before_all ys (Some zs) = Some (ys ++ zs)
 
-before_put : {B : Type 0} (ys : List B) (y : B) (o : Option (List B)) → before_all (ys ++ y ∷ []) o ≡ before_all ys (put_first (Some y) o)
+pub before_put : {B : Type 0} (ys : List B) (y : B) (o : Option (List B)) → before_all (ys ++ y ∷ []) o ≡ before_all ys (put_first (Some y) o)
 before_put ys y None = refl
 before_put ys y (Some zs) = ap (λ l. Some l) (append_assoc ys (y ∷ []) zs)
 
