@@ -1,4 +1,4 @@
-ghost use Rattle.std.specs.Prelude.{◌≡◌, ◌<◌, ◌^◌, ℕ, true, false, IfOk, option_map, vec_items};
+ghost use Rattle.std.specs.Prelude.{◌≡◌, ◌<◌, ◌≤◌, ◌^◌, ℕ, true, false, IfOk, MatchOption, option_map, vec_items};
 ghost use Rattle.std.specs.Prelude.{◌%◌};
 ghost use Rattle.std.specs.List.{list_any};
 ghost use Rattle.source_model.specs.Layout.{address_in};
@@ -50,11 +50,15 @@ fn address_word(whole: Layout, place: Place) -> u32
 // The address of a place, or None where it is past 64 bits.
 fn address(whole: Layout, place: Place) -> Option<u64>
     requires { whole.data_bytes < 2 ^ 62 }
+    ensures { MatchOption result (2 ^ 64 ≤ address_in whole place) (λ at. at ≡ address_in whole place) }
 {
     let start = section_start(whole, place.section);
     match place.section {
-        Section::Text => place.offset.checked_mul(4)?.checked_add(start),
-        Section::Data | Section::Constants => place.offset.checked_add(start),
+        Section::Text => match place.offset.checked_mul(4) {
+            Some(bytes) => start.checked_add(bytes),
+            None => None,
+        },
+        Section::Data | Section::Constants => start.checked_add(place.offset),
     }
 }
 
@@ -90,10 +94,11 @@ fn offset_value(whole: Layout, base: Section, place: Option<Place>) -> Option<u3
 {
     match place {
         None => Some(0),
-        Some(place) => {
-            let address = address(whole, place)?;
-            words_past(section_start(whole, base), address)
-        }
+        Some(place) => match address(whole, place) {
+            Some(at) => words_past(section_start(whole, base), at),
+            // Such an address is past all of them.
+            None => None,
+        },
     }
 }
 
