@@ -1,5 +1,15 @@
-ghost use Rattle.std.specs.Prelude.{◌≡◌, ◌^◌, ◌<◌, ◌≤◌, length, IfOk, IfErr};
-ghost use Rattle.source_model.specs.Source.{assembled, Image, Fault};
+ghost use Rattle.std.specs.Prelude.{ℕ, ◌≡◌, ◌^◌, ◌<◌, ◌≤◌, List, None, length, map, IfOk, IfErr, OnOk};
+ghost use Rattle.std.specs.List.{AllByRecursion};
+ghost use Rattle.xs_instructions.specs.Image.{ImageRec, Symbol, AreLabels};
+ghost use Rattle.source_model.specs.Layout.{nothing_yet, whole_of, section_length, added, after_line, address_in};
+ghost use Rattle.source_model.specs.declared.AsmKind.{AsmKind};
+ghost use Rattle.source_model.specs.Source.{assembled, Image, Fault, first_fault, fault_of_line, bytes_together, symbol_of};
+ghost use Rattle.xs_assembler.specs.Assembles.{Assembles, FaultOf, FirstFault, GivesImage, GivesFault};
+ghost use Rattle.xs_assembler.specs.Lines.{line_value, says_of};
+ghost use Rattle.xs_assembler.specs.Names.{label_of, labels_in};
+ghost use Rattle.xs_assembler.specs.Output.{HasLine, HasLines};
+ghost use Rattle.xs_assembler.specs.Passes.{source_lines, AreWithin};
+ghost use Rattle.xs_assembler.specs.Sofar.{sofar_of};
 
 use crate::asm_error::AsmError;
 use crate::contents::{Content, resolve};
@@ -9,7 +19,7 @@ use crate::lines::{Line, read_line};
 use crate::names::Label;
 use crate::output::{Output, put_zeros};
 use crate::sofar::Sofar;
-use source_model::{AsmKind, Layout, Section};
+use source_model::{AsmKind, Layout, Place, Section};
 use std::alloc::{AllocError, Global};
 use xs_instructions::{Image, Symbols};
 use xs_text::Lines;
@@ -18,6 +28,12 @@ use xs_text::Lines;
 /// first faulty line and kind; want of memory may come in place of either. See docs/ASSEMBLY.md.
 pub fn assemble(alloc: Global, text: &[u8]) -> Result<Image, AsmError>
     requires { length text.now < 2 ^ 32 }
+
+    ensures exact { Assembles (assembled text.now) result }
+    ensures ok { IfOk result (λ image. assembled text.now ≡ Image image) }
+    ensures fault { IfErr result (FaultOf (assembled text.now)) }
+    ensures taken { (image : ImageRec) → assembled text.now ≡ Image image → GivesImage image result }
+    ensures refused { (line : ℕ) (kind : AsmKind) → assembled text.now ≡ Fault line kind → GivesFault line kind result }
 {
     let whole = read_whole(alloc, text)?;
     let output = read_output(alloc, text, &whole)?;
@@ -28,8 +44,10 @@ pub fn assemble(alloc: Global, text: &[u8]) -> Result<Image, AsmError>
 }
 
 // What all lines say together. It reads past faulty lines, since a fault of a line may hang on later ones.
-fn read_whole<'a>(alloc: Global, text: &'a [u8]) -> Result<Sofar<'a>, AllocError>
+fn read_whole(alloc: Global, text: &[u8]) -> Result<Sofar<'_>, AllocError>
     requires { length text.now < 2 ^ 32 }
+    ensures value { IfOk result (λ whole. sofar_of whole ≡ whole_of (source_lines text.now)) }
+    ensures within { IfOk result (λ whole. AreWithin (2 ^ 50) whole.layout) }
 {
     let mut lines = Lines::new(text);
     let mut sofar = Sofar::new(alloc);
@@ -42,7 +60,11 @@ fn read_whole<'a>(alloc: Global, text: &'a [u8]) -> Result<Sofar<'a>, AllocError
 
 // Code and bytes of the lines up to the first fault.
 fn read_output(alloc: Global, text: &[u8], whole: &Sofar) -> Result<Output, AsmError>
-    requires { length text.now < 2 ^ 32 }
+    requires small { length text.now < 2 ^ 32 }
+    requires within { AreWithin (2 ^ 50) whole.now.layout }
+    ensures ok { IfOk result (λ _. first_fault (sofar_of whole.now) nothing_yet 1 (source_lines text.now) ≡ None) }
+    ensures output { IfOk result (HasLines (sofar_of whole.now) nothing_yet (source_lines text.now)) }
+    ensures fault { IfErr result (FirstFault (first_fault (sofar_of whole.now) nothing_yet 1 (source_lines text.now))) }
 {
     let mut lines = Lines::new(text);
     let mut sofar = Sofar::new(alloc);
@@ -65,6 +87,12 @@ fn put_line<'a>(
     line: &Line<'a>,
     output: &mut Output,
 ) -> Result<Option<AsmKind>, AllocError>
+    requires whole { AreWithin (2 ^ 50) whole.now.layout }
+    requires before { AreWithin (2 ^ 50) sofar.old.layout }
+    requires little { added (section_length sofar.old.layout sofar.old.layout.section) (says_of line.now.statement.says) ≤ 2 ^ 50 }
+    ensures fault { IfOk result (λ kind. kind ≡ fault_of_line (sofar_of whole.now) (sofar_of sofar.old) (line_value line.now)) }
+    ensures noted { OnOk result (sofar_of sofar.new ≡ after_line (sofar_of sofar.old) (line_value line.now)) }
+    ensures output { IfOk result (λ kind. kind ≡ None → HasLine (sofar_of whole.now) (sofar_of sofar.old) (line_value line.now) output.old output.new) }
 {
     let before = sofar.layout;
     let content = resolve(alloc, whole, &line.statement.says)?;
@@ -88,25 +116,34 @@ fn put_line<'a>(
 
 // The symbols of the labels.
 fn symbols(alloc: Global, whole: Layout, labels: &[Label]) -> Result<Symbols, AllocError>
+    requires within { AreWithin (2 ^ 50) whole }
+    requires names { AreLabels (map (symbol_of whole) (labels_in labels.now)) }
+    requires addresses { AllByRecursion (λ (s : Symbol). s.1 < 2 ^ 32) (map (symbol_of whole) (labels_in labels.now)) }
+    ensures { IfOk result (λ symbols. symbols ≡ map (symbol_of whole) (labels_in labels.now)) }
 {
     let mut symbols = Symbols::new(alloc);
     for label in labels {
-        symbols.define(alloc, label.name, address(whole, *label))?;
+        symbols.define(alloc, label.name, address(whole, label.place))?;
     }
     Ok(symbols)
 }
 
-fn address(whole: Layout, label: Label) -> u32
+// The address of a place.
+fn address(whole: Layout, place: Place) -> u32
+    requires within { AreWithin (2 ^ 50) whole }
+    requires small { address_in whole place < 2 ^ 32 }
+    ensures { result ≡ address_in whole place }
 {
-    let start = section_start(whole, label.place.section);
-    match label.place.section {
-        Section::Text => (start + 4 * label.place.offset) as u32,
-        _ => (start + label.place.offset) as u32,
+    let start = section_start(whole, place.section);
+    match place.section {
+        Section::Text => (start + 4 * place.offset) as u32,
+        Section::Data | Section::Constants => (start + place.offset) as u32,
     }
 }
 
 // The bytes of both sections: zeros come before the first constant, up to a word.
 fn together(bytes: Vec<u8>, constants: &[u8]) -> Result<Vec<u8>, AllocError>
+    ensures { IfOk result (λ all. all.items ≡ bytes_together bytes.items constants.now) }
 {
     let mut bytes = bytes;
     if !constants.is_empty() {
