@@ -1,3 +1,4 @@
 pub mod NameTable
 pub mod Steps
 pub mod Sizes
+pub mod Passing

@@ -1,14 +1,16 @@
-ghost use Rattle.std.specs.Prelude.{ℕ, ◌≡◌, ◌^◌, ◌<◌, ◌≤◌, List, None, length, map, IfOk, IfErr, OnOk};
+ghost use Rattle.std.specs.Prelude.{ℕ, ◌≡◌, ◌+◌, ◌^◌, ◌<◌, ◌≤◌, List, None, length, map, IfOk, IfErr, IfSome, OnOk};
 ghost use Rattle.std.specs.List.{AllByRecursion};
-ghost use Rattle.xs_instructions.specs.Image.{ImageRec, Symbol, AreLabels};
-ghost use Rattle.source_model.specs.Layout.{nothing_yet, whole_of, section_length, added, after_line, address_in};
+ghost use Rattle.xs_instructions.specs.Image.{ImageRec, IsImage, Symbol, AreLabels};
 ghost use Rattle.source_model.specs.declared.AsmKind.{AsmKind};
-ghost use Rattle.source_model.specs.Source.{assembled, Image, Fault, first_fault, fault_of_line, bytes_together, symbol_of};
+ghost use Rattle.source_model.specs.Statement.{line_of};
+ghost use Rattle.source_model.specs.Layout.{nothing_yet, whole_of, section_length, added, after_line, address_in};
+ghost use Rattle.source_model.specs.Source.{assembled, Image, Fault, first_fault, fault_of_line, is_out_of_range, bytes_together, symbol_of};
 ghost use Rattle.xs_assembler.specs.Assembles.{Assembles, FaultOf, FirstFault, GivesImage, GivesFault};
+ghost use Rattle.xs_assembler.specs.Contents.{code_in, bytes_in};
 ghost use Rattle.xs_assembler.specs.Lines.{line_value, says_of};
-ghost use Rattle.xs_assembler.specs.Names.{label_of, labels_in};
-ghost use Rattle.xs_assembler.specs.Output.{HasLine, HasLines};
-ghost use Rattle.xs_assembler.specs.Passes.{source_lines, AreWithin};
+ghost use Rattle.xs_assembler.specs.Names.{labels_in};
+ghost use Rattle.xs_assembler.specs.Output.{Grows, HasLine, HasLines};
+ghost use Rattle.xs_assembler.specs.Passes.{source_lines, AreWithin, image_with};
 ghost use Rattle.xs_assembler.specs.Sofar.{sofar_of};
 
 use crate::asm_error::AsmError;
@@ -19,7 +21,7 @@ use crate::lines::{Line, read_line};
 use crate::names::Label;
 use crate::output::{Output, put_zeros};
 use crate::sofar::Sofar;
-use source_model::{AsmKind, Layout, Place, Section};
+use source_model::{AsmKind, Layout, Place, Section, sources_make_images};
 use std::alloc::{AllocError, Global};
 use xs_instructions::{Image, Symbols};
 use xs_text::Lines;
@@ -37,10 +39,8 @@ pub fn assemble(alloc: Global, text: &[u8]) -> Result<Image, AsmError>
 {
     let whole = read_whole(alloc, text)?;
     let output = read_output(alloc, text, &whole)?;
-    let symbols = symbols(alloc, whole.layout, whole.names.labels())?;
-    let bytes = together(output.data_bytes, &output.constant_bytes)?;
-    let cp_at = section_start(whole.layout, Section::Constants) as u32;
-    Ok(Image::of(output.code, bytes, cp_at, symbols))
+    sources_make_images();
+    Ok(image(alloc, &whole, output)?)
 }
 
 // What all lines say together. It reads past faulty lines, since a fault of a line may hang on later ones.
@@ -52,10 +52,24 @@ fn read_whole(alloc: Global, text: &[u8]) -> Result<Sofar<'_>, AllocError>
     let mut lines = Lines::new(text);
     let mut sofar = Sofar::new(alloc);
     while let Some(line) = lines.next_line() {
-        let line = read_line(alloc, &text[line.from..line.to])?;
-        sofar.note(&line)?;
+        note_line(alloc, &mut sofar, &text[line.from..line.to])?;
     }
     Ok(sofar)
+}
+
+// Notes a line.
+fn note_line<'a>(
+    alloc: Global,
+    sofar: &mut Sofar<'a>,
+    bytes: &'a [u8],
+) -> Result<(), AllocError>
+    requires before { AreWithin (2 ^ 50) sofar.old.layout }
+    requires little { length bytes.now < 2 ^ 32 }
+    ensures { OnOk result (sofar_of sofar.new ≡ after_line (sofar_of sofar.old) (line_of bytes.now)) }
+{
+    let line = read_line(alloc, bytes)?;
+    sofar.note(&line)?;
+    Ok(())
 }
 
 // Code and bytes of the lines up to the first fault.
@@ -70,10 +84,10 @@ fn read_output(alloc: Global, text: &[u8], whole: &Sofar) -> Result<Output, AsmE
     let mut sofar = Sofar::new(alloc);
     let mut output = Output::new(alloc);
     while let Some(line) = lines.next_line() {
-        let number = line.number;
-        let line = read_line(alloc, &text[line.from..line.to])?;
-        if let Some(kind) = put_line(alloc, whole, &mut sofar, &line, &mut output)? {
-            return Err(AsmError::Fault { line: number, kind });
+        let bytes = &text[line.from..line.to];
+        if let Some(kind) = put_line(alloc, whole, &mut sofar, bytes, &mut output)? {
+            let line = line.number;
+            return Err(AsmError::Fault { line, kind });
         }
     }
     Ok(output)
@@ -84,34 +98,84 @@ fn put_line<'a>(
     alloc: Global,
     whole: &Sofar,
     sofar: &mut Sofar<'a>,
-    line: &Line<'a>,
+    bytes: &'a [u8],
     output: &mut Output,
 ) -> Result<Option<AsmKind>, AllocError>
     requires whole { AreWithin (2 ^ 50) whole.now.layout }
     requires before { AreWithin (2 ^ 50) sofar.old.layout }
-    requires little { added (section_length sofar.old.layout sofar.old.layout.section) (says_of line.now.statement.says) ≤ 2 ^ 50 }
+    requires little { length bytes.now < 2 ^ 32 }
+    ensures fault { IfOk result (λ kind. kind ≡ fault_of_line (sofar_of whole.now) (sofar_of sofar.old) (line_of bytes.now)) }
+    ensures noted { OnOk result (sofar_of sofar.new ≡ after_line (sofar_of sofar.old) (line_of bytes.now)) }
+    ensures output { IfOk result (λ kind. kind ≡ None → HasLine (sofar_of whole.now) (sofar_of sofar.old) (line_of bytes.now) output.old output.new) }
+{
+    let line = read_line(alloc, bytes)?;
+    let content = resolve(alloc, whole, &line.statement.says)?;
+    let before = sofar.layout;
+    if let Some(kind) = note_and_judge(whole, sofar, &line, content.is_none())? {
+        return Ok(Some(kind));
+    }
+    put_content(output, before, &content)?;
+    Ok(None)
+}
+
+// Notes a line, and gives the first kind of which it has a fault, by whether a value is out of range.
+fn note_and_judge<'a>(
+    whole: &Sofar,
+    sofar: &mut Sofar<'a>,
+    line: &Line<'a>,
+    out_of_range: bool,
+) -> Result<Option<AsmKind>, AllocError>
+    requires before { AreWithin (2 ^ 50) sofar.old.layout }
+    requires after { AreWithin (2 ^ 51) (after_line (sofar_of sofar.old) (line_value line.now)).layout }
+    requires fits { section_length sofar.old.layout sofar.old.layout.section + added (section_length sofar.old.layout sofar.old.layout.section) (says_of line.now.statement.says) < 2 ^ 64 }
+    requires out { out_of_range ≡ is_out_of_range (sofar_of whole.now) (says_of line.now.statement.says) }
     ensures fault { IfOk result (λ kind. kind ≡ fault_of_line (sofar_of whole.now) (sofar_of sofar.old) (line_value line.now)) }
     ensures noted { OnOk result (sofar_of sofar.new ≡ after_line (sofar_of sofar.old) (line_value line.now)) }
-    ensures output { IfOk result (λ kind. kind ≡ None → HasLine (sofar_of whole.now) (sofar_of sofar.old) (line_value line.now) output.old output.new) }
 {
-    let before = sofar.layout;
-    let content = resolve(alloc, whole, &line.statement.says)?;
+    let section = sofar.layout.section;
     let label_twice = sofar.note(line)?;
     let found = Findings {
-        section: before.section,
+        section,
         label_twice,
-        out_of_range: content.is_none(),
+        out_of_range,
         after: sofar.layout,
     };
-    let kind = fault_of_line(whole, line, found);
-    if let (None, Some(content)) = (kind, content) {
-        output.put(
+    Ok(fault_of_line(whole, line, found))
+}
+
+// Puts what a line adds to the section in which it stands.
+fn put_content(
+    output: &mut Output,
+    before: Layout,
+    content: &Option<Content>,
+) -> Result<(), AllocError>
+    ensures { OnOk result (IfSome content.now (λ c. Grows before.section (code_in (section_length before before.section) c) (bytes_in (section_length before before.section) c) output.old output.new)) }
+{
+    match content {
+        Some(content) => output.put(
             before.section,
             section_length(before, before.section),
-            &content,
-        )?;
+            content,
+        ),
+        None => Ok(()),
     }
-    Ok(kind)
+}
+
+// The image of what the lines give, where it keeps what every image keeps.
+fn image(alloc: Global, whole: &Sofar, output: Output) -> Result<Image, AllocError>
+    requires within { AreWithin (2 ^ 50) whole.now.layout }
+    requires kept { IsImage (image_with (sofar_of whole.now) output) }
+    ensures { IfOk result (λ image. image ≡ image_with (sofar_of whole.now) output) }
+{
+    let Output {
+        code,
+        data_bytes,
+        constant_bytes,
+    } = output;
+    let symbols = symbols(alloc, whole.layout, whole.names.labels())?;
+    let bytes = together(data_bytes, &constant_bytes)?;
+    let cp_at = section_start(whole.layout, Section::Constants) as u32;
+    Ok(Image::of(code, bytes, cp_at, symbols))
 }
 
 // The symbols of the labels.
