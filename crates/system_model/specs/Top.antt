@@ -4,9 +4,9 @@ use Rattle.std.specs.Char.{is_ascii_digit}
 use Rattle.xs_instructions.specs.Image.{same_name}
 use Rattle.xs_text.specs.Numbers.{at_most, value_in}
 use Rattle.source_model.specs.declared.AsmKind.{AsmKind}
-use Rattle.source_model.specs.declared.AsmKind.TheVariants.{UnknownName}
+use Rattle.source_model.specs.declared.AsmKind.TheVariants as asm
 use Rattle.system_model.specs.declared.SysKind.{SysKind}
-use Rattle.system_model.specs.declared.SysKind.TheVariants.{BadLine, TooLong}
+use Rattle.system_model.specs.declared.SysKind.TheVariants as sys
 use Rattle.system_model.specs.declared.Form.{Form}
 use Rattle.system_model.specs.declared.Form.TheVariants.{Run}
 use Rattle.system_model.specs.declared.Answer.{Answer}
@@ -31,11 +31,29 @@ abbrev pub usage_text : List ℕ
 usage_text = codes "usage: xs1 run SLOTS [serial|free|rounds] | play SLOTS | make NUMBER | check\n"
 
 abbrev pub text_of_sys_kind : SysKind → List ℕ
-text_of_sys_kind BadLine = codes "S2 bad line"
-text_of_sys_kind TooLong = codes "S10 input too long"
+text_of_sys_kind sys.FirstLine = codes "S1 first line is not xs1 1"
+text_of_sys_kind sys.BadLine = codes "S2 bad line"
+text_of_sys_kind sys.GivenTwice = codes "S3 given twice"
+text_of_sys_kind sys.IdTwice = codes "S4 id twice"
+text_of_sys_kind sys.LinkEndTwice = codes "S5 link end twice"
+text_of_sys_kind sys.LinkToItself = codes "S6 link from a node to itself"
+text_of_sys_kind sys.NumberOutOfRange = codes "S7 number out of range"
+text_of_sys_kind sys.NodeWithoutSource = codes "S8 node without source"
+text_of_sys_kind sys.SectionNotEnded = codes "S9 section not ended"
+text_of_sys_kind sys.TooLong = codes "S10 input too long"
+text_of_sys_kind sys.BitTwice = codes "S11 bit twice"
+text_of_sys_kind sys.NoSuchNode = codes "S12 no such node or link end"
 
 abbrev pub text_of_asm_kind : AsmKind → List ℕ
-text_of_asm_kind UnknownName = codes "A2 unknown name"
+text_of_asm_kind asm.BadByte = codes "A1 bad byte"
+text_of_asm_kind asm.UnknownName = codes "A2 unknown name"
+text_of_asm_kind asm.WrongOperands = codes "A3 wrong operands"
+text_of_asm_kind asm.NumberOutOfRange = codes "A4 number out of range"
+text_of_asm_kind asm.LabelTwice = codes "A5 label defined twice"
+text_of_asm_kind asm.LabelMissing = codes "A6 label missing"
+text_of_asm_kind asm.DirectiveNotAllowed = codes "A7 directive not allowed"
+text_of_asm_kind asm.TooManyInstructions = codes "A8 too many instructions"
+text_of_asm_kind asm.TooManyBytes = codes "A9 too many bytes"
 
 -- `system line L: KIND TEXT`
 abbrev pub frame_text : ℕ → SysKind → List ℕ

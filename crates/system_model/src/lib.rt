@@ -14,13 +14,33 @@ mod frame_line;
 pub use frame_line::{BitLine, FrameLine, LinkLine, NodeLine};
 use xs_base::Text;
 
-/// Why a system text is refused.
+/// Why the frame of a system text is refused. See docs/SYSTEM_TEXT.md.
 #[derive(Clone, Copy, PartialEq, Eq, Debug)]
 pub enum SysKind {
-    /// S2: a line that has no known form.
+    /// S1: the first line with words is not `xs1 1`, or there is none.
+    FirstLine,
+    /// S2: a line that has no known form, or a byte that is not allowed.
     BadLine,
+    /// S3: a node's number or a node's source is given twice.
+    GivenTwice,
+    /// S4: two nodes have one id.
+    IdTwice,
+    /// S5: a link end stands in two links, or twice in a bit's line.
+    LinkEndTwice,
+    /// S6: a link joins a node to itself.
+    LinkToItself,
+    /// S7: a number outside its range.
+    NumberOutOfRange,
+    /// S8: a node has no source.
+    NodeWithoutSource,
+    /// S9: a section has no line `end`.
+    SectionNotEnded,
     /// S10: more than 4,194,304 bytes.
     TooLong,
+    /// S11: a bit of a node is given twice.
+    BitTwice,
+    /// S12: a node or a link end that no earlier line gave.
+    NoSuchNode,
 }
 
 /// The forms of the command words. See docs/OUTPUT.md.
