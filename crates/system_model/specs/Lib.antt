@@ -1,3 +1,4 @@
+pub mod Check
 pub mod System
 pub mod Top
 pub mod Worked
