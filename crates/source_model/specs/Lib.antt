@@ -1,3 +1,4 @@
 pub mod Statement
 pub mod Source
+pub mod Canonical
 pub mod WorkedSourceLines

@@ -1,0 +1,4 @@
+//! The canonical text of an image. See docs/OUTPUT.md.
+#![tactic(auto)]
+
+mod labels;
