@@ -14,7 +14,8 @@ use Rattle.indexmap.specs.IndexMap.{IndexMap, get, insert_entry}
 use Rattle.indexmap.proofs.CallerLemmas.{insert_entry-new}
 use Rattle.xs_text.specs.Bytes.{is_name_byte, is_name_start}
 use Rattle.xs_text.specs.Tokens.{is_name}
-use Rattle.xs_instructions.specs.Image.{same_name, address_of, symbol_of_entry, is_reserved, reserved_names}
+use Rattle.xs_instructions.specs.Words.{same_name}
+use Rattle.xs_instructions.specs.Image.{address_of, symbol_of_entry, is_reserved, reserved_names}
 
 pub same_name-Decides : (xs ys : List ℕ) → Decides (same_name xs ys) (xs ≡ ys)
 same_name-Decides = compares_Decides same_name (search rules)

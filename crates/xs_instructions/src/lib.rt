@@ -4,11 +4,15 @@
 mod code;
 mod image;
 mod instr;
+mod rows;
+mod shape;
 mod symbols;
 
 pub use code::{MOST_CODE, instr_at};
 pub use image::Image;
-pub use instr::{FlowIns, Instr, MemIns, ResIns, ThreadIns, WordIns};
+pub use instr::{FlowIns, Instr, KernelIns, MemIns, ResIns, ThreadIns, WordIns};
+pub use rows::{Part, ROWS, Row};
+pub use shape::{Form, Piece, Shape};
 pub use symbols::{Symbols, is_reserved, same_name};
 
 #[cfg(test)]
