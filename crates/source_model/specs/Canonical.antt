@@ -1,7 +1,9 @@
 -- The canonical text of an image: one line for each label, instruction, section and byte.
-use Rattle.std.specs.Prelude.{ℕ, ◌+◌, ◌-◌, ◌==◌, nat_lt, if◌then◌else◌, Option, Some, None, List, [], ◌∷◌, ◌++◌, length, take, drop, map, filter, codes, decimal}
+use Rattle.std.specs.Prelude.{ℕ, ◌+◌, ◌-◌, ◌==◌, nat_lt, if◌then◌else◌, Option, Some, None, List, [], ◌∷◌, ◌++◌, length, take, drop, map, filter, get_or, codes, decimal}
 use Rattle.std.specs.List.{flat_map}
 use Rattle.xs_instructions.specs.declared.instr.Instr.{Instr}
+use Rattle.xs_instructions.specs.Words.{same_name, register_names}
+use Rattle.xs_instructions.specs.Spelling.{Spelled, Text, Reg, Num, Place, spelling}
 use Rattle.xs_instructions.specs.Code.{code_start, place_address}
 use Rattle.xs_instructions.specs.Image.{ImageRec, Symbol, data_start}
 
@@ -61,14 +63,27 @@ unfoldable pub first_name_at : List Symbol → ℕ → List ℕ
 first_name_at [] at = []
 first_name_at (s ∷ symbols) at = if s.1 == at then s.0 else first_name_at symbols at
 
--- the statement of an instruction
-abbrev pub statement_text : List Symbol → Instr → List ℕ
-statement_text symbols ins = codes "nop"
+-- a piece of a statement: a blank stands behind a comma, and a place is the first label that leads there
+abbrev pub piece_text : List Symbol → Spelled → List ℕ
+piece_text symbols (Text bytes) = if same_name (codes ",") bytes then codes ", " else bytes
+piece_text symbols (Reg n) = get_or register_names n []
+piece_text symbols (Num n) = decimal n
+piece_text symbols (Place p) = first_name_at symbols (place_address p)
+
+-- the operands behind a blank, if there are any
+abbrev pub operands_text : List Symbol → List Spelled → List ℕ
+operands_text symbols [] = []
+operands_text symbols (p ∷ pieces) = codes " " ++ flat_map (piece_text symbols) (p ∷ pieces)
+
+-- an instruction as it is spelled: its name, and then its operands
+abbrev pub statement_text : List Symbol → List Spelled → List ℕ
+statement_text symbols [] = []
+statement_text symbols (name ∷ operands) = piece_text symbols name ++ operands_text symbols operands
 
 -- a label stands at the front of its line, and what is in a section behind two blanks
 abbrev pub item_line : List Symbol → Item → List ℕ
 item_line symbols (Label name) = name ++ codes ":"
-item_line symbols (Instruction ins) = codes "  " ++ statement_text symbols ins
+item_line symbols (Instruction ins) = codes "  " ++ statement_text symbols (spelling ins)
 item_line symbols DataSection = codes ".data"
 item_line symbols ConstantSection = codes ".cp"
 item_line symbols (Byte value) = codes "  .byte " ++ decimal value
