@@ -1,4 +1,7 @@
+pub mod Operands
+pub mod Values
 pub mod Statement
+pub mod Layout
 pub mod Source
 pub mod Canonical
-pub mod WorkedSourceLines
+pub mod WorkedCanonical
