@@ -18,13 +18,6 @@ image code bytes cp_at symbols = record { code = code; bytes = bytes; cp_at = cp
 abbrev pub code_alone : List Instr → List ℕ
 code_alone code = canonical (image code [] 0x00010000 [])
 
--- labels that share an address, at the code's end and at the bytes' end
-abbrev pub two_sections : ImageRec
-two_sections =
-    image (Words (words.Ldc 0 3) ∷ Flow (flow.Bt 0 0) ∷ Flow (flow.Bu 2) ∷ []) (1 ∷ 255 ∷ []) 0x00010004
-    ((codes "main", 0x00040000) ∷ (codes "loop", 0x00040000) ∷ (codes "end", 0x0004000c) ∷ (codes "after", 0x0004000c)
-    ∷ (codes "table", 0x00010000) ∷ (codes "tail", 0x00010002) ∷ (codes "consts", 0x00010004) ∷ [])
-
 -- where the labels lead, and where they stand
 pub record WorkedCanonicalTexts : Type 0 where
   pub nothing : canonical (image [] [] 0x00010000 []) ≡ codes ".data\n.cp\n"

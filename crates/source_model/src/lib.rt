@@ -1,8 +1,10 @@
 //! What a source text stands for: definitions, and the plain types that they speak of. See docs/ASSEMBLY.md.
 #![tactic(auto)]
 
+mod canonical;
 mod layout;
 
+pub use canonical::worked_canonical_texts;
 pub use layout::{Home, Layout, Place, Section, Width};
 
 /// Why a source is refused, in the order that decides within a line of several faults but for `LabelTwice` and
