@@ -9,7 +9,7 @@ use Rattle.source_model.specs.Canonical.{labels_of, lines_text}
 use Rattle.xs_printer.specs.Walk.{first_at, past_address}
 use Rattle.xs_printer.proofs.Order.{first_at-same, first_at-other, first_at-none, past_address-same, past_address-other, past_address-none}
 
-drop_at : {A : Type 0} (xs : List A) (k : ℕ) (x : A) → slice_get xs k ≡ Some x → drop k xs ≡ x ∷ drop (k + 1) xs
+pub drop_at : {A : Type 0} (xs : List A) (k : ℕ) (x : A) → slice_get xs k ≡ Some x → drop k xs ≡ x ∷ drop (k + 1) xs
 drop_at xs k x h =
     drop_more xs k x (slice_get_within xs k x h) ∙ ap (λ y. y ∷ drop (k + 1) xs) (get_or_from_slice_get xs k x x h)
 

@@ -1,3 +1,6 @@
+pub mod Pieces
 pub mod Order
 pub mod Places
 pub mod LabelWalk
+pub mod FirstLabels
+pub mod Leads

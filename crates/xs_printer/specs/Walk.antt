@@ -1,7 +1,8 @@
 -- The labels of an image as they are walked beside its places, in order.
-use Rattle.std.specs.Prelude.{ℕ, ◌≡◌, ◌<◌, ◌==◌, if◌then◌else◌, List, [], ◌∷◌, length, drop, filter, slice_index}
+use Rattle.std.specs.Prelude.{ℕ, ◌≡◌, ◌<◌, ◌==◌, if◌then◌else◌, List, [], ◌∷◌, length, drop, filter, slice_index, IsTrue}
+use Rattle.xs_instructions.specs.Spelling.{Spelled, Text, Reg, Num, Place}
 use Rattle.xs_instructions.specs.Code.{place_address}
-use Rattle.xs_instructions.specs.Image.{Symbol, may_follow}
+use Rattle.xs_instructions.specs.Image.{Symbol, may_follow, has_symbol_at}
 
 -- the symbols that stand first and have the address
 unfoldable pub first_at : ℕ → List Symbol → List Symbol
@@ -21,3 +22,10 @@ symbols_from at symbols = filter (λ (s : Symbol). may_follow at s.1) symbols
 pub record AreFirstLabels (symbols : List Symbol) (places : ℕ) (firsts : List ℕ) : Type 0 where
   pub count : length firsts ≡ places
   pub each : (p : ℕ) → p < places → drop (slice_index firsts p) symbols ≡ symbols_from (place_address p) symbols
+
+-- what the text of a piece needs: a register that there is, and for a place a label that leads there
+abbrev pub IsWritable : List Symbol → Spelled → Type 0
+IsWritable symbols (Text bytes) = Unit {0}
+IsWritable symbols (Reg n) = n < 16
+IsWritable symbols (Num n) = Unit {0}
+IsWritable symbols (Place p) = IsTrue (has_symbol_at symbols (place_address p))

@@ -8,8 +8,8 @@ use std::alloc::{AllocError, Global};
 use xs_base::Text;
 use xs_instructions::Image;
 
-// Label k and its address.
-fn label(image: &Image, k: usize) -> (&str, u32)
+/// Label k and its address.
+pub(crate) fn label(image: &Image, k: usize) -> (&str, u32)
     requires { k < length image.now.symbols }
     ensures { symbol_at k image.now.symbols ≡ Some (symbol_of_pair result) }
 {
