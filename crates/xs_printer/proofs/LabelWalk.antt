@@ -4,10 +4,10 @@ use Rattle.std.specs.Prelude.{slice_get}
 use Rattle.std.proofs.lemmas.List.{drop_more, drop_all}
 use Rattle.std.proofs.lemmas.Option.{get_or_from_slice_get, slice_get_within}
 use Rattle.std.proofs.lemmas.Bool.Decides.{nat_tests}
-use Rattle.xs_instructions.specs.Image.{Symbol}
-use Rattle.source_model.specs.Canonical.{labels_of, lines_text}
-use Rattle.xs_printer.specs.Walk.{first_at, past_address}
-use Rattle.xs_printer.proofs.Order.{first_at-same, first_at-other, first_at-none, past_address-same, past_address-other, past_address-none}
+use Rattle.xs_instructions.specs.Image.{Symbol, AreInOrder}
+use Rattle.source_model.specs.Canonical.{labels_of, labels_at, lines_text}
+use Rattle.xs_printer.specs.Walk.{first_at, past_address, IsFirstFrom}
+use Rattle.xs_printer.proofs.Order.{first_from, first_at-same, first_at-other, first_at-none, past_address-same, past_address-other, past_address-none}
 
 pub drop_at : {A : Type 0} (xs : List A) (k : ℕ) (x : A) → slice_get xs k ≡ Some x → drop k xs ≡ x ∷ drop (k + 1) xs
 drop_at xs k x h =
@@ -30,9 +30,6 @@ module _ (at : ℕ) (symbols : List Symbol) where
   abbrev pub lines_at : ℕ → List ℕ
   lines_at k = lines_text symbols (labels_of (first_at at (drop k symbols)))
 
-  lines_of_labels : List Symbol → List ℕ
-  lines_of_labels labels = lines_text symbols (labels_of labels)
-
   pub lines_more : (k : ℕ) (s : Symbol) → slice_get symbols k ≡ Some s → s.1 ≡ at → lines_at k ≡ s.0 ++ (58 ∷ 10 ∷ []) ++ lines_at (k + 1)
   lines_more k s h e =
       ap (λ (l : List Symbol). lines_text symbols (labels_of (first_at at l))) (drop_at symbols k s h)
@@ -48,3 +45,9 @@ module _ (at : ℕ) (symbols : List Symbol) where
   lines_end k h =
       ap (λ (l : List Symbol). lines_text symbols (labels_of (first_at at l))) (drop_all k symbols h)
       ∙ ap (λ (l : List Symbol). lines_text symbols (labels_of l)) (first_at-none at)
+
+  -- the labels of the address, where number k is the first of them
+  pub lines_of_address : (k : ℕ) → AreInOrder symbols → IsFirstFrom symbols at k → lines_at k ≡ lines_text symbols (labels_at symbols at)
+  lines_of_address k h here =
+      ap (λ (l : List Symbol). lines_text symbols (labels_of (first_at at l))) here.rest
+      ∙ ap (λ (l : List Symbol). lines_text symbols (labels_of l)) (first_from at symbols h)

@@ -4,3 +4,5 @@ pub mod Places
 pub mod LabelWalk
 pub mod FirstLabels
 pub mod Leads
+pub mod Behind
+pub mod Writable

@@ -1,12 +1,13 @@
 -- Symbols in order: those of an address stand together, and those of later addresses after them.
-use Rattle.std.proofs.Common.{◌≡◌, ℕ, ◌+◌, ◌<◌, ◌≤◌, Bool, true, false, ◌&&◌, ◌||◌, ◌==◌, not, cond, List, [], ◌∷◌, ◌++◌, ◌⊎◌, if◌then◌else◌, refl, sym, ap, ◌∙◌, inl, inr, arith, nat_le, nat_lt, IsTrue}
-use Rattle.std.specs.Prelude.{filter}
+use Rattle.std.proofs.Common.{drop, length, ◌≡◌, ℕ, ◌+◌, ◌<◌, ◌≤◌, Bool, true, false, ◌&&◌, ◌||◌, ◌==◌, not, cond, List, [], ◌∷◌, ◌++◌, ◌⊎◌, if◌then◌else◌, refl, sym, ap, ◌∙◌, inl, inr, arith, nat_le, nat_lt, IsTrue}
+use Rattle.std.specs.Prelude.{filter, Result, IfOk}
+use Rattle.std.proofs.lemmas.Result.{IfOk-weaker}
 use Rattle.std.specs.List.{AllByRecursion}
 use Rattle.std.proofs.lemmas.Bool.{cases_Bool, cond-true, cond-false}
 use Rattle.std.proofs.lemmas.Bool.Decides.{nat_tests}
 use Rattle.xs_instructions.specs.Code.{code_start}
 use Rattle.xs_instructions.specs.Image.{Symbol, AreInOrder, may_follow}
-use Rattle.xs_printer.specs.Walk.{first_at, past_address, symbols_from}
+use Rattle.xs_printer.specs.Walk.{first_at, past_address, symbols_from, IsNext, IsFirstFrom}
 
 may_follow-trans : (a b c : ℕ) → may_follow a b ≡ true → may_follow b c ≡ true → may_follow a c ≡ true
 may_follow-trans a b c h k = grind (arith, nat_tests)
@@ -85,12 +86,6 @@ first_from at (s ∷ symbols) h =
       ]
     ]
 
--- one address comes right after another: no symbol stands between
-pub record IsNext (at next : ℕ) (symbols : List Symbol) : Type 0 where
-  pub follows : may_follow at next ≡ true
-  pub past : may_follow next at ≡ false
-  pub gap : AllByRecursion (λ (s : Symbol). may_follow at s.1 ≡ true → (s.1 == at) ≡ false → may_follow next s.1 ≡ true) symbols
-
 past_same : (at next a : ℕ) → may_follow next at ≡ false → (a == at) ≡ true → may_follow next a ≡ false
 past_same at next a h e = grind (arith, nat_tests)
 
@@ -115,3 +110,15 @@ past_from at next (s ∷ symbols) h k =
         | inr f ↦ ap (past_address at) (cond-false _ _ _ f) ∙ (rest ∙ sym (cond-false _ _ _ (not_back at next s.1 k.follows f)))
       ]
     ]
+
+-- past the symbols of an address the number of the first symbol from the next address on
+pub first_past : (at next k after : ℕ) (symbols : List Symbol) → AreInOrder symbols → IsFirstFrom symbols at k → after ≤ length symbols → drop after symbols ≡ past_address at (drop k symbols) → IsNext at next symbols → IsFirstFrom symbols next after
+first_past at next k after symbols h here within past n = record {
+  within = within;
+  rest = past ∙ (ap (past_address at) here.rest ∙ past_from at next symbols h n);
+}
+
+-- the same of a call that gives the number
+pub first_of_result : {E : Type 0} (symbols : List Symbol) (at next : ℕ) (r : Result ℕ E) → IsNext at next symbols → IfOk r (λ k. (n : ℕ) → IsNext at n symbols → IsFirstFrom symbols n k) → IfOk r (λ k. IsFirstFrom symbols next k)
+first_of_result symbols at next r n h =
+    IfOk-weaker r (λ k. (m : ℕ) → IsNext at m symbols → IsFirstFrom symbols m k) (λ k. IsFirstFrom symbols next k) (λ k f. f next n) h

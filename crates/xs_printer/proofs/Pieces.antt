@@ -12,3 +12,8 @@ two_more so_far between after p q left rest all first second split h =
 
 pub none_left : (so_far left all : List ℕ) → left ≡ [] → so_far ++ left ≡ all → so_far ≡ all
 none_left so_far left all e h = sym (append-nil so_far) ∙ (ap (λ l. so_far ++ l) (sym e) ∙ h)
+
+-- the same where the parts of what is left stand the other way
+pub pair_more : (so_far between after p q left rest all : List ℕ) → between ≡ so_far ++ p → after ≡ between ++ q → left ≡ p ++ (q ++ rest) → so_far ++ left ≡ all → after ++ rest ≡ all
+pair_more so_far between after p q left rest all first second split h =
+    two_more so_far between after p q left rest all first second (split ∙ sym (append_assoc p q rest)) h

@@ -1,11 +1,11 @@
 -- From each place of an image to the next one no symbol stands between.
-use Rattle.std.proofs.Common.{◌≡◌, ℕ, ◌+◌, ◌*◌, ◌%◌, ◌<◌, ◌≤◌, true, false, ◌&&◌, ◌||◌, ◌==◌, List, [], ◌∷◌, length, if◌then◌else◌, refl, sym, ap, ◌∙◌, arith, nat_le, nat_lt, IsTrue}
+use Rattle.std.proofs.Common.{◌≡◌, ℕ, ◌+◌, ◌-◌, ◌*◌, ◌%◌, ◌<◌, ◌≤◌, true, false, ◌&&◌, ◌||◌, ◌==◌, List, [], ◌∷◌, length, if◌then◌else◌, refl, sym, ap, ◌∙◌, subst, arith, nat_le, nat_lt, IsTrue}
 use Rattle.std.specs.List.{AllByRecursion}
 use Rattle.std.proofs.lemmas.Bool.Decides.{nat_tests}
 use Rattle.xs_instructions.specs.Code.{code_start, place_address}
 use Rattle.xs_instructions.specs.Image.{ImageRec, IsImage, Symbol, may_follow, is_place, data_start}
-use Rattle.xs_printer.specs.Walk.{symbols_from}
-use Rattle.xs_printer.proofs.Order.{IsNext, AreAfter, from_all}
+use Rattle.xs_printer.specs.Walk.{symbols_from, IsNext}
+use Rattle.xs_printer.proofs.Order.{AreAfter, from_all}
 
 each : {A : Type 0} (P Q : A → Type 0) → ((x : A) → P x → Q x) → (xs : List A) → AllByRecursion P xs → AllByRecursion Q xs
 each P Q k [] h = tt
@@ -74,3 +74,23 @@ pub from_first : (image : ImageRec) → IsImage image → symbols_from (place_ad
 from_first image h =
     let c : data_start ≤ image.cp_at = h.cp_in_data in
     from_all (place_address 0) image.symbols (each _ _ (λ (s : Symbol) k. first_place (length image.code) (length image.bytes) image.cp_at s.1 k c) image.symbols h.places)
+
+-- the same by the place's address
+pub next_place_at : (image : ImageRec) (p at : ℕ) → IsImage image → at ≡ place_address p → IsNext at (at + 4) image.symbols
+next_place_at image p at h e =
+    let n : place_address (p + 1) ≡ at + 4 = omega (arith, e) in
+    let Q : ℕ → Type 0 = λ x. IsNext x (at + 4) image.symbols in
+    let R : ℕ → Type 0 = λ x. IsNext (place_address p) x image.symbols in
+    subst Q (sym e) (subst R n (next_place image p h))
+
+pub next_data_at : (image : ImageRec) (at : ℕ) → IsImage image → at ≡ place_address (length image.code) → IsNext at data_start image.symbols
+next_data_at image at h e =
+    let Q : ℕ → Type 0 = λ x. IsNext x data_start image.symbols in
+    subst Q (sym e) (next_data image h)
+
+pub next_constants_at : (image : ImageRec) (bytes : List ℕ) → IsImage image → bytes ≡ image.bytes → length bytes < image.cp_at - data_start → IsNext (data_start + length bytes) image.cp_at image.symbols
+next_constants_at image bytes h e c =
+    let long : length bytes ≡ length image.bytes = ap length e in
+    let n : data_start + length image.bytes ≡ data_start + length bytes = omega (arith, long) in
+    let Q : ℕ → Type 0 = λ x. IsNext x image.cp_at image.symbols in
+    subst Q n (next_constants image h (omega (arith, long, c)))

@@ -1,5 +1,6 @@
 -- The labels of an image as they are walked beside its places, in order.
-use Rattle.std.specs.Prelude.{ℕ, ◌≡◌, ◌<◌, ◌==◌, if◌then◌else◌, List, [], ◌∷◌, length, drop, filter, slice_index, IsTrue}
+use Rattle.std.specs.Prelude.{ℕ, ◌≡◌, ◌<◌, ◌≤◌, true, false, ◌==◌, if◌then◌else◌, List, [], ◌∷◌, length, drop, filter, slice_index, IsTrue}
+use Rattle.std.specs.List.{AllByRecursion}
 use Rattle.xs_instructions.specs.Spelling.{Spelled, Text, Reg, Num, Place}
 use Rattle.xs_instructions.specs.Code.{place_address}
 use Rattle.xs_instructions.specs.Image.{Symbol, may_follow, has_symbol_at}
@@ -29,3 +30,14 @@ IsWritable symbols (Text bytes) = Unit {0}
 IsWritable symbols (Reg n) = n < 16
 IsWritable symbols (Num n) = Unit {0}
 IsWritable symbols (Place p) = IsTrue (has_symbol_at symbols (place_address p))
+
+-- the number of the first symbol with this address or one that comes later
+pub record IsFirstFrom (symbols : List Symbol) (at next : ℕ) : Type 0 where
+  pub within : next ≤ length symbols
+  pub rest : drop next symbols ≡ symbols_from at symbols
+
+-- one address comes right after another: no symbol stands between
+pub record IsNext (at next : ℕ) (symbols : List Symbol) : Type 0 where
+  pub follows : may_follow at next ≡ true
+  pub past : may_follow next at ≡ false
+  pub gap : AllByRecursion (λ (s : Symbol). may_follow at s.1 ≡ true → (s.1 == at) ≡ false → may_follow next s.1 ≡ true) symbols

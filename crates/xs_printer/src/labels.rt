@@ -1,8 +1,8 @@
 //! The labels of an image, walked beside its places.
-ghost use Rattle.std.specs.Prelude.{◌≡◌, ◌+◌, ◌≤◌, ◌++◌, ◌<◌, Some, length, drop, IfOk, OnOk};
-ghost use Rattle.xs_instructions.specs.Image.{symbol_at, symbol_of_pair};
-ghost use Rattle.source_model.specs.Canonical.{labels_of, lines_text};
-ghost use Rattle.xs_printer.specs.Walk.{first_at, past_address, AreFirstLabels};
+ghost use Rattle.std.specs.Prelude.{ℕ, ◌≡◌, ◌+◌, ◌≤◌, ◌++◌, ◌<◌, Some, length, drop, IfOk, OnOk};
+ghost use Rattle.xs_instructions.specs.Image.{IsImage, symbol_at, symbol_of_pair};
+ghost use Rattle.source_model.specs.Canonical.{labels_at, lines_text};
+ghost use Rattle.xs_printer.specs.Walk.{past_address, AreFirstLabels, IsFirstFrom, IsNext};
 
 use std::alloc::{AllocError, Global};
 use xs_base::Text;
@@ -32,17 +32,18 @@ fn past_labels(image: &Image, from: usize, at: u32) -> usize
     count
 }
 
-/// Puts the lines of the labels from `from` on that have the address, and gives the number of the next label.
+/// Puts the lines of the labels of an address, the first of which has the number `from`. It gives the number of the
+/// first label after them.
 pub(crate) fn append_labels(
     out: &mut Text,
     image: &Image,
     from: usize,
     at: u32,
 ) -> Result<usize, AllocError>
-    requires { from ≤ length image.now.symbols }
-    ensures lines { OnOk result (out.new ≡ out.old ++ lines_text image.now.symbols (labels_of (first_at at (drop from image.now.symbols)))) }
-    ensures within { IfOk result (λ next. next ≤ length image.now.symbols) }
-    ensures rest { IfOk result (λ next. drop next image.now.symbols ≡ past_address at (drop from image.now.symbols)) }
+    requires image { IsImage image.now }
+    requires first { IsFirstFrom image.now.symbols at from }
+    ensures lines { OnOk result (out.new ≡ out.old ++ lines_text image.now.symbols (labels_at image.now.symbols at)) }
+    ensures next { IfOk result (λ k. (next : ℕ) → IsNext at next image.now.symbols → IsFirstFrom image.now.symbols next k) }
 {
     let count = image.symbol_count();
     for k in from..count {
