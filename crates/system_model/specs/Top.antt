@@ -1,17 +1,19 @@
 -- What the program answers to its words and its input.
-use Rattle.std.specs.Prelude.{ℕ, ◌+◌, nat_le, min, if◌then◌else◌, Option, Some, None, option_and_then, List, [], ◌∷◌, ◌++◌, length, codes, decimal}
+use Rattle.std.specs.Prelude.{ℕ, ◌+◌, nat_le, min, if◌then◌else◌, ◌&&◌, Option, Some, None, option_and_then, List, [], ◌∷◌, ◌++◌, length, codes, decimal}
 use Rattle.std.specs.Char.{is_ascii_digit}
 use Rattle.xs_instructions.specs.Image.{same_name}
 use Rattle.xs_text.specs.Numbers.{at_most, value_in}
 use Rattle.source_model.specs.declared.AsmKind.{AsmKind}
 use Rattle.source_model.specs.declared.AsmKind.TheVariants as asm
+use Rattle.sys_plan.specs.Plan.{PlanRec}
 use Rattle.system_model.specs.declared.SysKind.{SysKind}
 use Rattle.system_model.specs.declared.SysKind.TheVariants as sys
 use Rattle.system_model.specs.declared.Form.{Form}
-use Rattle.system_model.specs.declared.Form.TheVariants.{Run}
+use Rattle.system_model.specs.declared.Form.TheVariants.{Run, Check}
 use Rattle.system_model.specs.declared.Answer.{Answer}
 use Rattle.system_model.specs.declared.Status.TheVariants as status
 use Rattle.system_model.specs.System.{System, Plan, Frame, Source, system_of, longest_input}
+use Rattle.system_model.specs.Check.{check_text}
 use Rattle.trace_model.specs.Trace.{trace_text}
 
 -- one to ten decimal digits, of a value of at most a limit
@@ -21,10 +23,15 @@ count_of limit word = if nat_le (length word) 10 then at_most limit (value_in 10
 abbrev pub most_slots : ℕ
 most_slots = 1000000
 
--- the form of the words, if they have one
+-- the run of so many slots as the word says
+abbrev pub run_of : List ℕ → Option Form
+run_of word = option_and_then (λ slots. Some (Run slots)) (count_of most_slots word)
+
+-- the form of the words, if they have one: `check`, `run SLOTS` or `run SLOTS serial`, the last two the same
 unfoldable pub form_of : List (List ℕ) → Option Form
-form_of (a ∷ n ∷ []) =
-    if same_name (codes "run") a then option_and_then (λ slots. Some (Run slots)) (count_of most_slots n) else None
+form_of (a ∷ []) = if same_name (codes "check") a then Some Check else None
+form_of (a ∷ n ∷ []) = if same_name (codes "run") a then run_of n else None
+form_of (a ∷ n ∷ mode ∷ []) = if same_name (codes "run") a && same_name (codes "serial") mode then run_of n else None
 form_of _ = None
 
 abbrev pub usage_text : List ℕ
@@ -64,9 +71,14 @@ abbrev pub source_text : ℕ → ℕ → AsmKind → List ℕ
 source_text node line kind =
     codes "source " ++ (decimal node ++ (codes " line " ++ (decimal line ++ (codes ": " ++ (text_of_asm_kind kind ++ (10 ∷ []))))))
 
+-- what a form writes for a system that is not refused
+abbrev pub text_for : Form → PlanRec → List ℕ
+text_for (Run slots) plan = trace_text plan slots
+text_for Check plan = check_text plan
+
 -- what a form answers to a system
 abbrev pub answer_to : Form → System → Answer
-answer_to (Run slots) (Plan plan) = record { text = trace_text plan slots; status = status.Done }
+answer_to form (Plan plan) = record { text = text_for form plan; status = status.Done }
 answer_to form (Frame line kind) = record { text = frame_text line kind; status = status.SystemFault }
 answer_to form (Source node line kind) = record { text = source_text node line kind; status = status.SourceFault }
 

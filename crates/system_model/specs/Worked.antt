@@ -40,8 +40,11 @@ pub record WorkedAnswers : Type 0 where
   pub countdown : answer (run_for (codes "33")) (lone countdown_source) ≡ done (codes "n0 mem 0x00010004 0x00000001\nend 33\n")
   pub countdown_cut : answer (run_for (codes "32")) (lone countdown_source) ≡ done (codes "end 32\n")
   pub bad_address : answer (run_for (codes "1")) (lone (codes "ldw r0, dp[16384]\n")) ≡ done (codes "0 n0.t0 trap 5 pc 0x00040000 data 0x00020000\n0 n0.t0 halt\nn0.t0 halted\nend 1\n")
-  pub no_form : answer (codes "check" ∷ []) (lone []) ≡ no_usage
-  pub no_mode : answer (codes "run" ∷ codes "1" ∷ codes "serial" ∷ []) (lone []) ≡ no_usage
+  pub serial : answer (codes "run" ∷ codes "12" ∷ codes "serial" ∷ []) (lone sum_source) ≡ done (codes "end 12\n")
+  pub no_words : answer [] (lone []) ≡ no_usage
+  pub one_word_more : answer (codes "check" ∷ codes "x" ∷ []) (lone []) ≡ no_usage
+  pub other_case : answer (codes "run" ∷ codes "5" ∷ codes "Serial" ∷ []) (lone []) ≡ no_usage
+  pub not_built_yet : answer (codes "run" ∷ codes "5" ∷ codes "free" ∷ []) (lone []) ≡ no_usage
   pub too_many_slots : answer (run_for (codes "1000001")) (lone []) ≡ no_usage
   pub eleven_digits : answer (run_for (codes "00000000020")) (lone []) ≡ no_usage
   pub leading_zeros : answer (run_for (codes "0000000000")) (lone []) ≡ done (codes "end 0\n")

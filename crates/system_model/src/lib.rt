@@ -46,8 +46,10 @@ pub enum SysKind {
 /// The forms of the command words. See docs/OUTPUT.md.
 #[derive(Clone, Copy)]
 pub enum Form {
-    /// `run SLOTS`: a run of so many slots.
+    /// `run SLOTS`, and `run SLOTS serial` likewise: a run of so many slots.
     Run(u32),
+    /// `check`: the source of each node as its image gives it.
+    Check,
 }
 
 /// How the program ends.
