@@ -1,6 +1,6 @@
 -- The frame of a system text: all its lines but those of the sources. Each line is tested by what the lines before it
 -- have given, and the first line that has a fault refuses the text.
-use Rattle.std.specs.Prelude.{ℕ, ◌+◌, Bool, true, false, not, ◌&&◌, ◌||◌, ◌==◌, nat_lt, if◌then◌else◌, Option, Some, None, option_map, option_to_list, List, [], ◌∷◌, ◌++◌, length, filter}
+use Rattle.std.specs.Prelude.{ℕ, ◌+◌, Bool, true, false, not, ◌&&◌, ◌||◌, ◌==◌, nat_lt, if◌then◌else◌, Option, Some, None, option_map, option_to_list, List, [], ◌∷◌, ◌++◌, length, find}
 use Rattle.std.specs.List.{list_any, list_all}
 use Rattle.xs_text.specs.Bytes.{all_allowed}
 use Rattle.xs_text.specs.Words.{words_of_line}
@@ -19,8 +19,8 @@ pub record SourceText : Type 0 where
   pub line : ℕ
   pub lines : List (List ℕ)
 
--- What the lines so far have given, each in the order of the lines: whether one of them had words, the nodes, the
--- links, the bits and the sources, and the source that has not ended yet.
+-- What the lines so far have given: whether one of them had words; the nodes, by ascending number; the links, the bits
+-- and the sources that have ended, in the order of the lines; and the source that has not ended yet.
 pub record Given : Type 0 where
   pub begun : Bool
   pub nodes : List GivenNode
@@ -163,6 +163,11 @@ fault_of given l = first_that_holds (tests given l (says given l))
 
 -- What a line gives
 
+-- a node among nodes by ascending number
+abbrev pub put_by_number : GivenNode → List GivenNode → List GivenNode
+put_by_number node [] = node ∷ []
+put_by_number node (n ∷ nodes) = if nat_lt n.number node.number then n ∷ put_by_number node nodes else node ∷ (n ∷ nodes)
+
 abbrev pub with_own_line : List ℕ → SourceText → SourceText
 with_own_line l source = record source { lines = source.lines ++ l ∷ [] }
 
@@ -172,7 +177,7 @@ given_with n l Own given = record given { reading = option_map (with_own_line l)
 given_with n l End given = record given { sources = given.sources ++ option_to_list given.reading; reading = None }
 given_with n l Header given = record given { begun = true }
 given_with n l (Form (Node node)) given =
-    record given { nodes = given.nodes ++ record { line = n; number = node.number; id = node.id } ∷ [] }
+    record given { nodes = put_by_number (record { line = n; number = node.number; id = node.id }) given.nodes }
 given_with n l (Form (Link link)) given = record given { links = given.links ++ link ∷ [] }
 given_with n l (Form (Bit bit)) given = record given { bits = given.bits ++ bit ∷ [] }
 given_with n l (Form (Source number)) given =
@@ -189,27 +194,18 @@ pub data Framed : Type 0 where
   Whole : (given : Given) → Framed
   Refused : (line : ℕ) (kind : SysKind) → Framed
 
-abbrev pub put_by_number : GivenNode → List GivenNode → List GivenNode
-put_by_number node [] = node ∷ []
-put_by_number node (n ∷ nodes) = if nat_lt node.number n.number then node ∷ (n ∷ nodes) else n ∷ put_by_number node nodes
+-- the first node that has no source
+abbrev pub without_source : Given → Option GivenNode
+without_source given = find (λ (node : GivenNode). not (has_source given.sources node.number)) given.nodes
 
--- nodes by ascending number
-abbrev pub by_number : List GivenNode → List GivenNode
-by_number [] = []
-by_number (node ∷ nodes) = put_by_number node (by_number nodes)
+abbrev pub whole_but_for : Option GivenNode → Given → Framed
+whole_but_for None given = Whole given
+whole_but_for (Some node) given = Refused node.line NodeWithoutSource
 
--- the nodes without a source, by ascending number
-abbrev pub without_source : Given → List GivenNode
-without_source given = filter (λ (node : GivenNode). not (has_source given.sources node.number)) (by_number given.nodes)
-
-abbrev pub whole_or_without : Given → List GivenNode → Framed
-whole_or_without given [] = Whole given
-whole_or_without given (node ∷ nodes) = Refused node.line NodeWithoutSource
-
--- the end of the text: each source has ended, and each node has one
+-- the end of the text: no source may be without an end, and no node without a source
 abbrev pub at_the_end : Given → Option SourceText → Framed
 at_the_end given (Some source) = Refused source.line SectionNotEnded
-at_the_end given None = whole_or_without given (without_source given)
+at_the_end given None = whole_but_for (without_source given) given
 
 -- line n and those after it, by its fault
 abbrev pub unless_faulty : Option SysKind → ℕ → Framed → Framed

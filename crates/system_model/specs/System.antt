@@ -13,7 +13,7 @@ use Rattle.system_model.specs.declared.SysKind.TheVariants.{TooLong}
 use Rattle.system_model.specs.declared.frame_line.BitLine.{BitLine}
 use Rattle.system_model.specs.declared.frame_line.GivenNode.{GivenNode}
 use Rattle.system_model.specs.declared.frame_line.LinkLine.{LinkLine}
-use Rattle.system_model.specs.Frame.{SourceText, Given, Framed, Whole, Refused, by_number, framed}
+use Rattle.system_model.specs.Frame.{SourceText, Given, Framed, Whole, Refused, framed}
 
 -- what a system text stands for
 pub data System : Type 0 where
@@ -66,7 +66,7 @@ node_plans bits sources [] = Ok []
 node_plans bits sources (node ∷ nodes) =
     with_node_plan bits node (assembled_lines (source_of sources node.number)) (node_plans bits sources nodes)
 
--- where a node stands among the nodes by ascending number
+-- where a node stands among nodes by ascending number: so many have a lesser one
 abbrev pub place_of : List GivenNode → ℕ → ℕ
 place_of nodes number = length (filter (λ (node : GivenNode). nat_lt node.number number) nodes)
 
@@ -81,7 +81,7 @@ plan_with links (Ok plans) = Plan (record { nodes = plans; links = links })
 -- the plan of a frame
 abbrev pub plan_of_frame : Given → System
 plan_of_frame given =
-    plan_with (map (link_plan given.nodes) given.links) (node_plans given.bits given.sources (by_number given.nodes))
+    plan_with (map (link_plan given.nodes) given.links) (node_plans given.bits given.sources given.nodes)
 
 abbrev pub plan_of : Framed → System
 plan_of (Refused line kind) = Frame line kind

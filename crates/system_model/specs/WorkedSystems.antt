@@ -204,7 +204,7 @@ mixed =
 abbrev pub mixed_frame : Framed
 mixed_frame = Whole (record {
   begun = true;
-  nodes = record { line = 4; number = 7; id = 1 } ∷ record { line = 10; number = 3; id = 0 } ∷ [];
+  nodes = record { line = 10; number = 3; id = 0 } ∷ record { line = 4; number = 7; id = 1 } ∷ [];
   links = record { a = 3; b = 7; delay = 1000; gap = 1000 } ∷ [];
   bits = record { node = 7; bit = 15 } ∷ record { node = 7; bit = 0 } ∷ record { node = 3; bit = 15 } ∷ [];
   sources =
