@@ -1,3 +1,5 @@
+pub mod FrameLines
+pub mod Frame
 pub mod Check
 pub mod System
 pub mod Top

@@ -48,9 +48,9 @@ pub record WorkedAnswers : Type 0 where
   pub too_many_slots : answer (run_for (codes "1000001")) (lone []) ≡ no_usage
   pub eleven_digits : answer (run_for (codes "00000000020")) (lone []) ≡ no_usage
   pub leading_zeros : answer (run_for (codes "0000000000")) (lone []) ≡ done (codes "end 0\n")
-  pub no_input : answer (run_for (codes "1")) [] ≡ frame_refused (codes "system line 0: S2 bad line\n")
-  pub other_node : answer (run_for (codes "1")) (codes "xs1 1\nnode 0 id 0\nsource 1\nend\n") ≡ frame_refused (codes "system line 0: S2 bad line\n")
-  pub open_section : answer (run_for (codes "1")) (codes "xs1 1\nnode 0 id 0\nsource 0\n") ≡ frame_refused (codes "system line 0: S2 bad line\n")
+  pub no_input : answer (run_for (codes "1")) [] ≡ frame_refused (codes "system line 1: S1 first line is not xs1 1\n")
+  pub other_node : answer (run_for (codes "1")) (codes "xs1 1\nnode 0 id 0\nsource 1\nend\n") ≡ frame_refused (codes "system line 3: S12 no such node or link end\n")
+  pub open_section : answer (run_for (codes "1")) (codes "xs1 1\nnode 0 id 0\nsource 0\n") ≡ frame_refused (codes "system line 3: S9 section not ended\n")
   pub comments : answer (run_for (codes "0")) (codes "# a system\r\n\nxs1 1 // edition 1\n  node 007 id 0xFf\nsource 7\n foo: # here\nend # of it\n\n//") ≡ done (codes "end 0\n")
   pub unknown_name : answer (run_for (codes "1")) (lone (codes "foo\n")) ≡ source_refused (codes "source 0 line 0: A2 unknown name\n")
   pub not_built : answer (run_for (codes "1")) (lone (codes "mul r0, r1, r2\n")) ≡ source_refused (codes "source 0 line 0: A2 unknown name\n")

@@ -6,20 +6,20 @@ use Rattle.system_model.specs.Worked.{lone, run_for, done, frame_refused, source
 -- at the frame of a system text
 pub record WorkedFrames : Type 0 where
   pub end_with_comment : answer (run_for (codes "0")) (codes "xs1 1\nnode 0 id 0\nsource 0\n  end # x\n") ≡ done (codes "end 0\n")
-  pub bad_byte_after_end_of_faulty_source : answer (run_for (codes "0")) (codes "xs1 1\nnode 0 id 0\nsource 0\nfoo\nend # " ++ (1 ∷ codes "\n")) ≡ frame_refused (codes "system line 0: S2 bad line\n")
-  pub bad_byte_after_section : answer (run_for (codes "0")) (codes "xs1 1\nnode 0 id 0\nsource 0\nend\n# " ++ (0 ∷ [])) ≡ frame_refused (codes "system line 0: S2 bad line\n")
-  pub bad_byte_before_header : answer (run_for (codes "0")) (codes "# " ++ (1 ∷ codes "\nxs1 1\nnode 0 id 0\nsource 0\nend\n")) ≡ frame_refused (codes "system line 0: S2 bad line\n")
-  pub two_returns : answer (run_for (codes "0")) (codes "xs1 1\r\r\nnode 0 id 0\nsource 0\nend\n") ≡ frame_refused (codes "system line 0: S2 bad line\n")
-  pub return_at_the_end : answer (run_for (codes "0")) (codes "xs1 1\nnode 0 id 0\nsource 0\nend\r") ≡ frame_refused (codes "system line 0: S2 bad line\n")
+  pub bad_byte_after_end_of_faulty_source : answer (run_for (codes "0")) (codes "xs1 1\nnode 0 id 0\nsource 0\nfoo\nend # " ++ (1 ∷ codes "\n")) ≡ frame_refused (codes "system line 5: S2 bad line\n")
+  pub bad_byte_after_section : answer (run_for (codes "0")) (codes "xs1 1\nnode 0 id 0\nsource 0\nend\n# " ++ (0 ∷ [])) ≡ frame_refused (codes "system line 5: S2 bad line\n")
+  pub bad_byte_before_header : answer (run_for (codes "0")) (codes "# " ++ (1 ∷ codes "\nxs1 1\nnode 0 id 0\nsource 0\nend\n")) ≡ frame_refused (codes "system line 1: S2 bad line\n")
+  pub two_returns : answer (run_for (codes "0")) (codes "xs1 1\r\r\nnode 0 id 0\nsource 0\nend\n") ≡ frame_refused (codes "system line 1: S1 first line is not xs1 1\n")
+  pub return_at_the_end : answer (run_for (codes "0")) (codes "xs1 1\nnode 0 id 0\nsource 0\nend\r") ≡ frame_refused (codes "system line 3: S9 section not ended\n")
   pub returns_before_feeds : answer (run_for (codes "0")) (codes "xs1 1\r\nnode 0 id 0\r\nsource 0\r\nend\r\n") ≡ done (codes "end 0\n")
   pub no_last_feed : answer (run_for (codes "0")) (codes "xs1 1\nnode 0 id 0\nsource 0\nend") ≡ done (codes "end 0\n")
   pub greatest_numbers : answer (run_for (codes "1")) (codes "xs1 1\nnode 99 id 65535\nsource 0x63\nend") ≡ done (codes "0 n99.t0 trap 2 pc 0x00040000 data 0x00040000\n0 n99.t0 halt\nn99.t0 halted\nend 1\n")
-  pub node_100 : answer (run_for (codes "1")) (codes "xs1 1\nnode 100 id 0\nsource 100\nend") ≡ frame_refused (codes "system line 0: S2 bad line\n")
-  pub id_65536 : answer (run_for (codes "1")) (codes "xs1 1\nnode 0 id 65536\nsource 0\nend") ≡ frame_refused (codes "system line 0: S2 bad line\n")
-  pub binary_number : answer (run_for (codes "1")) (codes "xs1 1\nnode 0b0 id 0\nsource 0\nend") ≡ frame_refused (codes "system line 0: S2 bad line\n")
-  pub upper_case_prefix : answer (run_for (codes "1")) (codes "xs1 1\nnode 0X0 id 0\nsource 0\nend") ≡ frame_refused (codes "system line 0: S2 bad line\n")
-  pub header_01 : answer (run_for (codes "1")) (codes "xs1 01\nnode 0 id 0\nsource 0\nend") ≡ frame_refused (codes "system line 0: S2 bad line\n")
-  pub line_after_section : answer (run_for (codes "1")) (codes "xs1 1\nnode 0 id 0\nsource 0\nend\nend\n") ≡ frame_refused (codes "system line 0: S2 bad line\n")
+  pub node_100 : answer (run_for (codes "1")) (codes "xs1 1\nnode 100 id 0\nsource 100\nend") ≡ frame_refused (codes "system line 2: S7 number out of range\n")
+  pub id_65536 : answer (run_for (codes "1")) (codes "xs1 1\nnode 0 id 65536\nsource 0\nend") ≡ frame_refused (codes "system line 2: S7 number out of range\n")
+  pub binary_number : answer (run_for (codes "1")) (codes "xs1 1\nnode 0b0 id 0\nsource 0\nend") ≡ frame_refused (codes "system line 2: S2 bad line\n")
+  pub upper_case_prefix : answer (run_for (codes "1")) (codes "xs1 1\nnode 0X0 id 0\nsource 0\nend") ≡ frame_refused (codes "system line 2: S2 bad line\n")
+  pub header_01 : answer (run_for (codes "1")) (codes "xs1 01\nnode 0 id 0\nsource 0\nend") ≡ frame_refused (codes "system line 1: S1 first line is not xs1 1\n")
+  pub line_after_section : answer (run_for (codes "1")) (codes "xs1 1\nnode 0 id 0\nsource 0\nend\nend\n") ≡ frame_refused (codes "system line 5: S2 bad line\n")
   pub comments_in_words : answer (run_for (codes "0")) (codes "xs1 1\nnode 0 id 0//x\nsource 0#\nend//") ≡ done (codes "end 0\n")
   pub leading_zeros : answer (run_for (codes "0")) (codes "xs1 1\nnode 00000000000000000000000000000000000000000000000000000005 id 0x0000000000000000000000000000000000000000001\nsource 5\nend\n") ≡ done (codes "end 0\n")
 
@@ -56,4 +56,4 @@ pub record WorkedRuns : Type 0 where
   pub no_slots : answer (codes "run" ∷ []) [] ≡ no_usage
   pub signed_slots : answer (run_for (codes "+5")) [] ≡ no_usage
   pub empty_slots : answer (run_for []) [] ≡ no_usage
-  pub a_million_slots : answer (run_for (codes "1000000")) ([]) ≡ frame_refused (codes "system line 0: S2 bad line\n")
+  pub a_million_slots : answer (run_for (codes "1000000")) ([]) ≡ frame_refused (codes "system line 1: S1 first line is not xs1 1\n")

@@ -7,11 +7,11 @@ ghost use Rattle.system_model.specs.StatusNumber.{number_of_status};
 ghost use Rattle.system_model.specs.Worked.{WorkedAnswers};
 ghost use Rattle.system_model.specs.WorkedEdges.{WorkedFrames, WorkedSources, WorkedRuns};
 ghost use Rattle.system_model.specs.WorkedPairs.{WorkedPairs};
-ghost use Rattle.system_model.specs.WorkedSystems.{WorkedSystems};
+ghost use Rattle.system_model.specs.WorkedSystems.{WorkedRefusals, WorkedSystems};
 
 mod frame_line;
 
-pub use frame_line::{BitLine, FrameLine, LinkLine, NodeLine};
+pub use frame_line::{BitLine, FrameLine, GivenNode, LinkLine, NodeLine};
 use xs_base::Text;
 
 /// Why the frame of a system text is refused. See docs/SYSTEM_TEXT.md.
@@ -109,9 +109,10 @@ pub fn worked_runs()
     ensures { WorkedRuns }
 {}
 
-/// The same at the frames of systems of several nodes.
+/// The same at systems: the refusals of their frames, and the plans of those that are accepted.
 pub fn worked_systems_read()
-    ensures { WorkedSystems }
+    ensures refusals { WorkedRefusals }
+    ensures systems { WorkedSystems }
 {}
 
 /// The same at runs of two nodes.

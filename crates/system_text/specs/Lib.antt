@@ -1,5 +1,3 @@
+pub mod Forms
 pub mod Ranges
-pub mod Reads
-pub mod Parts
-pub mod Frames
-pub mod Plans
+pub mod Judged

@@ -2,21 +2,9 @@
 #![tactic(auto)]
 
 mod frame;
-mod frame_checks;
 mod frame_lines;
-mod frame_reader;
-mod link_plans;
-mod node_plans;
-mod node_texts;
-mod parts;
-mod section;
-mod system_error;
-mod system_reader;
-#[cfg(test)]
-mod tests;
 mod words;
 
 pub use source_model::AsmKind;
-pub use system_error::SystemError;
 pub use system_model::SysKind;
-pub use system_reader::{LONGEST_INPUT, read_system};
+pub use frame::{Frame, Said};
