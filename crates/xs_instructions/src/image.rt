@@ -1,4 +1,4 @@
-ghost use Rattle.std.specs.Prelude.{◌≡◌, IfSome, IsTrue, option_map};
+ghost use Rattle.std.specs.Prelude.{◌≡◌, IfSome, IsTrue, length, option_map};
 ghost use Rattle.xs_instructions.specs.Code.{code_at};
 ghost use Rattle.xs_instructions.specs.Instr.{InRange, built};
 ghost use Rattle.xs_instructions.specs.Image.{IsImage, entry_of, symbol_at, symbol_of_pair};
@@ -74,6 +74,14 @@ impl Image {
         ensures image { IsImage self.now }
     {
         self.cp_at
+    }
+
+    /// How many labels there are.
+    pub fn symbol_count(&self) -> usize
+        ensures value { result ≡ length self.now.symbols }
+        ensures image { IsImage self.now }
+    {
+        self.symbols.count()
     }
 
     /// The label with the number `k` in the order of definition, from 0, with its address. None comes exactly past
