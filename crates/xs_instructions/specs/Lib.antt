@@ -3,6 +3,7 @@ pub mod Rows
 pub mod Operands
 pub mod Instr
 pub mod Find
+pub mod Kept
 pub mod Spelling
 pub mod Table
 pub mod Code
