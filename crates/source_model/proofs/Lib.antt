@@ -1,2 +1,4 @@
 pub mod FirstFault
 pub mod Sound
+pub mod Fine
+pub mod Lengths
