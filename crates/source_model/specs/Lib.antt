@@ -1,3 +1,4 @@
+pub mod Each
 pub mod Operands
 pub mod Values
 pub mod Statement

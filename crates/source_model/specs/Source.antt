@@ -15,6 +15,7 @@ use Rattle.source_model.specs.declared.layout.Section.TheVariants.{Text, Data, C
 use Rattle.source_model.specs.declared.layout.Width.{Width}
 use Rattle.source_model.specs.declared.layout.Layout.{Layout}
 use Rattle.source_model.specs.declared.layout.Place.{Place}
+use Rattle.source_model.specs.Each.{all_some}
 use Rattle.source_model.specs.Operands.{Amount, Known, Target, Address, Offset}
 use Rattle.source_model.specs.Values.{little_endian}
 use Rattle.source_model.specs.Statement.{Says, Unknown, Misshapen, Instruction, Values, Zeros, Align, Line, line_of}
@@ -55,15 +56,9 @@ amount_value whole (Target name) = target_value (place_of whole.labels name)
 amount_value whole (Address name) = address_value whole.layout (place_of whole.labels name)
 amount_value whole (Offset base name) = offset_value whole.layout base (place_of whole.labels name)
 
-abbrev pub put_value : Option ℕ → Option (List ℕ) → Option (List ℕ)
-put_value None after = None
-put_value (Some n) None = None
-put_value (Some n) (Some after) = Some (n ∷ after)
-
 -- the values, None where one is out of range
-unfoldable pub values_in : Sofar → List Amount → Option (List ℕ)
-values_in whole [] = Some []
-values_in whole (amount ∷ amounts) = put_value (amount_value whole amount) (values_in whole amounts)
+abbrev pub values_in : Sofar → List Amount → Option (List ℕ)
+values_in whole amounts = all_some (amount_value whole) amounts
 
 -- whether no line defines the name
 abbrev pub is_missing : Sofar → Amount → Bool

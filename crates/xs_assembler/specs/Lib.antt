@@ -1,3 +1,1 @@
-pub mod Labels
-pub mod Assembles
-pub mod Words
+pub mod Names

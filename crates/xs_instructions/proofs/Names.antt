@@ -20,6 +20,9 @@ use Rattle.xs_instructions.specs.Image.{address_of, symbol_of_entry, is_reserved
 pub same_name-Decides : (xs ys : List ℕ) → Decides (same_name xs ys) (xs ≡ ys)
 same_name-Decides = compares_Decides same_name (search rules)
 
+pub same_name-same : (name : List ℕ) → same_name name name ≡ true
+same_name-same name = (same_name-Decides name name).1 refl
+
 -- a name is compared as a map compares the text that is looked up with a key
 pub same_name-is : (key name : List ℕ) → same_name key name ≡ bytes_eq name key
 same_name-is key name =

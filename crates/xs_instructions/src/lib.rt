@@ -3,6 +3,7 @@
 
 mod build;
 mod code;
+mod laws;
 mod look_up;
 mod forms;
 mod image;
@@ -13,6 +14,7 @@ mod symbols;
 mod words;
 
 pub use code::{MOST_CODE, instr_at};
+pub use laws::written_is_read;
 pub use look_up::{find, known};
 pub use image::Image;
 pub use instr::{FlowIns, Instr, KernelIns, MemIns, ResIns, ThreadIns, WordIns};
