@@ -15,30 +15,14 @@ use Rattle.source_model.specs.Operands.{Amount}
 use Rattle.source_model.specs.Values.{width_bytes, little_endian}
 use Rattle.source_model.specs.Statement.{Says, NoEffect, Unknown, Misshapen, Instruction, Values, Zeros, Align, Statement, Line}
 use Rattle.source_model.specs.Layout.{Sofar, section_length, may_stand, added, moved, after_line, after_lines}
-use Rattle.source_model.specs.Source.{values_in, put_value, amount_value, is_out_of_range, code_of, bytes_of, bytes_of_values, same_section, code_of_line, code_from, bytes_of_line, bytes_from}
+use Rattle.source_model.specs.Source.{values_in, amount_value, is_out_of_range, code_of, bytes_of, bytes_of_values, same_section, code_of_line, code_from, bytes_of_line, bytes_from}
+use Rattle.source_model.proofs.Each.{all_some-length}
 use Rattle.source_model.proofs.Sound.{IsSound, IsSoundAt}
 use Rattle.source_model.proofs.Fine.{IsFine, AreFine}
 
 length_of_some : {A : Type 0} (o : Option A) → is_none o ≡ false → length (option_to_list o) ≡ 1
 length_of_some None h = absurd (false≢true (sym h))
 length_of_some (Some x) h = refl
-
--- as many values as amounts
-
-put_value_parts : (v : Option ℕ) (after : Option (List ℕ)) (values : List ℕ) → put_value v after ≡ Some values → (n : ℕ) × (ns : List ℕ) × (v ≡ Some n) × (after ≡ Some ns) × (values ≡ n ∷ ns)
-put_value_parts None after values h = cc
-put_value_parts (Some n) None values h = cc
-put_value_parts (Some n) (Some ns) values h =
-    let is : n ∷ ns ≡ values = cc in
-    (n, ns, refl, refl, sym is)
-
-pub values_length : (whole : Sofar) (amounts : List Amount) (values : List ℕ) → values_in whole amounts ≡ Some values → length values ≡ length amounts
-unfolding values_in
-values_length whole [] values h = let is : [] ≡ values = cc in sym (ap length is)
-values_length whole (amount ∷ amounts) values h =
-    let parts = put_value_parts (amount_value whole amount) (values_in whole amounts) values h in
-    let rest = values_length whole amounts parts.1 parts.3 in
-    rw parts.4 (ap suc rest)
 
 -- bytes of a value
 little_length : (width : Width) (n : ℕ) → length (little_endian width n) ≡ width_bytes width
@@ -53,7 +37,7 @@ values_bytes width (n ∷ values) =
 
 bytes_of_some : (whole : Sofar) (width : Width) (amounts : List Amount) (o : Option (List ℕ)) → values_in whole amounts ≡ o → is_none o ≡ false → length (bytes_of_values width o) ≡ width_bytes width * length amounts
 bytes_of_some whole width amounts None e h = absurd (false≢true (sym h))
-bytes_of_some whole width amounts (Some values) e h = rw (← values_length whole amounts values e) (values_bytes width values)
+bytes_of_some whole width amounts (Some values) e h = rw (← all_some-length (amount_value whole) amounts values e) (values_bytes width values)
 
 -- a statement of bytes does not stand in the text, nor an instruction elsewhere
 no_bytes_in_text : (home : Home) → home ≡ InBytes → may_stand Text home ≡ true → ⊥

@@ -1,4 +1,5 @@
 pub mod FirstFault
+pub mod Each
 pub mod Sound
 pub mod Fine
 pub mod Lengths

@@ -23,8 +23,9 @@ use Rattle.source_model.specs.declared.layout.Width.{Width}
 use Rattle.source_model.specs.declared.layout.Width.TheVariants.{Byte, Short, Word}
 use Rattle.source_model.specs.declared.layout.Home.{Home}
 use Rattle.source_model.specs.declared.layout.Home.TheVariants.{Anywhere, InText, InBytes, BeginsData, BeginsConstants, Nowhere}
-use Rattle.source_model.specs.Operands.{Amount, Target, Operand, operands_of, or_shape, label_shape, shape_by_kind, shape_of, put_shape, shapes_of, name_amount, amount_by_kind, amount_of, amounts_of}
+use Rattle.source_model.specs.Operands.{Amount, Target, Operand, operands_of, or_shape, label_shape, shape_by_kind, shape_of, shapes_of, name_amount, amount_by_kind, amount_of, amounts_of}
 use Rattle.source_model.specs.Values.{values_of}
+use Rattle.source_model.proofs.Each.{none_for_some, each_parts}
 use Rattle.source_model.specs.Statement.{Says, NoEffect, Unknown, Misshapen, Instruction, Values, Zeros, Statement, Line, is_nothing, is_lone_name, lone_number, shaped, zeros, aligned, valued, directive, of_row, instruction, statement, begins_label, labels_first, after_labels, line_of, is_name_kind}
 
 -- a code label's name
@@ -122,20 +123,6 @@ label_alone (shape.Reg r) h = absurd (false≢true h)
 label_alone shape.Num h = absurd (false≢true h)
 label_alone (shape.Word w) h = absurd (false≢true h)
 
-put_parts : (a : Option Shape) (b : Option (List Shape)) (s : Shape) (ss : List Shape) → put_shape a b ≡ Some (s ∷ ss) → (a ≡ Some s) × (b ≡ Some ss)
-put_parts None b s ss h = cc
-put_parts (Some t) None s ss h = cc
-put_parts (Some t) (Some ts) s ss h =
-    let both : t ∷ ts ≡ s ∷ ss = cc in
-    let first : t ≡ s = cc in
-    let after : ts ≡ ss = cc in
-    (ap Some first, ap Some after)
-
-put_some : (a : Option Shape) (b : Option (List Shape)) → put_shape a b ≡ Some [] → ⊥
-put_some None b h = cc
-put_some (Some t) None h = cc
-put_some (Some t) (Some ts) h = cc
-
 no_targets : (parts : List Part) → HasTargets parts []
 no_targets [] = tt
 no_targets (p ∷ parts) = tt
@@ -156,12 +143,11 @@ with_target (part.Word w) operand s parts amounts e h k = k
 
 targets : (parts : List Part) (operands : List Operand) (shapes : List Shape) → shapes_of operands ≡ Some shapes → have_form parts shapes ≡ true
     → HasTargets (filter takes_value parts) (values_among parts (map amount_of operands))
-unfolding shapes_of
 targets [] operands shapes e h = tt
 targets (p ∷ parts) [] shapes e h = no_targets (filter takes_value (p ∷ parts))
-targets (p ∷ parts) (operand ∷ rest) [] e h = absurd (put_some _ _ e)
+targets (p ∷ parts) (operand ∷ rest) [] e h = absurd (none_for_some shape_of operand rest e)
 targets (p ∷ parts) (operand ∷ rest) (s ∷ shapes) e h =
-    let shaped = put_parts (shape_of operand) (shapes_of rest) s shapes e in
+    let shaped = each_parts shape_of operand rest s shapes e in
     let both = and_parts (may_stand p s) (have_form parts shapes) h in
     with_target p operand s parts _ shaped.0 both.0 (targets parts rest shapes shaped.1 both.1)
 
