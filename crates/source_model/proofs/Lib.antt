@@ -4,3 +4,5 @@ pub mod Sound
 pub mod Fine
 pub mod Lengths
 pub mod Labels
+pub mod Targets
+pub mod GoodCode

@@ -54,7 +54,7 @@ pub record IsSound (line : Line) : Type 0 where
   pub names : AllByRecursion (λ name. is_name name ≡ true) line.labels
   pub says : IsSoundAt line.statement.home line.statement.says
 
-all_append : {A : Type 0} (P : A → Type 0) (xs ys : List A) → AllByRecursion P xs → AllByRecursion P ys → AllByRecursion P (xs ++ ys)
+pub all_append : {A : Type 0} (P : A → Type 0) (xs ys : List A) → AllByRecursion P xs → AllByRecursion P ys → AllByRecursion P (xs ++ ys)
 all_append P [] ys h k = k
 all_append P (x ∷ xs) ys h k = (h.0, all_append P xs ys h.1 k)
 
