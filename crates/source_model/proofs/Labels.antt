@@ -159,7 +159,7 @@ follows_high a b h k = rw (le-leb code_start a h, le-leb a b k) (or_right (nat_l
 follows_down : (a b : ℕ) → code_start ≤ a → b < code_start → may_follow a b ≡ true
 follows_down a b h k = rw (le-leb code_start a h, lt-ltb b code_start k) refl
 
-together : (d c : ℕ) → bytes_length d (suc c) ≡ round_up_to_word d + suc c
+pub together : (d c : ℕ) → bytes_length d (suc c) ≡ round_up_to_word d + suc c
 together d c = cond-false (suc c == 0) d (round_up_to_word d + suc c) (ne_eqb (suc c) 0 (λ e. absurd (omega (arith, e))))
 
 -- what the bound on the bytes says of both sections
@@ -248,7 +248,7 @@ table_lines end whole before (line ∷ lines) b l f h =
 
 -- the addresses of labels are places of the image
 
-data_within : (d c : ℕ) → d ≤ bytes_length d c
+pub data_within : (d c : ℕ) → d ≤ bytes_length d c
 data_within d zero = omega arith
 data_within d (suc c) = omega (arith, together d c)
 

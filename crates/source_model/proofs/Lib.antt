@@ -6,3 +6,4 @@ pub mod Lengths
 pub mod Labels
 pub mod Targets
 pub mod GoodCode
+pub mod IsImage
