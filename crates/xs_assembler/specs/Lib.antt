@@ -1,1 +1,5 @@
 pub mod Names
+pub mod Parts
+pub mod Lines
+pub mod Sofar
+pub mod Contents
