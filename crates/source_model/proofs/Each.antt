@@ -1,5 +1,5 @@
 -- What a list of what a function gives for each element says of the elements.
-use Rattle.std.proofs.Common.{◌≡◌, ℕ, suc, List, [], ◌∷◌, length, Option, Some, None, refl, sym, ap}
+use Rattle.std.proofs.Common.{◌≡◌, suc, List, [], ◌∷◌, length, Option, Some, None, refl, ap}
 use Rattle.source_model.specs.Each.{put_first, all_some}
 
 pub put_first_none : {A : Type 0} (first : Option A) (after : Option (List A)) → put_first first after ≡ Some [] → ⊥

@@ -1,13 +1,13 @@
 -- The code of a source without faults: each instruction is in range and of a built row, and what it names by a label is there.
-use Rattle.std.proofs.Common.{◌≡◌, ℕ, zero, suc, ◌+◌, ◌*◌, ◌<◌, ◌≤◌, min, Bool, true, false, cond, List, [], ◌∷◌, ◌++◌, map, replicate, Option, Some, None, option_and_then, refl, sym, ap, ◌∙◌, subst, arith, IsTrue}
-use Rattle.std.specs.Prelude.{IfSome, is_none, option_to_list, ◌||◌}
+use Rattle.std.proofs.Common.{◌≡◌, ℕ, zero, suc, ◌+◌, ◌*◌, ◌≤◌, min, true, false, List, [], ◌∷◌, map, replicate, Option, Some, None, option_and_then, refl, sym, ap, ◌∙◌, subst, arith, IsTrue}
+use Rattle.std.specs.Prelude.{IfSome, is_none, option_to_list}
 use Rattle.std.specs.List.{AllByRecursion, list_any}
 use Rattle.std.proofs.lemmas.Bool.{false≢true, or_parts, cond_both}
 use Rattle.xs_instructions.specs.Code.{code_start, place_address}
 use Rattle.xs_instructions.specs.Image.{Symbol, has_symbol_at}
 use Rattle.xs_instructions.specs.Instr.{InRange, built, label_of, value_parts}
 use Rattle.xs_instructions.specs.Rows.{is_built}
-use Rattle.xs_instructions.specs.Operands.{made, row_of, values_of}
+use Rattle.xs_instructions.specs.Operands.{made}
 use Rattle.xs_instructions.specs.Find.{are_in_range, build}
 use Rattle.xs_instructions.specs.declared.instr.Instr.{Instr}
 use Rattle.xs_instructions.specs.declared.instr.Instr.TheVariants.{Words}
@@ -24,8 +24,8 @@ use Rattle.source_model.specs.declared.layout.Place.{Place}
 use Rattle.source_model.specs.Operands.{Amount, Known, Target, Address, Offset}
 use Rattle.source_model.specs.Statement.{Says, NoEffect, Unknown, Misshapen, Instruction, Values, Zeros, Align, Line}
 use Rattle.source_model.specs.Layout.{Label, place_of, Sofar, section_length, address_in, after_line}
-use Rattle.source_model.specs.Source.{target_in, target_value, amount_value, values_in, is_missing, names_missing, instruction_in, code_of, same_section, code_of_line, code_from, symbol_of}
-use Rattle.source_model.proofs.Each.{some_for_none, none_for_some, each_parts}
+use Rattle.source_model.specs.Source.{target_in, target_value, amount_value, values_in, is_missing, names_missing, code_of, same_section, code_of_line, code_from, symbol_of}
+use Rattle.source_model.proofs.Each.{some_for_none, each_parts}
 use Rattle.source_model.proofs.Sound.{IsTarget, IsTargetAt, HasTargets, IsSoundAt, all_append}
 use Rattle.source_model.proofs.Fine.{IsFine, AreFine}
 use Rattle.source_model.proofs.Labels.{IsReached, reached_at, symbol_there}
@@ -115,7 +115,7 @@ instruction_good : (whole : Sofar) (row : Row) (amounts : List Amount) (o : Opti
 instruction_good whole row amounts None w h b t d = tt
 instruction_good whole row amounts (Some values) w h b t d =
     cond_both (are_in_range (value_parts row) values) (Some (made row values)) None (λ o. AllByRecursion (IsGood (symbols_of whole)) (option_to_list o))
-        (λ r. (made_good whole row amounts values w h b t d r, tt)) (λ r. tt)
+    (λ r. (made_good whole row amounts values w h b t d r, tt)) (λ r. tt)
 
 nop_good : (symbols : List Symbol) → IsGood symbols (Words Nop)
 nop_good symbols = record { operands = tt; built = refl; target = tt }
@@ -137,8 +137,8 @@ says_good whole long home (Align (Some unit)) w s d = all_replicate (IsGood (sym
 line_good : (whole before : Sofar) (line : Line) → IsWhole whole → IsFine whole before line → AllByRecursion (IsGood (symbols_of whole)) (code_of_line whole before line)
 line_good whole before line w f =
     cond_both (same_section Text before.layout.section) (code_of whole before.layout.instructions line.statement.says) [] (AllByRecursion (IsGood (symbols_of whole)))
-        (λ e. says_good whole before.layout.instructions line.statement.home line.statement.says w f.sound.says f.defined)
-        (λ e. tt)
+    (λ e. says_good whole before.layout.instructions line.statement.home line.statement.says w f.sound.says f.defined)
+    (λ e. tt)
 
 pub code_good : (whole before : Sofar) (lines : List Line) → IsWhole whole → AreFine whole before lines → AllByRecursion (IsGood (symbols_of whole)) (code_from whole before lines)
 unfolding code_from

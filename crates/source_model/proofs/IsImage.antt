@@ -1,17 +1,15 @@
 -- What a source without faults stands for keeps what every image keeps.
-use Rattle.std.proofs.Common.{◌≡◌, ℕ, zero, suc, ◌+◌, ◌-◌, ◌*◌, ◌/◌, ◌%◌, ◌<◌, ◌≤◌, List, [], ◌∷◌, ◌++◌, length, map, replicate, Option, Some, None, refl, sym, ap, ◌∙◌, subst, arith, length-append, IsTrue}
+use Rattle.std.proofs.Common.{◌≡◌, ℕ, ◌+◌, ◌%◌, ◌<◌, List, [], ◌∷◌, length, map, Option, Some, None, refl, ap, ◌∙◌, subst, arith, length-append, IsTrue}
 use Rattle.std.specs.Prelude.{IfSome}
 use Rattle.std.specs.List.{AllByRecursion}
 use Rattle.std.proofs.lemmas.List.{length-replicate}
 use Rattle.xs_text.specs.Lines.{lines_of}
-use Rattle.xs_instructions.specs.Image.{ImageRec, IsImage, Symbol, is_place, data_start}
+use Rattle.xs_instructions.specs.Image.{ImageRec, IsImage, data_start}
 use Rattle.xs_instructions.specs.Instr.{InRange, built, label_of}
-use Rattle.xs_instructions.specs.declared.instr.Instr.{Instr}
 use Rattle.source_model.specs.declared.AsmKind.{AsmKind}
-use Rattle.source_model.specs.declared.layout.Section.TheVariants.{Text, Data, Constants}
-use Rattle.source_model.specs.declared.layout.Layout.{Layout}
+use Rattle.source_model.specs.declared.layout.Section.TheVariants.{Data, Constants}
 use Rattle.source_model.specs.Statement.{Line, line_of}
-use Rattle.source_model.specs.Layout.{Label, Sofar, nothing_yet, after_lines, whole_of, round_up_to_word, section_start, bytes_length}
+use Rattle.source_model.specs.Layout.{nothing_yet, whole_of, round_up_to_word, bytes_length}
 use Rattle.source_model.specs.Source.{first_fault, code_from, bytes_from, bytes_together, image_of, Image, outcome, assembled}
 use Rattle.source_model.proofs.FirstFault.{absent}
 use Rattle.source_model.proofs.Fine.{AreFine, all_sound, all_fine, all_code_fits, all_bytes_fit}

@@ -1,8 +1,8 @@
 -- The labels of a source without faults: names that come once, in order, each at a place that is reached.
-use Rattle.std.proofs.Common.{◌≡◌, ℕ, zero, suc, ◌+◌, ◌*◌, ◌<◌, ◌≤◌, Bool, true, false, cond, ◌||◌, ◌&&◌, not, List, [], ◌∷◌, ◌++◌, length, map, Option, Some, None, option_map, refl, sym, ap, ◌∙◌, subst, arith, IsTrue, nat_le, nat_lt}
+use Rattle.std.proofs.Common.{◌≡◌, ℕ, zero, suc, ◌+◌, ◌*◌, ◌<◌, ◌≤◌, Bool, true, false, cond, ◌||◌, not, List, [], ◌∷◌, ◌++◌, map, Option, Some, None, option_map, refl, sym, ap, ◌∙◌, subst, arith, IsTrue, nat_lt}
 use Rattle.std.specs.Prelude.{is_some, ◌==◌}
-use Rattle.std.specs.List.{AllByRecursion, list_any}
-use Rattle.std.proofs.lemmas.Bool.{false≢true, and_parts, and_from, or_parts, or_right, or_left, not_from_false, cond-false, cond-true, le-leb, lt-leb, ne_eqb, lt-ltb, eq-eqb, cond_both}
+use Rattle.std.specs.List.{AllByRecursion}
+use Rattle.std.proofs.lemmas.Bool.{false≢true, and_from, or_parts, or_right, or_left, not_from_false, cond-false, le-leb, lt-leb, ne_eqb, lt-ltb, eq-eqb, cond_both}
 use Rattle.std.proofs.lemmas.Bool.Decides.{nat_tests}
 use Rattle.std.proofs.lemmas.List.{map-append}
 use Rattle.xs_text.specs.Tokens.{is_name}
@@ -14,7 +14,7 @@ use Rattle.source_model.specs.declared.layout.Home.{Home}
 use Rattle.source_model.specs.declared.layout.Home.TheVariants.{Anywhere, InText, InBytes, BeginsData, BeginsConstants, Nowhere}
 use Rattle.source_model.specs.declared.layout.Layout.{Layout}
 use Rattle.source_model.specs.declared.layout.Place.{Place}
-use Rattle.source_model.specs.Statement.{Says, Line, Statement}
+use Rattle.source_model.specs.Statement.{Line, Statement}
 use Rattle.source_model.specs.Layout.{Label, place_of, Sofar, section_length, here, may_stand, longer, section_after, moved, define, define_all, after_line, after_lines, round_up_to_word, section_start, address_in, bytes_length}
 use Rattle.source_model.specs.Source.{symbol_of}
 use Rattle.source_model.proofs.Fine.{IsFine, AreFine}
@@ -214,7 +214,7 @@ table_push end now labels name b l named h free new =
 table_define : (end now : Layout) (labels : List Label) (name : List ℕ) → IsBounded end → IsLater now end → is_name name ≡ true → IsTable end now labels → IsTable end now (define (here now) name labels)
 table_define end now labels name b l named h =
     cond_both (is_reserved name || is_some (place_of labels name)) labels (labels ++ (name, here now) ∷ []) (IsTable end now) (λ e. h)
-        (λ e. let parts = or_parts (is_reserved name) (is_some (place_of labels name)) e in table_push end now labels name b l named h parts.0 parts.1)
+    (λ e. let parts = or_parts (is_reserved name) (is_some (place_of labels name)) e in table_push end now labels name b l named h parts.0 parts.1)
 
 table_define_all : (end now : Layout) (names : List (List ℕ)) (labels : List Label) → IsBounded end → IsLater now end → AllByRecursion (λ name. is_name name ≡ true) names → IsTable end now labels → IsTable end now (define_all (here now) names labels)
 unfolding define_all
@@ -232,8 +232,8 @@ table_line : (end : Layout) (whole before : Sofar) (line : Line) → IsBounded e
     → IsTable end (after_line before line).layout (after_line before line).labels
 table_line end whole before line b l f h =
     rw (line_after before line f.allowed)
-        (table_later end before.layout (after_line before line).layout _ (line_later whole before line f)
-        (table_define_all end before.layout line.labels before.labels b l f.sound.names h))
+    (table_later end before.layout (after_line before line).layout _ (line_later whole before line f)
+    (table_define_all end before.layout line.labels before.labels b l f.sound.names h))
 
 -- the labels of all lines
 pub table_lines : (end : Layout) (whole before : Sofar) (lines : List Line) → IsBounded end → IsLater (after_lines before lines).layout end → AreFine whole before lines

@@ -1,5 +1,5 @@
 -- The lengths of the code and of both sections' bytes are those of the layout.
-use Rattle.std.proofs.Common.{◌≡◌, ℕ, ◌+◌, ◌*◌, ◌<◌, ◌≤◌, Bool, true, false, cond, List, [], ◌∷◌, ◌++◌, length, flat_map, replicate, Option, Some, None, refl, sym, ap, ◌∙◌, subst, arith, length-append, suc}
+use Rattle.std.proofs.Common.{◌≡◌, ℕ, ◌+◌, ◌*◌, true, false, cond, List, [], ◌∷◌, length, flat_map, Option, Some, None, refl, sym, ap, ◌∙◌, arith, length-append}
 use Rattle.std.specs.Prelude.{is_none, option_to_list}
 use Rattle.std.proofs.lemmas.Bool.{false≢true}
 use Rattle.std.proofs.lemmas.List.{length-replicate}
@@ -13,12 +13,12 @@ use Rattle.source_model.specs.declared.layout.Width.TheVariants.{Byte, Short, Wo
 use Rattle.source_model.specs.declared.layout.Layout.{Layout}
 use Rattle.source_model.specs.Operands.{Amount}
 use Rattle.source_model.specs.Values.{width_bytes, little_endian}
-use Rattle.source_model.specs.Statement.{Says, NoEffect, Unknown, Misshapen, Instruction, Values, Zeros, Align, Statement, Line}
-use Rattle.source_model.specs.Layout.{Sofar, section_length, may_stand, added, moved, after_line, after_lines}
-use Rattle.source_model.specs.Source.{values_in, amount_value, is_out_of_range, code_of, bytes_of, bytes_of_values, same_section, code_of_line, code_from, bytes_of_line, bytes_from}
+use Rattle.source_model.specs.Statement.{Says, NoEffect, Unknown, Misshapen, Instruction, Values, Zeros, Align, Line}
+use Rattle.source_model.specs.Layout.{Sofar, may_stand, added, moved, after_line, after_lines}
+use Rattle.source_model.specs.Source.{values_in, amount_value, is_out_of_range, code_of, bytes_of, bytes_of_values, same_section, code_from, bytes_from}
 use Rattle.source_model.proofs.Each.{all_some-length}
-use Rattle.source_model.proofs.Sound.{IsSound, IsSoundAt}
-use Rattle.source_model.proofs.Fine.{IsFine, AreFine}
+use Rattle.source_model.proofs.Sound.{IsSoundAt}
+use Rattle.source_model.proofs.Fine.{AreFine}
 
 length_of_some : {A : Type 0} (o : Option A) → is_none o ≡ false → length (option_to_list o) ≡ 1
 length_of_some None h = absurd (false≢true (sym h))

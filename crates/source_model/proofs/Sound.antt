@@ -94,8 +94,8 @@ labels_named [] h = tt
 labels_named (t ∷ []) h = tt
 labels_named (t ∷ c ∷ rest) h =
     cond_both (begins_label t c) (t.bytes ∷ labels_first rest) [] (AllByRecursion (λ name. is_name name ≡ true))
-        (λ e. (label_named t c h.0 e, labels_named rest h.1.1))
-        (λ e. tt)
+    (λ e. (label_named t c h.0 e, labels_named rest h.1.1))
+    (λ e. tt)
 
 -- a label's shape is that of a code label's name alone
 
@@ -185,8 +185,8 @@ row_targets name operands (Some shapes) e row h = targets (parts_of row) operand
 instruction_sound : (name : List ℕ) (operands : List Operand) → IsSoundAt InText (instruction name operands)
 instruction_sound name operands =
     cond_both (known name) (of_row operands _) Unknown (IsSoundAt InText)
-        (λ e. row_sound operands _ (row_targets name operands (shapes_of operands) refl))
-        (λ e. tt)
+    (λ e. row_sound operands _ (row_targets name operands (shapes_of operands) refl))
+    (λ e. tt)
 
 shaped_sound : (home : Home) (b : Bool) → IsSoundAt home (shaped b)
 shaped_sound home true = tt
