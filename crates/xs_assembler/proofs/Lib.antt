@@ -1,1 +1,3 @@
 pub mod NameTable
+pub mod Steps
+pub mod Sizes
