@@ -40,7 +40,7 @@ node_added given now node nodes place e p h =
 
 -- The fault of a line by whether its bytes are allowed, and by what it says
 
-abbrev fault_by : Given → Bool → Says → Option SysKind
+abbrev pub fault_by : Given → Bool → Says → Option SysKind
 fault_by given allowed said = first_that_holds (
   (FirstLine, is_other_first_line said)
   ∷ (BadLine, (is_of_the_frame said && not allowed) || is_unknown given said)
@@ -54,7 +54,7 @@ fault_by given allowed said = first_that_holds (
   ∷ []
 )
 
-fault_is : (given : Given) (l : List ℕ) (allowed : Bool) (said : Says) → all_allowed l ≡ allowed → says given l ≡ said → fault_of given l ≡ fault_by given allowed said
+pub fault_is : (given : Given) (l : List ℕ) (allowed : Bool) (said : Says) → all_allowed l ≡ allowed → says given l ≡ said → fault_of given l ≡ fault_by given allowed said
 fault_is given l allowed said a s = ap (λ b. fault_by given b (says given l)) a ∙ ap (λ x. fault_by given allowed x) s
 
 says_outside : (given : Given) (l : List ℕ) → given.reading ≡ None → says given l ≡ says_in_frame given.begun (words_of_line l)

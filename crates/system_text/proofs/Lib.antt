@@ -1,2 +1,4 @@
 pub mod Forms
 pub mod Judged
+pub mod Sections
+pub mod Walk

@@ -1,3 +1,5 @@
 pub mod Forms
 pub mod Ranges
 pub mod Judged
+pub mod Sections
+pub mod Reads

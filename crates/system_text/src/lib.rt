@@ -3,8 +3,12 @@
 
 mod frame;
 mod frame_lines;
+mod frame_reader;
+mod section;
+mod system_error;
 mod words;
 
 pub use source_model::AsmKind;
 pub use system_model::SysKind;
-pub use frame::{Frame, Said};
+pub use system_error::SystemError;
+pub use frame_reader::read_frame;
