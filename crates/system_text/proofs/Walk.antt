@@ -1,5 +1,5 @@
 -- The frame of lines, line by line.
-use Rattle.std.proofs.Common.{◌≡◌, ℕ, ◌+◌, ◌<◌, ◌≤◌, Bool, true, false, not, List, [], ◌∷◌, ◌++◌, length, Option, Some, None, Result, Ok, Err, refl, sym, ap, ◌∙◌, cond, append_assoc, append-nil, arith}
+use Rattle.std.proofs.Common.{◌≡◌, ℕ, ◌+◌, Bool, true, false, not, List, [], ◌∷◌, ◌++◌, length, Option, Some, None, Result, Ok, Err, refl, sym, ap, ◌∙◌, cond, append_assoc, append-nil, arith}
 use Rattle.std.specs.Prelude.{option_map}
 use Rattle.std.proofs.lemmas.Bool.{cond-true, cond-false}
 use Rattle.xs_text.specs.Bytes.{all_allowed}
@@ -8,7 +8,7 @@ use Rattle.system_model.specs.declared.SysKind.{SysKind}
 use Rattle.system_model.specs.declared.SysKind.TheVariants.{BadLine, SectionNotEnded, FirstLine}
 use Rattle.system_model.specs.declared.frame_line.FrameLine.TheVariants.{Node, Link, Bit, Source}
 use Rattle.system_model.specs.FrameLines.{is_end}
-use Rattle.system_model.specs.Frame.{SourceText, Given, Says, Own, End, says, says_by, fault_of, given_with, given_after, with_own_line, unless_faulty, at_the_end, Framed, Refused, frame_from, framed, nothing_given, have_no_words, is_empty}
+use Rattle.system_model.specs.Frame.{SourceText, Given, Says, Own, End, says, fault_of, given_with, given_after, with_own_line, unless_faulty, at_the_end, Framed, Refused, frame_from, framed, nothing_given, have_no_words, is_empty}
 use Rattle.system_text.specs.declared.frame.Said.{Said}
 use Rattle.system_text.specs.declared.frame.Said.TheVariants as said
 use Rattle.system_text.specs.declared.system_error.SystemError.{SystemError}
@@ -17,10 +17,10 @@ use Rattle.system_text.specs.declared.system_error.SystemError.TheVariants.{Fram
 use Rattle.system_text.specs.Judged.{said_by, with_source}
 use Rattle.system_text.specs.Reads.{ReadsFrame, ReadsLine}
 use Rattle.system_text.specs.Sections.{Section, section_of, with_line}
-use Rattle.system_text.proofs.Judged.{fault_by, fault_is}
+use Rattle.system_text.proofs.Judged.{fault_is}
 use Rattle.system_text.proofs.Sections.{section_of-cons, section_of-none}
 
-from-cons : (n : ℕ) (given : Given) (l : List ℕ) (ls : List (List ℕ)) → frame_from n given (l ∷ ls) ≡ unless_faulty (fault_of given l) n (frame_from (n + 1) (given_after n l given) ls)
+pub from-cons : (n : ℕ) (given : Given) (l : List ℕ) (ls : List (List ℕ)) → frame_from n given (l ∷ ls) ≡ unless_faulty (fault_of given l) n (frame_from (n + 1) (given_after n l given) ls)
 unfolding frame_from
 from-cons n given l ls = refl
 
@@ -160,7 +160,7 @@ words_passed ls rest l e h = rw (e, h) refl
 pub words_none : (ls : List (List ℕ)) → ls ≡ [] → false ≡ not (have_no_words ls)
 words_none ls e = rw e refl
 
-framed_is : (ls : List (List ℕ)) → framed ls ≡ cond (have_no_words ls) (Refused 1 FirstLine) (frame_from 1 nothing_given ls)
+pub framed_is : (ls : List (List ℕ)) → framed ls ≡ cond (have_no_words ls) (Refused 1 FirstLine) (frame_from 1 nothing_given ls)
 unfolding framed
 framed_is ls = refl
 

@@ -4,11 +4,14 @@
 mod frame;
 mod frame_lines;
 mod frame_reader;
+mod link_plans;
+mod node_plans;
 mod section;
 mod system_error;
+mod system_reader;
 mod words;
 
 pub use source_model::AsmKind;
-pub use system_model::SysKind;
 pub use system_error::SystemError;
-pub use frame_reader::read_frame;
+pub use system_model::SysKind;
+pub use system_reader::{LONGEST_INPUT, read_system};

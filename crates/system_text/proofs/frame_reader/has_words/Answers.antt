@@ -1,6 +1,6 @@
-use Rattle.std.proofs.Common.{refl, sym, ap, ◌∙◌, not}
-use Rattle.system_text.proofs.Sections.{lines_of-nothing, line_in_text}
-use Rattle.system_text.proofs.Walk.{words_found, words_passed, words_none}
+use Rattle.std.proofs.Common.{refl, ap, ◌∙◌, not}
+use Rattle.system_text.proofs.Sections.{lines_of-nothing}
+use Rattle.system_text.proofs.Walk.{words_none}
 use Rattle.system_text.proofs.frame_reader.has_words.Goals as goal
 
 pub returns : goal.returns

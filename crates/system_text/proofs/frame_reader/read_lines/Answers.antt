@@ -1,4 +1,4 @@
-use Rattle.std.proofs.Common.{refl, sym, ap, ◌∙◌}
+use Rattle.std.proofs.Common.{refl, sym, ◌∙◌}
 use Rattle.system_text.proofs.Sections.{lines_of-nothing}
 use Rattle.system_text.proofs.Walk.{frame_by, frame_ends}
 use Rattle.system_text.proofs.frame_reader.read_lines.Goals as goal

@@ -10,10 +10,10 @@ loop-line-init c = record {
   same_text = c.in-Some.ensures.same_text ∙ c.requires;
   so_far =
       section_first c.args.text.now c.in-Some.first c.next_line.new.self.at _ _
-          (line_in_text c.args.text.now c.args.lines.now.text c.in-Some.first _ _ c.requires c.in-Some.ensures.line)
-          (parts_from c.args.text.now c.in-Some.first c.args.lines.now.at c.next_line.new.self.at c.in-Some.ensures.begins (parts_of c.args.text.now c.args.lines.now.text c.in-Some.first c.args.lines.now.at c.next_line.new.self.at c.requires c.in-Some.ensures.part))
-          c.in-Some.ensures.ordered c.in-Some.ensures.passed
-          (within_text c.args.text.now c.args.lines.now.text c.next_line.new.self.at c.requires c.in-Some.ensures.within);
+      (line_in_text c.args.text.now c.args.lines.now.text c.in-Some.first _ _ c.requires c.in-Some.ensures.line)
+      (parts_from c.args.text.now c.in-Some.first c.args.lines.now.at c.next_line.new.self.at c.in-Some.ensures.begins (parts_of c.args.text.now c.args.lines.now.text c.in-Some.first c.args.lines.now.at c.next_line.new.self.at c.requires c.in-Some.ensures.part))
+      c.in-Some.ensures.ordered c.in-Some.ensures.passed
+      (within_text c.args.text.now c.args.lines.now.text c.next_line.new.self.at c.requires c.in-Some.ensures.within);
   counted = counted_first c.args.text.now c.args.lines.now.number c.in-Some.first c.in-Some.ensures.numbered;
   numbered = c.in-Some.ensures.counted;
   onward = omega (arith, c.in-Some.ensures.progress);
@@ -34,12 +34,12 @@ loop-line-preserved c =
       same_text = c.in-Some-next_line.ensures.same_text ∙ c.loop-line.invariant.same_text;
       so_far =
           section_next text c.in-Some.first.from c.loop-line.line next c.loop-line.lines.at at _ _ _ c.loop-line.invariant.so_far
-              (sym c.is_end.ensures ∙ c.loop-line-test.true)
-              (line_in_text text other next _ _ c.loop-line.invariant.same_text c.in-Some-next_line.ensures.line)
-              c.in-Some-next_line.ensures.begins
-              (parts_of text other next c.loop-line.lines.at at c.loop-line.invariant.same_text c.in-Some-next_line.ensures.part)
-              c.in-Some-next_line.ensures.ordered c.in-Some-next_line.ensures.passed
-              (within_text text other at c.loop-line.invariant.same_text c.in-Some-next_line.ensures.within);
+          (sym c.is_end.ensures ∙ c.loop-line-test.true)
+          (line_in_text text other next _ _ c.loop-line.invariant.same_text c.in-Some-next_line.ensures.line)
+          c.in-Some-next_line.ensures.begins
+          (parts_of text other next c.loop-line.lines.at at c.loop-line.invariant.same_text c.in-Some-next_line.ensures.part)
+          c.in-Some-next_line.ensures.ordered c.in-Some-next_line.ensures.passed
+          (within_text text other at c.loop-line.invariant.same_text c.in-Some-next_line.ensures.within);
       counted = counted_next text c.args.lines.now.number c.in-Some.first.from c.loop-line.line next c.loop-line.lines.at _ _ c.loop-line.invariant.so_far c.loop-line.invariant.counted c.in-Some-next_line.ensures.begins number;
       numbered = c.in-Some-next_line.ensures.counted;
       onward = omega (arith, c.in-Some-next_line.ensures.progress, c.loop-line.invariant.onward);
