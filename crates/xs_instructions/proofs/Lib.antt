@@ -1,1 +1,4 @@
 pub mod Names
+pub mod Kept
+pub mod Made
+pub mod Finds

@@ -14,10 +14,14 @@ use Rattle.indexmap.specs.IndexMap.{IndexMap, get, insert_entry}
 use Rattle.indexmap.proofs.CallerLemmas.{insert_entry-new}
 use Rattle.xs_text.specs.Bytes.{is_name_byte, is_name_start}
 use Rattle.xs_text.specs.Tokens.{is_name}
-use Rattle.xs_instructions.specs.Image.{same_name, address_of, symbol_of_entry, is_reserved, reserved_names}
+use Rattle.xs_instructions.specs.Words.{same_name}
+use Rattle.xs_instructions.specs.Image.{address_of, symbol_of_entry, is_reserved, reserved_names}
 
 pub same_name-Decides : (xs ys : List ℕ) → Decides (same_name xs ys) (xs ≡ ys)
 same_name-Decides = compares_Decides same_name (search rules)
+
+pub same_name-same : (name : List ℕ) → same_name name name ≡ true
+same_name-same name = (same_name-Decides name name).1 refl
 
 -- a name is compared as a map compares the text that is looked up with a key
 pub same_name-is : (key name : List ℕ) → same_name key name ≡ bytes_eq name key

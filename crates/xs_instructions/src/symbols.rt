@@ -1,6 +1,7 @@
 ghost use Rattle.std.specs.Prelude.{◌≡◌, [], ◌∷◌, ◌++◌, None, IsTrue, OnOk, OnErr, option_map};
 ghost use Rattle.xs_text.specs.Tokens.{is_name};
-ghost use Rattle.xs_instructions.specs.Image.{address_of, is_reserved, same_name, symbol_at, symbol_of_pair};
+ghost use Rattle.xs_instructions.specs.Image.{address_of, is_reserved, symbol_at, symbol_of_pair};
+ghost use Rattle.xs_instructions.specs.Words.{same_name};
 
 use indexmap::IndexMap;
 use std::alloc::{AllocError, Global};
