@@ -1,11 +1,11 @@
 //! `Core`, one node's core.
-ghost use Rattle.std.specs.Prelude.{◌≡◌, ◌<◌, ◌≤◌, ◌+◌, ◌↔◌, ℕ, Some, false, List, [], length, map, IfOk, IsErr};
+ghost use Rattle.std.specs.Prelude.{◌≡◌, ◌<◌, ◌≤◌, ◌+◌, ◌↔◌, ℕ, Some, false, List, [], length, map, IfOk, IsErr, IsTrue};
 ghost use Rattle.std.specs.Result.{result_ok};
 ghost use Rattle.xs_model.specs.Record.{NodeRec, thread_of, free_thread};
 ghost use Rattle.xs_model.specs.Memory.{load_word, is_word_address, memory_size};
 ghost use Rattle.xs_model.specs.Picks.{may_issue};
 ghost use Rattle.xs_model.specs.Outside.{LevelsFit, emitted_events};
-ghost use Rattle.xs_instructions.specs.Instr.{InRange, MemoryInRange};
+ghost use Rattle.xs_instructions.specs.Instr.{InRange, MemoryInRange, built};
 ghost use Rattle.step_model.specs.Start.{fixed_of, node_of, WaysHaveGaps};
 ghost use Rattle.step_model.specs.Effect.{effect, memory_row};
 ghost use Rattle.step_model.specs.Step.{node_step, resumed, begun, settled, trap, issued, issued_by};
@@ -226,6 +226,7 @@ impl Core {
     fn execute(&mut self, k: u8, ins: Instr) -> Outcome
         requires thread { k < 8 }
         requires range { InRange ins }
+        requires built { IsTrue (built ins) }
         ensures fixed { self.new.fixed ≡ self.old.fixed }
         ensures windows { self.new.windows ≡ self.old.windows }
         ensures row { Ends result self.old.core self.new.core (effect self.old.fixed.id self.old.core k ins) }
@@ -249,6 +250,7 @@ impl Core {
                 self.resting = false;
                 resources(self.id, k, ins, &mut self.threads, &mut self.chans)
             }
+            _ => unreachable!(),
         }
     }
 

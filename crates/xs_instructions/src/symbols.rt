@@ -1,4 +1,4 @@
-ghost use Rattle.std.specs.Prelude.{◌≡◌, [], ◌∷◌, ◌++◌, None, IsTrue, OnOk, OnErr, option_map};
+ghost use Rattle.std.specs.Prelude.{◌≡◌, [], ◌∷◌, ◌++◌, None, IsTrue, OnOk, OnErr, length, option_map};
 ghost use Rattle.xs_text.specs.Tokens.{is_name};
 ghost use Rattle.xs_instructions.specs.Image.{address_of, is_reserved, symbol_at, symbol_of_pair};
 ghost use Rattle.xs_instructions.specs.Words.{same_name};
@@ -55,6 +55,13 @@ impl Symbols {
             // Each label is text, so other bytes are no label's.
             Err(_) => None,
         }
+    }
+
+    /// How many labels there are.
+    pub fn count(&self) -> usize
+        ensures value { result ≡ length self.now }
+    {
+        self.addresses.len()
     }
 
     /// The label with the number `k` in the order of definition, from 0, with its address. None comes exactly past
