@@ -10,6 +10,7 @@ mod image;
 mod instr;
 mod rows;
 mod shape;
+mod writing;
 mod symbols;
 mod words;
 
@@ -20,6 +21,7 @@ pub use image::Image;
 pub use instr::{FlowIns, Instr, KernelIns, MemIns, ResIns, ThreadIns, WordIns};
 pub use rows::{Part, ROWS, Row};
 pub use shape::{Form, Piece, Shape};
+pub use writing::spelling;
 pub use words::{fixed, register_number};
 pub use symbols::{Symbols, is_reserved, same_name};
 
