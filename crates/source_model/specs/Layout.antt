@@ -1,16 +1,15 @@
 -- What lines say together: which section they end in, how long the sections are, and where labels stand.
-use Rattle.std.specs.Prelude.{ℕ, ◌+◌, ◌-◌, ◌*◌, ◌/◌, ◌%◌, Bool, true, false, ◌||◌, not, is_some, ◌==◌, if◌then◌else◌, Option, Some, None, List, [], ◌∷◌, ◌++◌, length}
-use Rattle.xs_instructions.specs.Code.{code_start, place_address}
+use Rattle.std.specs.Prelude.{ℕ, ◌+◌, ◌-◌, ◌*◌, ◌/◌, ◌%◌, Bool, true, false, ◌||◌, is_some, ◌==◌, if◌then◌else◌, Option, Some, None, List, [], ◌∷◌, ◌++◌, length}
+use Rattle.xs_instructions.specs.Code.{code_start}
 use Rattle.xs_instructions.specs.Image.{same_name, is_reserved, data_start}
 use Rattle.source_model.specs.declared.layout.Section.{Section}
 use Rattle.source_model.specs.declared.layout.Section.TheVariants.{Text, Data, Constants}
 use Rattle.source_model.specs.declared.layout.Home.{Home}
-use Rattle.source_model.specs.declared.layout.Home.TheVariants.{Anywhere, InText, InBytes, BeginsData, BeginsConstants, Nowhere}
+use Rattle.source_model.specs.declared.layout.Home.TheVariants.{Anywhere, InText, InBytes, BeginsData, BeginsConstants}
 use Rattle.source_model.specs.declared.layout.Layout.{Layout}
 use Rattle.source_model.specs.declared.layout.Place.{Place}
-use Rattle.source_model.specs.Operands.{Amount}
 use Rattle.source_model.specs.Values.{width_bytes}
-use Rattle.source_model.specs.Statement.{Says, NoEffect, Unknown, Misshapen, Instruction, Values, Zeros, Align, Statement, Line}
+use Rattle.source_model.specs.Statement.{Says, Instruction, Values, Zeros, Align, Statement, Line}
 
 -- a name and where it stands
 abbrev pub Label : Type 0

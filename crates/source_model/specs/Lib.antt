@@ -1,3 +1,4 @@
+pub mod Each
 pub mod Operands
 pub mod Values
 pub mod Statement
@@ -5,3 +6,5 @@ pub mod Layout
 pub mod Source
 pub mod Canonical
 pub mod WorkedCanonical
+pub mod Faults
+pub mod WorkedSourceLines

@@ -1,5 +1,5 @@
 -- Operands of an instruction, token by token: the shape of each, and the amount that it stands for.
-use Rattle.std.specs.Prelude.{ℕ, ◌+◌, Bool, true, false, if◌then◌else◌, Option, Some, None, option_map, List, [], ◌∷◌, map, codes}
+use Rattle.std.specs.Prelude.{ℕ, if◌then◌else◌, Option, Some, None, option_map, List, [], ◌∷◌, map, codes}
 use Rattle.xs_text.specs.Tokens.{Token}
 use Rattle.xs_text.specs.Numbers.{source_number_of, at_most}
 use Rattle.xs_text.specs.declared.token_reader.TokKind.{TokKind}
@@ -9,6 +9,7 @@ use Rattle.xs_instructions.specs.Table.{fixed, register_number, parts_of, values
 use Rattle.xs_instructions.specs.declared.rows.Row.{Row}
 use Rattle.xs_instructions.specs.declared.shape.Shape.{Shape}
 use Rattle.xs_instructions.specs.declared.shape.Shape.TheVariants as shape
+use Rattle.source_model.specs.Each.{all_some}
 use Rattle.source_model.specs.declared.layout.Section.{Section}
 use Rattle.source_model.specs.declared.layout.Section.TheVariants.{Data, Constants}
 
@@ -70,15 +71,9 @@ shape_by_kind Stray base bytes = None
 abbrev pub shape_of : Operand → Option Shape
 shape_of operand = shape_by_kind operand.token.kind operand.base operand.token.bytes
 
-abbrev pub put_shape : Option Shape → Option (List Shape) → Option (List Shape)
-put_shape None after = None
-put_shape (Some s) None = None
-put_shape (Some s) (Some after) = Some (s ∷ after)
-
 -- the shapes of all operands, if each has one
-unfoldable pub shapes_of : List Operand → Option (List Shape)
-shapes_of [] = Some []
-shapes_of (operand ∷ rest) = put_shape (shape_of operand) (shapes_of rest)
+abbrev pub shapes_of : List Operand → Option (List Shape)
+shapes_of operands = all_some shape_of operands
 
 abbrev pub label_amount : Option Section → List ℕ → Amount
 label_amount None name = Target name

@@ -1,5 +1,5 @@
 -- What a source text stands for: an image, or its first fault.
-use Rattle.std.specs.Prelude.{ℕ, ◌+◌, ◌-◌, ◌*◌, ◌/◌, ◌%◌, Bool, true, false, ◌||◌, ◌&&◌, not, is_some, is_none, ◌==◌, min, nat_lt, nat_le, if◌then◌else◌, Option, Some, None, option_and_then, option_to_list, List, [], ◌∷◌, ◌++◌, length, map, flat_map, replicate}
+use Rattle.std.specs.Prelude.{ℕ, ◌+◌, ◌-◌, ◌/◌, ◌%◌, Bool, true, false, ◌||◌, ◌&&◌, not, is_some, is_none, ◌==◌, min, nat_lt, nat_le, if◌then◌else◌, Option, Some, None, option_and_then, option_to_list, List, [], ◌∷◌, ◌++◌, length, map, flat_map, find, replicate}
 use Rattle.std.specs.List.{list_any}
 use Rattle.xs_text.specs.Lines.{lines_of}
 use Rattle.xs_instructions.specs.Image.{ImageRec, Symbol, is_reserved}
@@ -15,9 +15,10 @@ use Rattle.source_model.specs.declared.layout.Section.TheVariants.{Text, Data, C
 use Rattle.source_model.specs.declared.layout.Width.{Width}
 use Rattle.source_model.specs.declared.layout.Layout.{Layout}
 use Rattle.source_model.specs.declared.layout.Place.{Place}
+use Rattle.source_model.specs.Each.{all_some}
 use Rattle.source_model.specs.Operands.{Amount, Known, Target, Address, Offset}
 use Rattle.source_model.specs.Values.{little_endian}
-use Rattle.source_model.specs.Statement.{Says, NoEffect, Unknown, Misshapen, Instruction, Values, Zeros, Align, Statement, Line, line_of}
+use Rattle.source_model.specs.Statement.{Says, Unknown, Misshapen, Instruction, Values, Zeros, Align, Line, line_of}
 use Rattle.source_model.specs.Layout.{Label, place_of, Sofar, nothing_yet, section_length, here, may_stand, padding, define, after_line, whole_of, round_up_to_word, section_start, address_in, bytes_length}
 
 -- amounts, by what all lines say
@@ -55,15 +56,9 @@ amount_value whole (Target name) = target_value (place_of whole.labels name)
 amount_value whole (Address name) = address_value whole.layout (place_of whole.labels name)
 amount_value whole (Offset base name) = offset_value whole.layout base (place_of whole.labels name)
 
-abbrev pub put_value : Option ℕ → Option (List ℕ) → Option (List ℕ)
-put_value None after = None
-put_value (Some n) None = None
-put_value (Some n) (Some after) = Some (n ∷ after)
-
 -- the values, None where one is out of range
-unfoldable pub values_in : Sofar → List Amount → Option (List ℕ)
-values_in whole [] = Some []
-values_in whole (amount ∷ amounts) = put_value (amount_value whole amount) (values_in whole amounts)
+abbrev pub values_in : Sofar → List Amount → Option (List ℕ)
+values_in whole amounts = all_some (amount_value whole) amounts
 
 -- whether no line defines the name
 abbrev pub is_missing : Sofar → Amount → Bool
@@ -131,27 +126,27 @@ has_too_many_instructions whole before line = nat_lt 16384 (after_line before li
 abbrev pub has_too_many_bytes : Sofar → Sofar → Line → Bool
 has_too_many_bytes whole before line = nat_lt 65536 (bytes_length (after_line before line).layout.data_bytes (after_line before line).layout.constant_bytes)
 
--- the tests of a line, in the order that decides
-abbrev pub tests : List (AsmKind × (Sofar → Sofar → Line → Bool))
-tests =
-    (BadByte, has_bad_byte)
-    ∷ (LabelTwice, has_label_twice)
-    ∷ (DirectiveNotAllowed, is_not_allowed)
-    ∷ (UnknownName, has_unknown_name)
-    ∷ (WrongOperands, has_wrong_operands)
-    ∷ (NumberOutOfRange, has_number_out_of_range)
-    ∷ (LabelMissing, has_label_missing)
-    ∷ (TooManyInstructions, has_too_many_instructions)
-    ∷ (TooManyBytes, has_too_many_bytes)
-    ∷ []
+-- the test of each kind
+abbrev pub has_kind : AsmKind → Sofar → Sofar → Line → Bool
+has_kind BadByte = has_bad_byte
+has_kind UnknownName = has_unknown_name
+has_kind WrongOperands = has_wrong_operands
+has_kind NumberOutOfRange = has_number_out_of_range
+has_kind LabelTwice = has_label_twice
+has_kind LabelMissing = has_label_missing
+has_kind DirectiveNotAllowed = is_not_allowed
+has_kind TooManyInstructions = has_too_many_instructions
+has_kind TooManyBytes = has_too_many_bytes
 
--- the kind of the first test that holds
-abbrev pub first_that_holds : List (AsmKind × (Sofar → Sofar → Line → Bool)) → Sofar → Sofar → Line → Option AsmKind
-first_that_holds [] whole before line = None
-first_that_holds (t ∷ rest) whole before line = if t.1 whole before line then Some t.0 else first_that_holds rest whole before line
+-- the order that decides within a line
+abbrev pub order : List AsmKind
+order =
+    BadByte ∷ LabelTwice ∷ DirectiveNotAllowed ∷ UnknownName ∷ WrongOperands ∷ NumberOutOfRange ∷ LabelMissing
+    ∷ TooManyInstructions ∷ TooManyBytes ∷ []
 
+-- the first kind of which a line has a fault
 abbrev pub fault_of_line : Sofar → Sofar → Line → Option AsmKind
-fault_of_line whole before line = first_that_holds tests whole before line
+fault_of_line whole before line = find (λ kind. has_kind kind whole before line) order
 
 abbrev pub or_fault : ℕ → Option AsmKind → Option (ℕ × AsmKind) → Option (ℕ × AsmKind)
 or_fault number (Some kind) after = Some (number, kind)

@@ -1,5 +1,5 @@
 -- One line of a source by itself: its labels, and where its statement may stand and what it says.
-use Rattle.std.specs.Prelude.{ℕ, Bool, true, false, ◌&&◌, not, ◌==◌, nat_le, if◌then◌else◌, Option, Some, None, option_and_then, List, [], ◌∷◌, codes}
+use Rattle.std.specs.Prelude.{ℕ, Bool, true, false, ◌&&◌, not, ◌==◌, if◌then◌else◌, Option, Some, None, option_and_then, List, [], ◌∷◌, codes}
 use Rattle.xs_text.specs.Bytes.{all_allowed, begins_with}
 use Rattle.xs_text.specs.Tokens.{Token, tokens_of}
 use Rattle.xs_text.specs.Numbers.{source_number_of, at_most}
@@ -8,7 +8,6 @@ use Rattle.xs_text.specs.declared.token_reader.TokKind.TheVariants.{Name, Number
 use Rattle.xs_instructions.specs.Image.{same_name}
 use Rattle.xs_instructions.specs.Table.{find, known, is_built}
 use Rattle.xs_instructions.specs.declared.rows.Row.{Row}
-use Rattle.xs_instructions.specs.declared.shape.Shape.{Shape}
 use Rattle.source_model.specs.declared.layout.Home.{Home}
 use Rattle.source_model.specs.declared.layout.Home.TheVariants.{Anywhere, InText, InBytes, BeginsData, BeginsConstants, Nowhere}
 use Rattle.source_model.specs.declared.layout.Width.{Width}

@@ -1,5 +1,5 @@
 -- Values of `.word`, `.short` and `.byte`.
-use Rattle.std.specs.Prelude.{ℕ, ◌-◌, ◌/◌, ◌%◌, Bool, true, false, if◌then◌else◌, Option, Some, None, option_map, List, [], ◌∷◌, codes}
+use Rattle.std.specs.Prelude.{ℕ, ◌-◌, ◌/◌, ◌%◌, if◌then◌else◌, Option, Some, None, option_map, List, [], ◌∷◌, codes}
 use Rattle.xs_text.specs.Tokens.{Token}
 use Rattle.xs_text.specs.Numbers.{source_number_of, at_most}
 use Rattle.xs_text.specs.declared.token_reader.TokKind.{TokKind}
@@ -7,6 +7,7 @@ use Rattle.xs_text.specs.declared.token_reader.TokKind.TheVariants.{Name, Number
 use Rattle.xs_instructions.specs.Image.{same_name, is_reserved}
 use Rattle.source_model.specs.declared.layout.Width.{Width}
 use Rattle.source_model.specs.declared.layout.Width.TheVariants.{Byte, Short, Word}
+use Rattle.source_model.specs.Each.{put_first}
 use Rattle.source_model.specs.Operands.{Amount, Known, Address}
 
 -- in bytes
@@ -61,11 +62,6 @@ pub data Next : Type 0 where
   DigitsNext : Next
   CommaNext : Next
 
-abbrev pub put_amount : Option Amount → Option (List Amount) → Option (List Amount)
-put_amount None after = None
-put_amount (Some a) None = None
-put_amount (Some a) (Some after) = Some (a ∷ after)
-
 -- the values from there on: one or more, commas between them, each with a sign or none
 unfoldable pub values_from : Next → Width → List Token → Option (List Amount)
 values_from ValueNext width [] = None
@@ -74,8 +70,8 @@ values_from CommaNext width [] = Some []
 values_from ValueNext width (t ∷ rest) =
     if same_name (codes "-") t.bytes
     then values_from DigitsNext width rest
-    else put_amount (plain_value t.kind width t.bytes) (values_from CommaNext width rest)
-values_from DigitsNext width (t ∷ rest) = put_amount (signed_value t.kind width t.bytes) (values_from CommaNext width rest)
+    else put_first (plain_value t.kind width t.bytes) (values_from CommaNext width rest)
+values_from DigitsNext width (t ∷ rest) = put_first (signed_value t.kind width t.bytes) (values_from CommaNext width rest)
 values_from CommaNext width (t ∷ rest) = if same_name (codes ",") t.bytes then values_from ValueNext width rest else None
 
 abbrev pub values_of : Width → List Token → Option (List Amount)

@@ -1,3 +1,5 @@
-pub mod Labels
-pub mod Assembles
-pub mod Words
+pub mod Names
+pub mod Parts
+pub mod Lines
+pub mod Sofar
+pub mod Contents
