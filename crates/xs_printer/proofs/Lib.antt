@@ -15,3 +15,7 @@ pub mod RowFacts
 pub mod PieceTokens
 pub mod PartsRead
 pub mod OperandsRead
+pub mod ItemLines
+pub mod Clean
+pub mod Stands
+pub mod Segments

@@ -16,9 +16,10 @@ use Rattle.xs_instructions.specs.Image.{Symbol}
 use Rattle.source_model.specs.declared.layout.Section.{Section}
 use Rattle.source_model.specs.declared.layout.Section.TheVariants.{Text}
 use Rattle.source_model.specs.declared.layout.Place.{Place}
-use Rattle.source_model.specs.Operands.{Amount, Known, Target, Operand, operands_after, base_after, base_named, shapes_of, shape_of, put_shape, amount_of}
+use Rattle.source_model.specs.Operands.{Amount, Known, Target, Operand, operands_after, base_after, base_named, shapes_of, shape_of, amount_of}
 use Rattle.source_model.specs.Layout.{Sofar, place_of}
-use Rattle.source_model.specs.Source.{values_in, amount_value, put_value, is_missing, target_value}
+use Rattle.source_model.specs.Source.{values_in, amount_value, is_missing, target_value}
+use Rattle.source_model.specs.Each.{all_some, put_first}
 use Rattle.xs_printer.proofs.RowFacts.{labels_clear, is_comma}
 use Rattle.xs_printer.proofs.PieceTokens.{piece_bytes, piece_token}
 use Rattle.xs_printer.proofs.PartsRead.{AllFit, FirstFits, BaseFits, part_shape, part_amount, amount_at, amounts_at, name_of_place}
@@ -33,19 +34,19 @@ unfolding operands_after
 operands-cons second last t rest = refl
 
 shapes_of-nil : shapes_of [] ≡ Some []
-unfolding shapes_of
+unfolding all_some
 shapes_of-nil = refl
 
-shapes_of-cons : (o : Operand) (rest : List Operand) → shapes_of (o ∷ rest) ≡ put_shape (shape_of o) (shapes_of rest)
-unfolding shapes_of
+shapes_of-cons : (o : Operand) (rest : List Operand) → shapes_of (o ∷ rest) ≡ put_first (shape_of o) (shapes_of rest)
+unfolding all_some
 shapes_of-cons o rest = refl
 
 values_in-nil : (whole : Sofar) → values_in whole [] ≡ Some []
-unfolding values_in
+unfolding all_some
 values_in-nil whole = refl
 
-values_in-cons : (whole : Sofar) (a : Amount) (amounts : List Amount) → values_in whole (a ∷ amounts) ≡ put_value (amount_value whole a) (values_in whole amounts)
-unfolding values_in
+values_in-cons : (whole : Sofar) (a : Amount) (amounts : List Amount) → values_in whole (a ∷ amounts) ≡ put_first (amount_value whole a) (values_in whole amounts)
+unfolding all_some
 values_in-cons whole a amounts = refl
 
 module _ (symbols : List Symbol) where
@@ -88,7 +89,7 @@ module _ (symbols : List Symbol) where
   read_more p parts values base rest fits b h =
       let operand : Operand = record { base = base; token = piece_token symbols (spelled_at p values) } in
       record {
-        shapes = shapes_of-cons operand rest ∙ (ap (λ o. put_shape o (shapes_of rest)) (part_shape symbols p values base fits b) ∙ ap (λ o. put_shape (Some (shape_at p values)) o) h.shapes);
+        shapes = shapes_of-cons operand rest ∙ (ap (λ o. put_first o (shapes_of rest)) (part_shape symbols p values base fits b) ∙ ap (λ o. put_first (Some (shape_at p values)) o) h.shapes);
         amounts = elim (cases_Bool (takes_value p)) [
           | inl t ↦ cond-true _ _ _ t ∙ (ap (λ a. a ∷ values_among parts (map amount_of rest)) (part_amount symbols p values base t fits b) ∙ (ap (λ l. amount_at symbols p values ∷ l) h.amounts ∙ sym (cond-true _ _ _ t)))
           | inr f ↦ cond-false _ _ _ f ∙ (h.amounts ∙ sym (cond-false _ _ _ f))
@@ -117,12 +118,12 @@ module _ (symbols : List Symbol) where
     target p h = ap target_value h.0 ∙ ap (λ n. Some n) (let e : min p 16384 ≡ p = omega (arith, h.1) in e)
 
     put_known : (n : ℕ) (amounts : List Amount) (values : List ℕ) → values_in whole amounts ≡ Some values → values_in whole (Known (Some n) ∷ amounts) ≡ Some (n ∷ values)
-    put_known n amounts values e = values_in-cons whole (Known (Some n)) amounts ∙ ap (λ o. put_value (Some n) o) e
+    put_known n amounts values e = values_in-cons whole (Known (Some n)) amounts ∙ ap (λ o. put_first (Some n) o) e
 
     put_target : (p : ℕ) (amounts : List Amount) (values : List ℕ) → StandsAt p → values_in whole amounts ≡ Some values → values_in whole (Target (name_of_place symbols p) ∷ amounts) ≡ Some (p ∷ values)
     put_target p amounts values h e =
         values_in-cons whole (Target (name_of_place symbols p)) amounts
-        ∙ (ap (λ o. put_value o (values_in whole amounts)) (target p h) ∙ ap (λ o. put_value (Some p) o) e)
+        ∙ (ap (λ o. put_first o (values_in whole amounts)) (target p h) ∙ ap (λ o. put_first (Some p) o) e)
 
     pub values_back : (parts : List Part) (values : List ℕ) → AreInRange (filter takes_value parts) values → AllByRecursion StandsAt (labels_in parts values) → values_in whole (amounts_at symbols parts values) ≡ Some values
     values_back [] [] h k = values_in-nil whole

@@ -20,7 +20,7 @@ use Rattle.xs_instructions.specs.Spelling.{Spelled, Text, Reg, Num, Place, spell
 use Rattle.xs_instructions.specs.Code.{place_address}
 use Rattle.xs_instructions.specs.Image.{Symbol, may_be_label, is_reserved}
 use Rattle.source_model.specs.declared.layout.Section.{Section}
-use Rattle.source_model.specs.Operands.{Amount, Known, Target, Operand, operands_after, base_after, shape_of, shapes_of, shape_by_kind, put_shape, amount_of, amount_by_kind, name_shape, or_shape, label_shape, name_amount}
+use Rattle.source_model.specs.Operands.{Amount, Known, Target, Operand, operands_after, base_after, shape_of, shapes_of, shape_by_kind, amount_of, amount_by_kind, name_shape, or_shape, label_shape, name_amount}
 use Rattle.source_model.specs.Canonical.{first_name_at}
 use Rattle.xs_printer.proofs.Words.{register_name, is_register_name, is_fixed_text, label_no_register, label_not_fixed, name_kind}
 use Rattle.xs_printer.proofs.Digits.{decimal_run, number_back, run_is_number}

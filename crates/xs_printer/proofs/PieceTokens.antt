@@ -40,7 +40,7 @@ module _ (symbols : List Symbol) where
   ArePartedPieces (p ∷ q ∷ pieces) = (IsMarkPiece p ⊎ (IsWordPiece p × IsMarkPiece q)) × ArePartedPieces (q ∷ pieces)
 
   -- the text of a piece is its bytes, or a comma and a blank
-  text_is : (p : Spelled) → (piece_text symbols p ≡ piece_bytes p) ⊎ ((piece_bytes p ≡ 44 ∷ []) × (piece_text symbols p ≡ 44 ∷ 32 ∷ []))
+  pub text_is : (p : Spelled) → (piece_text symbols p ≡ piece_bytes p) ⊎ ((piece_bytes p ≡ 44 ∷ []) × (piece_text symbols p ≡ 44 ∷ 32 ∷ []))
   text_is (Text bytes) =
       elim (cases_Bool (same_name (44 ∷ []) bytes)) [
         | inl t ↦ inr (sym ((same_name-Decides (44 ∷ []) bytes).0 t), cond-true _ _ _ t)
