@@ -1,7 +1,7 @@
 -- Steps of loops that put one element after the other into a vector.
-use Rattle.std.proofs.Common.{◌≡◌, ℕ, ◌+◌, ◌<◌, Bool, true, false, cond, if◌then◌else◌, List, [], ◌∷◌, ◌++◌, length, get_or, drop, map, Option, Some, None, refl, sym, ap, ◌∙◌, subst, arith, append_assoc}
+use Rattle.std.proofs.Common.{◌≡◌, ℕ, ◌+◌, ◌<◌, ◌≤◌, Bool, true, false, cond, if◌then◌else◌, List, [], ◌∷◌, ◌++◌, length, get_or, drop, map, Option, Some, None, refl, sym, ap, ◌∙◌, subst, arith, append_assoc}
 use Rattle.std.specs.Prelude.{option_map}
-use Rattle.std.proofs.lemmas.List.{map-append, drop_more}
+use Rattle.std.proofs.lemmas.List.{map-append, append-nil, drop_more, drop_all}
 use Rattle.source_model.specs.Each.{all_some, put_first}
 
 -- one more was put at the end
@@ -21,23 +21,30 @@ before_none : {B : Type 0} (ys : List B) (o : Option (List B)) → o ≡ None �
 before_none ys None e = refl
 before_none ys (Some zs) e = cc
 
--- one step of such a loop over xs, of which the element with the number i is x
-pub each_next : {X A B : Type 0} (f : A → Option B) (g : X → A) (xs : List X) (i : ℕ) (d x : X) (y : B) (ys : List B) (all : Option (List B))
-    → i < length xs → get_or xs i d ≡ x → f (g x) ≡ Some y
+-- one step of such a loop over xs
+pub each_next : {X A B : Type 0} (f : A → Option B) (g : X → A) (xs : List X) (i : ℕ) (d : X) (y : B) (ys new : List B) (all : Option (List B))
+    → i < length xs → Some y ≡ f (g (get_or xs i d)) → new ≡ ys ++ y ∷ []
     → before_all ys (all_some f (map g (drop i xs))) ≡ all
-    → before_all (ys ++ y ∷ []) (all_some f (map g (drop (i + 1) xs))) ≡ all
+    → before_all new (all_some f (map g (drop (i + 1) xs))) ≡ all
 unfolding all_some
-each_next f g xs i d x y ys all h is e inv =
-    before_put ys y _
-    ∙ (ap (λ o. before_all ys (put_first o (all_some f (map g (drop (i + 1) xs))))) (sym e ∙ ap (λ z. f (g z)) (sym is))
-    ∙ (ap (λ l. before_all ys (all_some f (map g l))) (sym (drop_more xs i d h)) ∙ inv))
+each_next f g xs i d y ys new all h e is inv =
+    ap (λ zs. before_all zs (all_some f (map g (drop (i + 1) xs)))) is
+    ∙ (before_put ys y (all_some f (map g (drop (i + 1) xs)))
+    ∙ (ap (λ o. before_all ys (put_first o (all_some f (map g (drop (i + 1) xs))))) e
+    ∙ (ap (λ l. before_all ys (all_some f (map g l))) (sym (drop_more xs i d h)) ∙ inv)))
 
 -- it ends where the function gives nothing
-pub each_none : {X A B : Type 0} (f : A → Option B) (g : X → A) (xs : List X) (i : ℕ) (d x : X) (ys : List B) (all : Option (List B))
-    → i < length xs → get_or xs i d ≡ x → f (g x) ≡ None
+pub each_none : {X A B : Type 0} (f : A → Option B) (g : X → A) (xs : List X) (i : ℕ) (d : X) (ys : List B) (all : Option (List B))
+    → i < length xs → None ≡ f (g (get_or xs i d))
     → before_all ys (all_some f (map g (drop i xs))) ≡ all
     → None ≡ all
 unfolding all_some
-each_none f g xs i d x ys all h is e inv =
-    ap (λ o. before_all ys (put_first o (all_some f (map g (drop (i + 1) xs))))) (sym e ∙ ap (λ z. f (g z)) (sym is))
+each_none f g xs i d ys all h e inv =
+    ap (λ o. before_all ys (put_first o (all_some f (map g (drop (i + 1) xs))))) e
     ∙ (ap (λ l. before_all ys (all_some f (map g l))) (sym (drop_more xs i d h)) ∙ inv)
+
+pub each_done : {X A B : Type 0} (f : A → Option B) (g : X → A) (xs : List X) (i : ℕ) (ys : List B) (all : Option (List B))
+    → length xs ≤ i → before_all ys (all_some f (map g (drop i xs))) ≡ all → Some ys ≡ all
+unfolding all_some
+each_done f g xs i ys all h inv =
+    ap (λ zs. Some zs) (sym (append-nil ys)) ∙ (ap (λ l. before_all ys (all_some f (map g l))) (sym (drop_all i xs h)) ∙ inv)
