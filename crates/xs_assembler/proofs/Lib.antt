@@ -5,3 +5,6 @@ pub mod ValueSteps
 pub mod Loops
 pub mod Sizes
 pub mod Passing
+pub mod Judging
+pub mod Labelling
+pub mod Outcome

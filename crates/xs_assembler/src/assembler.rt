@@ -4,7 +4,7 @@ ghost use Rattle.xs_instructions.specs.Image.{ImageRec, IsImage, Symbol, AreLabe
 ghost use Rattle.source_model.specs.declared.AsmKind.{AsmKind};
 ghost use Rattle.source_model.specs.Statement.{line_of};
 ghost use Rattle.source_model.specs.Layout.{nothing_yet, whole_of, section_length, added, after_line, address_in};
-ghost use Rattle.source_model.specs.Source.{assembled, Image, Fault, first_fault, fault_of_line, is_out_of_range, bytes_together, symbol_of};
+ghost use Rattle.source_model.specs.Source.{assembled, Image as ImageOf, Fault as FaultAt, first_fault, fault_of_line, is_out_of_range, bytes_together, symbol_of};
 ghost use Rattle.xs_assembler.specs.Assembles.{Assembles, FaultOf, FirstFault, GivesImage, GivesFault};
 ghost use Rattle.xs_assembler.specs.Contents.{code_in, bytes_in};
 ghost use Rattle.xs_assembler.specs.Lines.{line_value, says_of};
@@ -32,15 +32,15 @@ pub fn assemble(alloc: Global, text: &[u8]) -> Result<Image, AsmError>
     requires { length text.now < 2 ^ 32 }
 
     ensures exact { Assembles (assembled text.now) result }
-    ensures ok { IfOk result (λ image. assembled text.now ≡ Image image) }
+    ensures ok { IfOk result (λ image. assembled text.now ≡ ImageOf image) }
     ensures fault { IfErr result (FaultOf (assembled text.now)) }
-    ensures taken { (image : ImageRec) → assembled text.now ≡ Image image → GivesImage image result }
-    ensures refused { (line : ℕ) (kind : AsmKind) → assembled text.now ≡ Fault line kind → GivesFault line kind result }
+    ensures taken { (image : ImageRec) → assembled text.now ≡ ImageOf image → GivesImage image result }
+    ensures refused { (line : ℕ) (kind : AsmKind) → assembled text.now ≡ FaultAt line kind → GivesFault line kind result }
 {
     let whole = read_whole(alloc, text)?;
     let output = read_output(alloc, text, &whole)?;
     sources_make_images();
-    Ok(image(alloc, &whole, output)?)
+    Ok(make_image(alloc, &whole, output)?)
 }
 
 // What all lines say together. It reads past faulty lines, since a fault of a line may hang on later ones.
@@ -162,7 +162,7 @@ fn put_content(
 }
 
 // The image of what the lines give, where it keeps what every image keeps.
-fn image(alloc: Global, whole: &Sofar, output: Output) -> Result<Image, AllocError>
+fn make_image(alloc: Global, whole: &Sofar, output: Output) -> Result<Image, AllocError>
     requires within { AreWithin (2 ^ 50) whole.now.layout }
     requires kept { IsImage (image_with (sofar_of whole.now) output) }
     ensures { IfOk result (λ image. image ≡ image_with (sofar_of whole.now) output) }

@@ -1,5 +1,4 @@
 use Rattle.std.proofs.Common.{◌-◌, length}
-use Rattle.xs_text.specs.Lines.{lines_of, bytes_left}
 use Rattle.xs_assembler.specs.Sofar.{sofar_of}
 use Rattle.xs_assembler.proofs.Passing.{WholeSoFar}
 use Rattle.xs_assembler.proofs.assembler.read_whole.Given as goal
