@@ -6,3 +6,5 @@ pub mod Layout
 pub mod Source
 pub mod Faults
 pub mod WorkedSourceLines
+pub mod Canonical
+pub mod WorkedCanonical

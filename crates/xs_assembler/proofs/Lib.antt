@@ -5,3 +5,7 @@ pub mod LabelSteps
 pub mod ValueSteps
 pub mod Loops
 pub mod Sizes
+pub mod Passing
+pub mod Judging
+pub mod Labelling
+pub mod Outcome

@@ -2,3 +2,5 @@ pub mod Names
 pub mod Kept
 pub mod Made
 pub mod Finds
+pub mod Filled
+pub mod Labels

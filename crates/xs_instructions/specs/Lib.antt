@@ -5,6 +5,7 @@ pub mod Instr
 pub mod Find
 pub mod Kept
 pub mod Spelling
+pub mod Filled
 pub mod Table
 pub mod Code
 pub mod Image
