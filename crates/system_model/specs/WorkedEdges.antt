@@ -25,22 +25,22 @@ pub record WorkedFrames : Type 0 where
 
 -- at the lines of a source
 pub record WorkedSources : Type 0 where
-  pub end_as_label : answer (run_for (codes "8")) (lone (codes "end: nop\nend : bu end\n")) ≡ source_refused (codes "source 0 line 0: A2 unknown name\n")
+  pub end_as_label : answer (run_for (codes "8")) (lone (codes "end: nop\nend : bu end\n")) ≡ source_refused (codes "source 0 line 2: A5 label defined twice\n")
   pub end_and_a_blank_colon : answer (run_for (codes "0")) (lone (codes "end : nop\n")) ≡ done (codes "end 0\n")
-  pub bad_byte_in_a_comment : answer (run_for (codes "0")) (codes "xs1 1\nnode 0 id 0\nsource 0\nnop # " ++ (127 ∷ codes "\nend\n")) ≡ source_refused (codes "source 0 line 0: A2 unknown name\n")
-  pub bad_byte_beside_end : answer (run_for (codes "0")) (codes "xs1 1\nnode 0 id 0\nsource 0\nend " ++ (1 ∷ codes "\nend\n")) ≡ source_refused (codes "source 0 line 0: A2 unknown name\n")
-  pub reserved_register : answer (run_for (codes "0")) (lone (codes "r0: nop\n")) ≡ source_refused (codes "source 0 line 0: A2 unknown name\n")
-  pub reserved_t : answer (run_for (codes "0")) (lone (codes "t: nop\n")) ≡ source_refused (codes "source 0 line 0: A2 unknown name\n")
+  pub bad_byte_in_a_comment : answer (run_for (codes "0")) (codes "xs1 1\nnode 0 id 0\nsource 0\nnop # " ++ (127 ∷ codes "\nend\n")) ≡ source_refused (codes "source 0 line 1: A1 bad byte\n")
+  pub bad_byte_beside_end : answer (run_for (codes "0")) (codes "xs1 1\nnode 0 id 0\nsource 0\nend " ++ (1 ∷ codes "\nend\n")) ≡ source_refused (codes "source 0 line 1: A1 bad byte\n")
+  pub reserved_register : answer (run_for (codes "0")) (lone (codes "r0: nop\n")) ≡ source_refused (codes "source 0 line 1: A3 wrong operands\n")
+  pub reserved_t : answer (run_for (codes "0")) (lone (codes "t: nop\n")) ≡ source_refused (codes "source 0 line 1: A3 wrong operands\n")
   pub r12_is_no_register : answer (run_for (codes "0")) (lone (codes "r12: nop\n")) ≡ done (codes "end 0\n")
   pub instruction_name_as_label : answer (run_for (codes "9")) (lone (codes "bu add\nadd: nop\nfreet\n")) ≡ done (codes "end 9\n")
-  pub lone_colon : answer (run_for (codes "0")) (lone (codes ": nop\n")) ≡ source_refused (codes "source 0 line 0: A2 unknown name\n")
-  pub comma_too_many : answer (run_for (codes "0")) (lone (codes "nop,\n")) ≡ source_refused (codes "source 0 line 0: A2 unknown name\n")
-  pub upper_case : answer (run_for (codes "0")) (lone (codes "NOP\n")) ≡ source_refused (codes "source 0 line 0: A2 unknown name\n")
-  pub directive : answer (run_for (codes "0")) (lone (codes ".text\n")) ≡ source_refused (codes "source 0 line 0: A2 unknown name\n")
+  pub lone_colon : answer (run_for (codes "0")) (lone (codes ": nop\n")) ≡ source_refused (codes "source 0 line 1: A3 wrong operands\n")
+  pub comma_too_many : answer (run_for (codes "0")) (lone (codes "nop,\n")) ≡ source_refused (codes "source 0 line 1: A3 wrong operands\n")
+  pub upper_case : answer (run_for (codes "0")) (lone (codes "NOP\n")) ≡ source_refused (codes "source 0 line 1: A2 unknown name\n")
+  pub text_line : answer (run_for (codes "0")) (lone (codes ".text\n")) ≡ done (codes "end 0\n")
   pub directive_name_as_label : answer (run_for (codes "0")) (lone (codes ".text: nop\n")) ≡ done (codes "end 0\n")
-  pub sp_in_add : answer (run_for (codes "0")) (lone (codes "add r0, sp, r1\n")) ≡ source_refused (codes "source 0 line 0: A2 unknown name\n")
-  pub sp_in_ldc : answer (run_for (codes "0")) (lone (codes "ldc sp, 1\n")) ≡ source_refused (codes "source 0 line 0: A2 unknown name\n")
-  pub lone_slash : answer (run_for (codes "0")) (lone (codes "nop / x\n")) ≡ source_refused (codes "source 0 line 0: A2 unknown name\n")
+  pub sp_in_add : answer (run_for (codes "0")) (lone (codes "add r0, sp, r1\n")) ≡ source_refused (codes "source 0 line 1: A3 wrong operands\n")
+  pub sp_in_ldc : answer (run_for (codes "0")) (lone (codes "ldc sp, 1\n")) ≡ source_refused (codes "source 0 line 1: A3 wrong operands\n")
+  pub lone_slash : answer (run_for (codes "0")) (lone (codes "nop / x\n")) ≡ source_refused (codes "source 0 line 1: A3 wrong operands\n")
 
 -- at runs
 pub record WorkedRuns : Type 0 where

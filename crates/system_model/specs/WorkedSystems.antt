@@ -6,7 +6,7 @@ use Rattle.sys_plan.specs.Plan.{PlanRec}
 use Rattle.system_model.specs.declared.SysKind.{SysKind}
 use Rattle.system_model.specs.declared.SysKind.TheVariants.{FirstLine, BadLine, GivenTwice, IdTwice, LinkToItself, NumberOutOfRange, NodeWithoutSource, SectionNotEnded, BitTwice, NoSuchNode}
 use Rattle.system_model.specs.Frame.{Framed, Whole, framed}
-use Rattle.system_model.specs.System.{System, Plan, Frame, system_of}
+use Rattle.system_model.specs.System.{Plan, Frame, system_of}
 
 -- Refusals
 

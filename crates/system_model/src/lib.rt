@@ -4,7 +4,7 @@
 
 ghost use Rattle.std.specs.Prelude.{◌≡◌};
 ghost use Rattle.system_model.specs.StatusNumber.{number_of_status};
-ghost use Rattle.system_model.specs.Worked.{WorkedAnswers};
+ghost use Rattle.system_model.specs.Worked.{WorkedAnswers, WorkedChecks};
 ghost use Rattle.system_model.specs.WorkedEdges.{WorkedFrames, WorkedSources, WorkedRuns};
 ghost use Rattle.system_model.specs.WorkedPairs.{WorkedPairs};
 ghost use Rattle.system_model.specs.WorkedSystems.{WorkedRefusals, WorkedSystems};
@@ -94,6 +94,11 @@ pub struct Answer {
 /// The definitions give what was worked out by hand.
 pub fn worked_answers()
     ensures { WorkedAnswers }
+{}
+
+/// The same of `check`.
+pub fn worked_checks()
+    ensures { WorkedChecks }
 {}
 
 /// The same at the frame of a system text.

@@ -30,4 +30,5 @@ returns c = record {
   no_such_label = refl;
   two_labels = refl;
   too_wide = refl;
+  no_nodes = refl;
 }
