@@ -1,12 +1,12 @@
 -- The least line with a fault decides.
-use Rattle.std.proofs.Common.{◌≡◌, ℕ, zero, suc, ◌+◌, ◌<◌, ◌≤◌, Bool, true, false, List, [], ◌∷◌, length, take, Option, Some, None, refl, sym, ap, ◌∙◌, cond, arith}
+use Rattle.std.proofs.Common.{◌≡◌, ℕ, zero, suc, ◌+◌, ◌<◌, true, false, List, [], ◌∷◌, length, take, Option, Some, None, refl, sym, ap, ◌∙◌, arith}
 use Rattle.std.specs.Prelude.{slice_index_or}
 use Rattle.std.proofs.lemmas.Bool.{cond-true, cond-false}
 use Rattle.std.proofs.lemmas.List.{take_all}
 use Rattle.system_model.specs.declared.SysKind.{SysKind}
 use Rattle.system_model.specs.declared.SysKind.TheVariants.{FirstLine}
-use Rattle.system_model.specs.Frame.{Given, Framed, Refused, nothing_given, given_after, fault_of, unless_faulty, at_the_end, frame_from, framed, have_no_words}
-use Rattle.system_model.specs.FirstFault.{given_by, given_before, fault_at, IsFirstFault, HasNoFault}
+use Rattle.system_model.specs.Frame.{Given, Refused, nothing_given, given_after, fault_of, unless_faulty, at_the_end, frame_from, framed, have_no_words}
+use Rattle.system_model.specs.FirstFault.{given_by, given_before, IsFirstFault, HasNoFault}
 
 from-cons : (n : ℕ) (given : Given) (l : List ℕ) (ls : List (List ℕ)) → frame_from n given (l ∷ ls) ≡ unless_faulty (fault_of given l) n (frame_from (n + 1) (given_after n l given) ls)
 unfolding frame_from
@@ -60,12 +60,9 @@ framed_is : (ls : List (List ℕ)) → have_no_words ls ≡ false → framed ls 
 unfolding framed
 framed_is ls e = cond-false _ _ _ e
 
-framed_wordless : (ls : List (List ℕ)) → have_no_words ls ≡ true → framed ls ≡ Refused 1 FirstLine
-unfolding framed
-framed_wordless ls e = cond-true _ _ _ e
-
 pub no_words_refuse : (ls : List (List ℕ)) → have_no_words ls ≡ true → framed ls ≡ Refused 1 FirstLine
-no_words_refuse = framed_wordless
+unfolding framed
+no_words_refuse ls e = cond-true _ _ _ e
 
 pub first_fault_refuses : (ls : List (List ℕ)) (k : ℕ) (kind : SysKind) → have_no_words ls ≡ false → IsFirstFault ls k kind → framed ls ≡ Refused (k + 1) kind
 first_fault_refuses ls k kind e first =
