@@ -38,33 +38,28 @@ abbrev pub source_of : List SourceText → ℕ → List (List ℕ)
 source_of [] number = []
 source_of (source ∷ sources) number = if source.number == number then source.lines else source_of sources number
 
-abbrev pub node_plan : List BitLine → GivenNode → ImageRec → NodePlan
-node_plan bits node image = record { number = node.number; id = node.id; image = image; ways = ways_of bits node.number }
-
 -- the refusal of a node's source
 pub record SourceFault : Type 0 where
   pub node : ℕ
   pub line : ℕ
   pub kind : AsmKind
 
-abbrev pub NodePlans : Type 0
-NodePlans = Result (List NodePlan) SourceFault
+-- a node's plan by what its source stands for, or the refusal of its source
+abbrev pub planned : List BitLine → GivenNode → Assembled → Result NodePlan SourceFault
+planned bits node (Image image) = Ok (record { number = node.number; id = node.id; image = image; ways = ways_of bits node.number })
+planned bits node (Fault line kind) = Err (record { node = node.number; line = line; kind = kind })
 
--- a node's plan before those of the nodes after it, if all have one
-abbrev pub plan_before : NodePlan → NodePlans → NodePlans
-plan_before plan (Ok plans) = Ok (plan ∷ plans)
-plan_before plan (Err fault) = Err fault
-
--- a node's plan by what its source stands for, before those of the nodes after it; else the refusal of its source
-abbrev pub with_node_plan : List BitLine → GivenNode → Assembled → NodePlans → NodePlans
-with_node_plan bits node (Image image) after = plan_before (node_plan bits node image) after
-with_node_plan bits node (Fault line kind) after = Err (record { node = node.number; line = line; kind = kind })
+-- a node's plan before those of the nodes after it, or the first refusal
+abbrev pub plan_before : Result NodePlan SourceFault → Result (List NodePlan) SourceFault → Result (List NodePlan) SourceFault
+plan_before (Err fault) after = Err fault
+plan_before (Ok plan) (Err fault) = Err fault
+plan_before (Ok plan) (Ok plans) = Ok (plan ∷ plans)
 
 -- the plans of nodes, or the refusal of the first source that is refused
-unfoldable pub node_plans : List BitLine → List SourceText → List GivenNode → NodePlans
+unfoldable pub node_plans : List BitLine → List SourceText → List GivenNode → Result (List NodePlan) SourceFault
 node_plans bits sources [] = Ok []
 node_plans bits sources (node ∷ nodes) =
-    with_node_plan bits node (assembled_lines (source_of sources node.number)) (node_plans bits sources nodes)
+    plan_before (planned bits node (assembled_lines (source_of sources node.number))) (node_plans bits sources nodes)
 
 -- where a node stands among nodes by ascending number: so many have a lesser one
 abbrev pub place_of : List GivenNode → ℕ → ℕ
@@ -74,7 +69,7 @@ abbrev pub link_plan : List GivenNode → LinkLine → LinkPlan
 link_plan nodes link =
     record { a = place_of nodes link.a; a_end = 0; b = place_of nodes link.b; b_end = 0; delay = link.delay; gap = link.gap }
 
-abbrev pub plan_with : List LinkPlan → NodePlans → System
+abbrev pub plan_with : List LinkPlan → Result (List NodePlan) SourceFault → System
 plan_with links (Err fault) = Source fault.node fault.line fault.kind
 plan_with links (Ok plans) = Plan (record { nodes = plans; links = links })
 

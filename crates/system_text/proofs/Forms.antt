@@ -1,6 +1,6 @@
 -- The forms of lines, from their words.
-use Rattle.std.proofs.Common.{◌≡◌, ℕ, ◌+◌, ◌<◌, ◌≤◌, Bool, true, false, ◌&&◌, not, List, [], ◌∷◌, length, Option, Some, None, refl, sym, ap, ◌∙◌, option_map, nat_le, take, drop, ◌-◌, length-drop, arith}
-use Rattle.std.specs.Prelude.{option_and_then, codes, if◌then◌else◌}
+use Rattle.std.proofs.Common.{◌≡◌, ℕ, ◌+◌, Bool, true, false, ◌&&◌, List, [], ◌∷◌, length, Option, Some, None, refl, sym, ap, ◌∙◌, option_map, nat_le, take, drop, ◌-◌, length-drop, arith}
+use Rattle.std.specs.Prelude.{codes, if◌then◌else◌}
 use Rattle.std.proofs.lemmas.List.{take_all}
 use Rattle.xs_text.specs.Numbers.{number_of, at_most}
 use Rattle.xs_instructions.specs.Image.{same_name}

@@ -1,5 +1,5 @@
 -- What is found of a line of the frame.
-use Rattle.std.proofs.Common.{◌≡◌, ℕ, suc, ◌+◌, ◌<◌, ◌≤◌, Bool, true, false, ◌&&◌, ◌||◌, not, List, [], ◌∷◌, ◌++◌, length, map, take, drop, Option, Some, None, Result, Ok, Err, refl, sym, ap, ◌∙◌, nat_lt, cond, length-drop, arith}
+use Rattle.std.proofs.Common.{◌≡◌, ℕ, suc, ◌+◌, ◌≤◌, Bool, true, false, ◌&&◌, ◌||◌, not, List, [], ◌∷◌, length, map, drop, Option, Some, None, Ok, Err, refl, sym, ap, ◌∙◌, nat_lt, cond, length-drop, arith}
 use Rattle.std.specs.Prelude.{insert, if◌then◌else◌, ◌==◌}
 use Rattle.std.specs.List.{list_any, prefix_len}
 use Rattle.std.proofs.lemmas.Bool.Decides.{nat_tests}
@@ -12,10 +12,10 @@ use Rattle.system_model.specs.declared.frame_line.FrameLine.{FrameLine}
 use Rattle.system_model.specs.declared.frame_line.FrameLine.TheVariants.{Node, Link, Bit, Source}
 use Rattle.system_model.specs.declared.frame_line.GivenNode.{GivenNode}
 use Rattle.system_model.specs.FrameLines.{is_header, frame_line, is_in_range}
-use Rattle.system_model.specs.Frame.{SourceText, Given, Says, Blank, Header, NoHeader, NoForm, Form, says_in_frame, says_by, says_form, says, is_empty, is_other_first_line, is_of_the_frame, is_built, is_unknown, is_out_of_range, names_none, is_given_twice, is_id_twice, is_link_to_itself, is_link_end_twice, is_bit_twice, fault_of, first_that_holds, put_by_number}
+use Rattle.system_model.specs.Frame.{SourceText, Given, Says, Blank, Header, NoHeader, Form, says_in_frame, says_by, says_form, says, is_empty, is_other_first_line, is_of_the_frame, is_unknown, is_out_of_range, names_none, is_given_twice, is_id_twice, is_link_to_itself, is_link_end_twice, is_bit_twice, fault_of, first_that_holds, put_by_number}
 use Rattle.system_model.specs.System.{source_of}
-use Rattle.system_text.specs.Forms.{when, in_range, in_room, room_for, formed}
-use Rattle.system_text.specs.Judged.{Judges, said_by, later_fault}
+use Rattle.system_text.specs.Forms.{when, in_range, in_room, formed}
+use Rattle.system_text.specs.Judged.{later_fault}
 
 pub list_any_map : {X Y : Type 0} (p : Y → Bool) (f : X → Y) (xs : List X) → list_any p (map f xs) ≡ list_any (λ x. p (f x)) xs
 list_any_map p f [] = refl
@@ -40,21 +40,21 @@ node_added given now node nodes place e p h =
 
 -- The fault of a line by whether its bytes are allowed, and by what it says
 
-abbrev fault_by : Given → Bool → Says → Option SysKind
+abbrev pub fault_by : Given → Bool → Says → Option SysKind
 fault_by given allowed said = first_that_holds (
-  (FirstLine, is_other_first_line said)
-  ∷ (BadLine, (is_of_the_frame said && not allowed) || is_unknown given said)
-  ∷ (NumberOutOfRange, is_out_of_range said)
-  ∷ (NoSuchNode, names_none given said)
-  ∷ (GivenTwice, is_given_twice given said)
-  ∷ (IdTwice, is_id_twice given said)
-  ∷ (LinkToItself, is_link_to_itself said)
-  ∷ (LinkEndTwice, is_link_end_twice given said)
-  ∷ (BitTwice, is_bit_twice given said)
-  ∷ []
-)
+    (FirstLine, is_other_first_line said)
+    ∷ (BadLine, (is_of_the_frame said && not allowed) || is_unknown given said)
+    ∷ (NumberOutOfRange, is_out_of_range said)
+    ∷ (NoSuchNode, names_none given said)
+    ∷ (GivenTwice, is_given_twice given said)
+    ∷ (IdTwice, is_id_twice given said)
+    ∷ (LinkToItself, is_link_to_itself said)
+    ∷ (LinkEndTwice, is_link_end_twice given said)
+    ∷ (BitTwice, is_bit_twice given said)
+    ∷ []
+    )
 
-fault_is : (given : Given) (l : List ℕ) (allowed : Bool) (said : Says) → all_allowed l ≡ allowed → says given l ≡ said → fault_of given l ≡ fault_by given allowed said
+pub fault_is : (given : Given) (l : List ℕ) (allowed : Bool) (said : Says) → all_allowed l ≡ allowed → says given l ≡ said → fault_of given l ≡ fault_by given allowed said
 fault_is given l allowed said a s = ap (λ b. fault_by given b (says given l)) a ∙ ap (λ x. fault_by given allowed x) s
 
 says_outside : (given : Given) (l : List ℕ) → given.reading ≡ None → says given l ≡ says_in_frame given.begun (words_of_line l)
@@ -154,7 +154,6 @@ good given (Some (Link link)) form e = good_by given (Link link) form (link_room
 good given (Some (Bit bit)) form e = good_by given (Bit bit) form true e refl
 good given (Some (Source n)) form e = good_by given (Source n) form true e refl
 
-
 pub form_refused : (given : Given) (l : List ℕ) (nodes links : Bool) (kind : SysKind) → given.begun ≡ true → given.reading ≡ None → is_empty (words_of_line l) ≡ false → all_allowed l ≡ true → nodes ≡ node_room given → links ≡ link_room given → Err kind ≡ formed nodes links (frame_line (words_of_line l)) → fault_of given l ≡ Some kind
 form_refused given l nodes links kind b r e a n m f =
     fault_is given l true _ a (form_said given l b r e) ∙ refused_by given (frame_line (words_of_line l)) kind (rw (sym n, sym m) f)
@@ -173,7 +172,7 @@ lines_of-none : lines_of [] ≡ []
 unfolding lines_of
 lines_of-none = refl
 
-no_more : {X : Type 0} (ys : List X) → length ys ≡ 0 → ys ≡ []
+pub no_more : {X : Type 0} (ys : List X) → length ys ≡ 0 → ys ≡ []
 no_more [] e = refl
 no_more (y ∷ ys) e = absurd (omega (arith, e))
 

@@ -1,2 +1,8 @@
 pub mod Forms
 pub mod Judged
+pub mod Sections
+pub mod Walk
+pub mod Outcomes
+pub mod Plans
+pub mod Kept
+pub mod Planned

@@ -3,7 +3,7 @@ use Rattle.std.specs.Prelude.{ℕ, Bool, true, false, if◌then◌else◌, Optio
 use Rattle.system_model.specs.declared.SysKind.{SysKind}
 use Rattle.system_model.specs.declared.SysKind.TheVariants.{BadLine, NumberOutOfRange}
 use Rattle.system_model.specs.declared.frame_line.FrameLine.{FrameLine}
-use Rattle.system_model.specs.declared.frame_line.FrameLine.TheVariants.{Node, Link, Bit, Source}
+use Rattle.system_model.specs.declared.frame_line.FrameLine.TheVariants.{Node, Link}
 use Rattle.system_model.specs.FrameLines.{is_in_range}
 
 abbrev pub when : {A : Type 0} → Bool → A → Option A

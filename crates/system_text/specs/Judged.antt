@@ -20,14 +20,14 @@ Judges given l (Err kind) = fault_of given l ≡ Some kind
 -- the first that holds of the tests of a line whose form and numbers are good
 abbrev pub later_fault : Given → FrameLine → Option SysKind
 later_fault given form = first_that_holds (
-  (NoSuchNode, names_none given (Form form))
-  ∷ (GivenTwice, is_given_twice given (Form form))
-  ∷ (IdTwice, is_id_twice given (Form form))
-  ∷ (LinkToItself, is_link_to_itself (Form form))
-  ∷ (LinkEndTwice, is_link_end_twice given (Form form))
-  ∷ (BitTwice, is_bit_twice given (Form form))
-  ∷ []
-)
+    (NoSuchNode, names_none given (Form form))
+    ∷ (GivenTwice, is_given_twice given (Form form))
+    ∷ (IdTwice, is_id_twice given (Form form))
+    ∷ (LinkToItself, is_link_to_itself (Form form))
+    ∷ (LinkEndTwice, is_link_end_twice given (Form form))
+    ∷ (BitTwice, is_bit_twice given (Form form))
+    ∷ []
+    )
 
 -- with a source that has ended
 abbrev pub with_source : SourceText → Given → Given

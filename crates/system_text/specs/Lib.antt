@@ -1,3 +1,7 @@
 pub mod Forms
 pub mod Ranges
 pub mod Judged
+pub mod Sections
+pub mod Reads
+pub mod Kept
+pub mod Plans

@@ -243,7 +243,8 @@ impl<'a> Frame<'a> {
 
     // The number of the line of the first node that has no source.
     pub fn without_source(&self) -> Option<u32>
-        ensures { result ≡ option_map (λ node. node.line) (without_source self.now) }
+        ensures line { result ≡ option_map (λ node. node.line) (without_source self.now) }
+        ensures outside { self.now.reading ≡ None }
     {
         let node = self
             .nodes

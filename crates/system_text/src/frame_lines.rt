@@ -177,7 +177,12 @@ fn link_line(line: &[u8]) -> Option<Option<FrameLine>>
 }
 
 // The line of a link whose numbers are within their ranges.
-fn link_of(a: Option<u32>, b: Option<u32>, delay: Option<u32>, gap: Option<u32>) -> Option<FrameLine>
+fn link_of(
+    a: Option<u32>,
+    b: Option<u32>,
+    delay: Option<u32>,
+    gap: Option<u32>,
+) -> Option<FrameLine>
     requires a { IfSome a (λ n. n ≤ 99) }
     requires b { IfSome b (λ n. n ≤ 99) }
     ensures { result ≡ of_all (λ m n d g. FrameLine.Link (record { a = m; b = n; delay = d; gap = g })) a b delay gap }

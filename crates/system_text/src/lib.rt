@@ -3,8 +3,15 @@
 
 mod frame;
 mod frame_lines;
+mod frame_reader;
+mod link_plans;
+mod node_plans;
+mod section;
+mod system_error;
+mod system_reader;
 mod words;
 
 pub use source_model::AsmKind;
+pub use system_error::SystemError;
 pub use system_model::SysKind;
-pub use frame::{Frame, Said};
+pub use system_reader::{LONGEST_INPUT, read_system};

@@ -1,1 +1,9 @@
 pub mod Names
+pub mod Parts
+pub mod Lines
+pub mod Sofar
+pub mod Contents
+pub mod Values
+pub mod Findings
+pub mod Output
+pub mod Assembles

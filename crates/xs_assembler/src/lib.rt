@@ -1,4 +1,24 @@
 //! The assembler: what a source text stands for. See docs/ASSEMBLY.md.
 #![tactic(auto)]
 
+mod amount;
+mod asm_error;
+mod assembler;
+mod contents;
+mod faults;
+mod layouts;
+mod lines;
 mod names;
+mod operands;
+mod output;
+mod pieces;
+mod sofar;
+mod statement;
+#[cfg(test)]
+mod tests;
+mod tokens;
+mod values;
+
+pub use asm_error::AsmError;
+pub use assembler::assemble;
+pub use source_model::AsmKind;

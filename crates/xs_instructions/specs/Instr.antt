@@ -115,6 +115,16 @@ label_of (Flow ins) = label_of_flow ins
 label_of (Memory ins) = label_of_memory ins
 label_of _ = None
 
+-- the first of the values that stands at a label, if there is one
+abbrev pub labelled_at : Part → ℕ → Option ℕ → Option ℕ
+labelled_at Label v after = Some v
+labelled_at _ v after = after
+
+abbrev pub labelled : List Part → List ℕ → Option ℕ
+labelled [] values = None
+labelled (p ∷ parts) [] = None
+labelled (p ∷ parts) (v ∷ values) = labelled_at p v (labelled parts values)
+
 -- whether the core can do the instruction
 abbrev pub built : Instr → Bool
 built ins = is_built (row_of ins)

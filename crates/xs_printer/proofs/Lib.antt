@@ -6,3 +6,16 @@ pub mod FirstLabels
 pub mod Leads
 pub mod Behind
 pub mod Writable
+pub mod TextLines
+pub mod TokenText
+pub mod Below
+pub mod Digits
+pub mod Words
+pub mod RowFacts
+pub mod PieceTokens
+pub mod PartsRead
+pub mod OperandsRead
+pub mod ItemLines
+pub mod Clean
+pub mod Stands
+pub mod Segments

@@ -82,6 +82,14 @@ has_labels (Kernel ins) = kernel_labels ins
 has_labels (Threads ins) = threads_labels ins
 has_labels (Resources ins) = resources_labels ins
 
+pub in_range_parts : (ins : Instr) → InRange ins → AreInRange (filter takes_value (parts_of (row_of ins))) (values_of ins)
+in_range_parts (Words ins) h = h
+in_range_parts (Memory ins) h = h
+in_range_parts (Flow ins) h = h
+in_range_parts (Kernel ins) h = h
+in_range_parts (Threads ins) h = h
+in_range_parts (Resources ins) h = h
+
 module _ (symbols : List Symbol) where
   abbrev LeadsToLabel : ℕ → Type 0
   LeadsToLabel p = IsTrue (has_symbol_at symbols (place_address p))
@@ -110,14 +118,6 @@ module _ (symbols : List Symbol) where
   parts_writable (Label ∷ parts) [] ok h k = absurd h
   parts_writable (Label ∷ parts) (v ∷ values) ok h k = (k.0, parts_writable parts values ok h.1 k.1)
   parts_writable (Word n ∷ parts) values ok h k = (tt, parts_writable parts values ok h k)
-
-  in_range_parts : (ins : Instr) → InRange ins → AreInRange (filter takes_value (parts_of (row_of ins))) (values_of ins)
-  in_range_parts (Words ins) h = h
-  in_range_parts (Memory ins) h = h
-  in_range_parts (Flow ins) h = h
-  in_range_parts (Kernel ins) h = h
-  in_range_parts (Threads ins) h = h
-  in_range_parts (Resources ins) h = h
 
   writable : (ins : Instr) → InRange ins → IfSome (label_of ins) LeadsToLabel → AllByRecursion (IsWritable symbols) (spelling ins)
   writable ins h k =

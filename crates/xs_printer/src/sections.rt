@@ -1,9 +1,8 @@
 //! The sections of a canonical text.
-ghost use Rattle.std.specs.Prelude.{ℕ, ◌≡◌, ◌+◌, ◌-◌, ◌<◌, ◌++◌, ◌∷◌, [], length, take, drop, map, IfOk, IfSome, OnOk, IsTrue};
+ghost use Rattle.std.specs.Prelude.{ℕ, ◌≡◌, ◌+◌, ◌-◌, ◌<◌, ◌++◌, ◌∷◌, [], length, take, drop, IfOk, IfSome, OnOk, IsTrue};
 ghost use Rattle.xs_instructions.specs.Code.{code_start, place_address};
 ghost use Rattle.xs_instructions.specs.Instr.{InRange, label_of};
 ghost use Rattle.xs_instructions.specs.Image.{IsImage, has_symbol_at, data_start};
-ghost use Rattle.xs_instructions.specs.Spelling.{spelled_piece, spelling};
 ghost use Rattle.source_model.specs.Canonical.{Instruction, Byte, behind_labels, lines_text, code_items, data_items, constant_items, data_room};
 ghost use Rattle.xs_printer.specs.Walk.{AreFirstLabels, IsFirstFrom};
 
@@ -11,19 +10,11 @@ use crate::labels::append_labels;
 use crate::statement::{append_decimal, append_statement};
 use std::alloc::AllocError;
 use xs_base::Text;
-use xs_instructions::{Image, Instr, Piece};
+use xs_instructions::{Image, Instr, spelling};
 
 // The address of the first instruction, and that of the first byte.
 const CODE_START: u32 = 0x0004_0000;
 const DATA_START: u32 = 0x0001_0000;
-
-// STUB until the table has it.
-fn spelling(ins: Instr) -> &'static [Piece]
-    requires { InRange ins }
-    ensures { map spelled_piece result.now ≡ spelling ins }
-{
-    &[]
-}
 
 // Puts the line of an instruction.
 fn append_instruction(
@@ -39,7 +30,7 @@ fn append_instruction(
     ensures { OnOk result (out.new ≡ out.old ++ lines_text image.now.symbols (Instruction ins ∷ [])) }
 {
     out.append(b"  ")?;
-    append_statement(out, image, firsts, spelling(ins))?;
+    append_statement(out, image, firsts, spelling(ins).as_slice())?;
     out.append(b"\n")
 }
 

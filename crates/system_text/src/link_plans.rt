@@ -1,0 +1,37 @@
+ghost use Rattle.std.specs.Prelude.{◌≡◌, ◌≤◌, length, map, IfOk};
+ghost use Rattle.system_model.specs.System.{link_plan, place_of};
+
+use std::alloc::{AllocError, Global};
+use sys_plan::LinkPlan;
+use system_model::{GivenNode, LinkLine};
+
+// The plans of links between one or two nodes.
+pub fn link_plans(
+    alloc: Global,
+    nodes: &[GivenNode],
+    links: &[LinkLine],
+) -> Result<Vec<LinkPlan>, AllocError>
+    requires few { length nodes.now ≤ 2 }
+    ensures plans { IfOk result (λ plans. plans.items ≡ map (link_plan nodes.now) links.now) }
+{
+    let mut plans = Vec::new(alloc);
+    for link in links {
+        plans.push(LinkPlan {
+            a: place_of(nodes, link.a),
+            a_end: 0,
+            b: place_of(nodes, link.b),
+            b_end: 0,
+            delay: link.delay,
+            gap: link.gap,
+        })?;
+    }
+    Ok(plans)
+}
+
+// Where a node stands by ascending number: the count of the nodes of lesser numbers.
+fn place_of(nodes: &[GivenNode], number: u8) -> u8
+    requires few { length nodes.now ≤ 2 }
+    ensures { result ≡ place_of nodes.now number }
+{
+    nodes.iter().filter(|node| node.number < number).count() as u8
+}

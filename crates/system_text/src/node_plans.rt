@@ -1,0 +1,86 @@
+ghost use Rattle.std.specs.Prelude.{◌≡◌, ◌==◌, ◌&&◌};
+ghost use Rattle.std.specs.List.{list_any};
+ghost use Rattle.source_model.specs.Source.{assembled_lines};
+ghost use Rattle.system_model.specs.System.{node_plans, planned, source_of, ways_of, way};
+ghost use Rattle.system_text.specs.Plans.{GivesNode, GivesNodes};
+
+use crate::frame::Frame;
+use crate::system_error::SystemError;
+use std::alloc::Global;
+use sys_plan::NodePlan;
+use system_model::{BitLine, GivenNode};
+use xs_assembler::{AsmError, assemble};
+
+// The plans of the nodes of a frame by ascending number, or the refusal of the first source that is refused.
+pub fn node_plans(alloc: Global, frame: &Frame) -> Result<Vec<NodePlan>, SystemError>
+    ensures { GivesNodes (node_plans frame.now.bits frame.now.sources frame.now.nodes) result }
+{
+    let nodes = frame.nodes();
+    let mut plans = Vec::new(alloc);
+    for node in nodes {
+        match node_plan(alloc, frame, *node) {
+            Ok(plan) => plans.push(plan)?,
+            Err(error) => return Err(error),
+        }
+    }
+    Ok(plans)
+}
+
+// The plan of a node, or the refusal of its source.
+fn node_plan(alloc: Global, frame: &Frame, node: GivenNode) -> Result<NodePlan, SystemError>
+    ensures { GivesNode (planned frame.now.bits node (assembled_lines (source_of frame.now.sources node.number))) result }
+{
+    match assemble(alloc, frame.source(node.number)) {
+        Ok(image) => Ok(NodePlan {
+            number: node.number,
+            id: node.id,
+            image,
+            ways: ways_of(frame.bits(), node.number),
+        }),
+        Err(AsmError::Fault { line, kind }) => Err(SystemError::Source {
+            node: node.number,
+            line,
+            kind,
+        }),
+        Err(AsmError::Memory) => Err(SystemError::Memory),
+    }
+}
+
+// The ways of a node, for each bit of an id.
+fn ways_of(bits: &[BitLine], number: u8) -> [u8; 16]
+    ensures { result ≡ ways_of bits.now number }
+{
+    [
+        way(bits, number, 0),
+        way(bits, number, 1),
+        way(bits, number, 2),
+        way(bits, number, 3),
+        way(bits, number, 4),
+        way(bits, number, 5),
+        way(bits, number, 6),
+        way(bits, number, 7),
+        way(bits, number, 8),
+        way(bits, number, 9),
+        way(bits, number, 10),
+        way(bits, number, 11),
+        way(bits, number, 12),
+        way(bits, number, 13),
+        way(bits, number, 14),
+        way(bits, number, 15),
+    ]
+}
+
+// The link ends by which a node sends what differs from its id at a bit first.
+fn way(bits: &[BitLine], number: u8, bit: u8) -> u8
+    ensures { result ≡ way bits.now number bit }
+{
+    if has_way(bits, number, bit) { 1 } else { 0 }
+}
+
+// Whether a line gives this bit of the node.
+fn has_way(bits: &[BitLine], number: u8, bit: u8) -> bool
+    ensures { result ≡ list_any (λ named. (named.node == number) && (named.bit == bit)) bits.now }
+{
+    bits.iter()
+        .any(|named| named.node == number && named.bit == bit)
+}
