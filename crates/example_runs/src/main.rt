@@ -1,12 +1,12 @@
-//! Runs each example through the program's call, and says whether it wrote the text that stands beside it. The
-//! timeline of two nodes is compared too, slot by slot.
+//! Gives each example to the program's call, and says whether it wrote the text that stands beside it and ended with
+//! its status. The timeline of two nodes is compared too, slot by slot.
 #![tactic(auto)]
 
 mod timeline;
 
 use anyhow::{Context, Result};
-use std::fs;
 use std::rt::Files;
+use std::{fs, io};
 use timeline::text_after;
 use xs_edge::{ListSink, ListSource, OpenGate};
 use xs1_top::{Status, top};
@@ -48,11 +48,20 @@ fn names(rt: &HostRuntime) -> Result<Vec<String>> {
     Ok(names)
 }
 
-// Whether a run of the example ends well and writes what it should.
+// Whether the example ends and writes as it should.
 fn is_as_expected(rt: &HostRuntime, name: &str) -> Result<bool> {
     let line = fs::read_to_string(rt, format!(in rt.alloc(); "{name}.args")?)?;
     let expected = fs::read(rt, format!(in rt.alloc(); "{name}.txt")?)?;
-    writes(rt, name, &line, &expected)
+    writes(rt, name, &line, &expected, status_of(rt, name)?)
+}
+
+// The number that the example is to end with: that of its file, or 0 where it has none.
+fn status_of(rt: &HostRuntime, name: &str) -> Result<u8> {
+    match fs::read_to_string(rt, format!(in rt.alloc(); "{name}.status")?) {
+        Ok(number) => Ok(number.trim().parse()?),
+        Err(error) if error.kind() == io::ErrorKind::NotFound => Ok(Status::Done.number()),
+        Err(error) => Err(error.into()),
+    }
 }
 
 // Whether the pair, after each number of slots, wrote what its timeline says.
@@ -61,21 +70,22 @@ fn timeline_is_as_expected(rt: &HostRuntime) -> Result<bool> {
     for slots in 0..=TIMELINE_SLOTS {
         let line = format!(in rt.alloc(); "run {slots}")?;
         let expected = text_after(rt.alloc(), &timeline, slots)?;
-        if !writes(rt, "pair", &line, expected.as_bytes())? {
+        let done = Status::Done.number();
+        if !writes(rt, "pair", &line, expected.as_bytes(), done)? {
             return Ok(false);
         }
     }
     Ok(true)
 }
 
-// Whether the example, run with the words of a line, ends well and writes this text.
-fn writes(rt: &HostRuntime, name: &str, line: &str, expected: &[u8]) -> Result<bool> {
+// Whether the example, given to the program with the words of a line, ends with this number and writes this text.
+fn writes(rt: &HostRuntime, name: &str, line: &str, expected: &[u8], number: u8) -> Result<bool> {
     let words = words(rt, line)?;
     let input = fs::read(rt, format!(in rt.alloc(); "{name}.xs1")?)?;
     let mut source = ListSource::new(input);
     let mut sink = ListSink::with_room(rt.alloc(), LONGEST_TEXT)?;
     let status = top(rt.alloc(), &words, &mut source, &mut sink, &OpenGate);
-    Ok(status == Status::Done && sink.bytes() == expected)
+    Ok(status.number() == number && sink.bytes() == expected)
 }
 
 // The words of a line.
