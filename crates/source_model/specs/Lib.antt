@@ -1,3 +1,10 @@
+pub mod Each
+pub mod Operands
+pub mod Values
 pub mod Statement
+pub mod Layout
 pub mod Source
+pub mod Faults
 pub mod WorkedSourceLines
+pub mod Canonical
+pub mod WorkedCanonical

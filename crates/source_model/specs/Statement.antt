@@ -1,226 +1,133 @@
--- What the statement of a line says: an instruction, or a word of data.
-use Rattle.std.specs.Prelude.{ℕ, Bool, true, false, ◌&&◌, if◌then◌else◌, Option, Some, None, option_and_then, List, [], ◌∷◌, codes}
-use Rattle.xs_text.specs.Tokens.{Token}
+-- One line of a source by itself: its labels, and where its statement may stand and what it says.
+use Rattle.std.specs.Prelude.{ℕ, Bool, true, false, ◌&&◌, not, ◌==◌, if◌then◌else◌, Option, Some, None, option_and_then, List, [], ◌∷◌, codes}
+use Rattle.xs_text.specs.Bytes.{all_allowed, begins_with}
+use Rattle.xs_text.specs.Tokens.{Token, tokens_of}
+use Rattle.xs_text.specs.Numbers.{source_number_of, at_most}
 use Rattle.xs_text.specs.declared.token_reader.TokKind.{TokKind}
 use Rattle.xs_text.specs.declared.token_reader.TokKind.TheVariants.{Name, Number}
 use Rattle.xs_instructions.specs.Image.{same_name}
-use Rattle.xs_instructions.specs.declared.instr.Instr.{Instr}
-use Rattle.xs_instructions.specs.declared.instr.Instr.TheVariants.{Words, Memory, Flow, Threads, Resources}
-use Rattle.xs_instructions.specs.declared.instr.WordIns.TheVariants as words
-use Rattle.xs_instructions.specs.declared.instr.MemIns.TheVariants as memory
-use Rattle.xs_instructions.specs.declared.instr.FlowIns.TheVariants as flow
-use Rattle.xs_instructions.specs.declared.instr.ThreadIns.TheVariants as threads
-use Rattle.xs_instructions.specs.declared.instr.ResIns.TheVariants as resources
-use Rattle.xs_text.specs.Numbers.{source_number_of, at_most}
+use Rattle.xs_instructions.specs.Table.{find, known, is_built}
+use Rattle.xs_instructions.specs.declared.rows.Row.{Row}
+use Rattle.source_model.specs.declared.layout.Home.{Home}
+use Rattle.source_model.specs.declared.layout.Home.TheVariants.{Anywhere, InText, InBytes, BeginsData, BeginsConstants, Nowhere}
+use Rattle.source_model.specs.declared.layout.Width.{Width}
+use Rattle.source_model.specs.declared.layout.Width.TheVariants.{Byte, Short, Word}
+use Rattle.source_model.specs.Operands.{Amount, Operand, operands_of, shapes_of, amounts_of}
+use Rattle.source_model.specs.Values.{values_of}
 
-infixl 10 ◌>>=◌
-abbrev pub ◌>>=◌ : {A B : Type 0} → Option A → (A → Option B) → Option B
-o >>= f = option_and_then f o
+-- what a statement says
+pub data Says : Type 0 where
+  -- nothing that adds to a section
+  NoEffect : Says
+  -- an instruction whose name no row has
+  Unknown : Says
+  Misshapen : Says
+  Instruction : (row : Row) (amounts : List Amount) → Says
+  Values : (width : Width) (amounts : List Amount) → Says
+  -- so many zero bytes; None is a number out of range, here and below
+  Zeros : (count : Option ℕ) → Says
+  -- up to a multiple of the number
+  Align : (unit : Option ℕ) → Says
 
-abbrev pub is_of_kind_name : TokKind → Bool
-is_of_kind_name Name = true
-is_of_kind_name _ = false
+pub record Statement : Type 0 where
+  pub home : Home
+  pub says : Says
 
-abbrev pub is_of_kind_number : TokKind → Bool
-is_of_kind_number Number = true
-is_of_kind_number _ = false
+abbrev pub is_name_kind : TokKind → Bool
+is_name_kind Name = true
+is_name_kind _ = false
 
--- whether a token is this name
-abbrev pub is_word : List ℕ → Token → Bool
-is_word name t = is_of_kind_name t.kind && same_name name t.bytes
+abbrev pub is_number_kind : TokKind → Bool
+is_number_kind Number = true
+is_number_kind _ = false
 
--- whether a token is this mark
-abbrev pub is_the_mark : ℕ → Token → Bool
-is_the_mark mark t = same_name (mark ∷ []) t.bytes
+abbrev pub is_nothing : List Token → Bool
+is_nothing [] = true
+is_nothing (t ∷ rest) = false
 
--- Each of these takes one or more tokens from the front: what they stand for, and the tokens after them.
+abbrev pub is_lone_name : List Token → Bool
+is_lone_name [] = false
+is_lone_name (t ∷ rest) = is_name_kind t.kind && is_nothing rest
 
--- a name
-unfoldable pub name_first : List Token → Option (List ℕ × List Token)
-name_first [] = None
-name_first (t ∷ rest) = if is_of_kind_name t.kind then Some (t.bytes, rest) else None
+-- the digits of a number that stands alone
+abbrev pub lone_number : List Token → Option (List ℕ)
+lone_number [] = None
+lone_number (t ∷ rest) = if is_number_kind t.kind && is_nothing rest then Some t.bytes else None
 
-unfoldable pub mark_first : ℕ → List Token → Option (List Token)
-mark_first mark [] = None
-mark_first mark (t ∷ rest) = if is_the_mark mark t then Some rest else None
+-- a directive without effect, if it has its shape
+abbrev pub shaped : Bool → Says
+shaped true = NoEffect
+shaped false = Misshapen
 
--- the number of a register by its name: 0 to 11 for r0 to r11, then cp, dp, sp and lr
-unfoldable pub register_number : List ℕ → Option ℕ
-register_number name =
-    if same_name (codes "r0") name then Some 0 else (
-    if same_name (codes "r1") name then Some 1 else (
-    if same_name (codes "r2") name then Some 2 else (
-    if same_name (codes "r3") name then Some 3 else (
-    if same_name (codes "r4") name then Some 4 else (
-    if same_name (codes "r5") name then Some 5 else (
-    if same_name (codes "r6") name then Some 6 else (
-    if same_name (codes "r7") name then Some 7 else (
-    if same_name (codes "r8") name then Some 8 else (
-    if same_name (codes "r9") name then Some 9 else (
-    if same_name (codes "r10") name then Some 10 else (
-    if same_name (codes "r11") name then Some 11 else (
-    if same_name (codes "cp") name then Some 12 else (
-    if same_name (codes "dp") name then Some 13 else (
-    if same_name (codes "sp") name then Some 14 else (
-    if same_name (codes "lr") name then Some 15 else None)))))))))))))))
+-- at most 65,536
+abbrev pub zeros : Option (List ℕ) → Says
+zeros None = Misshapen
+zeros (Some digits) = Zeros (at_most 65536 (source_number_of digits))
 
--- a register whose number is at most the limit
-unfoldable pub register_first : ℕ → List Token → Option (ℕ × List Token)
-register_first limit toks = do
-  name ← name_first toks
-  number ← at_most limit (register_number name.0)
-  Some (number, name.1)
+abbrev pub not_zero : ℕ → Option ℕ
+not_zero n = if n == 0 then None else Some n
 
--- r0 to r11; also cp, dp, sp and lr
-abbrev pub common_first : List Token → Option (ℕ × List Token)
-common_first toks = register_first 11 toks
+-- 1 to 1,024
+abbrev pub aligned : Option (List ℕ) → Says
+aligned None = Misshapen
+aligned (Some digits) = Align (option_and_then not_zero (at_most 1024 (source_number_of digits)))
 
-abbrev pub any_first : List Token → Option (ℕ × List Token)
-any_first toks = register_first 15 toks
+abbrev pub valued : Width → Option (List Amount) → Says
+valued width None = Misshapen
+valued width (Some amounts) = Values width amounts
 
--- a number that is at most the limit
-unfoldable pub number_first : ℕ → List Token → Option (ℕ × List Token)
-number_first limit [] = None
-number_first limit (t ∷ rest) =
-    if is_of_kind_number t.kind
-    then option_and_then (λ n. Some (n, rest)) (at_most limit (source_number_of t.bytes))
-    else None
+abbrev pub directive : List ℕ → List Token → Statement
+directive name rest =
+    if same_name (codes ".text") name then record { home = InText; says = shaped (is_nothing rest) }
+    else (if same_name (codes ".globl") name then record { home = InText; says = shaped (is_lone_name rest) }
+    else (if same_name (codes ".align") name then record { home = Anywhere; says = aligned (lone_number rest) }
+    else (if same_name (codes ".data") name then record { home = BeginsData; says = shaped (is_nothing rest) }
+    else (if same_name (codes ".cp") name then record { home = BeginsConstants; says = shaped (is_nothing rest) }
+    else (if same_name (codes ".word") name then record { home = InBytes; says = valued Word (values_of Word rest) }
+    else (if same_name (codes ".short") name then record { home = InBytes; says = valued Short (values_of Short rest) }
+    else (if same_name (codes ".byte") name then record { home = InBytes; says = valued Byte (values_of Byte rest) }
+    else (if same_name (codes ".space") name then record { home = InBytes; says = zeros (lone_number rest) }
+    else record { home = Nowhere; says = NoEffect }))))))))
 
--- 0 to 65,535
-abbrev pub short_first : List Token → Option (ℕ × List Token)
-short_first toks = number_first 65535 toks
+-- the instruction of a row, if the row is built
+abbrev pub of_row : List Operand → Option Row → Says
+of_row operands None = Misshapen
+of_row operands (Some row) = if is_built row then Instruction row (amounts_of row operands) else Unknown
 
--- 0 to 11: the number of a kind of resource, or a control token
-abbrev pub small_first : List Token → Option (ℕ × List Token)
-small_first toks = number_first 11 toks
+abbrev pub instruction : List ℕ → List Operand → Says
+instruction name operands =
+    if known name then of_row operands (option_and_then (find name) (shapes_of operands)) else Unknown
 
--- nothing follows
-abbrev pub ended : {A : Type 0} → List Token → A → Option A
-ended [] x = Some x
-ended (t ∷ rest) x = None
+-- what comes after the labels
+abbrev pub statement : List Token → Statement
+statement [] = record { home = Anywhere; says = NoEffect }
+statement (t ∷ rest) =
+    if not (is_name_kind t.kind) then record { home = Anywhere; says = Misshapen }
+    else (if begins_with 46 t.bytes then directive t.bytes rest
+    else record { home = InText; says = instruction t.bytes (operands_of rest) })
 
--- where a label leads: the place of an instruction
-abbrev pub Places : Type 0
-Places = List ℕ → Option ℕ
+-- whether a name and a colon stand at the front
+abbrev pub begins_label : Token → Token → Bool
+begins_label t c = is_name_kind t.kind && same_name (codes ":") c.bytes
 
--- a label that has a place
-unfoldable pub label_first : Places → List Token → Option (ℕ × List Token)
-label_first places toks = do
-  name ← name_first toks
-  place ← places name.0
-  Some (place, name.1)
+-- the labels at the front
+unfoldable pub labels_first : List Token → List (List ℕ)
+labels_first [] = []
+labels_first (t ∷ []) = []
+labels_first (t ∷ c ∷ rest) = if begins_label t c then t.bytes ∷ labels_first rest else []
 
--- `d, x, y`
-unfoldable pub three_registers : List Token → Option (ℕ × ℕ × ℕ)
-three_registers toks = do
-  d ← common_first toks
-  a ← mark_first 44 d.1
-  x ← common_first a
-  b ← mark_first 44 x.1
-  y ← common_first b
-  ended y.1 (d.0, x.0, y.0)
+-- the tokens after them
+unfoldable pub after_labels : List Token → List Token
+after_labels [] = []
+after_labels (t ∷ []) = t ∷ []
+after_labels (t ∷ c ∷ rest) = if begins_label t c then after_labels rest else t ∷ c ∷ rest
 
--- `d, u`
-unfoldable pub register_and_short : List Token → Option (ℕ × ℕ)
-register_and_short toks = do
-  d ← common_first toks
-  a ← mark_first 44 d.1
-  u ← short_first a
-  ended u.1 (d.0, u.0)
+pub record Line : Type 0 where
+  pub bad_byte : Bool
+  -- reserved names too
+  pub labels : List (List ℕ)
+  pub statement : Statement
 
--- `g, dp[u]`
-unfoldable pub register_and_dp : List Token → Option (ℕ × ℕ)
-register_and_dp toks = do
-  g ← any_first toks
-  a ← mark_first 44 g.1
-  base ← name_first a
-  b ← (if same_name (codes "dp") base.0 then mark_first 91 base.1 else None)
-  u ← short_first b
-  c ← mark_first 93 u.1
-  ended c (g.0, u.0)
-
--- `s, L`
-unfoldable pub register_and_label : Places → List Token → Option (ℕ × ℕ)
-register_and_label places toks = do
-  s ← common_first toks
-  a ← mark_first 44 s.1
-  l ← label_first places a
-  ended l.1 (s.0, l.0)
-
--- `L`
-unfoldable pub lone_label : Places → List Token → Option ℕ
-lone_label places toks = do
-  l ← label_first places toks
-  ended l.1 l.0
-
--- `res[s]`
-unfoldable pub resource_first : List Token → Option (ℕ × List Token)
-resource_first toks = do
-  name ← name_first toks
-  a ← (if same_name (codes "res") name.0 then mark_first 91 name.1 else None)
-  s ← common_first a
-  b ← mark_first 93 s.1
-  Some (s.0, b)
-
--- `d, i`
-unfoldable pub register_and_small : List Token → Option (ℕ × ℕ)
-register_and_small toks = do
-  d ← common_first toks
-  a ← mark_first 44 d.1
-  i ← small_first a
-  ended i.1 (d.0, i.0)
-
--- `res[s], x`
-unfoldable pub resource_and_register : List Token → Option (ℕ × ℕ)
-resource_and_register toks = do
-  s ← resource_first toks
-  a ← mark_first 44 s.1
-  x ← common_first a
-  ended x.1 (s.0, x.0)
-
--- `res[s], i`
-unfoldable pub resource_and_small : List Token → Option (ℕ × ℕ)
-resource_and_small toks = do
-  s ← resource_first toks
-  a ← mark_first 44 s.1
-  i ← small_first a
-  ended i.1 (s.0, i.0)
-
--- the instruction with a name and operands, among the rows on resources
-unfoldable pub resource_instruction : List ℕ → List Token → Option Instr
-resource_instruction name operands =
-    if same_name (codes "getr") name then (register_and_small operands >>= λ o. Some (Resources (resources.Getr o.0 o.1)))
-    else (if same_name (codes "setd") name then (resource_and_register operands >>= λ o. Some (Resources (resources.Setd o.0 o.1)))
-    else (if same_name (codes "outct") name then (resource_and_small operands >>= λ o. Some (Resources (resources.OutctImm o.0 o.1)))
-    else (if same_name (codes "chkct") name then (resource_and_small operands >>= λ o. Some (Resources (resources.ChkctImm o.0 o.1)))
-    else None)))
-
--- the same among all rows
-unfoldable pub instruction : Places → List ℕ → List Token → Option Instr
-instruction places name operands =
-    if same_name (codes "add") name then (three_registers operands >>= λ o. Some (Words (words.Add o.0 o.1 o.2)))
-    else (if same_name (codes "sub") name then (three_registers operands >>= λ o. Some (Words (words.Sub o.0 o.1 o.2)))
-    else (if same_name (codes "eq") name then (three_registers operands >>= λ o. Some (Words (words.Eq o.0 o.1 o.2)))
-    else (if same_name (codes "ldc") name then (register_and_short operands >>= λ o. Some (Words (words.Ldc o.0 o.1)))
-    else (if same_name (codes "nop") name then ended operands (Words words.Nop)
-    else (if same_name (codes "ldw") name then (register_and_dp operands >>= λ o. Some (Memory (memory.LdwDp o.0 o.1)))
-    else (if same_name (codes "stw") name then (register_and_dp operands >>= λ o. Some (Memory (memory.StwDp o.0 o.1)))
-    else (if same_name (codes "bt") name then (register_and_label places operands >>= λ o. Some (Flow (flow.Bt o.0 o.1)))
-    else (if same_name (codes "bf") name then (register_and_label places operands >>= λ o. Some (Flow (flow.Bf o.0 o.1)))
-    else (if same_name (codes "bu") name then (lone_label places operands >>= λ l. Some (Flow (flow.Bu l)))
-    else (if same_name (codes "freet") name then ended operands (Threads threads.Freet)
-    else resource_instruction name operands))))))))))
-
--- a line's statement: a name and its operands
-unfoldable pub statement : Places → List Token → Option Instr
-statement places toks = do
-  name ← name_first toks
-  instruction places name.0 name.1
-
--- a line's word of data: `.word` and its value
-unfoldable pub word_value : List Token → Option ℕ
-word_value toks = do
-  name ← name_first toks
-  a ← (if same_name (codes ".word") name.0 then Some name.1 else None)
-  n ← number_first 4294967295 a
-  ended n.1 n.0
+abbrev pub line_of : List ℕ → Line
+line_of bytes =
+    record { bad_byte = not (all_allowed bytes); labels = labels_first (tokens_of bytes); statement = statement (after_labels (tokens_of bytes)) }

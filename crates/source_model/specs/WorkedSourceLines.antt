@@ -1,80 +1,218 @@
 -- What sources stand for, worked out by hand.
-use Rattle.std.specs.Prelude.{ℕ, ◌≡◌, Option, Some, None, option_and_then, List, [], ◌∷◌, ◌++◌, codes}
+use Rattle.std.specs.Prelude.{ℕ, ◌≡◌, Option, Some, None, List, [], ◌∷◌, ◌++◌, codes, replicate, flat_map}
+use Rattle.xs_instructions.specs.Image.{ImageRec, Symbol}
 use Rattle.xs_instructions.specs.declared.instr.Instr.{Instr}
-use Rattle.xs_instructions.specs.declared.instr.Instr.TheVariants.{Words, Flow, Resources}
-use Rattle.xs_instructions.specs.declared.instr.WordIns.TheVariants.{Nop}
-use Rattle.xs_instructions.specs.declared.instr.FlowIns.TheVariants.{Bu}
-use Rattle.xs_instructions.specs.declared.instr.ResIns.TheVariants.{Getr, Setd, OutctImm, ChkctImm}
-use Rattle.source_model.specs.Source.{assembled}
+use Rattle.xs_instructions.specs.declared.instr.Instr.TheVariants.{Words, Memory, Flow, Resources}
+use Rattle.xs_instructions.specs.declared.instr.WordIns.TheVariants.{Ldc, Nop}
+use Rattle.xs_instructions.specs.declared.instr.MemIns.TheVariants.{LdwDp, StwDp}
+use Rattle.xs_instructions.specs.declared.instr.FlowIns.TheVariants.{Bu, Bt}
+use Rattle.xs_instructions.specs.declared.instr.ResIns.TheVariants.{OutctImm}
+use Rattle.source_model.specs.declared.AsmKind.TheVariants.{BadByte, UnknownName, WrongOperands, NumberOutOfRange, LabelTwice, LabelMissing, DirectiveNotAllowed, TooManyInstructions, TooManyBytes}
+use Rattle.source_model.specs.Source.{Assembled, Image, Fault, assembled}
+
+abbrev pub of_source : {A : Type 0} → (ImageRec → A) → Assembled → Option A
+of_source part (Image image) = Some (part image)
+of_source part (Fault line kind) = None
 
 abbrev pub code_of_source : List ℕ → Option (List Instr)
-code_of_source text = option_and_then (λ image. Some image.code) (assembled text)
+code_of_source text = of_source (λ image. image.code) (assembled text)
 
-abbrev pub data_of_source : List ℕ → Option (List ℕ)
-data_of_source text = option_and_then (λ image. Some image.bytes) (assembled text)
+abbrev pub bytes_of_source : List ℕ → Option (List ℕ)
+bytes_of_source text = of_source (λ image. image.bytes) (assembled text)
 
--- at the rows on resources
-pub record WorkedResources : Type 0 where
-  pub getr : code_of_source (codes "getr r0, 2") ≡ Some (Resources (Getr 0 2) ∷ [])
-  pub getr_last : code_of_source (codes "getr r11 , 0x0b") ≡ Some (Resources (Getr 11 11) ∷ [])
-  pub getr_none : code_of_source (codes "  getr r3,0 // none") ≡ Some (Resources (Getr 3 0) ∷ [])
-  pub setd : code_of_source (codes "setd res[r4], r1") ≡ Some (Resources (Setd 4 1) ∷ [])
-  pub setd_blanks : code_of_source (codes "setd res [ r0 ] , r11") ≡ Some (Resources (Setd 0 11) ∷ [])
-  pub outct : code_of_source (codes "outct res[r5], 1") ≡ Some (Resources (OutctImm 5 1) ∷ [])
-  pub outct_binary : code_of_source (codes "x: outct res[r5],0b1011") ≡ Some (Resources (OutctImm 5 11) ∷ [])
-  pub chkct : code_of_source (codes "chkct res[r0], 0x0b") ≡ Some (Resources (ChkctImm 0 11) ∷ [])
-  pub chkct_zeros : code_of_source (codes "chkct res[r10], 0002") ≡ Some (Resources (ChkctImm 10 2) ∷ [])
-  pub row_name_as_label : code_of_source (codes "getr: bu getr") ≡ Some (Flow (Bu 0) ∷ [])
-  pub all_rows : code_of_source (codes "getr r1, 2\nsetd res[r1], r2\noutct res[r1], 3\nchkct res[r1], 4") ≡ Some (Resources (Getr 1 2) ∷ Resources (Setd 1 2) ∷ Resources (OutctImm 1 3) ∷ Resources (ChkctImm 1 4) ∷ [])
-  pub kind_12 : assembled (codes "getr r0, 12") ≡ None
-  pub kind_in_brackets : assembled (codes "getr res[r0], 2") ≡ None
-  pub kind_missing : assembled (codes "getr r0") ≡ None
-  pub getr_sp : assembled (codes "getr sp, 2") ≡ None
-  pub kind_signed : assembled (codes "getr r0, -1") ≡ None
-  pub token_in_register : assembled (codes "outct res[r0], r1") ≡ None
-  pub token_12 : assembled (codes "outct res[r0], 12") ≡ None
-  pub chkct_register : assembled (codes "chkct res[r0], r1") ≡ None
-  pub resource_12 : assembled (codes "setd res[r12], r1") ≡ None
-  pub resource_sp : assembled (codes "setd res[sp], r1") ≡ None
-  pub setd_number : assembled (codes "setd res[r0], 1") ≡ None
-  pub setd_lr : assembled (codes "setd res[r0], lr") ≡ None
-  pub no_brackets : assembled (codes "setd r0, r1") ≡ None
-  pub other_brackets : assembled (codes "setd dp[r0], r1") ≡ None
-  pub number_in_brackets : assembled (codes "setd res[0], r1") ≡ None
-  pub open_bracket : assembled (codes "setd res[r0, r1") ≡ None
-  pub upper_case_res : assembled (codes "setd RES[r0], r1") ≡ None
-  pub something_follows : assembled (codes "chkct res[r0], 1 1") ≡ None
+abbrev pub symbols_of_source : List ℕ → Option (List Symbol)
+symbols_of_source text = of_source (λ image. image.symbols) (assembled text)
 
--- at the data
-pub record WorkedData : Type 0 where
-  pub nothing : assembled [] ≡ Some (record { code = []; bytes = []; cp_at = 65536; symbols = [] })
-  pub no_words : assembled (codes ".data") ≡ Some (record { code = []; bytes = []; cp_at = 65536; symbols = [] })
-  pub one_word : assembled (codes "nop\nend:\n.data\n.word 0x12345678\n") ≡ Some (record { code = Words Nop ∷ []; bytes = 120 ∷ 86 ∷ 52 ∷ 18 ∷ []; cp_at = 65540; symbols = (codes "end", 262148) ∷ [] })
-  pub two_words : assembled (codes ".data\n.word 0x10\n.word 0b11") ≡ Some (record { code = []; bytes = 16 ∷ 0 ∷ 0 ∷ 0 ∷ 3 ∷ 0 ∷ 0 ∷ 0 ∷ []; cp_at = 65544; symbols = [] })
-  pub greatest_word : data_of_source (codes ".data\n.word 4294967295") ≡ Some (255 ∷ 255 ∷ 255 ∷ 255 ∷ [])
-  pub order_of_bytes : data_of_source (codes ".data\n.word 16909060") ≡ Some (4 ∷ 3 ∷ 2 ∷ 1 ∷ [])
-  pub zeros_before : data_of_source (codes ".data\n.word 00000000000256") ≡ Some (0 ∷ 1 ∷ 0 ∷ 0 ∷ [])
-  pub blank_lines : data_of_source (codes "  .data # constants\n\n // none\n\t.word  7 // seven\n") ≡ Some (7 ∷ 0 ∷ 0 ∷ 0 ∷ [])
-  pub returns : data_of_source (codes ".data\r\n.word 1\r\n") ≡ Some (1 ∷ 0 ∷ 0 ∷ 0 ∷ [])
-  pub data_as_label : code_of_source (codes ".data: bu .data\n") ≡ Some (Flow (Bu 0) ∷ [])
-  pub word_as_label : code_of_source (codes ".word: bu .word\n") ≡ Some (Flow (Bu 0) ∷ [])
-  pub word_too_great : assembled (codes ".data\n.word 4294967296") ≡ None
-  pub word_signed : assembled (codes ".data\n.word -1") ≡ None
-  pub two_in_a_line : assembled (codes ".data\n.word 1, 2") ≡ None
-  pub two_without_comma : assembled (codes ".data\n.word 1 2") ≡ None
-  pub word_missing : assembled (codes ".data\n.word") ≡ None
-  pub word_malformed : assembled (codes ".data\n.word 0x") ≡ None
-  pub word_of_a_label : assembled (codes "x:\n.data\n.word x") ≡ None
-  pub label_before_word : assembled (codes ".data\nx: .word 1") ≡ None
-  pub label_after_data : assembled (codes ".data\nx:") ≡ None
-  pub label_before_data : assembled (codes "x: .data") ≡ None
-  pub something_after_data : assembled (codes ".data 5") ≡ None
-  pub upper_case_data : assembled (codes ".DATA") ≡ None
-  pub other_directive : assembled (codes ".data\n.short 1") ≡ None
-  pub word_before_data : assembled (codes ".word 1\n.data") ≡ None
-  pub instruction_after_data : assembled (codes ".data\nnop") ≡ None
-  pub data_twice : assembled (codes ".data\n.word 1\n.data") ≡ None
-  pub constants_section : assembled (codes ".data\n.cp") ≡ None
-  pub bad_byte_beside_data : assembled (codes ".data # " ++ (127 ∷ [])) ≡ None
-  pub bad_byte_beside_word : assembled (codes ".data\n.word 1 # " ++ (1 ∷ codes "\n")) ≡ None
-  pub bad_byte_in_a_comment : assembled (codes ".data\n# " ++ (200 ∷ codes "\n.word 1\n")) ≡ None
+abbrev pub constants_of_source : List ℕ → Option ℕ
+constants_of_source text = of_source (λ image. image.cp_at) (assembled text)
+
+abbrev pub nop : Instr
+nop = Words Nop
+
+-- bytes: tab and space to `~` alone, in comments too
+pub record WorkedBadBytes : Type 0 where
+  pub tab : code_of_source (codes "\tnop\t# x") ≡ Some (nop ∷ [])
+  pub in_a_comment : assembled (codes "nop // " ++ (127 ∷ [])) ≡ Fault 1 BadByte
+  pub returns : code_of_source (codes "nop\r\nnop\r\n") ≡ Some (nop ∷ nop ∷ [])
+  pub two_returns : assembled (codes "nop\r\r\n") ≡ Fault 1 BadByte
+  pub return_at_the_end : assembled (codes "nop\nnop\r") ≡ Fault 2 BadByte
+  -- the line defines no label, adds nothing and begins no section
+  pub no_label : assembled (codes "bu x\nx: # " ++ (1 ∷ codes "\n")) ≡ Fault 1 LabelMissing
+  pub no_bytes : assembled (codes "ldw r0, dp[x]\n.data\n.byte 1 # " ++ (1 ∷ codes "\nx:")) ≡ Fault 3 BadByte
+  pub no_section : assembled (codes "bu x\n.data # " ++ (200 ∷ codes "\nx:")) ≡ Fault 2 BadByte
+  pub before_all : assembled (codes "a: a: foo " ++ (0 ∷ [])) ≡ Fault 1 BadByte
+
+-- names of instructions
+pub record WorkedUnknownNames : Type 0 where
+  pub no_row : assembled (codes "foo r0\na: a:") ≡ Fault 1 UnknownName
+  pub capitals : assembled (codes "nop\nADD r0, r1, r2") ≡ Fault 2 UnknownName
+  pub register : assembled (codes "r0 r1") ≡ Fault 1 UnknownName
+  pub status_register : assembled (codes "sr") ≡ Fault 1 UnknownName
+  pub label : assembled (codes "main: main") ≡ Fault 1 UnknownName
+  pub after_a_reserved_label : assembled (codes "r0: foo") ≡ Fault 1 UnknownName
+  pub malformed_number : assembled (codes "foo 12ab") ≡ Fault 1 UnknownName
+  -- a row that is not built is as no row
+  pub not_built : assembled (codes "mul r0, r1, r2") ≡ Fault 1 UnknownName
+  pub not_built_out_of_range : assembled (codes "shl r0, r1, 9") ≡ Fault 1 UnknownName
+  pub not_built_misshapen : assembled (codes "mul r0, r1") ≡ Fault 1 WrongOperands
+
+-- shapes
+pub record WorkedShapes : Type 0 where
+  pub operand_missing : assembled (codes "add r0, r1") ≡ Fault 1 WrongOperands
+  pub operand_more : assembled (codes "add r0, r1, r2 r3") ≡ Fault 1 WrongOperands
+  pub commas_missing : assembled (codes "add r0 r1 r2") ≡ Fault 1 WrongOperands
+  pub no_name : assembled (codes "5") ≡ Fault 1 WrongOperands
+  pub no_label_name : assembled (codes ": nop") ≡ Fault 1 WrongOperands
+  pub bracket : assembled (codes "[") ≡ Fault 1 WrongOperands
+  pub sign : assembled (codes "-1") ≡ Fault 1 WrongOperands
+  pub slash : assembled (codes "nop / nop") ≡ Fault 1 WrongOperands
+  pub malformed_number : assembled (codes "ldc r0, 12ab") ≡ Fault 1 WrongOperands
+  pub capital_base : assembled (codes "ldc r0, 0X10") ≡ Fault 1 WrongOperands
+  pub no_digits : assembled (codes "ldc r0, 0x") ≡ Fault 1 WrongOperands
+  pub two_tokens : assembled (codes "ldc r0, 1_0") ≡ Fault 1 WrongOperands
+  pub signed_number : assembled (codes "ldc r0, -1") ≡ Fault 1 WrongOperands
+  pub register_outside : assembled (codes "ldc sp, 1") ≡ Fault 1 WrongOperands
+  pub no_register : assembled (codes "ldc r12, 1") ≡ Fault 1 WrongOperands
+  pub status_register : assembled (codes "bu sr") ≡ Fault 1 WrongOperands
+  pub word_for_label : assembled (codes "bu pc") ≡ Fault 1 WrongOperands
+  pub register_for_label : assembled (codes "bu r0") ≡ Fault 1 WrongOperands
+  pub number_for_label : assembled (codes "bu 4") ≡ Fault 1 WrongOperands
+  pub name_in_register : assembled (codes "x: ldw r0, r1[x]") ≡ Fault 1 WrongOperands
+  pub name_in_stack : assembled (codes "x: ldw r0, sp[x]") ≡ Fault 1 WrongOperands
+  pub reserved_in_brackets : assembled (codes "ldw r0, dp[sr]") ≡ Fault 1 WrongOperands
+  pub register_in_brackets : assembled (codes "ldw r0, dp[r1]") ≡ Fault 1 WrongOperands
+  pub blanks : code_of_source (codes "x : ldw r0 , dp [ 1 ]") ≡ Some (Memory (LdwDp 0 1) ∷ [])
+  pub reserved_label : assembled (codes "r0: nop") ≡ Fault 1 WrongOperands
+  pub reserved_label_twice : assembled (codes "r0: r0:") ≡ Fault 1 WrongOperands
+  pub data_with_operand : assembled (codes ".data 5") ≡ Fault 1 WrongOperands
+  pub constants_with_operand : assembled (codes ".cp x") ≡ Fault 1 WrongOperands
+  pub text_with_operand : assembled (codes ".text 5") ≡ Fault 1 WrongOperands
+  pub global_missing : assembled (codes ".globl") ≡ Fault 1 WrongOperands
+  pub global_number : assembled (codes ".globl 5") ≡ Fault 1 WrongOperands
+  pub globals : assembled (codes ".globl a, b") ≡ Fault 1 WrongOperands
+  pub align_name : assembled (codes ".align x") ≡ Fault 1 WrongOperands
+  pub space_signed : assembled (codes ".data\n.space -1") ≡ Fault 2 WrongOperands
+  pub two_signs : assembled (codes ".data\n.word --5") ≡ Fault 2 WrongOperands
+  pub signed_name : assembled (codes "a:\n.data\n.word -a") ≡ Fault 3 WrongOperands
+  pub sum : assembled (codes "a:\n.data\n.word a+1") ≡ Fault 3 WrongOperands
+  pub no_value : assembled (codes ".data\n.byte") ≡ Fault 2 WrongOperands
+  pub comma_more : assembled (codes ".data\n.byte 1,") ≡ Fault 2 WrongOperands
+  pub comma_missing : assembled (codes ".data\n.byte 1 2") ≡ Fault 2 WrongOperands
+  pub comma_first : assembled (codes ".data\n.byte ,1") ≡ Fault 2 WrongOperands
+  pub short_of_label : assembled (codes "a:\n.data\n.short a") ≡ Fault 3 WrongOperands
+  pub byte_of_label : assembled (codes "a:\n.data\n.byte a") ≡ Fault 3 WrongOperands
+  pub word_of_register : assembled (codes ".data\n.word r0") ≡ Fault 2 WrongOperands
+
+-- ranges
+pub record WorkedRanges : Type 0 where
+  pub short_last : code_of_source (codes "ldc r11, 65535") ≡ Some (Words (Ldc 11 65535) ∷ [])
+  pub short_past : assembled (codes "ldc r11, 65536") ≡ Fault 1 NumberOutOfRange
+  pub short_wide : assembled (codes "ldc r0, 0x100000000000000000000000000000005") ≡ Fault 1 NumberOutOfRange
+  pub zeros_in_front : code_of_source (codes "ldc r0, 0b00000000000000000000000000000000000000000000000101") ≡ Some (Words (Ldc 0 5) ∷ [])
+  pub small_last : code_of_source (codes "outct res[r0], 0xB") ≡ Some (Resources (OutctImm 0 11) ∷ [])
+  pub small_past : assembled (codes "outct res[r0], 12") ≡ Fault 1 NumberOutOfRange
+  pub offset_past : assembled (codes "ldw r0, dp[65536]") ≡ Fault 1 NumberOutOfRange
+  pub align_0 : assembled (codes ".align 0") ≡ Fault 1 NumberOutOfRange
+  pub align_1025 : assembled (codes ".align 1025") ≡ Fault 1 NumberOutOfRange
+  pub space_past : assembled (codes ".data\n.space 65537") ≡ Fault 2 NumberOutOfRange
+  pub word_edges : bytes_of_source (codes ".data\n.word 4294967295, -2147483648, - 5, -0, 0x12345678") ≡ Some (255 ∷ 255 ∷ 255 ∷ 255 ∷ 0 ∷ 0 ∷ 0 ∷ 128 ∷ 251 ∷ 255 ∷ 255 ∷ 255 ∷ 0 ∷ 0 ∷ 0 ∷ 0 ∷ 120 ∷ 86 ∷ 52 ∷ 18 ∷ [])
+  pub word_past : assembled (codes ".data\n.word 4294967296") ≡ Fault 2 NumberOutOfRange
+  pub word_below : assembled (codes ".data\n.word -2147483649") ≡ Fault 2 NumberOutOfRange
+  pub short_edges : bytes_of_source (codes ".data\n.short 65535, -32768, 258") ≡ Some (255 ∷ 255 ∷ 0 ∷ 128 ∷ 2 ∷ 1 ∷ [])
+  pub short_value_past : assembled (codes ".data\n.short 65536") ≡ Fault 2 NumberOutOfRange
+  pub short_value_below : assembled (codes ".data\n.short -32769") ≡ Fault 2 NumberOutOfRange
+  pub byte_edges : bytes_of_source (codes ".data\n.byte 255, -128, -1") ≡ Some (255 ∷ 128 ∷ 255 ∷ [])
+  pub byte_past : assembled (codes ".data\n.byte 256") ≡ Fault 2 NumberOutOfRange
+  pub byte_below : assembled (codes ".data\n.byte -129") ≡ Fault 2 NumberOutOfRange
+  pub before_missing : assembled (codes ".data\n.word 99999999999, gone") ≡ Fault 2 NumberOutOfRange
+  -- a label of the data is no place of the code
+  pub data_target : assembled (codes "bu x\n.data\nx:") ≡ Fault 1 NumberOutOfRange
+  pub code_offset : code_of_source (codes "main: ldw r0, dp[main]") ≡ Some (Memory (LdwDp 0 49152) ∷ [])
+  pub offsets : code_of_source (codes "ldw r0, dp[y]\nstw lr, dp[z]\n.data\n.word 1\ny: .byte 1, 2\n.cp\nz:") ≡ Some (Memory (LdwDp 0 1) ∷ Memory (StwDp 15 2) ∷ [])
+  pub offset_uneven : assembled (codes "ldw r0, dp[y]\n.data\n.byte 1\ny:") ≡ Fault 1 NumberOutOfRange
+
+-- labels
+pub record WorkedLabels : Type 0 where
+  pub twice : assembled (codes "a: nop\na: nop") ≡ Fault 2 LabelTwice
+  pub twice_in_a_line : assembled (codes "nop\na: b: a: nop") ≡ Fault 2 LabelTwice
+  pub twice_before_unknown : assembled (codes "a: a: foo") ≡ Fault 1 LabelTwice
+  pub missing : assembled (codes "bu gone") ≡ Fault 1 LabelMissing
+  pub missing_earlier : assembled (codes "bu gone\nfoo") ≡ Fault 1 LabelMissing
+  pub missing_offset : assembled (codes "ldw r0, dp[gone]") ≡ Fault 1 LabelMissing
+  pub missing_word : assembled (codes ".data\n.word 1, gone") ≡ Fault 2 LabelMissing
+  pub many : symbols_of_source (codes "a: b:\nc: nop\nd:") ≡ Some ((codes "a", 262144) ∷ (codes "b", 262144) ∷ (codes "c", 262144) ∷ (codes "d", 262148) ∷ [])
+  pub names_of_statements : symbols_of_source (codes "add: nop\n.word: nop") ≡ Some ((codes "add", 262144) ∷ (codes ".word", 262148) ∷ [])
+  pub at_the_end : code_of_source (codes "bu end\nend:") ≡ Some (Flow (Bu 1) ∷ [])
+  pub reserved_between : assembled (codes "bu y\nx: r0: y: nop") ≡ Fault 2 WrongOperands
+  -- a faulty line defines the labels before its statement
+  pub before_a_fault : assembled (codes "bu x\nx: 5 y: nop") ≡ Fault 2 WrongOperands
+  pub after_a_fault : assembled (codes "bu y\nx: 5 y: nop") ≡ Fault 1 LabelMissing
+  pub first_of_two : assembled (codes "bu x\nx:\n.data\nx:") ≡ Fault 4 LabelTwice
+  pub global : code_of_source (codes ".globl r0\n.globl gone\nnop") ≡ Some (nop ∷ [])
+
+-- what faulty lines add to addresses
+pub record WorkedSizes : Type 0 where
+  pub value_out_of_range : assembled (codes "ldw r0, dp[x]\n.data\n.byte 256\nx:") ≡ Fault 1 NumberOutOfRange
+  pub misshapen : assembled (codes "ldw r0, dp[x]\n.data\n.byte 1 2\nx:") ≡ Fault 3 WrongOperands
+  pub unknown : assembled (codes "ldw r0, dp[x]\n.data\n.bytes 1\nx:") ≡ Fault 3 DirectiveNotAllowed
+  pub misplaced : assembled (codes "ldw r0, dp[x]\n.byte 1\n.data\nx:") ≡ Fault 2 DirectiveNotAllowed
+  pub space_out_of_range : assembled (codes "ldw r0, dp[x]\n.data\n.space 65537\nx:") ≡ Fault 3 NumberOutOfRange
+  pub reserved_label : assembled (codes "ldw r0, dp[x]\n.data\nr0: .byte 1\nx:") ≡ Fault 1 NumberOutOfRange
+  pub data_with_operand : assembled (codes "bu x\n.data 5\nx:") ≡ Fault 1 NumberOutOfRange
+  pub data_with_label_twice : assembled (codes "a: bu x\na: .data\nx:") ≡ Fault 1 NumberOutOfRange
+
+-- sections
+pub record WorkedSections : Type 0 where
+  pub nothing : assembled [] ≡ Image (record { code = []; bytes = []; cp_at = 65536; symbols = [] })
+  pub text : code_of_source (codes ".text\nnop\n.text") ≡ Some (nop ∷ [])
+  pub all : assembled (codes "main: bt r0, main\nend:\n.data\nx: .byte 1\ny:\n.cp\nz: .word x\nlast:") ≡ Image (record {
+    code = Flow (Bt 0 0) ∷ [];
+    bytes = 1 ∷ 0 ∷ 0 ∷ 0 ∷ 0 ∷ 0 ∷ 1 ∷ 0 ∷ [];
+    cp_at = 65540;
+    symbols = (codes "main", 262144) ∷ (codes "end", 262148) ∷ (codes "x", 65536) ∷ (codes "y", 65537) ∷ (codes "z", 65540) ∷ (codes "last", 65544) ∷ [];
+  })
+  -- without constants no zeros are added
+  pub no_constants : bytes_of_source (codes ".data\n.byte 1\n.cp\n.space 0\n") ≡ Some (1 ∷ [])
+  pub constants_start : constants_of_source (codes ".data\n.byte 1\n.cp\n") ≡ Some 65540
+  pub constants_start_without : constants_of_source (codes ".data\n.space 4") ≡ Some 65540
+  pub constants_alone : bytes_of_source (codes ".cp\n.byte 7") ≡ Some (7 ∷ [])
+  pub label_on_data : symbols_of_source (codes "nop\nx: .data\ny: .cp\nz:") ≡ Some ((codes "x", 262148) ∷ (codes "y", 65536) ∷ (codes "z", 65536) ∷ [])
+  pub instruction_in_data : assembled (codes ".data\nfoo 1") ≡ Fault 2 DirectiveNotAllowed
+  pub instruction_in_constants : assembled (codes ".cp\nnop") ≡ Fault 2 DirectiveNotAllowed
+  pub no_name_in_data : assembled (codes ".data\n5") ≡ Fault 2 WrongOperands
+  pub word_in_text : assembled (codes ".word") ≡ Fault 1 DirectiveNotAllowed
+  pub text_in_data : assembled (codes ".data\n.text 5") ≡ Fault 2 DirectiveNotAllowed
+  pub global_in_data : assembled (codes ".data\n.globl") ≡ Fault 2 DirectiveNotAllowed
+  pub data_twice : assembled (codes ".data\n.data") ≡ Fault 2 DirectiveNotAllowed
+  pub constants_twice : assembled (codes ".cp\n.cp") ≡ Fault 2 DirectiveNotAllowed
+  pub data_after_constants : assembled (codes ".cp\n.data") ≡ Fault 2 DirectiveNotAllowed
+  pub unknown_directive : assembled (codes ".set 12ab") ≡ Fault 1 DirectiveNotAllowed
+  pub capitals : assembled (codes ".DATA") ≡ Fault 1 DirectiveNotAllowed
+
+-- padding
+pub record WorkedPadding : Type 0 where
+  pub code : code_of_source (codes "freet\n.align 3") ≡ code_of_source (codes "freet\nnop\nnop")
+  pub code_even : code_of_source (codes "nop\nnop\n.align 2") ≡ Some (nop ∷ nop ∷ [])
+  pub code_empty : code_of_source (codes ".align 1024") ≡ Some []
+  pub bytes : bytes_of_source (codes ".data\n.byte 9\nx: .align 4\n.byte 8") ≡ Some (9 ∷ 0 ∷ 0 ∷ 0 ∷ 8 ∷ [])
+  pub label_before : symbols_of_source (codes ".data\n.byte 9\nx: .align 4\ny: .space 3\nz:") ≡ Some ((codes "x", 65537) ∷ (codes "y", 65540) ∷ (codes "z", 65543) ∷ [])
+  -- by the length of the section itself
+  pub own_length : bytes_of_source (codes ".data\n.byte 1, 2, 3, 4, 5\n.cp\n.byte 6\n.align 3\n") ≡ Some (1 ∷ 2 ∷ 3 ∷ 4 ∷ 5 ∷ 0 ∷ 0 ∷ 0 ∷ 6 ∷ 0 ∷ 0 ∷ [])
+
+-- `.align 1024` and an instruction, so many times
+abbrev pub blocks : ℕ → List ℕ
+blocks n = flat_map (λ block. block) (replicate n (codes ".align 1024\nnop\n"))
+
+-- limits
+pub record WorkedLimits : Type 0 where
+  pub instructions : assembled (codes "nop\n" ++ blocks 16) ≡ Fault 33 TooManyInstructions
+  pub padding : assembled (codes "nop\n" ++ (blocks 15 ++ codes ".align 1023\nfoo")) ≡ Fault 33 UnknownName
+  pub padding_past : assembled (codes "nop\n" ++ (blocks 15 ++ codes "nop\n.align 1023\n.align 1023\n.align 1024\nnop")) ≡ Fault 36 TooManyInstructions
+  -- a label past the last instruction is no number out of range
+  pub target : assembled (codes "bu x\n" ++ (blocks 80 ++ codes "x:")) ≡ Fault 33 TooManyInstructions
+  pub bytes : assembled (codes ".data\n.space 65536\n.byte 1") ≡ Fault 3 TooManyBytes
+  pub zeros_of_constants : assembled (codes ".data\n.space 65533\n.cp\n.byte 1") ≡ Fault 4 TooManyBytes
+  pub constants : assembled (codes ".data\n.space 65532\n.cp\n.byte 1, 2, 3, 4, 5") ≡ Fault 4 TooManyBytes
+  pub out_of_range_first : assembled (codes ".data\n.space 65536\n.byte 256") ≡ Fault 3 NumberOutOfRange
+  -- a label of the data stays one past any length
+  pub far_target : assembled (codes "bu x\n.data\n.space 65536\n.space 65536\n.space 65536\nx:") ≡ Fault 1 NumberOutOfRange

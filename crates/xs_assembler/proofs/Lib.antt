@@ -1,10 +1,4 @@
-pub mod LineParts
-pub mod LabelPass
-pub mod Gathered
-pub mod SectionPass
-pub mod Some
-pub mod Ranges
-pub mod Places
-pub mod ImageOf
-pub mod Refusal
-pub mod Limits
+pub mod NameTable
+pub mod Steps
+pub mod Loops
+pub mod Sizes

@@ -1,3 +1,9 @@
-pub mod Labels
+pub mod Names
+pub mod Parts
+pub mod Lines
+pub mod Sofar
+pub mod Contents
+pub mod Values
+pub mod Findings
+pub mod Output
 pub mod Assembles
-pub mod Words

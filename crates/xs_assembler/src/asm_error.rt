@@ -8,7 +8,7 @@ use thiserror::Error;
 /// Why a source has no image.
 #[derive(Debug, Drop, Error)]
 pub enum AsmError {
-    /// The source is refused. So far each refusal is of the kind `UnknownName` and names line 0.
+    /// The source is refused: its first faulty line, counted from 1, and the first kind of the line's faults.
     #[error("line {line}: {kind:?}")]
     Fault { line: u32, kind: AsmKind },
     /// Memory was wanting.
@@ -29,15 +29,5 @@ impl<T: Drop> From<AllocFailed<T>> for AsmError {
 
     fn from(_e: AllocFailed<T>) -> AsmError {
         AsmError::Memory
-    }
-}
-
-// The one refusal so far.
-pub fn refusal() -> AsmError
-    ensures { result ≡ AsmError.Fault 0 AsmKind.UnknownName }
-{
-    AsmError::Fault {
-        line: 0,
-        kind: AsmKind::UnknownName,
     }
 }

@@ -1,18 +1,23 @@
-//! The assembler: reads a source text and gives the image that it stands for. See docs/ASSEMBLY.md.
+//! The assembler: what a source text stands for. See docs/ASSEMBLY.md.
 #![tactic(auto)]
 
+mod amount;
 mod asm_error;
 mod assembler;
-mod code;
-mod data;
-mod labels;
-mod line_parts;
+mod contents;
+mod faults;
+mod layouts;
+mod lines;
+mod names;
 mod operands;
-mod sections;
+mod output;
+mod pieces;
+mod sofar;
 mod statement;
 #[cfg(test)]
 mod tests;
 mod tokens;
+mod values;
 
 pub use asm_error::AsmError;
 pub use assembler::assemble;

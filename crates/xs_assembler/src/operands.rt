@@ -1,223 +1,153 @@
-ghost use Rattle.std.specs.Prelude.{◌≡◌, ◌≤◌, option_map, IfSome};
-ghost use Rattle.xs_text.specs.Tokens.{tokens_of};
-ghost use Rattle.source_model.specs.Source.{places_of, place_of};
-ghost use Rattle.source_model.specs.Statement.{register_number, register_first, common_first, any_first, number_first, short_first, small_first, label_first, resource_first, three_registers, register_and_short, register_and_dp, register_and_label, lone_label, register_and_small, resource_and_register, resource_and_small};
-ghost use Rattle.xs_assembler.specs.Labels.{HavePlaces};
+ghost use Rattle.std.specs.Prelude.{◌≡◌, IfOk, Option, option_map};
+ghost use Rattle.std.specs.List.{slice_range};
+ghost use Rattle.std.specs.Prelude.{vec_items, map};
+ghost use Rattle.xs_instructions.specs.Table.{parts_of, values_among};
+ghost use Rattle.source_model.specs.Operands.{base_named, base_after, operands_of, name_shape, shape_of, shapes_of, name_amount, amount_of, amounts_of};
+ghost use Rattle.xs_instructions.specs.Table.{register_number};
+ghost use Rattle.xs_assembler.specs.Parts.{tokens_in, operand_of, operands_in, amounts_in};
+ghost use Rattle.xs_assembler.specs.Parts.{amount_of as read_amount};
 
-use crate::tokens::{ended, first_token, mark_first, name_first};
-use xs_instructions::{Symbols, same_name};
+use crate::amount::Amount;
+use crate::pieces::Piece;
+use source_model::Section;
+use std::alloc::{AllocError, Global};
+use xs_instructions::{Row, Shape, fixed, is_reserved, register_number, same_name};
 use xs_text::{TokKind, source_number};
 
-// The number of a register: 0 to 11 for r0 to r11, then cp, dp, sp and lr.
-#[tactic(auto, unfolding(source_model::specs::Statement::register_number))]
-fn register_number(name: &[u8]) -> Option<u8>
-    ensures { result ≡ register_number name.now }
-{
-    match name {
-        b"r0" => Some(0),
-        b"r1" => Some(1),
-        b"r2" => Some(2),
-        b"r3" => Some(3),
-        b"r4" => Some(4),
-        b"r5" => Some(5),
-        b"r6" => Some(6),
-        b"r7" => Some(7),
-        b"r8" => Some(8),
-        b"r9" => Some(9),
-        b"r10" => Some(10),
-        b"r11" => Some(11),
-        b"cp" => Some(12),
-        b"dp" => Some(13),
-        b"sp" => Some(14),
-        b"lr" => Some(15),
-        _ => None,
-    }
+// A token among the operands of an instruction, and the section that a name there counts from.
+#[derive(Clone, Copy)]
+pub struct Operand<'a> {
+    pub base: Option<Section>,
+    pub piece: Piece<'a>,
 }
 
-// A register whose number is at most the limit.
-#[tactic(auto, unfolding(source_model::specs::Statement::register_first))]
-fn register_first(line: &[u8], limit: u8) -> Option<(u8, &[u8])>
-    ensures { option_map (λ x. (x.0, tokens_of x.1.now)) result ≡ register_first limit (tokens_of line.now) }
+// The section that a base register stands for.
+fn base_named(name: &[u8]) -> Option<Section>
+    ensures { result ≡ base_named name.now }
 {
-    let (name, rest) = name_first(line)?;
-    let number = register_number(name)?;
-    if number <= limit {
-        Some((number, rest))
+    if same_name(b"dp", name) {
+        Some(Section::Data)
+    } else if same_name(b"cp", name) {
+        Some(Section::Constants)
     } else {
         None
     }
 }
 
-// r0 to r11.
-fn common_first(line: &[u8]) -> Option<(u8, &[u8])>
-    ensures { option_map (λ x. (x.0, tokens_of x.1.now)) result ≡ common_first (tokens_of line.now) }
+// The same after two tokens.
+fn base_after(second: &[u8], last: &[u8]) -> Option<Section>
+    ensures { result ≡ base_after second.now last.now }
 {
-    register_first(line, 11)
-}
-
-// r0 to r11, cp, dp, sp or lr.
-fn any_first(line: &[u8]) -> Option<(u8, &[u8])>
-    ensures { option_map (λ x. (x.0, tokens_of x.1.now)) result ≡ any_first (tokens_of line.now) }
-{
-    register_first(line, 15)
-}
-
-// A number that is at most the limit.
-#[tactic(auto, unfolding(source_model::specs::Statement::number_first))]
-pub fn number_first(line: &[u8], limit: u32) -> Option<(u32, &[u8])>
-    ensures value { option_map (λ x. (x.0, tokens_of x.1.now)) result ≡ number_first limit (tokens_of line.now) }
-    ensures limit { IfSome result (λ x. x.0 ≤ limit) }
-{
-    let (kind, bytes, rest) = first_token(line)?;
-    match kind {
-        TokKind::Number => Some((source_number(bytes, limit)?, rest)),
-        _ => None,
+    if same_name(b"[", last) {
+        base_named(second)
+    } else {
+        None
     }
 }
 
-// 0 to 65,535.
-fn short_first(line: &[u8]) -> Option<(u16, &[u8])>
-    ensures { option_map (λ x. (x.0, tokens_of x.1.now)) result ≡ short_first (tokens_of line.now) }
+// The tokens after an instruction's name, as operands.
+pub fn read_operands<'a>(
+    alloc: Global,
+    pieces: &[Piece<'a>],
+) -> Result<Vec<Operand<'a>>, AllocError>
+    ensures { IfOk result (λ operands. operands_in operands.items ≡ operands_of (tokens_in pieces.now)) }
 {
-    let (number, rest) = number_first(line, 65_535)?;
-    Some((number as u16, rest))
+    let mut operands = Vec::new(alloc);
+    let mut second: &[u8] = b"";
+    let mut last: &[u8] = b"";
+    for piece in pieces {
+        operands.push(Operand {
+            base: base_after(second, last),
+            piece: *piece,
+        })?;
+        second = last;
+        last = piece.bytes;
+    }
+    Ok(operands)
 }
 
-// 0 to 11: the number of a kind of resource, or a control token.
-fn small_first(line: &[u8]) -> Option<(u8, &[u8])>
-    ensures { option_map (λ x. (x.0, tokens_of x.1.now)) result ≡ small_first (tokens_of line.now) }
+// The shape of a name: a register, a word of a row, or a label.
+fn name_shape(base: Option<Section>, name: &[u8]) -> Option<Shape>
+    ensures { result ≡ name_shape base name.now }
 {
-    let (number, rest) = number_first(line, 11)?;
-    Some((number as u8, rest))
-}
-
-// `res[s]`
-#[tactic(auto, unfolding(source_model::specs::Statement::resource_first))]
-fn resource_first(line: &[u8]) -> Option<(u8, &[u8])>
-    ensures { option_map (λ x. (x.0, tokens_of x.1.now)) result ≡ resource_first (tokens_of line.now) }
-{
-    let (name, rest) = name_first(line)?;
-    if !same_name(b"res", name) {
+    if let Some(register) = register_number(name) {
+        return Some(Shape::Reg(register));
+    }
+    if let Some(word) = fixed(name) {
+        return Some(Shape::Word(word));
+    }
+    if is_reserved(name) {
         return None;
     }
-    let rest = mark_first(rest, b'[')?;
-    let (s, rest) = common_first(rest)?;
-    let rest = mark_first(rest, b']')?;
-    Some((s, rest))
-}
-
-// Where a label leads, if there is one of this name.
-fn place_of(symbols: &Symbols, name: &[u8]) -> Option<u16>
-    requires { HavePlaces symbols.now }
-    ensures { result ≡ places_of symbols.now name.now }
-{
-    let at = symbols.address(name)?;
-    Some((at.saturating_sub(0x0004_0000) / 4) as u16)
-}
-
-// A label that has a place.
-#[tactic(auto, unfolding(source_model::specs::Statement::label_first))]
-fn label_first<'a>(symbols: &Symbols, line: &'a [u8]) -> Option<(u16, &'a [u8])>
-    requires { HavePlaces symbols.now }
-    ensures { option_map (λ x. (x.0, tokens_of x.1.now)) result ≡ label_first (places_of symbols.now) (tokens_of line.now) }
-{
-    let (name, rest) = name_first(line)?;
-    let place = place_of(symbols, name)?;
-    Some((place, rest))
-}
-
-// `d, x, y`
-#[tactic(auto, unfolding(source_model::specs::Statement::three_registers))]
-pub fn three_registers(line: &[u8]) -> Option<(u8, u8, u8)>
-    ensures { result ≡ three_registers (tokens_of line.now) }
-{
-    let (d, rest) = common_first(line)?;
-    let rest = mark_first(rest, b',')?;
-    let (x, rest) = common_first(rest)?;
-    let rest = mark_first(rest, b',')?;
-    let (y, rest) = common_first(rest)?;
-    ended(rest, (d, x, y))
-}
-
-// `d, u`
-#[tactic(auto, unfolding(source_model::specs::Statement::register_and_short))]
-pub fn register_and_short(line: &[u8]) -> Option<(u8, u16)>
-    ensures { result ≡ register_and_short (tokens_of line.now) }
-{
-    let (d, rest) = common_first(line)?;
-    let rest = mark_first(rest, b',')?;
-    let (u, rest) = short_first(rest)?;
-    ended(rest, (d, u))
-}
-
-// `g, dp[u]`
-#[tactic(auto, unfolding(source_model::specs::Statement::register_and_dp))]
-pub fn register_and_dp(line: &[u8]) -> Option<(u8, u16)>
-    ensures { result ≡ register_and_dp (tokens_of line.now) }
-{
-    let (g, rest) = any_first(line)?;
-    let rest = mark_first(rest, b',')?;
-    let (base, rest) = name_first(rest)?;
-    if !same_name(b"dp", base) {
-        return None;
+    match base {
+        Some(_) => Some(Shape::Num),
+        None => Some(Shape::Label),
     }
-    let rest = mark_first(rest, b'[')?;
-    let (u, rest) = short_first(rest)?;
-    let rest = mark_first(rest, b']')?;
-    ended(rest, (g, u))
 }
 
-// `s, L`
-#[tactic(auto, unfolding(source_model::specs::Statement::register_and_label))]
-pub fn register_and_label(symbols: &Symbols, line: &[u8]) -> Option<(u8, u16)>
-    requires { HavePlaces symbols.now }
-    ensures { result ≡ register_and_label (places_of symbols.now) (tokens_of line.now) }
+// The shape of an operand, if it has one.
+fn shape(operand: Operand) -> Option<Shape>
+    ensures { result ≡ shape_of (operand_of operand.entry) }
 {
-    let (s, rest) = common_first(line)?;
-    let rest = mark_first(rest, b',')?;
-    let (l, rest) = label_first(symbols, rest)?;
-    ended(rest, (s, l))
+    let bytes = operand.piece.bytes;
+    match operand.piece.kind {
+        TokKind::Name => name_shape(operand.base, bytes),
+        TokKind::Number => Some(Shape::Num),
+        TokKind::Mark => fixed(bytes).map(Shape::Word),
+        TokKind::Stray => None,
+    }
 }
 
-// `L`
-#[tactic(auto, unfolding(source_model::specs::Statement::lone_label))]
-pub fn lone_label(symbols: &Symbols, line: &[u8]) -> Option<u16>
-    requires { HavePlaces symbols.now }
-    ensures { result ≡ lone_label (places_of symbols.now) (tokens_of line.now) }
+// The shapes of all operands, if each has one.
+pub fn shapes(alloc: Global, operands: &[Operand]) -> Result<Option<Vec<Shape>>, AllocError>
+    ensures { IfOk result (λ shapes. option_map vec_items shapes ≡ shapes_of (operands_in operands.now)) }
 {
-    let (l, rest) = label_first(symbols, line)?;
-    ended(rest, l)
+    let mut shapes = Vec::new(alloc);
+    for operand in operands {
+        match shape(*operand) {
+            Some(shape) => shapes.push(shape)?,
+            None => return Ok(None),
+        }
+    }
+    Ok(Some(shapes))
 }
 
-// `d, i`
-#[tactic(auto, unfolding(source_model::specs::Statement::register_and_small))]
-pub fn register_and_small(line: &[u8]) -> Option<(u8, u8)>
-    ensures { result ≡ register_and_small (tokens_of line.now) }
+// The amount of a register or of a label's name.
+fn name_amount<'a>(base: Option<Section>, name: &'a [u8]) -> Amount<'a>
+    ensures { read_amount result ≡ name_amount (register_number name.now) base name.now }
 {
-    let (d, rest) = common_first(line)?;
-    let rest = mark_first(rest, b',')?;
-    let (i, rest) = small_first(rest)?;
-    ended(rest, (d, i))
+    match (register_number(name), base) {
+        (Some(register), _) => Amount::Known(Some(u32::from(register))),
+        (None, Some(base)) => Amount::Offset(base, name),
+        (None, None) => Amount::Target(name),
+    }
 }
 
-// `res[s], x`
-#[tactic(auto, unfolding(source_model::specs::Statement::resource_and_register))]
-pub fn resource_and_register(line: &[u8]) -> Option<(u8, u8)>
-    ensures { result ≡ resource_and_register (tokens_of line.now) }
+// The amount of an operand. No row takes one of a mark.
+fn amount<'a>(operand: Operand<'a>) -> Amount<'a>
+    ensures { read_amount result ≡ amount_of (operand_of operand.entry) }
 {
-    let (s, rest) = resource_first(line)?;
-    let rest = mark_first(rest, b',')?;
-    let (x, rest) = common_first(rest)?;
-    ended(rest, (s, x))
+    let bytes = operand.piece.bytes;
+    match operand.piece.kind {
+        TokKind::Name => name_amount(operand.base, bytes),
+        TokKind::Number => Amount::Known(source_number(bytes, u32::MAX)),
+        TokKind::Mark | TokKind::Stray => Amount::Known(None),
+    }
 }
 
-// `res[s], i`
-#[tactic(auto, unfolding(source_model::specs::Statement::resource_and_small))]
-pub fn resource_and_small(line: &[u8]) -> Option<(u8, u8)>
-    ensures { result ≡ resource_and_small (tokens_of line.now) }
+// The amounts of the operands that are values of the row.
+pub fn amounts<'a>(
+    alloc: Global,
+    row: Row,
+    operands: &[Operand<'a>],
+) -> Result<Vec<Amount<'a>>, AllocError>
+    ensures { IfOk result (λ amounts. amounts_in amounts.items ≡ amounts_of row (operands_in operands.now)) }
 {
-    let (s, rest) = resource_first(line)?;
-    let rest = mark_first(rest, b',')?;
-    let (i, rest) = small_first(rest)?;
-    ended(rest, (s, i))
+    let mut amounts = Vec::new(alloc);
+    for (k, operand) in operands.iter().enumerate() {
+        if row.takes_value(k) {
+            amounts.push(amount(*operand))?;
+        }
+    }
+    Ok(amounts)
 }

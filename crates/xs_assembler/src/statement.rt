@@ -1,85 +1,184 @@
-ghost use Rattle.std.specs.Prelude.{◌≡◌};
-ghost use Rattle.xs_text.specs.Tokens.{tokens_of};
-ghost use Rattle.source_model.specs.Source.{places_of};
-ghost use Rattle.source_model.specs.Statement.{instruction, resource_instruction, statement};
-ghost use Rattle.xs_assembler.specs.Labels.{HavePlaces};
+ghost use Rattle.std.specs.Prelude.{◌≡◌, IfOk, IsTrue, option_map, option_copied};
+ghost use Rattle.source_model.specs.Statement.{is_nothing, is_lone_name, lone_number, shaped, zeros, aligned, directive, instruction, statement};
+ghost use Rattle.std.specs.Prelude.{option_and_then};
+ghost use Rattle.xs_text.specs.Numbers.{at_most, source_number_of};
+ghost use Rattle.source_model.specs.Operands.{operands_of};
+ghost use Rattle.source_model.specs.Values.{values_of};
+ghost use Rattle.source_model.specs.Statement.{not_zero, valued};
+ghost use Rattle.xs_assembler.specs.Parts.{token_of, tokens_in};
+ghost use Rattle.xs_assembler.specs.Lines.{says_of, statement_of};
 
-use crate::operands::{
-    lone_label, register_and_dp, register_and_label, register_and_short, register_and_small,
-    resource_and_register, resource_and_small, three_registers,
-};
-use crate::tokens::{ended, name_first};
-use xs_instructions::{FlowIns, Instr, MemIns, ResIns, Symbols, ThreadIns, WordIns, same_name};
+use crate::amount::Amount;
+use crate::operands::{amounts, read_operands, shapes};
+use crate::pieces::Piece;
+use crate::values::read_values;
+use source_model::{Home, Width};
+use std::alloc::{AllocError, Global};
+use xs_instructions::{Row, find, known};
+use xs_text::{TokKind, source_number};
 
-// The instruction of this name, with the operands that are left of the line.
-#[tactic(auto, unfolding(source_model::specs::Statement::instruction))]
-fn instruction(symbols: &Symbols, name: &[u8], operands: &[u8]) -> Option<Instr>
-    requires { HavePlaces symbols.now }
-    ensures { result ≡ instruction (places_of symbols.now) name.now (tokens_of operands.now) }
-{
-    if same_name(b"add", name) {
-        let (d, x, y) = three_registers(operands)?;
-        Some(Instr::Words(WordIns::Add(d, x, y)))
-    } else if same_name(b"sub", name) {
-        let (d, x, y) = three_registers(operands)?;
-        Some(Instr::Words(WordIns::Sub(d, x, y)))
-    } else if same_name(b"eq", name) {
-        let (d, x, y) = three_registers(operands)?;
-        Some(Instr::Words(WordIns::Eq(d, x, y)))
-    } else if same_name(b"ldc", name) {
-        let (d, u) = register_and_short(operands)?;
-        Some(Instr::Words(WordIns::Ldc(d, u)))
-    } else if same_name(b"nop", name) {
-        ended(operands, Instr::Words(WordIns::Nop))
-    } else if same_name(b"ldw", name) {
-        let (g, u) = register_and_dp(operands)?;
-        Some(Instr::Memory(MemIns::LdwDp(g, u)))
-    } else if same_name(b"stw", name) {
-        let (g, u) = register_and_dp(operands)?;
-        Some(Instr::Memory(MemIns::StwDp(g, u)))
-    } else if same_name(b"bt", name) {
-        let (s, l) = register_and_label(symbols, operands)?;
-        Some(Instr::Flow(FlowIns::Bt(s, l)))
-    } else if same_name(b"bf", name) {
-        let (s, l) = register_and_label(symbols, operands)?;
-        Some(Instr::Flow(FlowIns::Bf(s, l)))
-    } else if same_name(b"bu", name) {
-        Some(Instr::Flow(FlowIns::Bu(lone_label(symbols, operands)?)))
-    } else if same_name(b"freet", name) {
-        ended(operands, Instr::Threads(ThreadIns::Freet))
-    } else {
-        resource_instruction(name, operands)
-    }
+// What a statement says.
+#[derive(Drop)]
+pub enum Says<'a> {
+    // Nothing that adds to a section.
+    NoEffect,
+    // An instruction whose name no row has.
+    Unknown,
+    Misshapen,
+    Instruction(Row, Vec<Amount<'a>>),
+    Values(Width, Vec<Amount<'a>>),
+    // So many zero bytes; None is a number out of range, here and below.
+    Zeros(Option<u32>),
+    // Up to a multiple of the number.
+    Align(Option<u32>),
 }
 
-// The same among the rows on resources.
-#[tactic(auto, unfolding(source_model::specs::Statement::resource_instruction))]
-fn resource_instruction(name: &[u8], operands: &[u8]) -> Option<Instr>
-    ensures { result ≡ resource_instruction name.now (tokens_of operands.now) }
+// A statement, and where it may stand.
+#[derive(Drop)]
+pub struct Statement<'a> {
+    pub home: Home,
+    pub says: Says<'a>,
+}
+
+fn is_lone_name(pieces: &[Piece]) -> bool
+    ensures { result ≡ is_lone_name (tokens_in pieces.now) }
 {
-    if same_name(b"getr", name) {
-        let (d, i) = register_and_small(operands)?;
-        Some(Instr::Resources(ResIns::Getr(d, i)))
-    } else if same_name(b"setd", name) {
-        let (s, x) = resource_and_register(operands)?;
-        Some(Instr::Resources(ResIns::Setd(s, x)))
-    } else if same_name(b"outct", name) {
-        let (s, i) = resource_and_small(operands)?;
-        Some(Instr::Resources(ResIns::OutctImm(s, i)))
-    } else if same_name(b"chkct", name) {
-        let (s, i) = resource_and_small(operands)?;
-        Some(Instr::Resources(ResIns::ChkctImm(s, i)))
+    pieces.len() == 1 && pieces[0].kind == TokKind::Name
+}
+
+// The digits of a number that stands alone.
+fn lone_number<'a>(pieces: &[Piece<'a>]) -> Option<&'a [u8]>
+    ensures { option_copied result ≡ lone_number (tokens_in pieces.now) }
+{
+    if pieces.len() == 1 && pieces[0].kind == TokKind::Number {
+        Some(pieces[0].bytes)
     } else {
         None
     }
 }
 
-// A line's statement: a name and its operands.
-#[tactic(auto, unfolding(source_model::specs::Statement::statement))]
-pub fn statement(symbols: &Symbols, line: &[u8]) -> Option<Instr>
-    requires { HavePlaces symbols.now }
-    ensures { result ≡ statement (places_of symbols.now) (tokens_of line.now) }
+// A directive without effect, if it has its shape.
+fn shaped<'a>(is_shaped: bool) -> Says<'a>
+    ensures { says_of result ≡ shaped is_shaped }
 {
-    let (name, operands) = name_first(line)?;
-    instruction(symbols, name, operands)
+    if is_shaped {
+        Says::NoEffect
+    } else {
+        Says::Misshapen
+    }
+}
+
+// `.space`: at most 65,536.
+fn zeros<'a>(pieces: &[Piece]) -> Says<'a>
+    ensures { says_of result ≡ zeros (lone_number (tokens_in pieces.now)) }
+{
+    match lone_number(pieces) {
+        Some(digits) => Says::Zeros(source_number(digits, 65_536)),
+        None => Says::Misshapen,
+    }
+}
+
+// `.align`: 1 to 1,024.
+fn aligned<'a>(pieces: &[Piece]) -> Says<'a>
+    ensures { says_of result ≡ aligned (lone_number (tokens_in pieces.now)) }
+{
+    match lone_number(pieces) {
+        Some(digits) => Says::Align(unit(digits)),
+        None => Says::Misshapen,
+    }
+}
+
+fn unit(digits: &[u8]) -> Option<u32>
+    ensures { result ≡ option_and_then not_zero (at_most 1024 (source_number_of digits.now)) }
+{
+    match source_number(digits, 1_024) {
+        Some(0) => None,
+        number => number,
+    }
+}
+
+// The values of a directive.
+fn valued<'a>(alloc: Global, width: Width, pieces: &[Piece<'a>]) -> Result<Says<'a>, AllocError>
+    ensures { IfOk result (λ says. says_of says ≡ valued width (values_of width (tokens_in pieces.now))) }
+{
+    match read_values(alloc, width, pieces)? {
+        Some(values) => Ok(Says::Values(width, values)),
+        None => Ok(Says::Misshapen),
+    }
+}
+
+// A directive's statement.
+fn read_directive<'a>(
+    alloc: Global,
+    name: &[u8],
+    rest: &[Piece<'a>],
+) -> Result<Statement<'a>, AllocError>
+    ensures { IfOk result (λ s. statement_of s ≡ directive name.now (tokens_in rest.now)) }
+{
+    let (home, says) = match name {
+        b".text" => (Home::InText, shaped(rest.is_empty())),
+        b".globl" => (Home::InText, shaped(is_lone_name(rest))),
+        b".align" => (Home::Anywhere, aligned(rest)),
+        b".data" => (Home::BeginsData, shaped(rest.is_empty())),
+        b".cp" => (Home::BeginsConstants, shaped(rest.is_empty())),
+        b".word" => (Home::InBytes, valued(alloc, Width::Word, rest)?),
+        b".short" => (Home::InBytes, valued(alloc, Width::Short, rest)?),
+        b".byte" => (Home::InBytes, valued(alloc, Width::Byte, rest)?),
+        b".space" => (Home::InBytes, zeros(rest)),
+        _ => (Home::Nowhere, Says::NoEffect),
+    };
+    Ok(Statement { home, says })
+}
+
+// An instruction by its name and the tokens after it.
+fn read_instruction<'a>(
+    alloc: Global,
+    name: &[u8],
+    rest: &[Piece<'a>],
+) -> Result<Says<'a>, AllocError>
+    ensures { IfOk result (λ says. says_of says ≡ instruction name.now (operands_of (tokens_in rest.now))) }
+{
+    if !known(name) {
+        return Ok(Says::Unknown);
+    }
+    let operands = read_operands(alloc, rest)?;
+    let Some(shapes) = shapes(alloc, &operands)? else {
+        return Ok(Says::Misshapen);
+    };
+    match find(name, &shapes) {
+        None => Ok(Says::Misshapen),
+        Some(row) if row.is_built() => {
+            Ok(Says::Instruction(row, amounts(alloc, row, &operands)?))
+        }
+        Some(_) => Ok(Says::Unknown),
+    }
+}
+
+// What comes after the labels.
+pub fn read_statement<'a>(
+    alloc: Global,
+    pieces: &[Piece<'a>],
+) -> Result<Statement<'a>, AllocError>
+    ensures { IfOk result (λ s. statement_of s ≡ statement (tokens_in pieces.now)) }
+{
+    if pieces.is_empty() {
+        return Ok(Statement {
+            home: Home::Anywhere,
+            says: Says::NoEffect,
+        });
+    }
+    let first = pieces[0];
+    if first.kind != TokKind::Name {
+        return Ok(Statement {
+            home: Home::Anywhere,
+            says: Says::Misshapen,
+        });
+    }
+    if first.bytes.first() == Some(&b'.') {
+        return read_directive(alloc, first.bytes, &pieces[1..]);
+    }
+    Ok(Statement {
+        home: Home::InText,
+        says: read_instruction(alloc, first.bytes, &pieces[1..])?,
+    })
 }

@@ -1,93 +1,201 @@
 ghost use Rattle.std.specs.Prelude.{◌<◌, ◌^◌, length};
 
-use crate::{AsmError, assemble};
+use crate::AsmKind::{
+    BadByte, DirectiveNotAllowed, LabelMissing, LabelTwice, NumberOutOfRange, TooManyBytes,
+    TooManyInstructions, UnknownName, WrongOperands,
+};
+use crate::{AsmError, AsmKind, assemble};
 use std::alloc::Global;
 use std::process::Abort;
 use std::test::Fail;
 use xs_instructions::{FlowIns, Instr, MemIns, ResIns, ThreadIns, WordIns};
 
-#[test]
-fn sum(rt: HostRuntime) -> Result<(), Fail> {
-    let text =
-        b"main: ldc r0, 5\n  ldc r1, 0x7\n  add r2, r0, r1 // 12\r\n  stw lr, dp[0b11]\n  freet\n";
-    let image = assemble(rt.alloc(), text)?;
-    let code = image.code();
-    assert_eq!(rt; code.len(), 5);
-    assert!(rt; matches!(code[0], Instr::Words(WordIns::Ldc(0, 5))));
-    assert!(rt; matches!(code[1], Instr::Words(WordIns::Ldc(1, 7))));
-    assert!(rt; matches!(code[2], Instr::Words(WordIns::Add(2, 0, 1))));
-    assert!(rt; matches!(code[3], Instr::Memory(MemIns::StwDp(15, 3))));
-    assert!(rt; matches!(code[4], Instr::Threads(ThreadIns::Freet)));
-    Ok(())
-}
-
-#[test]
-fn countdown(rt: HostRuntime) -> Result<(), Fail> {
-    let text = b"# from 3\nldc r0, 3\nldc r1, 1\nloop:\nsub r0, r0, r1\nbt r0, loop\nbu end\nend:";
-    let image = assemble(rt.alloc(), text)?;
-    let code = image.code();
-    assert_eq!(rt; code.len(), 5);
-    assert!(rt; matches!(code[2], Instr::Words(WordIns::Sub(0, 0, 1))));
-    assert!(rt; matches!(code[3], Instr::Flow(FlowIns::Bt(0, 2))));
-    assert!(rt; matches!(code[4], Instr::Flow(FlowIns::Bu(5))));
-    let (name, at) = image.symbol(1).ok_or("a second label")?;
-    assert_eq!(rt; name, "end");
-    assert_eq!(rt; at, 0x0004_0014);
-    Ok(())
-}
-
-#[test]
-fn channel_and_data(rt: HostRuntime) -> Result<(), Fail> {
-    let text =
-        b"getr r4, 2\nsetd res[r4], r0\noutct res[r4], 0b11\nchkct res [ r4 ] , 0x0b\nend:\n.data # two words\n.word 0x12345678\n\n.word 4294967295";
-    let image = assemble(rt.alloc(), text)?;
-    let code = image.code();
-    assert_eq!(rt; code.len(), 4);
-    assert!(rt; matches!(code[0], Instr::Resources(ResIns::Getr(4, 2))));
-    assert!(rt; matches!(code[1], Instr::Resources(ResIns::Setd(4, 0))));
-    assert!(rt; matches!(code[2], Instr::Resources(ResIns::OutctImm(4, 3))));
-    assert!(rt; matches!(code[3], Instr::Resources(ResIns::ChkctImm(4, 11))));
-    assert_eq!(rt;
-        image.bytes(),
-        [0x78, 0x56, 0x34, 0x12, 0xff, 0xff, 0xff, 0xff].as_slice()
-    );
-    assert_eq!(rt; image.cp_at(), 0x0001_0008);
-    let (name, at) = image.symbol(0).ok_or("a label")?;
-    assert_eq!(rt; name, "end");
-    assert_eq!(rt; at, 0x0004_0010);
-    Ok(())
-}
-
-// Asserts that the source is refused.
-fn expect_refused(rt: &impl Abort, alloc: Global, text: &[u8])
+// Asserts that the source is refused at the line for the kind.
+fn expect_fault(rt: &impl Abort, alloc: Global, text: &[u8], line: u32, kind: AsmKind)
     requires { length text.now < 2 ^ 32 }
 {
-    assert!(rt; matches!(assemble(alloc, text), Err(AsmError::Fault { .. })));
+    match assemble(alloc, text) {
+        Err(AsmError::Fault {
+            line: found,
+            kind: why,
+        }) => {
+            assert_eq!(rt; found, line);
+            assert_eq!(rt; why, kind);
+        }
+        _ => assert!(rt; false, "a fault is missing"),
+    }
 }
 
 #[test]
 fn refused(rt: HostRuntime) {
-    for text in [
-        b"add r0, r1".as_slice(),
-        b"sub r0, r1, r12",
-        b"eq r0 r1, r2",
-        b"ldc r0, 65536",
-        b"ldc cp, 1",
-        b"nop nop",
-        b"ldw r0, sp[0]",
-        b"stw r0, dp[1",
-        b"bt r0, gone",
-        b"bu 1",
-        b"freet r0",
-        b"getr r0, 12",
-        b"outct res[r0], r1",
-        b".data\n.word 4294967296",
-        b".data\n.data",
-        b"a: nop\na: nop",
-        b"r0: nop",
-        b"a: b: nop",
-        b"nop # \x7f",
-    ] {
-        expect_refused(&rt, rt.alloc(), text);
+    let table: &[(&[u8], u32, AsmKind)] = &[
+        // A byte that is not allowed, in comments too.
+        (b"nop\nnop # \x7f", 2, BadByte),
+        (b"a: a: foo \x00", 1, BadByte),
+        (b"nop\r\r\n", 1, BadByte),
+        (b"nop\nnop\r", 2, BadByte),
+        (b"nop\x0c", 1, BadByte),
+        // The least faulty line decides, and then the order of kinds.
+        (b"foo r0\na: a:", 1, UnknownName),
+        (b"bu gone\nfoo", 1, LabelMissing),
+        (b"nop\r\nadd r0, r1\r\nfoo", 2, WrongOperands),
+        (b"a: a: foo", 1, LabelTwice),
+        (b"a: nop\n\n// none\na: ldc r0, 65536", 4, LabelTwice),
+        (b"a: .word\n", 1, DirectiveNotAllowed),
+        (b"r0: foo", 1, UnknownName),
+        (b"r0: ldc r0, 65536", 1, WrongOperands),
+        (b".data\n.word 99999999999, gone", 2, NumberOutOfRange),
+        // Names.
+        (b"ADD r0, r1, r2", 1, UnknownName),
+        (b"sr", 1, UnknownName),
+        (b"mul r0, r1, r2", 1, UnknownName),
+        (b"mul r0, r1", 1, WrongOperands),
+        (b"5", 1, WrongOperands),
+        (b": nop", 1, WrongOperands),
+        (b"r0: r0:", 1, WrongOperands),
+        (b".set 12ab", 1, DirectiveNotAllowed),
+        // Shapes.
+        (b"nop nop", 1, WrongOperands),
+        (b"nop / nop", 1, WrongOperands),
+        (b"ldc r0, 12ab", 1, WrongOperands),
+        (b"ldc r0, 1_0", 1, WrongOperands),
+        (b"ldc r0, -1", 1, WrongOperands),
+        (b"ldc sp, 1", 1, WrongOperands),
+        (b"bu 4", 1, WrongOperands),
+        (b"bu r0", 1, WrongOperands),
+        (b"bu sr", 1, WrongOperands),
+        (b"x: ldw r0, r1[x]", 1, WrongOperands),
+        (b"x: ldw r0, dp[sp]", 1, WrongOperands),
+        (b".data 5", 1, WrongOperands),
+        (b".globl a, b", 1, WrongOperands),
+        (b".align x", 1, WrongOperands),
+        (b".data\n.word", 2, WrongOperands),
+        (b".data\n.word --5", 2, WrongOperands),
+        (b".data\n.word 1,", 2, WrongOperands),
+        (b"a:\n.data\n.word -a", 3, WrongOperands),
+        (b"a:\n.data\n.byte a", 3, WrongOperands),
+        // Ranges.
+        (b"ldc r11, 65536", 1, NumberOutOfRange),
+        (
+            b"ldc r0, 0x100000000000000000000000000000005",
+            1,
+            NumberOutOfRange,
+        ),
+        (b"outct res[r0], 12", 1, NumberOutOfRange),
+        (b".align 0", 1, NumberOutOfRange),
+        (b".align 1025", 1, NumberOutOfRange),
+        (b".data\n.space 65537", 2, NumberOutOfRange),
+        (b".data\n.word 4294967296", 2, NumberOutOfRange),
+        (b".data\n.word -2147483649", 2, NumberOutOfRange),
+        (b".data\n.short -32769", 2, NumberOutOfRange),
+        (b".data\n.byte 256", 2, NumberOutOfRange),
+        // Labels.
+        (b"a: nop\na: nop", 2, LabelTwice),
+        (b"a: b: a: nop", 1, LabelTwice),
+        (b"ldw r0, dp[gone]", 1, LabelMissing),
+        (b"bu x\n.data\nx:", 1, NumberOutOfRange),
+        (b"ldw r0, dp[y]\n.data\n.byte 1\ny:", 1, NumberOutOfRange),
+        // What faulty lines still say.
+        (b"bu x\nx: 5 y: nop", 2, WrongOperands),
+        (b"bu y\nx: 5 y: nop", 1, LabelMissing),
+        (b"bu x\nx: # \x01", 1, LabelMissing),
+        (b"bu x\n.data 5\nx:", 1, NumberOutOfRange),
+        (b"bu x\n.data # \x01\nx:", 2, BadByte),
+        (
+            b"ldw r0, dp[x]\n.data\n.byte 256\nx:",
+            1,
+            NumberOutOfRange,
+        ),
+        (b"ldw r0, dp[x]\n.data\n.byte 1 2\nx:", 3, WrongOperands),
+        (b"bu y\nx: r0: y: nop", 2, WrongOperands),
+        // Sections.
+        (b".data\nfoo 1", 2, DirectiveNotAllowed),
+        (b".cp\n.data", 2, DirectiveNotAllowed),
+        (b".data\n.data", 2, DirectiveNotAllowed),
+        (b".data\n.text 5", 2, DirectiveNotAllowed),
+        (b".data\n5", 2, WrongOperands),
+        // Too much.
+        (b".data\n.space 65536\n.byte 1", 3, TooManyBytes),
+        (b".data\n.space 65533\n.cp\n.byte 1", 4, TooManyBytes),
+    ];
+    for (text, line, kind) in table {
+        expect_fault(&rt, rt.alloc(), text, *line, *kind);
     }
+}
+
+// A text of the piece so many times, and then the end.
+fn repeated(alloc: Global, piece: &[u8], count: u32, end: &[u8]) -> Result<Vec<u8>, Fail> {
+    let mut text = Vec::new(alloc);
+    for _ in 0..count {
+        text.extend_from_slice(piece)?;
+    }
+    text.extend_from_slice(end)?;
+    Ok(text)
+}
+
+#[test]
+fn at_the_limits(rt: HostRuntime) -> Result<(), Fail> {
+    let text = repeated(rt.alloc(), b".align 1024\nnop\n", 16, b".align 1023\nend:\n")?;
+    let text_end = repeated(rt.alloc(), b"nop\n", 16_385, b"")?;
+    if text.len() < 1_000 && text_end.len() < 100_000 {
+        let image = assemble(rt.alloc(), &text)?;
+        assert_eq!(rt; image.code().len(), 16_368);
+        expect_fault(&rt, rt.alloc(), &text_end, 16_385, TooManyInstructions);
+    }
+    let image = assemble(rt.alloc(), b".data\n.space 65532\n.cp\n.byte 1, 2, 3, 4\nlast:")?;
+    assert_eq!(rt; image.bytes().len(), 65_536);
+    assert_eq!(rt; image.cp_at(), 0x0001_fffc);
+    let (name, at) = image.symbol(0).ok_or("a label")?;
+    assert_eq!(rt; name, "last");
+    assert_eq!(rt; at, 0x0002_0000);
+    Ok(())
+}
+
+#[test]
+fn code(rt: HostRuntime) -> Result<(), Fail> {
+    let text = b"# from 3\n.globl gone\nmain : ldc r0, 0x3\nloop: sub r0, r0, r1\r\n bt r0, loop\nstw lr , dp [ x ]\n.align 3\nbu end\nend:\nadd: .word:\n.data\n.byte 1\n.align 4\nx:";
+    let image = assemble(rt.alloc(), text)?;
+    let code = image.code();
+    assert_eq!(rt; code.len(), 7);
+    assert!(rt; matches!(code[0], Instr::Words(WordIns::Ldc(0, 3))));
+    assert!(rt; matches!(code[1], Instr::Words(WordIns::Sub(0, 0, 1))));
+    assert!(rt; matches!(code[2], Instr::Flow(FlowIns::Bt(0, 1))));
+    assert!(rt; matches!(code[3], Instr::Memory(MemIns::StwDp(15, 1))));
+    assert!(rt; matches!(code[4], Instr::Words(WordIns::Nop)));
+    assert!(rt; matches!(code[5], Instr::Words(WordIns::Nop)));
+    assert!(rt; matches!(code[6], Instr::Flow(FlowIns::Bu(7))));
+    for (k, expected, address) in [
+        (0, "main", 0x0004_0000),
+        (1, "loop", 0x0004_0004),
+        (2, "end", 0x0004_001c),
+        (3, "add", 0x0004_001c),
+        (4, ".word", 0x0004_001c),
+        (5, "x", 0x0001_0004),
+    ] {
+        let (name, at) = image.symbol(k).ok_or("a label")?;
+        assert_eq!(rt; name, expected);
+        assert_eq!(rt; at, address);
+    }
+    Ok(())
+}
+
+#[test]
+fn bytes(rt: HostRuntime) -> Result<(), Fail> {
+    let text = b"getr r4, 2\noutct res[r4], 0b11\nldw r0, dp[z]\nfreet\n.data\nx: .word 0x12345678, - 5, x\n.short -32768, 65535\n.byte -128, 255, -0\ny: .cp\nz: .word z\n.space 2\n.byte 9";
+    let image = assemble(rt.alloc(), text)?;
+    let code = image.code();
+    assert!(rt; matches!(code[0], Instr::Resources(ResIns::Getr(4, 2))));
+    assert!(rt; matches!(code[1], Instr::Resources(ResIns::OutctImm(4, 3))));
+    assert!(rt; matches!(code[2], Instr::Memory(MemIns::LdwDp(0, 5))));
+    assert!(rt; matches!(code[3], Instr::Threads(ThreadIns::Freet)));
+    assert_eq!(rt;
+        image.bytes(),
+        [
+            0x78, 0x56, 0x34, 0x12, 0xfb, 0xff, 0xff, 0xff, 0, 0, 1, 0, 0, 0x80, 0xff, 0xff, 0x80,
+            0xff, 0, 0, 0x14, 0, 1, 0, 0, 0, 9
+        ]
+        .as_slice()
+    );
+    assert_eq!(rt; image.cp_at(), 0x0001_0014);
+    Ok(())
 }

@@ -1,10 +1,11 @@
 -- Images: what a source stands for.
-use Rattle.std.specs.Prelude.{ℕ, ◌≡◌, ◌+◌, ◌%◌, ◌<◌, ◌≤◌, Bool, true, false, ◌||◌, ◌&&◌, not, ◌==◌, nat_le, nat_lt, if◌then◌else◌, List, [], ◌∷◌, length, codes, Option, Some, None, IsTrue, IfSome, slice_get, String, string_bytes}
+use Rattle.std.specs.Prelude.{ℕ, ◌≡◌, ◌+◌, ◌%◌, ◌<◌, ◌≤◌, Bool, ◌||◌, ◌&&◌, not, ◌==◌, nat_le, nat_lt, if◌then◌else◌, List, [], ◌∷◌, length, codes, Option, Some, None, IsTrue, IfSome, slice_get, String, string_bytes}
 use denote.Ref.{Bor}
 use Rattle.std.specs.List.{list_any, AllByRecursion}
 use Rattle.xs_text.specs.Tokens.{is_name}
 use Rattle.xs_instructions.specs.declared.instr.Instr.{Instr}
-use Rattle.xs_instructions.specs.Instr.{InRange, label_of}
+pub use Rattle.xs_instructions.specs.Words.{same_name}
+use Rattle.xs_instructions.specs.Instr.{InRange, built, label_of}
 use Rattle.xs_instructions.specs.Code.{code_start, place_address}
 
 -- a name and the address that it stands for
@@ -30,13 +31,6 @@ pub record ImageRec : Type 0 where
   pub bytes : List ℕ
   pub cp_at : ℕ
   pub symbols : List Symbol
-
--- whether two names are the same, byte for byte
-abbrev pub same_name : List ℕ → List ℕ → Bool
-same_name [] [] = true
-same_name [] (d ∷ ds) = false
-same_name (c ∷ cs) [] = false
-same_name (c ∷ cs) (d ∷ ds) = (c == d) && same_name cs ds
 
 -- the address of a name, by the first symbol of that name
 abbrev pub address_of : List Symbol → List ℕ → Option ℕ
@@ -95,6 +89,8 @@ pub record IsImage (image : ImageRec) : Type 0 where
   pub code_fits : length image.code ≤ 16384
   pub bytes_fit : length image.bytes ≤ 65536
   pub operands : AllByRecursion InRange image.code
+  -- the core can do each instruction
+  pub built : AllByRecursion (λ ins. IsTrue (built ins)) image.code
   -- each label that an instruction names has a symbol
   pub targets : AllByRecursion (λ ins. IfSome (label_of ins) (λ place. IsTrue (has_symbol_at image.symbols (place_address place)))) image.code
   pub names : AreLabels image.symbols

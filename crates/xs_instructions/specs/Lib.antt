@@ -1,3 +1,11 @@
+pub mod Words
+pub mod Rows
+pub mod Operands
 pub mod Instr
+pub mod Find
+pub mod Kept
+pub mod Spelling
+pub mod Filled
+pub mod Table
 pub mod Code
 pub mod Image

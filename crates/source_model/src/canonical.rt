@@ -1,0 +1,7 @@
+ghost use Rattle.source_model.specs.WorkedCanonical.{WorkedCanonicalTexts, WorkedSpellings};
+
+/// The definition of the canonical text gives what was worked out by hand. See docs/OUTPUT.md.
+pub fn worked_canonical_texts()
+    ensures texts { WorkedCanonicalTexts }
+    ensures spellings { WorkedSpellings }
+{}

@@ -1,0 +1,8 @@
+use Rattle.std.proofs.Common.{map, ap, ◌∙◌}
+use Rattle.xs_instructions.specs.Spelling.{spelled_piece}
+use Rattle.xs_printer.proofs.Writable.{pieces_writable}
+use Rattle.xs_printer.proofs.sections.append_instruction.Goals as goal
+
+pub append_statement-requires-clause-writable : goal.append_statement-requires-clause-writable
+append_statement-requires-clause-writable c =
+    pieces_writable c.args.image.now.symbols c.args.ins c.as_slice.result.now (ap (λ l. map spelled_piece l) c.as_slice.ensures.value ∙ c.spelling.ensures.value) c.requires.in_range c.requires.target
