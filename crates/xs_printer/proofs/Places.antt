@@ -7,7 +7,7 @@ use Rattle.xs_instructions.specs.Image.{ImageRec, IsImage, Symbol, may_follow, i
 use Rattle.xs_printer.specs.Walk.{symbols_from, IsNext}
 use Rattle.xs_printer.proofs.Order.{AreAfter, from_all}
 
-each : {A : Type 0} (P Q : A → Type 0) → ((x : A) → P x → Q x) → (xs : List A) → AllByRecursion P xs → AllByRecursion Q xs
+pub each : {A : Type 0} (P Q : A → Type 0) → ((x : A) → P x → Q x) → (xs : List A) → AllByRecursion P xs → AllByRecursion Q xs
 each P Q k [] h = tt
 each P Q k (x ∷ xs) h = (k x h.0, each P Q k xs h.1)
 
