@@ -1,6 +1,7 @@
 -- Each item of an image's canonical text can be read by itself.
-use Rattle.std.proofs.Common.{◌≡◌, ℕ, ◌+◌, ◌<◌, ◌≤◌, true, false, ◌==◌, List, [], ◌∷◌, ◌++◌, length, take, drop, refl, sym, ap, ◌∙◌, subst, inl, inr, arith, nat_lt}
+use Rattle.std.proofs.Common.{◌≡◌, ℕ, ◌+◌, ◌<◌, ◌≤◌, true, false, ◌==◌, List, [], ◌∷◌, ◌++◌, length, take, drop, get_or, refl, sym, ap, ◌∙◌, subst, inl, inr, arith, nat_lt, Fits, w8}
 use Rattle.std.specs.Prelude.{filter, suc, zero}
+use Rattle.std.proofs.Math.Facts.{Fits-lt-pow}
 use Rattle.std.specs.List.{AllByRecursion}
 use Rattle.std.proofs.lemmas.Bool.{cases_Bool, cond-true, cond-false}
 use Rattle.xs_instructions.specs.declared.instr.Instr.{Instr}
@@ -68,3 +69,7 @@ items_plain image h bytes code =
     (tt, both symbols (data_items image) _
     (both symbols (behind_labels Byte symbols 1 data_start (take room image.bytes)) _ (behind_plain symbols h.names Byte 1 data_start (take room image.bytes) (taken room image.bytes bytes)) (below_plain symbols h.names image.cp_at (data_start + length image.bytes)))
     (tt, both symbols (behind_labels Byte symbols 1 image.cp_at (drop room image.bytes)) _ (behind_plain symbols h.names Byte 1 image.cp_at (drop room image.bytes) (dropped room image.bytes bytes)) (labels_plain symbols h.names (image.cp_at + length (drop room image.bytes)))))
+
+pub all_bytes : (bytes : List ℕ) → ((i : ℕ) → Fits w8 (get_or bytes i 0)) → AllByRecursion IsByte bytes
+all_bytes [] h = tt
+all_bytes (b ∷ bytes) h = (Fits-lt-pow {w = w8} {n = b} (h 0), all_bytes bytes (λ i. h (suc i)))
