@@ -15,9 +15,10 @@ use Rattle.xs_model.specs.Record.{CoreRec, NodeRec, LinkRec, chan_of, thread_of}
 use Rattle.xs_model.specs.Outside.{Emitted, in_slot}
 use Rattle.xs_instructions.specs.declared.instr.Instr.{Instr}
 use Rattle.xs_instructions.specs.Code.{code_at}
-use Rattle.xs_instructions.specs.declared.instr.Instr.TheVariants.{Words, Memory, Flow, Threads, Resources}
+use Rattle.xs_instructions.specs.declared.instr.Instr.TheVariants.{Words, Memory, Flow, Kernel, Threads, Resources}
 use Rattle.xs_instructions.specs.declared.instr.MemIns.{MemIns}
 use Rattle.xs_instructions.specs.declared.instr.MemIns.TheVariants.{LdwDp, StwDp}
+use Rattle.xs_instructions.specs.declared.instr.ThreadIns.{ThreadIns}
 use Rattle.xs_instructions.specs.declared.instr.ThreadIns.TheVariants.{Freet}
 use Rattle.xs_instructions.specs.declared.instr.ResIns.{ResIns}
 use Rattle.xs_instructions.specs.declared.instr.ResIns.TheVariants.{Getr, Setd, OutctImm, ChkctImm}
@@ -29,7 +30,7 @@ use Rattle.chan_ends.specs.Ends.{Ends}
 use Rattle.switch_routes.specs.Rows.{WindowsOf, CreditedBy, SentBy, gaps_of}
 use Rattle.switch_routes.specs.Switch.{SwitchRec, StandsIn, switched}
 use Rattle.step_model.specs.Fixed.{Fixed}
-use Rattle.step_model.specs.Effect.{effect, memory_row, loaded, stored, resources_row, chan_was_got, chan_kind, chan_to_get, goes_on_with, dest_set, found_there, token_put, token_checked, is_waited_at}
+use Rattle.step_model.specs.Effect.{effect, memory_row, loaded, stored, threads_row, resources_row, chan_was_got, chan_kind, chan_to_get, goes_on_with, dest_set, found_there, token_put, token_checked, is_waited_at}
 use Rattle.step_model.specs.Step.{Issued, node_step, arrived, issued, issued_by, begun, executed, settled, trap, halt_unless}
 use Rattle.core_step.specs.Core.{CoreValue, StandsFor, StandsAt, AreBefore, SentBefore, IsLinkBefore, brought, brought_out, and_happened}
 
@@ -170,6 +171,7 @@ stored_last code core k at (Some bytes) = refl
 memory_last : (code : List Instr) (core : CoreRec) (k : ℕ) (ins : MemIns) → (settled code core k (memory_row core k ins)).core.last ≡ core.last
 memory_last code core k (LdwDp g u) = loaded_last code core k g _ _
 memory_last code core k (StwDp g u) = stored_last code core k _ _
+memory_last code core k _ = refl
 
 -- so do the rows on resources
 chan_last : (id : ℕ) (core : CoreRec) (k d : ℕ) (found : Option ℕ) → (chan_was_got id core k d found).last ≡ core.last
@@ -211,12 +213,18 @@ resources_last code id core k (Getr d i) = got_last id core k d (i == chan_kind)
 resources_last code id core k (Setd s x) = dest_last code core k _ _ _
 resources_last code id core k (OutctImm s i) = put_last code core k _ _ _
 resources_last code id core k (ChkctImm s i) = check_last code core k _ _ _
+resources_last code id core k _ = refl
+
+threads_last : (code : List Instr) (core : CoreRec) (k : ℕ) (ins : ThreadIns) → (settled code core k (threads_row core k ins)).core.last ≡ core.last
+threads_last code core k Freet = refl
+threads_last code core k _ = refl
 
 instr_last : (fixed : Fixed) (core : CoreRec) (k : ℕ) (ins : Instr) → (settled fixed.code core k (effect fixed.id core k ins)).core.last ≡ core.last
 instr_last fixed core k (Words ins) = refl
 instr_last fixed core k (Memory ins) = memory_last fixed.code core k ins
 instr_last fixed core k (Flow ins) = refl
-instr_last fixed core k (Threads Freet) = refl
+instr_last fixed core k (Kernel ins) = refl
+instr_last fixed core k (Threads ins) = threads_last fixed.code core k ins
 instr_last fixed core k (Resources ins) = resources_last fixed.code fixed.id core k ins
 
 executed_last : (fixed : Fixed) (core : CoreRec) (k : ℕ) (ins : Option Instr) → (executed fixed core k ins).core.last ≡ core.last

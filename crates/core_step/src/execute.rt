@@ -1,6 +1,8 @@
 //! What the instructions do to a thread's registers.
-ghost use Rattle.std.specs.Prelude.{◌≡◌, Bool, if◌then◌else◌};
+ghost use Rattle.std.specs.Prelude.{◌≡◌, Bool, IsTrue, if◌then◌else◌};
 ghost use Rattle.xs_instructions.specs.Code.{place_address};
+ghost use Rattle.xs_instructions.specs.Rows.{is_built};
+ghost use Rattle.xs_instructions.specs.Operands.{row_of_words, row_of_flow};
 ghost use Rattle.xs_instructions.specs.Instr.{WordsInRange, FlowInRange};
 ghost use Rattle.step_model.specs.Effect.{after_it, words_row, flow_row, dp_address, bad_address};
 
@@ -22,7 +24,8 @@ pub(crate) fn go_on(thread: &mut Thread)
 
 // The rows on words.
 pub(crate) fn words(thread: &mut Thread, ins: WordIns)
-    requires { WordsInRange ins }
+    requires range { WordsInRange ins }
+    requires built { IsTrue (is_built (row_of_words ins)) }
     ensures { thread.new ≡ after_it (words_row thread.old ins) }
 {
     match ins {
@@ -40,6 +43,7 @@ pub(crate) fn words(thread: &mut Thread, ins: WordIns)
         }
         WordIns::Ldc(d, u) => thread.set_reg(d, u32::from(u)),
         WordIns::Nop => {}
+        _ => unreachable!(),
     }
     go_on(thread);
 }
@@ -57,7 +61,8 @@ fn branch(thread: &mut Thread, taken: bool, place: u16)
 
 // The rows on the flow of control.
 pub(crate) fn flow(thread: &mut Thread, ins: FlowIns)
-    requires { FlowInRange ins }
+    requires range { FlowInRange ins }
+    requires built { IsTrue (is_built (row_of_flow ins)) }
     ensures { thread.new ≡ flow_row thread.old ins }
 {
     match ins {
@@ -70,6 +75,7 @@ pub(crate) fn flow(thread: &mut Thread, ins: FlowIns)
             branch(thread, taken, place);
         }
         FlowIns::Bu(place) => branch(thread, true, place),
+        _ => unreachable!(),
     }
 }
 

@@ -1,13 +1,15 @@
 //! `Core`, one node's core.
-ghost use Rattle.std.specs.Prelude.{◌≡◌, ◌<◌, ◌≤◌, ◌+◌, ◌↔◌, ℕ, Some, false, List, [], length, map, IfOk, IsErr};
+ghost use Rattle.std.specs.Prelude.{◌≡◌, ◌<◌, ◌≤◌, ◌+◌, ◌↔◌, ℕ, Some, false, List, [], length, map, IfOk, IsErr, IsTrue};
 ghost use Rattle.std.specs.Result.{result_ok};
 ghost use Rattle.xs_model.specs.Record.{NodeRec, thread_of, free_thread};
 ghost use Rattle.xs_model.specs.Memory.{load_word, is_word_address, memory_size};
 ghost use Rattle.xs_model.specs.Picks.{may_issue};
 ghost use Rattle.xs_model.specs.Outside.{LevelsFit, emitted_events};
-ghost use Rattle.xs_instructions.specs.Instr.{InRange, MemoryInRange};
+ghost use Rattle.xs_instructions.specs.Rows.{is_built};
+ghost use Rattle.xs_instructions.specs.Operands.{row_of_memory, row_of_threads};
+ghost use Rattle.xs_instructions.specs.Instr.{InRange, MemoryInRange, built};
 ghost use Rattle.step_model.specs.Start.{fixed_of, node_of, WaysHaveGaps};
-ghost use Rattle.step_model.specs.Effect.{effect, memory_row};
+ghost use Rattle.step_model.specs.Effect.{effect, memory_row, threads_row};
 ghost use Rattle.step_model.specs.Step.{node_step, resumed, begun, settled, trap, issued, issued_by};
 ghost use Rattle.core_step.specs.Core.{StandsAt, StandsFor, SlotsBefore, AreBefore, SentBefore, Ends, effect_of, and_happened, brought, brought_out};
 ghost use Rattle.switch_routes.specs.Rows.{CreditedBy};
@@ -226,6 +228,7 @@ impl Core {
     fn execute(&mut self, k: u8, ins: Instr) -> Outcome
         requires thread { k < 8 }
         requires range { InRange ins }
+        requires built { IsTrue (built ins) }
         ensures fixed { self.new.fixed ≡ self.old.fixed }
         ensures windows { self.new.windows ≡ self.old.windows }
         ensures row { Ends result self.old.core self.new.core (effect self.old.fixed.id self.old.core k ins) }
@@ -235,20 +238,50 @@ impl Core {
                 words(&mut self.threads[k as usize], ins);
                 Outcome::Done
             }
-            Instr::Memory(MemIns::LdwDp(g, u)) => self.load(k, g, u),
-            Instr::Memory(MemIns::StwDp(g, u)) => self.store(k, g, u),
+            Instr::Memory(ins) => self.memory(k, ins),
             Instr::Flow(ins) => {
                 flow(&mut self.threads[k as usize], ins);
                 Outcome::Done
             }
-            Instr::Threads(ThreadIns::Freet) => {
-                free(&mut self.threads[k as usize]);
-                Outcome::Gone
-            }
+            Instr::Kernel(_) => unreachable!(),
+            Instr::Threads(ins) => self.on_threads(k, ins),
             Instr::Resources(ins) => {
                 self.resting = false;
                 resources(self.id, k, ins, &mut self.threads, &mut self.chans)
             }
+        }
+    }
+
+    // The rows on memory.
+    fn memory(&mut self, k: u8, ins: MemIns) -> Outcome
+        requires thread { k < 8 }
+        requires range { MemoryInRange ins }
+        requires built { IsTrue (is_built (row_of_memory ins)) }
+        ensures fixed { self.new.fixed ≡ self.old.fixed }
+        ensures windows { self.new.windows ≡ self.old.windows }
+        ensures row { Ends result self.old.core self.new.core (memory_row self.old.core k ins) }
+    {
+        match ins {
+            MemIns::LdwDp(g, u) => self.load(k, g, u),
+            MemIns::StwDp(g, u) => self.store(k, g, u),
+            _ => unreachable!(),
+        }
+    }
+
+    // The rows on threads.
+    fn on_threads(&mut self, k: u8, ins: ThreadIns) -> Outcome
+        requires thread { k < 8 }
+        requires built { IsTrue (is_built (row_of_threads ins)) }
+        ensures fixed { self.new.fixed ≡ self.old.fixed }
+        ensures windows { self.new.windows ≡ self.old.windows }
+        ensures row { Ends result self.old.core self.new.core (threads_row self.old.core k ins) }
+    {
+        match ins {
+            ThreadIns::Freet => {
+                free(&mut self.threads[k as usize]);
+                Outcome::Gone
+            }
+            _ => unreachable!(),
         }
     }
 

@@ -1,7 +1,9 @@
 //! The rows on resources. See docs/LINKS.md.
-ghost use Rattle.std.specs.Prelude.{◌≡◌, ◌<◌, Bool, Option, take, length, IfSome, if◌then◌else◌};
+ghost use Rattle.std.specs.Prelude.{◌≡◌, ◌<◌, Bool, Option, take, length, IfSome, IsTrue, if◌then◌else◌};
 ghost use Rattle.std.specs.List.{list_any};
 ghost use Rattle.xs_model.specs.Record.{CoreRec};
+ghost use Rattle.xs_instructions.specs.Rows.{is_built};
+ghost use Rattle.xs_instructions.specs.Operands.{row_of_resources};
 ghost use Rattle.xs_instructions.specs.Instr.{ResourcesInRange};
 ghost use Rattle.net_model.specs.Chans.{chan_named, free_chan};
 ghost use Rattle.chan_ends.specs.Ends.{with_got};
@@ -37,6 +39,7 @@ pub(crate) fn resources(
 ) -> Outcome
     requires thread { k < 8 }
     requires range { ResourcesInRange ins }
+    requires built { IsTrue (is_built (row_of_resources ins)) }
     ensures row { (core : CoreRec) → Ends result (with_units core threads.old chans.old) (with_units core threads.new chans.new)
         (resources_row id (with_units core threads.old chans.old) k ins) }
     ensures count { length threads.new ≡ 8 }
@@ -59,6 +62,7 @@ pub(crate) fn resources(
             let name = threads[k as usize].reg(s);
             check(id, k, name, i, threads, chans)
         }
+        _ => unreachable!(),
     }
 }
 

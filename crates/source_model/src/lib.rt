@@ -8,9 +8,11 @@ ghost use Rattle.source_model.specs.Faults.{IsFirstFault, HasNoFault, image_of_t
 ghost use Rattle.source_model.specs.WorkedSourceLines.{WorkedBadBytes, WorkedUnknownNames, WorkedShapes, WorkedRanges, WorkedLabels, WorkedSizes, WorkedSections, WorkedPadding, WorkedLimits};
 
 mod canonical;
+mod images;
 mod layout;
 
 pub use canonical::worked_canonical_texts;
+pub use images::sources_make_images;
 pub use layout::{Home, Layout, Place, Section, Width};
 
 /// Why a source is refused, in the order that decides within a line of several faults but for `LabelTwice` and

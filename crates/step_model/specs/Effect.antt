@@ -14,7 +14,7 @@ use Rattle.xs_model.specs.Threads.{register, with_register}
 use Rattle.xs_model.specs.Memory.{load_word, store_word}
 use Rattle.xs_model.specs.Record.{CoreRec, ChanRec, thread_of, with_thread, chan_of}
 use Rattle.xs_instructions.specs.declared.instr.Instr.{Instr}
-use Rattle.xs_instructions.specs.declared.instr.Instr.TheVariants.{Words, Memory, Flow, Threads, Resources}
+use Rattle.xs_instructions.specs.declared.instr.Instr.TheVariants.{Words, Memory, Flow, Kernel, Threads, Resources}
 use Rattle.xs_instructions.specs.declared.instr.WordIns.{WordIns}
 use Rattle.xs_instructions.specs.declared.instr.WordIns.TheVariants as words
 use Rattle.xs_instructions.specs.declared.instr.MemIns.{MemIns}
@@ -50,6 +50,8 @@ words_row th (words.Sub d x y) = with_register th d (word_difference (register t
 words_row th (words.Eq d x y) = with_register th d (truth (register th x == register th y))
 words_row th (words.Ldc d u) = with_register th d u
 words_row th words.Nop = th
+-- a row that is not built: no image has one
+words_row th _ = th
 
 -- a load into register g, of what was found at the address
 abbrev pub loaded : CoreRec → ℕ → ℕ → ℕ → Option ℕ → Effect
@@ -72,15 +74,21 @@ memory_row core k (memory.LdwDp g u) =
 memory_row core k (memory.StwDp g u) =
     let at = dp_address (thread_of core k) u in
     stored core k at (store_word core.memory at (register (thread_of core k) g))
+-- a row that is not built: no image has one
+memory_row core k _ = Done core
 
 -- the rows on the flow of control set pc alone
 abbrev pub flow_row : Thread → FlowIns → Thread
 flow_row th (flow.Bt s l) = if not (register th s == 0) then record th { pc = place_address l } else after_it th
 flow_row th (flow.Bf s l) = if register th s == 0 then record th { pc = place_address l } else after_it th
 flow_row th (flow.Bu l) = record th { pc = place_address l }
+-- a row that is not built: no image has one
+flow_row th _ = th
 
 abbrev pub threads_row : CoreRec → ℕ → ThreadIns → Effect
 threads_row core k threads.Freet = Gone (with_thread core k (record (after_it (thread_of core k)) { run = Free }))
+-- a row that is not built: no image has one
+threads_row core k _ = Done core
 
 -- the trap of an identifier that names nothing of the row's kinds that is in use on this node
 abbrev pub illegal_resource : ℕ
@@ -177,11 +185,15 @@ resources_row id core k (resources.OutctImm s i) =
 resources_row id core k (resources.ChkctImm s i) =
     let name = register (thread_of core k) s in
     token_checked core k name i (chan_named id name)
+-- a row that is not built: no image has one
+resources_row id core k _ = Done core
 
 -- what an instruction does when thread k of the node with this id issues it
 abbrev pub effect : ℕ → CoreRec → ℕ → Instr → Effect
 effect id core k (Words ins) = Done (with_thread core k (after_it (words_row (thread_of core k) ins)))
 effect id core k (Memory ins) = memory_row core k ins
 effect id core k (Flow ins) = Done (with_thread core k (flow_row (thread_of core k) ins))
+-- no row on the kernel is built: no image has one
+effect id core k (Kernel ins) = Done core
 effect id core k (Threads ins) = threads_row core k ins
 effect id core k (Resources ins) = resources_row id core k ins

@@ -1,3 +1,6 @@
+pub mod FrameLines
+pub mod Frame
+pub mod Check
 pub mod System
 pub mod Top
 pub mod Worked

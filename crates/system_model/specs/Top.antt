@@ -1,17 +1,19 @@
 -- What the program answers to its words and its input.
-use Rattle.std.specs.Prelude.{ℕ, ◌+◌, nat_le, min, if◌then◌else◌, Option, Some, None, option_and_then, List, [], ◌∷◌, ◌++◌, length, codes, decimal}
+use Rattle.std.specs.Prelude.{ℕ, ◌+◌, nat_le, min, if◌then◌else◌, ◌&&◌, Option, Some, None, option_and_then, List, [], ◌∷◌, ◌++◌, length, codes, decimal}
 use Rattle.std.specs.Char.{is_ascii_digit}
 use Rattle.xs_instructions.specs.Image.{same_name}
 use Rattle.xs_text.specs.Numbers.{at_most, value_in}
 use Rattle.source_model.specs.declared.AsmKind.{AsmKind}
-use Rattle.source_model.specs.declared.AsmKind.TheVariants.{UnknownName}
+use Rattle.source_model.specs.declared.AsmKind.TheVariants as asm
+use Rattle.sys_plan.specs.Plan.{PlanRec}
 use Rattle.system_model.specs.declared.SysKind.{SysKind}
-use Rattle.system_model.specs.declared.SysKind.TheVariants.{BadLine, TooLong}
+use Rattle.system_model.specs.declared.SysKind.TheVariants as sys
 use Rattle.system_model.specs.declared.Form.{Form}
-use Rattle.system_model.specs.declared.Form.TheVariants.{Run}
+use Rattle.system_model.specs.declared.Form.TheVariants.{Run, Check}
 use Rattle.system_model.specs.declared.Answer.{Answer}
 use Rattle.system_model.specs.declared.Status.TheVariants as status
 use Rattle.system_model.specs.System.{System, Plan, Frame, Source, system_of, longest_input}
+use Rattle.system_model.specs.Check.{check_text}
 use Rattle.trace_model.specs.Trace.{trace_text}
 
 -- one to ten decimal digits, of a value of at most a limit
@@ -21,21 +23,44 @@ count_of limit word = if nat_le (length word) 10 then at_most limit (value_in 10
 abbrev pub most_slots : ℕ
 most_slots = 1000000
 
--- the form of the words, if they have one
+-- the run of so many slots as the word says
+abbrev pub run_of : List ℕ → Option Form
+run_of word = option_and_then (λ slots. Some (Run slots)) (count_of most_slots word)
+
+-- the form of the words, if they have one: `check`, `run SLOTS` or `run SLOTS serial`, the last two the same
 unfoldable pub form_of : List (List ℕ) → Option Form
-form_of (a ∷ n ∷ []) =
-    if same_name (codes "run") a then option_and_then (λ slots. Some (Run slots)) (count_of most_slots n) else None
+form_of (a ∷ []) = if same_name (codes "check") a then Some Check else None
+form_of (a ∷ n ∷ []) = if same_name (codes "run") a then run_of n else None
+form_of (a ∷ n ∷ mode ∷ []) = if same_name (codes "run") a && same_name (codes "serial") mode then run_of n else None
 form_of _ = None
 
 abbrev pub usage_text : List ℕ
 usage_text = codes "usage: xs1 run SLOTS [serial|free|rounds] | play SLOTS | make NUMBER | check\n"
 
 abbrev pub text_of_sys_kind : SysKind → List ℕ
-text_of_sys_kind BadLine = codes "S2 bad line"
-text_of_sys_kind TooLong = codes "S10 input too long"
+text_of_sys_kind sys.FirstLine = codes "S1 first line is not xs1 1"
+text_of_sys_kind sys.BadLine = codes "S2 bad line"
+text_of_sys_kind sys.GivenTwice = codes "S3 given twice"
+text_of_sys_kind sys.IdTwice = codes "S4 id twice"
+text_of_sys_kind sys.LinkEndTwice = codes "S5 link end twice"
+text_of_sys_kind sys.LinkToItself = codes "S6 link from a node to itself"
+text_of_sys_kind sys.NumberOutOfRange = codes "S7 number out of range"
+text_of_sys_kind sys.NodeWithoutSource = codes "S8 node without source"
+text_of_sys_kind sys.SectionNotEnded = codes "S9 section not ended"
+text_of_sys_kind sys.TooLong = codes "S10 input too long"
+text_of_sys_kind sys.BitTwice = codes "S11 bit twice"
+text_of_sys_kind sys.NoSuchNode = codes "S12 no such node or link end"
 
 abbrev pub text_of_asm_kind : AsmKind → List ℕ
-text_of_asm_kind UnknownName = codes "A2 unknown name"
+text_of_asm_kind asm.BadByte = codes "A1 bad byte"
+text_of_asm_kind asm.UnknownName = codes "A2 unknown name"
+text_of_asm_kind asm.WrongOperands = codes "A3 wrong operands"
+text_of_asm_kind asm.NumberOutOfRange = codes "A4 number out of range"
+text_of_asm_kind asm.LabelTwice = codes "A5 label defined twice"
+text_of_asm_kind asm.LabelMissing = codes "A6 label missing"
+text_of_asm_kind asm.DirectiveNotAllowed = codes "A7 directive not allowed"
+text_of_asm_kind asm.TooManyInstructions = codes "A8 too many instructions"
+text_of_asm_kind asm.TooManyBytes = codes "A9 too many bytes"
 
 -- `system line L: KIND TEXT`
 abbrev pub frame_text : ℕ → SysKind → List ℕ
@@ -46,9 +71,14 @@ abbrev pub source_text : ℕ → ℕ → AsmKind → List ℕ
 source_text node line kind =
     codes "source " ++ (decimal node ++ (codes " line " ++ (decimal line ++ (codes ": " ++ (text_of_asm_kind kind ++ (10 ∷ []))))))
 
+-- what a form writes for a system that is not refused
+abbrev pub text_for : Form → PlanRec → List ℕ
+text_for (Run slots) plan = trace_text plan slots
+text_for Check plan = check_text plan
+
 -- what a form answers to a system
 abbrev pub answer_to : Form → System → Answer
-answer_to (Run slots) (Plan plan) = record { text = trace_text plan slots; status = status.Done }
+answer_to form (Plan plan) = record { text = text_for form plan; status = status.Done }
 answer_to form (Frame line kind) = record { text = frame_text line kind; status = status.SystemFault }
 answer_to form (Source node line kind) = record { text = source_text node line kind; status = status.SourceFault }
 

@@ -1,43 +1,222 @@
 -- Frames of systems, read by hand.
-use Rattle.std.specs.Prelude.{ℕ, ◌≡◌, Option, Some, None, List, [], ◌∷◌, ◌++◌, codes, replicate}
+use Rattle.std.specs.Prelude.{ℕ, ◌≡◌, true, None, List, [], ◌∷◌, ◌++◌, map, codes, replicate}
 use Rattle.xs_text.specs.Lines.{lines_of}
-use Rattle.source_model.specs.declared.AsmKind.TheVariants.{UnknownName}
 use Rattle.xs_instructions.specs.Image.{ImageRec}
 use Rattle.sys_plan.specs.Plan.{PlanRec}
-use Rattle.system_model.specs.declared.frame_line.LinkLine.{LinkLine}
-use Rattle.system_model.specs.declared.frame_line.BitLine.{BitLine}
-use Rattle.system_model.specs.System.{Plan, Source, Framed, framed, system_of}
+use Rattle.system_model.specs.declared.SysKind.{SysKind}
+use Rattle.system_model.specs.declared.SysKind.TheVariants.{FirstLine, BadLine, GivenTwice, IdTwice, LinkToItself, NumberOutOfRange, NodeWithoutSource, SectionNotEnded, BitTwice, NoSuchNode}
+use Rattle.system_model.specs.Frame.{Framed, Whole, framed}
+use Rattle.system_model.specs.System.{Plan, Frame, system_of}
 
--- the header and two nodes in falling order
-abbrev pub nodes_7_and_3 : List ℕ
-nodes_7_and_3 = codes "xs1 1\nnode 7 id 1\nnode 3 id 0\n"
+-- Refusals
 
--- their sources, which are empty
-abbrev pub sources_7_and_3 : List ℕ
-sources_7_and_3 = codes "source 7\nend\nsource 3\nend\n"
+-- texts, and the line and the kind of the refusal of each
+abbrev pub Refusals : Type 0
+Refusals = List (List ℕ × ℕ × SysKind)
 
--- these nodes with lines between the nodes and the sources
-abbrev pub pair : List ℕ → Option Framed
-pair lines = framed (lines_of (nodes_7_and_3 ++ (lines ++ sources_7_and_3)))
+-- each text is refused so
+abbrev pub AreRefused : Refusals → Type 0
+AreRefused rows =
+    map (λ (row : List ℕ × ℕ × SysKind). system_of row.0) rows ≡ map (λ (row : List ℕ × ℕ × SysKind). Frame row.1 row.2) rows
 
-abbrev pub pair_of : List LinkLine → List BitLine → Option Framed
-pair_of links bits = Some (record {
-  nodes = record { number = 7; id = 1 } ∷ record { number = 3; id = 0 } ∷ [];
-  links = links;
-  bits = bits;
-  numbers = 7 ∷ 3 ∷ [];
-  sources = [] ∷ [] ∷ [];
-})
+-- the header and two nodes in falling order, and then these lines, from line 4 on
+abbrev pub pair : List ℕ → List ℕ
+pair lines = codes "xs1 1\nnode 7 id 1\nnode 3 id 0\n" ++ lines
 
-abbrev pub joins : ℕ → ℕ → ℕ → ℕ → List LinkLine
-joins a b delay gap = record { a = a; b = b; delay = delay; gap = gap } ∷ []
+-- the same with a link, and then these lines, from line 5 on
+abbrev pub linked : List ℕ → List ℕ
+linked lines = pair (codes "link 7:0 3:0 delay 5 gap 4\n" ++ lines)
 
-abbrev pub frame : List ℕ → Option Framed
+-- the first line with words
+abbrev pub first_lines : Refusals
+first_lines =
+    ([], 1, FirstLine)
+    ∷ (codes "\n\n", 1, FirstLine)
+    ∷ (codes "  # nothing\n// here", 1, FirstLine)
+    ∷ (codes "# " ++ 1 ∷ [], 1, FirstLine)
+    ∷ (codes "\n# " ++ (1 ∷ codes "\n\n"), 1, FirstLine)
+    ∷ (codes "xs1 2\n", 1, FirstLine)
+    ∷ (codes "\n # x\nxs1 2\nnode 0 id 0\n", 3, FirstLine)
+    ∷ (codes "xs1 01\n", 1, FirstLine)
+    ∷ (codes "xs1 0x1\n", 1, FirstLine)
+    ∷ (codes "xs1\n", 1, FirstLine)
+    ∷ (codes "xs1 1 1\n", 1, FirstLine)
+    ∷ (codes "XS1 1\n", 1, FirstLine)
+    ∷ (codes "node 0 id 0\nxs1 1\n", 1, FirstLine)
+    ∷ (codes "end\n", 1, FirstLine)
+    ∷ (1 ∷ [], 1, FirstLine)
+    ∷ (codes "xs1 2 # " ++ 1 ∷ [], 1, FirstLine)
+    -- a carriage return that does not end the line is a part of its word
+    ∷ (codes "xs1 1\r\r\n", 1, FirstLine)
+    ∷ (codes "xs1 1\r", 1, FirstLine)
+    ∷ []
+
+-- bytes that are not allowed, and lines of no form
+abbrev pub bad_lines : Refusals
+bad_lines =
+    (codes "# " ++ (1 ∷ codes "\nxs1 1\n"), 1, BadLine)
+    ∷ (codes "xs1 1 # " ++ (1 ∷ codes "\n"), 1, BadLine)
+    ∷ (codes "xs1 1\n" ++ (1 ∷ codes "\n"), 2, BadLine)
+    ∷ (codes "xs1 1\n\n# " ++ (127 ∷ codes "\n"), 3, BadLine)
+    ∷ (codes "xs1 1\nxs1 1\n", 2, BadLine)
+    ∷ (codes "xs1 1\nend\n", 2, BadLine)
+    ∷ (codes "xs1 1\npins\nend\n", 2, BadLine)
+    ∷ (codes "xs1 1\nplay\nfoo\nend\n", 2, BadLine)
+    ∷ (codes "xs1 1\nnode\n", 2, BadLine)
+    ∷ (codes "xs1 1\nnode 0 id\n", 2, BadLine)
+    ∷ (codes "xs1 1\nnode 0 id 0 0\n", 2, BadLine)
+    ∷ (codes "xs1 1\nNode 0 id 0\n", 2, BadLine)
+    ∷ (codes "xs1 1\nnode 0 ID 0\n", 2, BadLine)
+    ∷ (codes "xs1 1\nnode x id 0\n", 2, BadLine)
+    ∷ (codes "xs1 1\nnode -5 id 0\n", 2, BadLine)
+    ∷ (codes "xs1 1\nnode +5 id 0\n", 2, BadLine)
+    ∷ (codes "xs1 1\nnode 0b0 id 0\n", 2, BadLine)
+    ∷ (codes "xs1 1\nnode 0X0 id 0\n", 2, BadLine)
+    ∷ (codes "xs1 1\nnode 0x id 0\n", 2, BadLine)
+    ∷ (codes "xs1 1\nnode 0 id 0/x\n", 2, BadLine)
+    ∷ (codes "xs1 1\nnode 0 id 0\r", 2, BadLine)
+    -- a line of no form comes before a number out of range
+    ∷ (codes "xs1 1\nnode 100 id x\n", 2, BadLine)
+    ∷ (codes "xs1 1\nnode 100 id 0 # " ++ (1 ∷ codes "\n"), 2, BadLine)
+    ∷ (codes "xs1 1\nsource\n", 2, BadLine)
+    ∷ (codes "xs1 1\nsource x\n", 2, BadLine)
+    ∷ (codes "xs1 1\nsource 0 0\n", 2, BadLine)
+    -- the line that ends a source
+    ∷ (codes "xs1 1\nnode 0 id 0\nsource 0\nfoo\nend # " ++ (1 ∷ codes "\n"), 5, BadLine)
+    ∷ (codes "xs1 1\nnode 0 id 0\nsource 0\nend\n# " ++ 0 ∷ [], 5, BadLine)
+    ∷ (codes "xs1 1\nnode 0 id 0\nsource 0\nend\nend\n", 5, BadLine)
+    ∷ []
+
+-- lines of no form, by what the lines before them gave, and forms that are not built
+abbrev pub bad_pair_lines : Refusals
+bad_pair_lines =
+    (pair (codes "node 4 id 4\n"), 4, BadLine)
+    ∷ (pair (codes "node 7 id 1\n"), 4, BadLine)
+    ∷ (pair (codes "node 100 id 65536\n"), 4, BadLine)
+    ∷ (linked (codes "link 7:0 3:0 delay 5 gap 4\n"), 5, BadLine)
+    ∷ (linked (codes "link 100:0 3:0 delay 0 gap 0\n"), 5, BadLine)
+    ∷ (pair (codes "link 7:1 3:0 delay 5 gap 4\n"), 4, BadLine)
+    ∷ (pair (codes "link 7:0 3:8 delay 5 gap 4\n"), 4, BadLine)
+    ∷ (pair (codes "link 100:8 3:0 delay 5 gap 4\n"), 4, BadLine)
+    ∷ (pair (codes "link 7 :0 3:0 delay 5 gap 4\n"), 4, BadLine)
+    ∷ (pair (codes "link 7: 3:0 delay 5 gap 4\n"), 4, BadLine)
+    ∷ (pair (codes "link :0 3:0 delay 5 gap 4\n"), 4, BadLine)
+    ∷ (pair (codes "link 7:0:0 3:0 delay 5 gap 4\n"), 4, BadLine)
+    ∷ (pair (codes "link 7 3 delay 5 gap 4\n"), 4, BadLine)
+    ∷ (pair (codes "link 7:0 3:0 gap 4 delay 5\n"), 4, BadLine)
+    ∷ (pair (codes "link 7:0 3:0 delay 5\n"), 4, BadLine)
+    ∷ (pair (codes "link 7:0 3:0 delay 5 gap 4 net 0\n"), 4, BadLine)
+    ∷ (pair (codes "link 100:0 3:0 delay 0 gap x\n"), 4, BadLine)
+    ∷ (linked (codes "bit 7 0\n"), 5, BadLine)
+    ∷ (linked (codes "bit 7 0 1\n"), 5, BadLine)
+    ∷ (linked (codes "bit 7 0 8\n"), 5, BadLine)
+    ∷ (linked (codes "bit 7 0 0 0\n"), 5, BadLine)
+    ∷ (linked (codes "bit 7 0 0 0 0 0 0 0 0 0 0 0\n"), 5, BadLine)
+    ∷ (linked (codes "bit 7 x 0\n"), 5, BadLine)
+    ∷ (linked (codes "bit 100 16 1\n"), 5, BadLine)
+    ∷ []
+
+-- numbers out of range
+abbrev pub wide_numbers : Refusals
+wide_numbers =
+    (codes "xs1 1\nnode 100 id 0\n", 2, NumberOutOfRange)
+    ∷ (codes "xs1 1\nnode 0x64 id 0\n", 2, NumberOutOfRange)
+    ∷ (codes "xs1 1\nnode 0 id 65536\n", 2, NumberOutOfRange)
+    ∷ (codes "xs1 1\nnode 99999999999999999999999999999999999999999999 id 0\n", 2, NumberOutOfRange)
+    ∷ (codes "xs1 1\nnode 0 id 0x100000000000000000000000000000000000000000000\n", 2, NumberOutOfRange)
+    ∷ (codes "xs1 1\nsource 100\n", 2, NumberOutOfRange)
+    ∷ (pair (codes "link 100:0 3:0 delay 5 gap 4\n"), 4, NumberOutOfRange)
+    ∷ (pair (codes "link 7:0 256:0 delay 5 gap 4\n"), 4, NumberOutOfRange)
+    ∷ (pair (codes "link 7:0 3:0 delay 0 gap 4\n"), 4, NumberOutOfRange)
+    ∷ (pair (codes "link 7:0 3:0 delay 1001 gap 4\n"), 4, NumberOutOfRange)
+    ∷ (pair (codes "link 7:0 3:0 delay 5 gap 3\n"), 4, NumberOutOfRange)
+    ∷ (pair (codes "link 7:0 3:0 delay 5 gap 1001\n"), 4, NumberOutOfRange)
+    ∷ (linked (codes "bit 100 0 0\n"), 5, NumberOutOfRange)
+    ∷ (linked (codes "bit 7 16 0\n"), 5, NumberOutOfRange)
+    -- they come before a node that is not given, a number given twice, and a link to itself
+    ∷ (pair (codes "link 4:0 3:0 delay 0 gap 4\n"), 4, NumberOutOfRange)
+    ∷ (pair (codes "link 7:0 7:0 delay 5 gap 0\n"), 4, NumberOutOfRange)
+    ∷ (codes "xs1 1\nnode 7 id 1\nnode 7 id 65536\n", 3, NumberOutOfRange)
+    ∷ []
+
+-- nodes and link ends that no earlier line gives
+abbrev pub missing : Refusals
+missing =
+    (pair (codes "link 4:0 3:0 delay 5 gap 4\n"), 4, NoSuchNode)
+    ∷ (pair (codes "link 7:0 4:0 delay 5 gap 4\n"), 4, NoSuchNode)
+    -- before a link to itself
+    ∷ (pair (codes "link 4:0 4:0 delay 5 gap 4\n"), 4, NoSuchNode)
+    ∷ (codes "xs1 1\nnode 7 id 1\nlink 7:0 3:0 delay 5 gap 4\nnode 3 id 0\n", 3, NoSuchNode)
+    ∷ (pair (codes "bit 7 0 0\nlink 7:0 3:0 delay 5 gap 4\n"), 4, NoSuchNode)
+    ∷ (linked (codes "bit 4 0 0\n"), 5, NoSuchNode)
+    ∷ (codes "xs1 1\nsource 0\nend\nnode 0 id 0\n", 2, NoSuchNode)
+    ∷ (pair (codes "source 99\nend\n"), 4, NoSuchNode)
+    ∷ []
+
+-- what is given twice
+abbrev pub twice : Refusals
+twice =
+    (codes "xs1 1\nnode 7 id 1\nnode 7 id 0\n", 3, GivenTwice)
+    ∷ (codes "xs1 1\nnode 7 id 1\nnode 0x07 id 1\n", 3, GivenTwice)
+    ∷ (pair (codes "source 7\nend\nsource 7\nend\n"), 6, GivenTwice)
+    ∷ (codes "xs1 1\nnode 7 id 1\nnode 3 id 0x1\n", 3, IdTwice)
+    ∷ (pair (codes "link 7:0 7:0 delay 5 gap 4\n"), 4, LinkToItself)
+    ∷ (codes "xs1 1\nnode 0 id 0\nlink 0:0 0:0 delay 5 gap 4\n", 3, LinkToItself)
+    ∷ (linked (codes "bit 7 0 0\nbit 3 0 0\nbit 0x7 0x0 0\n"), 7, BitTwice)
+    ∷ []
+
+-- the end of the text
+abbrev pub ends : Refusals
+ends =
+    (codes "xs1 1\nnode 0 id 0\nsource 0\n", 3, SectionNotEnded)
+    ∷ (codes "xs1 1\nnode 0 id 0\nsource 0\nend:\nend nop\n" ++ 1 ∷ [], 3, SectionNotEnded)
+    ∷ (codes "xs1 1\nnode 0 id 0\nsource 0\nend\r", 3, SectionNotEnded)
+    ∷ (pair (codes "source 7\nnop\n"), 4, SectionNotEnded)
+    ∷ (codes "xs1 1\nnode 0 id 0\n", 2, NodeWithoutSource)
+    ∷ (codes "\nxs1 1\n\nnode 5 id 0\nnode 3 id 1\n", 5, NodeWithoutSource)
+    ∷ (pair (codes "source 3\nend\n"), 2, NodeWithoutSource)
+    ∷ (pair (codes "source 7\nend\n"), 3, NodeWithoutSource)
+    -- the least faulty line comes before all of these
+    ∷ (pair (codes "source 7\nend\nfoo\nsource 3\n"), 6, BadLine)
+    ∷ (pair (codes "bit 7 0 0\nfoo\n"), 4, NoSuchNode)
+    ∷ []
+
+pub record WorkedRefusals : Type 0 where
+  pub first : AreRefused first_lines
+  pub bad : AreRefused bad_lines
+  pub bad_in_a_pair : AreRefused bad_pair_lines
+  pub wide : AreRefused wide_numbers
+  pub none : AreRefused missing
+  pub again : AreRefused twice
+  pub at_the_end : AreRefused ends
+
+-- Systems
+
+abbrev pub frame : List ℕ → Framed
 frame text = framed (lines_of text)
+
+-- lines in another order than usual, with blanks, comments and numbers of both forms
+abbrev pub mixed : List ℕ
+mixed =
+    codes "# a pair\r\n\n  xs1\t1 // edition\nnode 007 id 0x1\nsource 0x7//x\nend:\n pins\nxs1 1\nend # of it\nnode 3 id 00\n"
+    ++ codes "link 0x3:0x0 07:00 delay 0x3e8 gap 1000\nbit 7 0xf 0x0#\nsource 3\nend\nbit 7 0 0\nbit 3 15 0"
+
+abbrev pub mixed_frame : Framed
+mixed_frame = Whole (record {
+  begun = true;
+  nodes = record { line = 10; number = 3; id = 0 } ∷ record { line = 4; number = 7; id = 1 } ∷ [];
+  links = record { a = 3; b = 7; delay = 1000; gap = 1000 } ∷ [];
+  bits = record { node = 7; bit = 15 } ∷ record { node = 7; bit = 0 } ∷ record { node = 3; bit = 15 } ∷ [];
+  sources =
+      record { number = 7; line = 5; lines = codes "end:" ∷ codes " pins" ∷ codes "xs1 1" ∷ [] }
+      ∷ record { number = 3; line = 13; lines = [] }
+      ∷ [];
+  reading = None;
+})
 
 -- these nodes with a link that the greater number's line names first, and a bit each
 abbrev pub linked_7_and_3 : List ℕ
-linked_7_and_3 = nodes_7_and_3 ++ (codes "link 7:0 3:0 delay 5 gap 4\nbit 3 0 0\nbit 7 15 0\n" ++ sources_7_and_3)
+linked_7_and_3 = linked (codes "bit 3 0 0\nbit 7 15 0\nsource 7\nend\nsource 3\nend\n")
 
 -- what an empty source stands for: its constants begin where memory does
 abbrev pub empty_image : ImageRec
@@ -53,34 +232,19 @@ plan_of_3_and_7 = record {
   links = record { a = 1; a_end = 0; b = 0; b_end = 0; delay = 5; gap = 4 } ∷ [];
 }
 
+-- two nodes that no link joins, at the edges of their numbers
+abbrev pub plan_of_0_and_99 : PlanRec
+plan_of_0_and_99 = record {
+  nodes =
+      record { number = 0; id = 65535; image = empty_image; ways = replicate 16 0 }
+      ∷ record { number = 99; id = 0; image = empty_image; ways = replicate 16 0 }
+      ∷ [];
+  links = [];
+}
+
 pub record WorkedSystems : Type 0 where
-  pub two_nodes : pair [] ≡ pair_of [] []
-  pub link : pair (codes "link 7:0 3:0 delay 5 gap 4\n") ≡ pair_of (joins 7 3 5 4) []
-  pub link_back : pair (codes "link 3:0 7:0 delay 1000 gap 1000\n") ≡ pair_of (joins 3 7 1000 1000) []
-  pub hex_link : pair (codes "link 0x7:0x0 03:00 delay 0x1 gap 0x4\n") ≡ pair_of (joins 7 3 1 4) []
-  pub bits : pair (codes "link 7:0 3:0 delay 5 gap 4\nbit 3 0 0\n# x\nbit 7 0xf 0x0\nbit 3 15 0\n") ≡ pair_of (joins 7 3 5 4) (record { node = 3; bit = 0 } ∷ record { node = 7; bit = 15 } ∷ record { node = 3; bit = 15 } ∷ [])
-  pub bit_before_link : pair (codes "bit 3 0 0\nlink 7:0 3:0 delay 5 gap 4\n") ≡ None
-  pub bit_alone : pair (codes "bit 3 0 0\n") ≡ None
-  pub bit_by_end_1 : pair (codes "link 7:0 3:0 delay 5 gap 4\nbit 3 0 1\n") ≡ None
-  pub bit_twice : pair (codes "link 7:0 3:0 delay 5 gap 4\nbit 3 0 0\nbit 0x3 0x0 0\n") ≡ None
-  pub bit_of_a_third_node : pair (codes "link 7:0 3:0 delay 5 gap 4\nbit 4 0 0\n") ≡ None
-  pub hex_bit : pair (codes "link 7:0 3:0 delay 5 gap 4\nbit 7 0x0 0x0\n") ≡ pair_of (joins 7 3 5 4) (record { node = 7; bit = 0 } ∷ [])
-  pub delay_0 : pair (codes "link 7:0 3:0 delay 0 gap 4\n") ≡ None
-  pub delay_1001 : pair (codes "link 7:0 3:0 delay 1001 gap 4\n") ≡ None
-  pub gap_3 : pair (codes "link 7:0 3:0 delay 5 gap 3\n") ≡ None
-  pub gap_1001 : pair (codes "link 7:0 3:0 delay 5 gap 1001\n") ≡ None
-  pub other_end : pair (codes "link 7:0 3:1 delay 5 gap 4\n") ≡ None
-  pub parted_end : pair (codes "link 7 :0 3:0 delay 5 gap 4\n") ≡ None
-  pub two_colons : pair (codes "link 7:0:0 3:0 delay 5 gap 4\n") ≡ None
-  pub link_to_itself : pair (codes "link 7:0 7:0 delay 5 gap 4\n") ≡ None
-  pub two_links : pair (codes "link 7:0 3:0 delay 5 gap 4\nlink 7:0 3:0 delay 5 gap 4\n") ≡ None
-  pub third_node : pair (codes "node 4 id 4\n") ≡ None
-  pub id_twice : frame (codes "xs1 1\nnode 7 id 1\nnode 3 id 1\nsource 7\nend\nsource 3\nend\n") ≡ None
-  pub number_twice : frame (codes "xs1 1\nnode 7 id 1\nnode 7 id 0\nsource 7\nend\nsource 7\nend\n") ≡ None
-  pub sources_in_another_order : frame (codes "xs1 1\nnode 7 id 1\nnode 3 id 0\nsource 3\nend\nsource 7\nend\n") ≡ None
-  pub source_missing : frame (codes "xs1 1\nnode 7 id 1\nnode 3 id 0\nsource 7\nend\n") ≡ None
+  pub any_order : frame mixed ≡ mixed_frame
   -- nodes by number, and the link and the bits by their places
   pub plan : system_of linked_7_and_3 ≡ Plan plan_of_3_and_7
-  -- both sources are refused: the least number decides
-  pub both_sources_refused : system_of (codes "xs1 1\nnode 7 id 1\nnode 3 id 0\nsource 7\nfoo\nend\nsource 3\nfoo\nend\n") ≡ Source 3 0 UnknownName
-  pub greater_source_refused : system_of (codes "xs1 1\nnode 7 id 1\nnode 3 id 0\nsource 7\nfoo\nend\nsource 3\nend\n") ≡ Source 7 0 UnknownName
+  pub edges : system_of (codes "xs1 1\nnode 99 id 0\nnode 0 id 65535\nsource 99\nend\nsource 0\nend\n") ≡ Plan plan_of_0_and_99
+  pub no_node : system_of (codes "xs1 1") ≡ Plan (record { nodes = []; links = [] })

@@ -23,11 +23,9 @@ pub struct BitLine {
     pub bit: u8,
 }
 
-/// A line of the frame of a system text. See docs/SYSTEM_TEXT.md.
+/// A line of the frame of a system text, but for the first. See docs/SYSTEM_TEXT.md.
 #[derive(Clone, Copy)]
 pub enum FrameLine {
-    /// `xs1 1`.
-    Header,
     /// `node N id ID`.
     Node(NodeLine),
     /// `link N:0 M:0 delay D gap G`.
@@ -36,4 +34,12 @@ pub enum FrameLine {
     Bit(BitLine),
     /// `source N`: it begins the source of the node with this number.
     Source(u8),
+}
+
+/// A node as a system text gives it: the number of its line, counted from 1, and what that line says.
+#[derive(Clone, Copy)]
+pub struct GivenNode {
+    pub line: u32,
+    pub number: u8,
+    pub id: u16,
 }

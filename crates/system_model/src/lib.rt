@@ -4,30 +4,52 @@
 
 ghost use Rattle.std.specs.Prelude.{◌≡◌};
 ghost use Rattle.system_model.specs.StatusNumber.{number_of_status};
-ghost use Rattle.system_model.specs.Worked.{WorkedAnswers};
+ghost use Rattle.system_model.specs.Worked.{WorkedAnswers, WorkedChecks};
 ghost use Rattle.system_model.specs.WorkedEdges.{WorkedFrames, WorkedSources, WorkedRuns};
 ghost use Rattle.system_model.specs.WorkedPairs.{WorkedPairs};
-ghost use Rattle.system_model.specs.WorkedSystems.{WorkedSystems};
+ghost use Rattle.system_model.specs.WorkedSystems.{WorkedRefusals, WorkedSystems};
 
 mod frame_line;
 
-pub use frame_line::{BitLine, FrameLine, LinkLine, NodeLine};
+pub use frame_line::{BitLine, FrameLine, GivenNode, LinkLine, NodeLine};
 use xs_base::Text;
 
-/// Why a system text is refused.
+/// Why the frame of a system text is refused. See docs/SYSTEM_TEXT.md.
 #[derive(Clone, Copy, PartialEq, Eq, Debug)]
 pub enum SysKind {
-    /// S2: a line that has no known form.
+    /// S1: the first line with words is not `xs1 1`, or there is none.
+    FirstLine,
+    /// S2: a line that has no known form, or a byte that is not allowed.
     BadLine,
+    /// S3: a node's number or a node's source is given twice.
+    GivenTwice,
+    /// S4: two nodes have one id.
+    IdTwice,
+    /// S5: a link end stands in two links, or twice in a bit's line.
+    LinkEndTwice,
+    /// S6: a link joins a node to itself.
+    LinkToItself,
+    /// S7: a number outside its range.
+    NumberOutOfRange,
+    /// S8: a node has no source.
+    NodeWithoutSource,
+    /// S9: a section has no line `end`.
+    SectionNotEnded,
     /// S10: more than 4,194,304 bytes.
     TooLong,
+    /// S11: a bit of a node is given twice.
+    BitTwice,
+    /// S12: a node or a link end that no earlier line gave.
+    NoSuchNode,
 }
 
 /// The forms of the command words. See docs/OUTPUT.md.
 #[derive(Clone, Copy)]
 pub enum Form {
-    /// `run SLOTS`: a run of so many slots.
+    /// `run SLOTS`, and `run SLOTS serial` likewise: a run of so many slots.
     Run(u32),
+    /// `check`: the source of each node as its image gives it.
+    Check,
 }
 
 /// How the program ends.
@@ -72,6 +94,11 @@ pub fn worked_answers()
     ensures { WorkedAnswers }
 {}
 
+/// The same of `check`.
+pub fn worked_checks()
+    ensures { WorkedChecks }
+{}
+
 /// The same at the frame of a system text.
 pub fn worked_frames()
     ensures { WorkedFrames }
@@ -87,9 +114,10 @@ pub fn worked_runs()
     ensures { WorkedRuns }
 {}
 
-/// The same at the frames of systems of several nodes.
+/// The same at systems: the refusals of their frames, and the plans of those that are accepted.
 pub fn worked_systems_read()
-    ensures { WorkedSystems }
+    ensures refusals { WorkedRefusals }
+    ensures systems { WorkedSystems }
 {}
 
 /// The same at runs of two nodes.

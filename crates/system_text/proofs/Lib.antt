@@ -1,8 +1,8 @@
-pub mod FrameLines
+pub mod Forms
+pub mod Judged
 pub mod Sections
-pub mod PartByPart
-pub mod Checks
-pub mod FrameParts
+pub mod Walk
 pub mod Outcomes
 pub mod Plans
+pub mod Kept
 pub mod Planned

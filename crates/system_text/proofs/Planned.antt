@@ -1,25 +1,23 @@
--- The plan of a whole frame keeps what every plan keeps.
-use Rattle.std.proofs.Common.{◌≡◌, ℕ, zero, suc, ◌+◌, ◌<◌, ◌≤◌, Bool, true, false, not, ◌&&◌, ◌||◌, List, [], ◌∷◌, length, map, get_or, Option, Some, None, Ok, refl, ap, sym, ◌∙◌, subst, arith}
-use Rattle.std.specs.Prelude.{◌≢◌, ◌⊎◌, ◌==◌, nat_lt, nat_le, if◌then◌else◌, IsSome}
+-- The plan of a frame that is accepted keeps what every plan keeps.
+use Rattle.std.proofs.Common.{◌≡◌, ℕ, zero, suc, ◌+◌, ◌<◌, ◌≤◌, Bool, true, false, ◌&&◌, ◌||◌, List, [], ◌∷◌, length, map, get_or, Some, None, Ok, refl, ap, sym, ◌∙◌, subst, arith}
+use Rattle.std.specs.Prelude.{◌≢◌, ◌⊎◌, ◌==◌, nat_lt, if◌then◌else◌, IsSome}
 use Rattle.std.specs.List.{AllByRecursion, list_any}
 use Rattle.std.specs.Int.{bit_at}
 use Rattle.std.proofs.lemmas.Nat.Bits.{bit_at-zero, bit_at-suc}
 use Rattle.std.proofs.lemmas.Bool.Decides.{nat_tests}
 use Rattle.xs_instructions.specs.Image.{ImageRec}
-use Rattle.source_model.specs.Source.{assembled_lines}
+use Rattle.source_model.specs.Source.{Assembled, Image, Fault, assembled_lines}
 use Rattle.sys_plan.specs.Plan.{PlanRec, IsPlan, WaysLead, outgoing}
 use Rattle.sys_plan.specs.declared.LinkPlan.{LinkPlan}
 use Rattle.sys_plan.specs.declared.NodePlan.{NodePlan}
 use Rattle.system_model.specs.declared.frame_line.BitLine.{BitLine}
+use Rattle.system_model.specs.declared.frame_line.GivenNode.{GivenNode}
 use Rattle.system_model.specs.declared.frame_line.LinkLine.{LinkLine}
-use Rattle.system_model.specs.declared.frame_line.NodeLine.{NodeLine}
-use Rattle.system_model.specs.System.{NodeText, Framed, node_texts, by_number, node_plans, with_node_plan, node_plan, link_plan, place_of, has_node, ways_of, way, id_bits, is_frame, are_nodes, are_links, are_bits, are_numbers, all_differ}
-use Rattle.system_text.specs.Ranges.{IsLinkRanged}
-use Rattle.system_text.proofs.Plans.{node_plans-cons, node_plans-none, no_more}
-
-both : (a b : Bool) → (a && b) ≡ true → (a ≡ true) × (b ≡ true)
-both true b e = (refl, e)
-both false b e = cc
+use Rattle.system_model.specs.Frame.{SourceText, Given}
+use Rattle.system_model.specs.System.{planned, plan_before, source_of, node_plans, link_plan, place_of, ways_of, way, id_bits}
+use Rattle.system_text.specs.Kept.{IsLinkOf, AreKept, IsFrame}
+use Rattle.system_text.proofs.Kept.{no_bits}
+use Rattle.system_text.proofs.Plans.{node_plans-cons, node_plans-none}
 
 -- Ways: 1 or 0, so they name link end 0 at most
 
@@ -58,10 +56,103 @@ no_ways_lead plan node number = λ bit end h k e.
     let none : get_or (ways_of [] number) bit 0 ≡ 0 = at (λ w. w ≡ 0) refl (ways_of [] number) bit (ways_none number id_bits) in
     absurd (omega (arith, sym (ap (λ w. bit_at w end) none) ∙ e, bit_at-zero end))
 
--- Two nodes
+-- The plans of nodes whose sources stand for images
 
-abbrev pair : List BitLine → NodeText → NodeText → ImageRec → ImageRec → List NodePlan
-pair bits s t i j = node_plan bits s i ∷ node_plan bits t j ∷ []
+abbrev with_image : List BitLine → GivenNode → ImageRec → NodePlan
+with_image bits node image = record { number = node.number; id = node.id; image = image; ways = ways_of bits node.number }
+
+abbrev pair : List BitLine → GivenNode → GivenNode → ImageRec → ImageRec → List NodePlan
+pair bits m n i j = with_image bits m i ∷ with_image bits n j ∷ []
+
+of_one : (bits : List BitLine) (m : GivenNode) (a : Assembled) (plans : List NodePlan) (P : List NodePlan → Type 0) → plan_before (planned bits m a) (Ok []) ≡ Ok plans → ((i : ImageRec) → P (with_image bits m i ∷ [])) → P plans
+of_one bits m (Fault line kind) plans P e f = absurd cc
+of_one bits m (Image i) plans P e f = let same : with_image bits m i ∷ [] ≡ plans = cc in subst P same (f i)
+
+of_two : (bits : List BitLine) (m n : GivenNode) (a b : Assembled) (plans : List NodePlan) (P : List NodePlan → Type 0) → plan_before (planned bits m a) (plan_before (planned bits n b) (Ok [])) ≡ Ok plans → ((i j : ImageRec) → P (pair bits m n i j)) → P plans
+of_two bits m n (Fault line kind) b plans P e f = absurd cc
+of_two bits m n (Image i) (Fault line kind) plans P e f = absurd cc
+of_two bits m n (Image i) (Image j) plans P e f = let same : pair bits m n i j ≡ plans = cc in subst P same (f i j)
+
+abbrev source : List SourceText → GivenNode → Assembled
+source sources node = assembled_lines (source_of sources node.number)
+
+-- the plans of one node
+last_plan : (bits : List BitLine) (sources : List SourceText) (m : GivenNode) → node_plans bits sources (m ∷ []) ≡ plan_before (planned bits m (source sources m)) (Ok [])
+last_plan bits sources m = node_plans-cons bits sources m [] ∙ ap (plan_before (planned bits m (source sources m))) (node_plans-none bits sources)
+
+-- what holds of the plans of one node, or of two, for any images holds of their plans
+one_plan : (bits : List BitLine) (sources : List SourceText) (m : GivenNode) (plans : List NodePlan) (P : List NodePlan → Type 0) → node_plans bits sources (m ∷ []) ≡ Ok plans → ((i : ImageRec) → P (with_image bits m i ∷ [])) → P plans
+one_plan bits sources m plans P e f = of_one bits m (source sources m) plans P (sym (last_plan bits sources m) ∙ e) f
+
+two_plans : (bits : List BitLine) (sources : List SourceText) (m n : GivenNode) (plans : List NodePlan) (P : List NodePlan → Type 0) → node_plans bits sources (m ∷ n ∷ []) ≡ Ok plans → ((i j : ImageRec) → P (pair bits m n i j)) → P plans
+two_plans bits sources m n plans P e f =
+    of_two bits m n (source sources m) (source sources n) plans P
+    (sym (node_plans-cons bits sources m (n ∷ []) ∙ ap (plan_before (planned bits m (source sources m))) (last_plan bits sources n)) ∙ e) f
+
+-- Places
+
+-- whether a number is the greater one, as a count
+abbrev over : ℕ → ℕ → ℕ
+over number n = if nat_lt n number then 1 else 0
+
+counted : (p q : Bool) (m n : GivenNode) → length (if p then m ∷ (if q then n ∷ [] else []) else (if q then n ∷ [] else [])) ≡ (if p then 1 else 0) + (if q then 1 else 0)
+counted true true m n = refl
+counted true false m n = refl
+counted false true m n = refl
+counted false false m n = refl
+
+place_is : (m n : GivenNode) (k : ℕ) → place_of (m ∷ n ∷ []) k ≡ over k m.number + over k n.number
+place_is m n k = counted (nat_lt m.number k) (nat_lt n.number k) m n
+
+record Joins (nodes : List GivenNode) (link : LinkLine) : Type 0 where
+  pub a : place_of nodes link.a < 2
+  pub b : place_of nodes link.b < 2
+  pub apart : place_of nodes link.a ≢ place_of nodes link.b
+
+one_of : (x y k : ℕ) → ((x == k) || ((y == k) || false)) ≡ true → (x ≡ k) ⊎ (y ≡ k)
+one_of x y k e = grind (arith, nat_tests)
+
+places_apart : (x y a b : ℕ) → x ≢ y → (x ≡ a) ⊎ (y ≡ a) → (x ≡ b) ⊎ (y ≡ b) → a ≢ b → (over a x + over a y < 2) × (over b x + over b y < 2) × (over a x + over a y ≢ over b x + over b y)
+places_apart x y a b ne p q apart = (grind (arith, nat_tests), grind (arith, nat_tests), λ e. grind (arith, nat_tests))
+
+joins : (m n : GivenNode) (link : LinkLine) → m.number ≢ n.number → IsLinkOf (m ∷ n ∷ []) link → Joins (m ∷ n ∷ []) link
+joins m n link ne is =
+    let apart = places_apart m.number n.number link.a link.b ne (one_of _ _ _ is.a) (one_of _ _ _ is.b) is.apart in
+    record {
+      a = rw (place_is m n link.a) apart.0;
+      b = rw (place_is m n link.b) apart.1;
+      apart = λ same. apart.2 (sym (place_is m n link.a) ∙ (same ∙ place_is m n link.b));
+    }
+
+-- Plans by the count of their nodes
+
+none_is_plan : (plans : List NodePlan) → [] ≡ plans → IsPlan (record { nodes = plans; links = [] })
+none_is_plan [] e = record { few_nodes = omega arith; few_links = omega arith; numbers = tt; order = tt; ids = tt; links = tt; places = tt; ways = tt }
+none_is_plan (plan ∷ plans) e = absurd cc
+
+one_is_plan : (m : GivenNode) (i : ImageRec) → m.number ≤ 99 → IsPlan (record { nodes = with_image [] m i ∷ []; links = [] })
+one_is_plan m i h = record {
+  few_nodes = omega arith;
+  few_links = omega arith;
+  numbers = (omega (arith, h), tt);
+  order = tt;
+  ids = (tt, tt);
+  links = tt;
+  places = tt;
+  ways = (no_ways_lead (record { nodes = with_image [] m i ∷ []; links = [] }) 0 m.number, tt);
+}
+
+apart_is_plan : (m n : GivenNode) (i j : ImageRec) (bits : List BitLine) → AreKept (m ∷ n ∷ []) [] bits → IsPlan (record { nodes = pair [] m n i j; links = [] })
+apart_is_plan m n i j bits k = record {
+  few_nodes = omega arith;
+  few_links = omega arith;
+  numbers = (omega (arith, k.numbers.0), (omega (arith, k.numbers.1.0), tt));
+  order = k.order;
+  ids = k.ids;
+  links = tt;
+  places = tt;
+  ways = (no_ways_lead (record { nodes = pair [] m n i j; links = [] }) 0 m.number, (no_ways_lead (record { nodes = pair [] m n i j; links = [] }) 1 n.number, tt));
+}
 
 abbrev between : ℕ → ℕ → ℕ → ℕ → LinkPlan
 between a b delay gap = record { a = a; a_end = 0; b = b; b_end = 0; delay = delay; gap = gap }
@@ -74,186 +165,51 @@ some_of false false m n h = cc (h refl)
 leaves : (nodes : List NodePlan) (node a b delay gap : ℕ) → node < 2 → a < 2 → b < 2 → a ≢ b → IsSome (outgoing (record { nodes = nodes; links = between a b delay gap ∷ [] }) node 0)
 leaves nodes node a b delay gap h k l ne = some_of (a == node) (b == node) 0 1 (λ e. grind (arith, nat_tests))
 
--- two nodes by ascending number, whose ids differ
-record ArePair (s t : NodeText) : Type 0 where
-  pub order : s.number < t.number
-  pub most : t.number < 100
-  pub apart : s.id ≢ t.id
-
-apart_is_plan : (s t : NodeText) (i j : ImageRec) → ArePair s t → IsPlan (record { nodes = pair [] s t i j; links = [] })
-apart_is_plan s t i j is = record {
-  few_nodes = omega arith;
-  few_links = omega arith;
-  numbers = (omega (arith, is.order, is.most), (is.most, tt));
-  order = (is.order, tt);
-  ids = ((is.apart, tt), (tt, tt));
-  links = tt;
-  places = tt;
-  ways = (no_ways_lead (record { nodes = pair [] s t i j; links = [] }) 0 s.number, (no_ways_lead (record { nodes = pair [] s t i j; links = [] }) 1 t.number, tt));
-}
-
-joined_is_plan : (bits : List BitLine) (s t : NodeText) (i j : ImageRec) (a b : ℕ) (link : LinkLine) → ArePair s t → a < 2 → b < 2 → a ≢ b → IsLinkRanged link → IsPlan (record { nodes = pair bits s t i j; links = between a b link.delay link.gap ∷ [] })
-joined_is_plan bits s t i j a b link is h k ne ranges = record {
-  few_nodes = omega arith;
-  few_links = omega arith;
-  numbers = (omega (arith, is.order, is.most), (is.most, tt));
-  order = (is.order, tt);
-  ids = ((is.apart, tt), (tt, tt));
-  links = (record { a = h; b = k; apart = ne; a_end = omega arith; b_end = omega arith; least_delay = ranges.least_delay; most_delay = ranges.most_delay; least_gap = ranges.least_gap; most_gap = ranges.most_gap }, tt);
-  places = ((λ e. ne (ap (λ (p : ℕ × ℕ). p.0) e), tt), (tt, tt));
-  ways = (ways_lead (record { nodes = pair bits s t i j; links = between a b link.delay link.gap ∷ [] }) 0 bits s.number (leaves (pair bits s t i j) 0 a b link.delay link.gap (omega arith) h k ne), (ways_lead (record { nodes = pair bits s t i j; links = between a b link.delay link.gap ∷ [] }) 1 bits t.number (leaves (pair bits s t i j) 1 a b link.delay link.gap (omega arith) h k ne), tt));
-}
-
-with_two : (bits : List BitLine) (s t : NodeText) (o p : Option ImageRec) (plans : List NodePlan) (P : List NodePlan → Type 0) → with_node_plan bits s o (with_node_plan bits t p (Ok [])) ≡ Ok plans → ((i j : ImageRec) → P (pair bits s t i j)) → P plans
-with_two bits s t None p plans P e f = absurd cc
-with_two bits s t (Some i) None plans P e f = absurd cc
-with_two bits s t (Some i) (Some j) plans P e f = let same : pair bits s t i j ≡ plans = cc in subst P same (f i j)
-
-with_one : (bits : List BitLine) (s : NodeText) (o : Option ImageRec) (plans : List NodePlan) (P : List NodePlan → Type 0) → with_node_plan bits s o (Ok []) ≡ Ok plans → ((i : ImageRec) → P (node_plan bits s i ∷ [])) → P plans
-with_one bits s None plans P e f = absurd cc
-with_one bits s (Some i) plans P e f = let same : node_plan bits s i ∷ [] ≡ plans = cc in subst P same (f i)
-
--- what holds of the plans of two nodes for any images holds of their plans
-two_plans : (bits : List BitLine) (s t : NodeText) (plans : List NodePlan) (P : List NodePlan → Type 0) → node_plans bits (s ∷ t ∷ []) ≡ Ok plans → ((i j : ImageRec) → P (pair bits s t i j)) → P plans
-two_plans bits s t plans P e f =
-    let last : node_plans bits (t ∷ []) ≡ with_node_plan bits t (assembled_lines t.source) (Ok []) = node_plans-cons bits t [] ∙ ap (with_node_plan bits t (assembled_lines t.source)) (node_plans-none bits) in
-    with_two bits s t (assembled_lines s.source) (assembled_lines t.source) plans P (sym (node_plans-cons bits s (t ∷ []) ∙ ap (with_node_plan bits s (assembled_lines s.source)) last) ∙ e) f
-
-one_plan : (bits : List BitLine) (s : NodeText) (plans : List NodePlan) (P : List NodePlan → Type 0) → node_plans bits (s ∷ []) ≡ Ok plans → ((i : ImageRec) → P (node_plan bits s i ∷ [])) → P plans
-one_plan bits s plans P e f =
-    with_one bits s (assembled_lines s.source) plans P (sym (node_plans-cons bits s [] ∙ ap (with_node_plan bits s (assembled_lines s.source)) (node_plans-none bits)) ∙ e) f
-
--- Places
-
--- whether a number is the greater one, as a count
-abbrev over : ℕ → ℕ → ℕ
-over number n = if nat_lt n number then 1 else 0
-
-counted : (p q : Bool) (m n : NodeLine) → length (if p then m ∷ (if q then n ∷ [] else []) else (if q then n ∷ [] else [])) ≡ (if p then 1 else 0) + (if q then 1 else 0)
-counted true true m n = refl
-counted true false m n = refl
-counted false true m n = refl
-counted false false m n = refl
-
-place_is : (m n : NodeLine) (k : ℕ) → place_of (m ∷ n ∷ []) k ≡ over k m.number + over k n.number
-place_is m n k = counted (nat_lt m.number k) (nat_lt n.number k) m n
-
-record Joins (nodes : List NodeLine) (link : LinkLine) : Type 0 where
-  pub a : place_of nodes link.a < 2
-  pub b : place_of nodes link.b < 2
-  pub apart : place_of nodes link.a ≢ place_of nodes link.b
-
-one_of : (x y k : ℕ) → ((x == k) || ((y == k) || false)) ≡ true → (x ≡ k) ⊎ (y ≡ k)
-one_of x y k e = grind (arith, nat_tests)
-
-not_same : (x y : ℕ) → not (x == y) ≡ true → x ≢ y
-not_same x y e = grind (arith, nat_tests)
-
-places_apart : (x y a b : ℕ) → x ≢ y → (x ≡ a) ⊎ (y ≡ a) → (x ≡ b) ⊎ (y ≡ b) → a ≢ b → (over a x + over a y < 2) × (over b x + over b y < 2) × (over a x + over a y ≢ over b x + over b y)
-places_apart x y a b ne p q apart = (grind (arith, nat_tests), grind (arith, nat_tests), λ e. grind (arith, nat_tests))
-
-joins : (m n : NodeLine) (link : LinkLine) → m.number ≢ n.number → (has_node (m ∷ n ∷ []) link.a && (has_node (m ∷ n ∷ []) link.b && not (link.a == link.b))) ≡ true → Joins (m ∷ n ∷ []) link
-joins m n link ne e =
-    let ends = both (has_node (m ∷ n ∷ []) link.a) _ e in
-    let rest = both (has_node (m ∷ n ∷ []) link.b) _ ends.1 in
-    let is = places_apart m.number n.number link.a link.b ne (one_of _ _ _ ends.0) (one_of _ _ _ rest.0) (not_same _ _ rest.1) in
+joined_is_plan : (bits : List BitLine) (m n : GivenNode) (i j : ImageRec) (link : LinkLine) → AreKept (m ∷ n ∷ []) (link ∷ []) bits → Joins (m ∷ n ∷ []) link → IsPlan (record { nodes = pair bits m n i j; links = link_plan (m ∷ n ∷ []) link ∷ [] })
+joined_is_plan bits m n i j link k ends =
+    let a = place_of (m ∷ n ∷ []) link.a in
+    let b = place_of (m ∷ n ∷ []) link.b in
+    let plan : PlanRec = record { nodes = pair bits m n i j; links = between a b link.delay link.gap ∷ [] } in
+    let good = k.links.0 in
     record {
-      a = rw (place_is m n link.a) is.0;
-      b = rw (place_is m n link.b) is.1;
-      apart = λ same. is.2 (sym (place_is m n link.a) ∙ (same ∙ place_is m n link.b));
-    }
-
--- Whole frames
-
-no_bits : (bits : List BitLine) (rest : Bool) → (((length bits == 0) || not (0 == 0)) && rest) ≡ true → bits ≡ []
-no_bits bits rest e = no_more bits (grind (arith, nat_tests))
-
-one_link : (link more : LinkLine) (links : List LinkLine) (rest : Bool) → (nat_le (length (link ∷ more ∷ links)) 1 && rest) ≡ true → ⊥
-one_link link more links rest e = grind (arith, nat_tests)
-
--- the plan of two nodes in order
-pair_is_plan : (nodes : List NodeLine) (s t : NodeText) (links : List LinkLine) (bits : List BitLine) (i j : ImageRec) → ArePair s t → ((link : LinkLine) → (has_node nodes link.a && (has_node nodes link.b && not (link.a == link.b))) ≡ true → Joins nodes link) → are_links nodes links ≡ true → are_bits nodes links bits ≡ true → AllByRecursion IsLinkRanged links → IsPlan (record { nodes = pair bits s t i j; links = map (link_plan nodes) links })
-pair_is_plan nodes s t [] bits i j is join e f ranges =
-    subst (λ bs. IsPlan (record { nodes = pair bs s t i j; links = [] })) (sym (no_bits bits _ f)) (apart_is_plan s t i j is)
-pair_is_plan nodes s t (link ∷ []) bits i j is join e f ranges =
-    let ends = join link (both _ true e).0 in
-    joined_is_plan bits s t i j (place_of nodes link.a) (place_of nodes link.b) link is ends.a ends.b ends.apart ranges.0
-pair_is_plan nodes s t (link ∷ more ∷ links) bits i j is join e f ranges = absurd (one_link link more links _ e)
-
-alone : (x a b : ℕ) → ((x == a) || false) ≡ true → ((x == b) || false) ≡ true → not (a == b) ≡ true → ⊥
-alone x a b p q r = grind (arith, nat_tests)
-
-one_is_plan : (node : NodeLine) (s : NodeText) (links : List LinkLine) (bits : List BitLine) (i : ImageRec) → s.number < 100 → are_links (node ∷ []) links ≡ true → are_bits (node ∷ []) links bits ≡ true → IsPlan (record { nodes = node_plan bits s i ∷ []; links = map (link_plan (node ∷ [])) links })
-one_is_plan node s [] bits i most e f =
-    subst (λ bs. IsPlan (record { nodes = node_plan bs s i ∷ []; links = [] })) (sym (no_bits bits _ f)) (record {
       few_nodes = omega arith;
       few_links = omega arith;
-      numbers = (most, tt);
-      order = tt;
-      ids = (tt, tt);
-      links = tt;
-      places = tt;
-      ways = (no_ways_lead (record { nodes = node_plan [] s i ∷ []; links = [] }) 0 s.number, tt);
-    })
-one_is_plan node s (link ∷ []) bits i most e f =
-    let ends = both (has_node (node ∷ []) link.a) _ (both _ true e).0 in
-    let rest = both (has_node (node ∷ []) link.b) _ ends.1 in
-    absurd (alone node.number link.a link.b ends.0 rest.0 rest.1)
-one_is_plan node s (link ∷ more ∷ links) bits i most e f = absurd (one_link link more links _ e)
+      numbers = (omega (arith, k.numbers.0), (omega (arith, k.numbers.1.0), tt));
+      order = k.order;
+      ids = k.ids;
+      links = (record { a = ends.a; b = ends.b; apart = ends.apart; a_end = omega arith; b_end = omega arith; least_delay = good.least_delay; most_delay = good.most_delay; least_gap = good.least_gap; most_gap = good.most_gap }, tt);
+      places = ((λ e. ends.apart (ap (λ (p : ℕ × ℕ). p.0) e), tt), (tt, tt));
+      ways = (ways_lead plan 0 bits m.number (leaves (pair bits m n i j) 0 a b link.delay link.gap (omega arith) ends.a ends.b ends.apart), (ways_lead plan 1 bits n.number (leaves (pair bits m n i j) 1 a b link.delay link.gap (omega arith) ends.a ends.b ends.apart), tt));
+    }
 
-numbers_count : (nodes : List NodeLine) (numbers : List ℕ) → are_numbers nodes numbers ≡ true → length numbers ≡ length nodes
-numbers_count [] [] e = refl
-numbers_count [] (n ∷ numbers) e = cc
-numbers_count (node ∷ nodes) [] e = cc
-numbers_count (node ∷ nodes) (n ∷ numbers) e = ap suc (numbers_count nodes numbers (both (node.number == n) _ e).1)
+alone : (x a b : ℕ) → ((x == a) || false) ≡ true → ((x == b) || false) ≡ true → a ≢ b → ⊥
+alone x a b p q r = grind (arith, nat_tests)
 
-differ : (x y : ℕ) (rest : Bool) → (not ((x == y) || false) && rest) ≡ true → x ≢ y
-differ x y rest e = grind (arith, nat_tests)
+-- without links there are no bits
+without_bits : (nodes : List GivenNode) (bits : List BitLine) (P : List BitLine → Type 0) → AreKept nodes [] bits → P [] → P bits
+without_bits nodes bits P k p = subst P (sym (no_bits bits k.bits)) p
 
-two_is_plan : (m n : NodeLine) (x y : List (List ℕ)) (links : List LinkLine) (bits : List BitLine) (plans : List NodePlan) (less : Bool) → nat_lt m.number n.number ≡ less → m.number < 100 → n.number < 100 → m.number ≢ n.number → m.id ≢ n.id → are_links (m ∷ n ∷ []) links ≡ true → are_bits (m ∷ n ∷ []) links bits ≡ true → AllByRecursion IsLinkRanged links → node_plans bits (by_number (node_texts (m ∷ n ∷ []) (x ∷ y ∷ []))) ≡ Ok plans → IsPlan (record { nodes = plans; links = map (link_plan (m ∷ n ∷ [])) links })
-two_is_plan m n x y links bits plans true less p q ne apart e f ranges h =
-    let s : NodeText = record { number = m.number; id = m.id; source = x } in
-    let t : NodeText = record { number = n.number; id = n.id; source = y } in
-    let is : ArePair s t = record { order = grind (arith, nat_tests); most = q; apart = apart } in
-    two_plans bits s t plans (λ ps. IsPlan (record { nodes = ps; links = map (link_plan (m ∷ n ∷ [])) links })) (rw less at h)
-    (λ i j. pair_is_plan (m ∷ n ∷ []) s t links bits i j is (λ link. joins m n link ne) e f ranges)
-two_is_plan m n x y links bits plans false less p q ne apart e f ranges h =
-    let s : NodeText = record { number = n.number; id = n.id; source = y } in
-    let t : NodeText = record { number = m.number; id = m.id; source = x } in
-    let is : ArePair s t = record { order = grind (arith, nat_tests); most = p; apart = λ same. apart (sym same) } in
-    two_plans bits s t plans (λ ps. IsPlan (record { nodes = ps; links = map (link_plan (m ∷ n ∷ [])) links })) (rw less at h)
-    (λ i j. pair_is_plan (m ∷ n ∷ []) s t links bits i j is (λ link. joins m n link ne) e f ranges)
+below : (m n : ℕ) → m < n → m ≢ n
+below m n h e = omega (arith, h, e)
 
-few_nodes : (m n o : NodeLine) (nodes : List NodeLine) (rest : Bool) → ((nat_le 1 (length (m ∷ n ∷ o ∷ nodes)) && nat_le (length (m ∷ n ∷ o ∷ nodes)) 2) && rest) ≡ true → ⊥
-few_nodes m n o nodes rest e = grind (arith, nat_tests)
+kept_plan : (nodes : List GivenNode) (links : List LinkLine) (bits : List BitLine) (sources : List SourceText) (plans : List NodePlan) → AreKept nodes links bits → node_plans bits sources nodes ≡ Ok plans → IsPlan (record { nodes = plans; links = map (link_plan nodes) links })
+kept_plan [] [] bits sources plans k e = none_is_plan plans (let is : Ok [] ≡ Ok plans = sym (node_plans-none bits sources) ∙ e in cc)
+kept_plan [] (link ∷ links) bits sources plans k e = absurd (let none = k.links.0.a in cc)
+kept_plan (m ∷ []) [] bits sources plans k e =
+    one_plan bits sources m plans (λ ps. IsPlan (record { nodes = ps; links = [] })) e
+    (λ i. without_bits (m ∷ []) bits (λ bs. IsPlan (record { nodes = with_image bs m i ∷ []; links = [] })) k (one_is_plan m i k.numbers.0))
+kept_plan (m ∷ []) (link ∷ links) bits sources plans k e = absurd (alone m.number link.a link.b k.links.0.a k.links.0.b k.links.0.apart)
+kept_plan (m ∷ n ∷ []) [] bits sources plans k e =
+    two_plans bits sources m n plans (λ ps. IsPlan (record { nodes = ps; links = [] })) e
+    (λ i j. without_bits (m ∷ n ∷ []) bits (λ bs. IsPlan (record { nodes = pair bs m n i j; links = [] })) k (apart_is_plan m n i j bits k))
+kept_plan (m ∷ n ∷ []) (link ∷ []) bits sources plans k e =
+    two_plans bits sources m n plans (λ ps. IsPlan (record { nodes = ps; links = link_plan (m ∷ n ∷ []) link ∷ [] })) e
+    (λ i j. joined_is_plan bits m n i j link k (joins m n link (below m.number n.number k.order.0) k.links.0))
+kept_plan (m ∷ n ∷ []) (link ∷ more ∷ links) bits sources plans k e = absurd (let few = k.few_links in omega (arith, few))
+kept_plan (m ∷ n ∷ o ∷ nodes) links bits sources plans k e = absurd (let few = k.few_nodes in omega (arith, few))
 
-of_lines : (nodes : List NodeLine) (links : List LinkLine) (bits : List BitLine) (sources : List (List (List ℕ))) (plans : List NodePlan) → are_nodes nodes ≡ true → are_links nodes links ≡ true → are_bits nodes links bits ≡ true → length sources ≡ length nodes → AllByRecursion (λ (node : NodeLine). node.number < 100) nodes → AllByRecursion IsLinkRanged links → node_plans bits (by_number (node_texts nodes sources)) ≡ Ok plans → IsPlan (record { nodes = plans; links = map (link_plan nodes) links })
-of_lines [] links bits sources plans d e f same numbers ranges h = absurd (grind (arith, nat_tests))
-of_lines (m ∷ []) links bits [] plans d e f same numbers ranges h = absurd (omega (arith, same))
-of_lines (m ∷ []) links bits (x ∷ []) plans d e f same numbers ranges h =
-    let s : NodeText = record { number = m.number; id = m.id; source = x } in
-    one_plan bits s plans (λ ps. IsPlan (record { nodes = ps; links = map (link_plan (m ∷ [])) links })) h (λ i. one_is_plan m s links bits i numbers.0 e f)
-of_lines (m ∷ []) links bits (x ∷ y ∷ sources) plans d e f same numbers ranges h = absurd (omega (arith, same))
-of_lines (m ∷ n ∷ []) links bits [] plans d e f same numbers ranges h = absurd (omega (arith, same))
-of_lines (m ∷ n ∷ []) links bits (x ∷ []) plans d e f same numbers ranges h = absurd (omega (arith, same))
-of_lines (m ∷ n ∷ []) links bits (x ∷ y ∷ []) plans d e f same numbers ranges h =
-    let tests = both (all_differ (λ (m n : NodeLine). m.number == n.number) (m ∷ n ∷ [])) _ d in
-    two_is_plan m n x y links bits plans (nat_lt m.number n.number) refl numbers.0 numbers.1.0 (differ _ _ _ tests.0) (differ _ _ _ tests.1) e f ranges h
-of_lines (m ∷ n ∷ []) links bits (x ∷ y ∷ z ∷ sources) plans d e f same numbers ranges h = absurd (omega (arith, same))
-of_lines (m ∷ n ∷ o ∷ nodes) links bits sources plans d e f same numbers ranges h = absurd (few_nodes m n o nodes _ d)
-
--- the plans of the nodes of a whole frame and of its links are a plan
-is_plan : (frame : Framed) (plans : List NodePlan) → is_frame frame ≡ true → length frame.sources ≡ length frame.numbers → AllByRecursion (λ (node : NodeLine). node.number < 100) frame.nodes → AllByRecursion IsLinkRanged frame.links → node_plans frame.bits (by_number (node_texts frame.nodes frame.sources)) ≡ Ok plans → IsPlan (record { nodes = plans; links = map (link_plan frame.nodes) frame.links })
-is_plan frame plans e same numbers ranges h =
-    let nodes = both (are_nodes frame.nodes) _ e in
-    let links = both (are_links frame.nodes frame.links) _ nodes.1 in
-    let bits = both (are_bits frame.nodes frame.links frame.bits) _ links.1 in
-    of_lines frame.nodes frame.links frame.bits frame.sources plans nodes.0 links.0 bits.0 (same ∙ numbers_count frame.nodes frame.numbers bits.1) numbers ranges h
-
--- the same by the steps of its reader
-pub read_is_plan : {T S : Type 0} (frame : Framed) (nodes again : List NodeLine) (links : List LinkLine) (bits : List BitLine) (text : T → NodeText) (texts given : List T) (source : S → List (List ℕ)) (sources : List S) (plans : List NodePlan) (joined : List LinkPlan) → is_frame frame ≡ true → nodes ≡ frame.nodes → again ≡ frame.nodes → links ≡ frame.links → bits ≡ frame.bits → map source sources ≡ frame.sources → map text texts ≡ by_number (node_texts nodes (map source sources)) → given ≡ texts → node_plans bits (map text given) ≡ Ok plans → joined ≡ map (link_plan again) links → length frame.sources ≡ length frame.numbers → AllByRecursion (λ (node : NodeLine). node.number < 100) frame.nodes → AllByRecursion IsLinkRanged frame.links → IsPlan (record { nodes = plans; links = joined })
-read_is_plan frame nodes again links bits text texts given source sources plans joined whole n m l b s t g p j same numbers ranges =
-    let in_order : map text given ≡ by_number (node_texts frame.nodes frame.sources) = ap (map text) g ∙ (t ∙ (ap (λ ns. by_number (node_texts ns (map source sources))) n ∙ ap (λ ss. by_number (node_texts frame.nodes ss)) s)) in
-    let all : node_plans frame.bits (by_number (node_texts frame.nodes frame.sources)) ≡ Ok plans = sym (ap (λ bs. node_plans bs (map text given)) b ∙ ap (node_plans frame.bits) in_order) ∙ p in
-    let links_are : map (link_plan frame.nodes) frame.links ≡ joined = sym (j ∙ (ap (λ ns. map (link_plan ns) links) m ∙ ap (map (link_plan frame.nodes)) l)) in
-    subst (λ ls. IsPlan (record { nodes = plans; links = ls })) links_are (is_plan frame plans whole same numbers ranges all)
+-- the plans of the nodes and the links of a frame that is accepted
+pub frame_plan : (given : Given) (nodes : List GivenNode) (links : List LinkLine) (plans : List NodePlan) (joined : List LinkPlan) → IsFrame given → nodes ≡ given.nodes → links ≡ given.links → node_plans given.bits given.sources given.nodes ≡ Ok plans → joined ≡ map (link_plan nodes) links → IsPlan (record { nodes = plans; links = joined })
+frame_plan given nodes links plans joined k n l e j =
+    let same : map (link_plan given.nodes) given.links ≡ joined = sym (j ∙ (ap (λ ns. map (link_plan ns) links) n ∙ ap (map (link_plan given.nodes)) l)) in
+    subst (λ ls. IsPlan (record { nodes = plans; links = ls })) same (kept_plan given.nodes given.links given.bits given.sources plans k e)

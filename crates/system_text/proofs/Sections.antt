@@ -1,26 +1,28 @@
 -- A section of the text, read line by line.
-use Rattle.std.proofs.Common.{◌≡◌, ℕ, ◌-◌, ◌≤◌, true, false, List, [], ◌∷◌, ◌++◌, length, Option, Some, None, refl, ap, sym, ◌∙◌, cond, subst, arith, append_assoc, append-nil, take, drop, length-drop}
-use Rattle.std.specs.Prelude.{option_and_then}
+use Rattle.std.proofs.Common.{◌≡◌, ℕ, ◌-◌, ◌≤◌, true, false, List, [], ◌∷◌, ◌++◌, length, Option, Some, None, refl, ap, sym, ◌∙◌, cond, subst, arith, append_assoc, append-nil, take, drop, length-drop, length-append, ◌+◌}
+use Rattle.std.specs.Prelude.{option_map}
 use Rattle.std.specs.List.{slice_range}
 use Rattle.std.proofs.lemmas.Bool.{cond-true, cond-false}
 use Rattle.std.proofs.lemmas.List.{length-take}
-use Rattle.xs_text.specs.Bytes.{all_allowed}
 use Rattle.xs_text.specs.Lines.{lines_of, line_bytes, IsLineOfParts}
 use Rattle.xs_text.specs.declared.line_reader.Line.{Line}
-use Rattle.system_model.specs.System.{is_end}
-use Rattle.system_text.specs.Parts.{Section, section_of, with_line}
-use Rattle.system_text.proofs.FrameLines.{lines_of-nothing}
+use Rattle.system_model.specs.FrameLines.{is_end}
+use Rattle.system_text.specs.Sections.{Section, section_of, with_line}
 
 -- lines put in front of a section
 abbrev pub with_front : List (List ℕ) → Option Section → Option Section
 with_front front None = None
-with_front front (Some section) = Some (record { lines = front ++ section.lines; rest = section.rest })
+with_front front (Some section) = Some (record section { lines = front ++ section.lines })
 
-pub section_of-cons : (l : List ℕ) (ls : List (List ℕ)) → section_of (l ∷ ls) ≡ cond (is_end l) (cond (all_allowed l) (Some (record { lines = []; rest = ls })) None) (option_and_then (λ section. Some (with_line l section)) (section_of ls))
+pub lines_of-nothing : (text : List ℕ) → text ≡ [] → lines_of text ≡ []
+unfolding lines_of
+lines_of-nothing text e = ap lines_of e
+
+pub section_of-cons : (l : List ℕ) (ls : List (List ℕ)) → section_of (l ∷ ls) ≡ cond (is_end l) (Some (record { lines = []; end = l; rest = ls })) (option_map (with_line l) (section_of ls))
 unfolding section_of
 section_of-cons l ls = refl
 
-section_of-none : section_of [] ≡ None
+pub section_of-none : section_of [] ≡ None
 unfolding section_of
 section_of-none = refl
 
@@ -28,9 +30,9 @@ with_front-none : (o : Option Section) → with_front [] o ≡ o
 with_front-none None = refl
 with_front-none (Some section) = refl
 
-with_front-more : (front : List (List ℕ)) (l : List ℕ) (o : Option Section) → with_front front (option_and_then (λ section. Some (with_line l section)) o) ≡ with_front (front ++ l ∷ []) o
+with_front-more : (front : List (List ℕ)) (l : List ℕ) (o : Option Section) → with_front front (option_map (with_line l) o) ≡ with_front (front ++ l ∷ []) o
 with_front-more front l None = refl
-with_front-more front l (Some section) = ap (λ (ls : List (List ℕ)). Some (record { lines = ls; rest = section.rest })) (sym (append_assoc front (l ∷ []) section.lines))
+with_front-more front l (Some section) = ap (λ (ls : List (List ℕ)). Some (record section { lines = ls })) (sym (append_assoc front (l ∷ []) section.lines))
 
 -- The section that begins at `first`, where `line` was read last and `left` is still to be read from `at` on.
 pub record SectionSoFar (text : List ℕ) (first : ℕ) (line : Line) (at : ℕ) (left : List (List ℕ)) (whole : Option Section) : Type 0 where
@@ -95,19 +97,26 @@ pub section_open : (text : List ℕ) (first : ℕ) (line : Line) (at : ℕ) (lef
 section_open text first line at left whole h goes_on is =
     let l = line_bytes text line in
     sym h.found ∙ ap (λ o. with_front (lines_of (slice_range text first line.from)) o)
-    (section_of-cons l left ∙ (cond-false _ _ _ goes_on ∙ ap (λ o. option_and_then (λ section. Some (with_line l section)) o) (ap section_of is ∙ section_of-none)))
+    (section_of-cons l left ∙ (cond-false _ _ _ goes_on ∙ ap (λ o. option_map (with_line l) o) (ap section_of is ∙ section_of-none)))
 
 -- the line that ends it
-pub section_done : (text : List ℕ) (first : ℕ) (line : Line) (at : ℕ) (left : List (List ℕ)) (whole : Option Section) → SectionSoFar text first line at left whole → is_end (line_bytes text line) ≡ true → all_allowed (line_bytes text line) ≡ true → whole ≡ Some (record { lines = lines_of (slice_range text first line.from); rest = left })
-section_done text first line at left whole h ends allowed =
+pub section_done : (text : List ℕ) (first : ℕ) (line : Line) (at : ℕ) (left : List (List ℕ)) (whole : Option Section) → SectionSoFar text first line at left whole → is_end (line_bytes text line) ≡ true → whole ≡ Some (record { lines = lines_of (slice_range text first line.from); end = line_bytes text line; rest = left })
+section_done text first line at left whole h ends =
     let front = lines_of (slice_range text first line.from) in
-    sym h.found ∙ (ap (λ o. with_front front o) (section_of-cons (line_bytes text line) left ∙ (cond-true _ _ _ ends ∙ cond-true _ _ _ allowed))
-    ∙ ap (λ (ls : List (List ℕ)). Some (record { lines = ls; rest = left })) (append-nil front))
+    sym h.found ∙ (ap (λ o. with_front front o) (section_of-cons (line_bytes text line) left ∙ cond-true _ _ _ ends)
+    ∙ ap (λ (ls : List (List ℕ)). Some (record { lines = ls; end = line_bytes text line; rest = left })) (append-nil front))
 
-pub section_refused : (text : List ℕ) (first : ℕ) (line : Line) (at : ℕ) (left : List (List ℕ)) (whole : Option Section) → SectionSoFar text first line at left whole → is_end (line_bytes text line) ≡ true → all_allowed (line_bytes text line) ≡ false → whole ≡ None
-section_refused text first line at left whole h ends refused =
-    sym h.found ∙ ap (λ o. with_front (lines_of (slice_range text first line.from)) o)
-    (section_of-cons (line_bytes text line) left ∙ (cond-true _ _ _ ends ∙ cond-false _ _ _ refused))
+-- The number of a line of the section, which begins at `first` after `start` lines.
+abbrev pub IsCounted : List ℕ → ℕ → ℕ → Line → Type 0
+IsCounted text start first line = line.number ≡ start + length (lines_of (slice_range text first line.from)) + 1
+
+pub counted_first : (text : List ℕ) (start : ℕ) (line : Line) → line.number ≡ start + 1 → IsCounted text start line.from line
+counted_first text start line h = rw (no_lines text line.from) (omega (arith, h))
+
+pub counted_next : (text : List ℕ) (start first : ℕ) (line next : Line) (at : ℕ) (left : List (List ℕ)) (whole : Option Section) → SectionSoFar text first line at left whole → IsCounted text start first line → next.from ≡ at → next.number ≡ line.number + 1 → IsCounted text start first next
+counted_next text start first line next at left whole h counted begins number =
+    rw (begins, front_more text first line at left whole h)
+    (omega (arith, counted, number, length-append (lines_of (slice_range text first line.from)) (line_bytes text line ∷ [])))
 
 -- the line as the code takes it from the text
 pub line_in_text : (text other : List ℕ) (line : Line) (left after : List (List ℕ)) → other ≡ text → left ≡ line_bytes other line ∷ after → left ≡ line_bytes text line ∷ after

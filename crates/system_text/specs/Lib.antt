@@ -1,5 +1,7 @@
+pub mod Forms
 pub mod Ranges
+pub mod Judged
+pub mod Sections
 pub mod Reads
-pub mod Parts
-pub mod Frames
+pub mod Kept
 pub mod Plans

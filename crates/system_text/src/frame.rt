@@ -1,52 +1,69 @@
-ghost use Rattle.std.specs.Prelude.{◌≡◌, ◌<◌, length, map, OnOk};
-ghost use Rattle.std.specs.List.{AllByRecursion};
+ghost use Rattle.std.specs.Prelude.{◌≡◌, ◌≤◌, ℕ, true, false, ◌==◌, ◌||◌, ◌&&◌, nat_lt, None, [], length, option_map, OnOk};
+ghost use Rattle.std.specs.List.{list_any, prefix_len};
 ghost use Rattle.xs_text.specs.Lines.{lines_of};
-ghost use Rattle.system_model.specs.System.{is_frame};
-ghost use Rattle.system_text.specs.Frames.{no_lines, added};
-ghost use Rattle.system_text.specs.Ranges.{IsRanged, IsShort, IsLinkRanged};
+ghost use Rattle.xs_text.specs.Words.{words_of_line};
+ghost use Rattle.system_model.specs.Frame.{Given, Form, nothing_given, is_empty, has_node, has_link_end, has_source, given_with, without_source};
+ghost use Rattle.system_model.specs.System.{source_of};
+ghost use Rattle.system_text.specs.Judged.{Judges, said_by, later_fault, with_source};
+ghost use Rattle.system_text.specs.Ranges.{IsShort};
 
-use crate::frame_checks::{are_bits, are_links, are_nodes, are_numbers};
-use crate::parts::Part;
+use crate::frame_lines::frame_line;
+use crate::words::{is_empty, is_header};
 use std::alloc::{AllocError, Global};
 use std::marker::Model;
-use system_model::{BitLine, FrameLine, LinkLine, NodeLine};
+use system_model::{BitLine, FrameLine, GivenNode, LinkLine, NodeLine, SysKind};
+use xs_text::all_allowed;
 
-// A source: the number in the line that begins it, and the part of the text that it is.
+// What a line of the frame without a fault says.
+#[derive(Clone, Copy)]
+pub enum Said {
+    // It has no words.
+    Blank,
+    // It is `xs1 1`, the first line with words.
+    Header,
+    Form(FrameLine),
+}
+
+// A source that has ended: the number of its node, the number of the line that begins it, and its part of the text.
 #[derive(Clone, Copy)]
 pub struct Source<'a> {
     pub number: u8,
+    pub line: u32,
     pub text: &'a [u8],
 }
 
-// The lines of a frame by their forms, each in the order of the text.
+// What the lines so far have given: the nodes by ascending number, and the rest in the order of the lines. No
+// source is being read.
 #[derive(Drop)]
 pub struct Frame<'a> {
-    nodes: Vec<NodeLine>,
+    begun: bool,
+    nodes: Vec<GivenNode>,
     links: Vec<LinkLine>,
     bits: Vec<BitLine>,
     sources: Vec<Source<'a>>,
 }
 
 impl<'a> Model for Frame<'a> {
-    ghost use Rattle.std.specs.Prelude.{◌<◌, map};
+    ghost use Rattle.std.specs.Prelude.{map, None};
     ghost use Rattle.std.specs.List.{AllByRecursion};
     ghost use Rattle.xs_text.specs.Lines.{lines_of};
-    ghost use Rattle.system_model.specs.System.{Framed};
-    ghost use Rattle.system_text.specs.Ranges.{IsLinkRanged, IsShort};
+    ghost use Rattle.system_model.specs.Frame.{Given};
+    ghost use Rattle.system_text.specs.Ranges.{IsShort};
 
-    ghost Value = { Framed };
+    ghost Value = { Given };
 
-    ghost view = { λ f. record { nodes = f.nodes.items; links = f.links.items; bits = f.bits.items; numbers = map (λ s. s.number) f.sources.items; sources = map (λ s. lines_of s.text.now) f.sources.items } };
+    ghost view = { λ f. record { begun = f.begun; nodes = f.nodes.items; links = f.links.items; bits = f.bits.items; sources = map (λ s. record { number = s.number; line = s.line; lines = lines_of s.text.now }) f.sources.items; reading = None } };
 
-    ghost invariant = { λ f. AllByRecursion (λ node. node.number < 100) f.nodes.items × AllByRecursion IsLinkRanged f.links.items × AllByRecursion (λ s. IsShort s.text.now) f.sources.items };
+    ghost invariant = { λ f. AllByRecursion (λ s. IsShort s.text.now) f.sources.items };
 }
 
 impl<'a> Frame<'a> {
-    // A frame without lines.
+    // Before the first line.
     pub fn new(alloc: Global) -> Frame<'a>
-        ensures { result ≡ no_lines }
+        ensures { result ≡ nothing_given }
     {
         Frame {
+            begun: false,
             nodes: Vec::new(alloc),
             links: Vec::new(alloc),
             bits: Vec::new(alloc),
@@ -54,45 +71,196 @@ impl<'a> Frame<'a> {
         }
     }
 
-    // One more line, with the source that it begins.
-    pub fn add(&mut self, part: Part<'a>) -> Result<(), AllocError>
-        requires ranges { IsRanged part.line }
-        requires short { IsShort part.section.now }
-        ensures added { OnOk result (self.new ≡ added self.old part.entry.line (lines_of part.entry.section.now)) }
+    // What a line says, or its fault.
+    pub fn judge(&self, line: &[u8]) -> Result<Said, SysKind>
+        ensures { Judges self.now line.now result }
     {
-        match part.line {
-            FrameLine::Header => {}
-            FrameLine::Node(node) => self.nodes.push(node)?,
-            FrameLine::Link(link) => self.links.push(link)?,
-            FrameLine::Bit(bit) => self.bits.push(bit)?,
-            FrameLine::Source(number) => self.sources.push(Source {
-                number,
-                text: part.section,
-            })?,
+        let begun = self.begun;
+        if is_empty(line) {
+            judge_blank(line)
+        } else if begun {
+            self.judge_form(line)
+        } else {
+            judge_first(line)
+        }
+    }
+
+    // The same of a line with words after the first such line.
+    fn judge_form(&self, line: &[u8]) -> Result<Said, SysKind>
+        requires begun { self.now.begun ≡ true }
+        requires outside { self.now.reading ≡ None }
+        requires words { is_empty (words_of_line line.now) ≡ false }
+        ensures { Judges self.now line.now result }
+    {
+        if !all_allowed(line) {
+            return Err(SysKind::BadLine);
+        }
+        match frame_line(line, self.nodes().len() < 2, self.links().is_empty()) {
+            Ok(form) => match self.fault(form) {
+                Some(kind) => Err(kind),
+                None => Ok(Said::Form(form)),
+            },
+            Err(kind) => Err(kind),
+        }
+    }
+
+    // What the lines before it have against a line whose form and numbers are good.
+    fn fault(&self, form: FrameLine) -> Option<SysKind>
+        ensures { result ≡ later_fault self.now form }
+    {
+        match form {
+            FrameLine::Node(node) => self.node_fault(node),
+            FrameLine::Link(link) => self.link_fault(link),
+            FrameLine::Bit(bit) => self.bit_fault(bit),
+            FrameLine::Source(number) => self.source_fault(number),
+        }
+    }
+
+    fn node_fault(&self, node: NodeLine) -> Option<SysKind>
+        ensures { result ≡ later_fault self.now (FrameLine.Node node) }
+    {
+        if self.has_node(node.number) {
+            Some(SysKind::GivenTwice)
+        } else if self.has_id(node.id) {
+            Some(SysKind::IdTwice)
+        } else {
+            None
+        }
+    }
+
+    fn link_fault(&self, link: LinkLine) -> Option<SysKind>
+        ensures { result ≡ later_fault self.now (FrameLine.Link link) }
+    {
+        if !(self.has_node(link.a) && self.has_node(link.b)) {
+            Some(SysKind::NoSuchNode)
+        } else if link.a == link.b {
+            Some(SysKind::LinkToItself)
+        } else if self.has_link_end(link.a) || self.has_link_end(link.b) {
+            Some(SysKind::LinkEndTwice)
+        } else {
+            None
+        }
+    }
+
+    fn bit_fault(&self, bit: BitLine) -> Option<SysKind>
+        ensures { result ≡ later_fault self.now (FrameLine.Bit bit) }
+    {
+        if !(self.has_node(bit.node) && self.has_link_end(bit.node)) {
+            Some(SysKind::NoSuchNode)
+        } else if self.has_bit(bit) {
+            Some(SysKind::BitTwice)
+        } else {
+            None
+        }
+    }
+
+    fn source_fault(&self, number: u8) -> Option<SysKind>
+        ensures { result ≡ later_fault self.now (FrameLine.Source number) }
+    {
+        if !self.has_node(number) {
+            Some(SysKind::NoSuchNode)
+        } else if self.has_source(number) {
+            Some(SysKind::GivenTwice)
+        } else {
+            None
+        }
+    }
+
+    fn has_node(&self, number: u8) -> bool
+        ensures { result ≡ has_node self.now.nodes number }
+    {
+        self.nodes.iter().any(|node| node.number == number)
+    }
+
+    fn has_id(&self, id: u16) -> bool
+        ensures { result ≡ list_any (λ node. node.id == id) self.now.nodes }
+    {
+        self.nodes.iter().any(|node| node.id == id)
+    }
+
+    // Whether link end 0 of a node is in a link.
+    fn has_link_end(&self, number: u8) -> bool
+        ensures { result ≡ has_link_end self.now.links number }
+    {
+        self.links
+            .iter()
+            .any(|link| link.a == number || link.b == number)
+    }
+
+    fn has_bit(&self, bit: BitLine) -> bool
+        ensures { result ≡ list_any (λ other. (other.node == bit.node) && (other.bit == bit.bit)) self.now.bits }
+    {
+        self.bits
+            .iter()
+            .any(|other| other.node == bit.node && other.bit == bit.bit)
+    }
+
+    fn has_source(&self, number: u8) -> bool
+        ensures { result ≡ has_source self.now.sources number }
+    {
+        is_source_of(&self.sources, number)
+    }
+
+    // What a line without a fault gives, but for one that begins a source.
+    pub fn add(&mut self, line: u32, said: Said) -> Result<(), AllocError>
+        requires { (n : ℕ) → said_by said ≡ Form (FrameLine.Source n) → ⊥ }
+        ensures { OnOk result (self.new ≡ given_with line [] (said_by said) self.old) }
+    {
+        match said {
+            Said::Header => self.begun = true,
+            Said::Form(FrameLine::Node(node)) => self.add_node(line, node)?,
+            Said::Form(FrameLine::Link(link)) => self.links.push(link)?,
+            Said::Form(FrameLine::Bit(bit)) => self.bits.push(bit)?,
+            _ => {}
         }
         Ok(())
     }
 
-    // Whether the lines make a whole frame.
-    pub fn is_whole(&self) -> bool
-        ensures { result ≡ is_frame self.now }
+    // One more node, among the others by its number.
+    fn add_node(&mut self, line: u32, node: NodeLine) -> Result<(), AllocError>
+        ensures { OnOk result (self.new ≡ given_with line [] (Form (FrameLine.Node node)) self.old) }
     {
-        are_nodes(&self.nodes)
-            && are_links(&self.nodes, &self.links)
-            && are_bits(&self.nodes, &self.links, &self.bits)
-            && are_numbers(&self.nodes, &self.sources)
+        let place = count_lesser(&self.nodes, node.number);
+        self.nodes.insert(
+            place,
+            GivenNode {
+                line,
+                number: node.number,
+                id: node.id,
+            },
+        )?;
+        Ok(())
     }
 
-    pub fn nodes(&self) -> &[NodeLine]
-        ensures value { result.now ≡ self.now.nodes }
-        ensures numbers { AllByRecursion (λ node. node.number < 100) self.now.nodes }
+    // One more source, which has ended.
+    pub fn add_source(&mut self, source: Source<'a>) -> Result<(), AllocError>
+        requires { IsShort source.text.now }
+        ensures { OnOk result (self.new ≡ with_source (record { number = source.entry.number; line = source.entry.line; lines = lines_of source.entry.text.now }) self.old) }
+    {
+        self.sources.push(source)?;
+        Ok(())
+    }
+
+    // The number of the line of the first node that has no source.
+    pub fn without_source(&self) -> Option<u32>
+        ensures line { result ≡ option_map (λ node. node.line) (without_source self.now) }
+        ensures outside { self.now.reading ≡ None }
+    {
+        let node = self
+            .nodes
+            .iter()
+            .find(|node| !self.has_source(node.number))?;
+        Some(node.line)
+    }
+
+    pub fn nodes(&self) -> &[GivenNode]
+        ensures { result.now ≡ self.now.nodes }
     {
         &self.nodes
     }
 
     pub fn links(&self) -> &[LinkLine]
-        ensures value { result.now ≡ self.now.links }
-        ensures ranges { AllByRecursion IsLinkRanged self.now.links }
+        ensures { result.now ≡ self.now.links }
     {
         &self.links
     }
@@ -103,11 +271,57 @@ impl<'a> Frame<'a> {
         &self.bits
     }
 
-    pub fn sources(&self) -> &[Source<'a>]
-        ensures texts { map (λ s. lines_of s.text.now) result.now ≡ self.now.sources }
-        ensures numbers { length self.now.sources ≡ length self.now.numbers }
-        ensures short { AllByRecursion (λ s. IsShort s.text.now) result.now }
+    // The source of the node with this number, no bytes where it has none.
+    pub fn source(&self, number: u8) -> &'a [u8]
+        ensures lines { lines_of result.now ≡ source_of self.now.sources number }
+        ensures short { IsShort result.now }
     {
-        &self.sources
+        for source in &self.sources {
+            if source.number == number {
+                return source.text;
+            }
+        }
+        b""
     }
+}
+
+// Whether one of the sources is that of the node with this number.
+fn is_source_of(sources: &[Source], number: u8) -> bool
+    ensures { result ≡ list_any (λ source. source.number == number) sources.now }
+{
+    sources.iter().any(|source| source.number == number)
+}
+
+// How many nodes at the front have lesser numbers.
+fn count_lesser(nodes: &[GivenNode], number: u8) -> usize
+    ensures count { result ≡ prefix_len (λ node. nat_lt node.number number) nodes.now }
+    ensures within { result ≤ length nodes.now }
+{
+    nodes.iter().take_while(|node| node.number < number).count()
+}
+
+// What a line without words says, or its fault.
+fn judge_blank(line: &[u8]) -> Result<Said, SysKind>
+    requires { is_empty (words_of_line line.now) ≡ true }
+    ensures { (given : Given) → given.reading ≡ None → Judges given line.now result }
+{
+    if all_allowed(line) {
+        Ok(Said::Blank)
+    } else {
+        Err(SysKind::BadLine)
+    }
+}
+
+// What the first line with words says, or its fault.
+fn judge_first(line: &[u8]) -> Result<Said, SysKind>
+    requires { is_empty (words_of_line line.now) ≡ false }
+    ensures { (given : Given) → given.begun ≡ false → given.reading ≡ None → Judges given line.now result }
+{
+    if !is_header(line) {
+        return Err(SysKind::FirstLine);
+    }
+    if !all_allowed(line) {
+        return Err(SysKind::BadLine);
+    }
+    Ok(Said::Header)
 }

@@ -1,87 +1,140 @@
-ghost use Rattle.std.specs.Prelude.{◌≡◌, true, false, None};
-ghost use Rattle.xs_text.specs.Lines.{lines_of, bytes_left};
-ghost use Rattle.system_model.specs.System.{framed, rank, is_frame, when};
-ghost use Rattle.system_text.specs.Frames.{ReadsFrame, read_on, no_lines};
+ghost use Rattle.std.specs.Prelude.{◌≡◌, ◌≤◌, ◌+◌, ◌∷◌, [], not, length};
+ghost use Rattle.xs_text.specs.Lines.{lines_of, bytes_left, line_bytes};
+ghost use Rattle.system_model.specs.Frame.{framed, frame_from, nothing_given, have_no_words, at_the_end, given_with};
+ghost use Rattle.system_text.specs.Judged.{said_by};
 ghost use Rattle.system_text.specs.Ranges.{IsShort};
+ghost use Rattle.system_text.specs.Reads.{ReadsFrame, ReadsLine};
+ghost use Rattle.system_text.specs.Sections.{with_reading};
 
-use crate::frame::Frame;
-use crate::parts::next_part;
-use crate::system_error::{SystemError, bad_line};
+use crate::frame::{Frame, Said, Source};
+use crate::section::read_section;
+use crate::system_error::{SystemError, refusal};
+use crate::words::is_empty;
 use std::alloc::Global;
-use system_model::FrameLine;
-use xs_text::Lines;
+use system_model::{FrameLine, SysKind};
+use xs_text::{Line, Lines, all_allowed};
 
 // The frame of a text.
 pub fn read_frame<'a>(alloc: Global, text: &'a [u8]) -> Result<Frame<'a>, SystemError>
     requires { IsShort text.now }
     ensures { ReadsFrame (framed (lines_of text.now)) result }
 {
-    let mut lines = Lines::new(text);
-    if !read_header(text, &mut lines) {
-        return Err(bad_line());
+    if has_words(text) {
+        read_lines(alloc, text)
+    } else {
+        Err(refusal(1, SysKind::FirstLine))
     }
-    read_lines(alloc, text, &mut lines)
 }
 
-// Passes over the header, and says whether it is there.
-fn read_header(text: &[u8], lines: &mut Lines) -> bool
-    requires { lines.old.text ≡ text.now }
-    ensures there { result ≡ true → framed (lines_of (bytes_left lines.old)) ≡ read_on no_lines 1 (lines_of (bytes_left lines.new)) }
-    ensures missing { result ≡ false → framed (lines_of (bytes_left lines.old)) ≡ None }
-    ensures same_text { lines.new.text ≡ lines.old.text }
+// Whether a line has words.
+fn has_words(text: &[u8]) -> bool
+    requires { IsShort text.now }
+    ensures { result ≡ not (have_no_words (lines_of text.now)) }
 {
-    match next_part(text, lines) {
-        Some(Some(part)) => rank(part.line) == 0,
-        Some(None) => false,
-        None => false,
+    let mut lines = Lines::new(text);
+    while let Some(line) = lines.next_line() {
+        if !is_empty(&text[line.from..line.to]) {
+            return true;
+        }
     }
+    false
 }
 
-// The frame whose header was read, from the lines after it.
-fn read_lines<'a>(
-    alloc: Global,
+// The frame of a text in which a line has words.
+fn read_lines<'a>(alloc: Global, text: &'a [u8]) -> Result<Frame<'a>, SystemError>
+    requires { IsShort text.now }
+    ensures { ReadsFrame (frame_from 1 nothing_given (lines_of text.now)) result }
+{
+    let mut lines = Lines::new(text);
+    let mut frame = Frame::new(alloc);
+    while let Some(line) = lines.next_line() {
+        match read_line(text, line, &mut lines, &mut frame) {
+            Ok(()) => {}
+            Err(error) => return Err(error),
+        }
+    }
+    whole(frame)
+}
+
+// Adds what a line gives, with the source that it may begin.
+fn read_line<'a>(
     text: &'a [u8],
+    line: Line,
     lines: &mut Lines,
-) -> Result<Frame<'a>, SystemError>
+    frame: &mut Frame<'a>,
+) -> Result<(), SystemError>
     requires same_text { lines.old.text ≡ text.now }
     requires short { IsShort text.now }
-    ensures { ReadsFrame (read_on no_lines 1 (lines_of (bytes_left lines.old))) result }
+    requires ordered { line.from ≤ line.to }
+    requires in_text { line.to ≤ length text.now }
+    requires numbered { lines.old.number ≡ line.number }
+    ensures read { ReadsLine (frame_from line.number frame.old (line_bytes text.now line ∷ lines_of (bytes_left lines.old))) (frame_from (lines.new.number + 1) frame.new (lines_of (bytes_left lines.new))) result }
+    ensures same_text { lines.new.text ≡ lines.old.text }
+    ensures onward { lines.old.at ≤ lines.new.at }
 {
-    let mut frame = Frame::new(alloc);
-    let mut least = 1;
-    while let Some(next) = next_part(text, lines) {
-        let Some(part) = next else {
-            return whole(frame);
-        };
-        if rank(part.line) < least {
-            return Err(bad_line());
+    match frame.judge(&text[line.from..line.to]) {
+        Err(kind) => Err(refusal(line.number, kind)),
+        Ok(said) => read_said(text, line.number, said, lines, frame),
+    }
+}
+
+// The same of a line with a number by what it says.
+fn read_said<'a>(
+    text: &'a [u8],
+    number: u32,
+    said: Said,
+    lines: &mut Lines,
+    frame: &mut Frame<'a>,
+) -> Result<(), SystemError>
+    requires same_text { lines.old.text ≡ text.now }
+    requires short { IsShort text.now }
+    ensures read { ReadsLine (frame_from (lines.old.number + 1) (given_with number [] (said_by said) frame.old) (lines_of (bytes_left lines.old))) (frame_from (lines.new.number + 1) frame.new (lines_of (bytes_left lines.new))) result }
+    ensures same_text { lines.new.text ≡ lines.old.text }
+    ensures onward { lines.old.at ≤ lines.new.at }
+{
+    match said {
+        Said::Form(FrameLine::Source(node)) => read_source(text, node, number, lines, frame),
+        _ => {
+            frame.add(number, said)?;
+            Ok(())
         }
-        least = rank(part.line);
-        frame.add(part)?;
     }
-    Err(bad_line())
 }
 
-// The frame, if it is whole.
+// Adds the source of a node, whose first line has a number.
+fn read_source<'a>(
+    text: &'a [u8],
+    number: u8,
+    first: u32,
+    lines: &mut Lines,
+    frame: &mut Frame<'a>,
+) -> Result<(), SystemError>
+    requires same_text { lines.old.text ≡ text.now }
+    requires short { IsShort text.now }
+    ensures read { ReadsLine (frame_from (lines.old.number + 1) (with_reading number first frame.old) (lines_of (bytes_left lines.old))) (frame_from (lines.new.number + 1) frame.new (lines_of (bytes_left lines.new))) result }
+    ensures same_text { lines.new.text ≡ lines.old.text }
+    ensures onward { lines.old.at ≤ lines.new.at }
+{
+    let Some(section) = read_section(text, lines) else {
+        return Err(refusal(first, SysKind::SectionNotEnded));
+    };
+    if !all_allowed(&text[section.end.from..section.end.to]) {
+        return Err(refusal(section.end.number, SysKind::BadLine));
+    }
+    frame.add_source(Source {
+        number,
+        line: first,
+        text: section.text,
+    })?;
+    Ok(())
+}
+
+// The frame at the end of the text, if each node has a source.
 fn whole(frame: Frame) -> Result<Frame, SystemError>
-    ensures { ReadsFrame (when (is_frame frame.entry) frame.entry) result }
+    ensures { ReadsFrame (at_the_end frame.entry frame.entry.reading) result }
 {
-    if frame.is_whole() {
-        Ok(frame)
-    } else {
-        Err(bad_line())
-    }
-}
-
-// The rank of a line in the order of the lines.
-fn rank(line: FrameLine) -> u8
-    ensures { result ≡ rank line }
-{
-    match line {
-        FrameLine::Header => 0,
-        FrameLine::Node(_) => 1,
-        FrameLine::Link(_) => 2,
-        FrameLine::Bit(_) => 3,
-        FrameLine::Source(_) => 4,
+    match frame.without_source() {
+        Some(line) => Err(refusal(line, SysKind::NodeWithoutSource)),
+        None => Ok(frame),
     }
 }

@@ -2,18 +2,13 @@
 #![tactic(auto)]
 
 mod frame;
-mod frame_checks;
 mod frame_lines;
 mod frame_reader;
 mod link_plans;
 mod node_plans;
-mod node_texts;
-mod parts;
 mod section;
 mod system_error;
 mod system_reader;
-#[cfg(test)]
-mod tests;
 mod words;
 
 pub use source_model::AsmKind;

@@ -3,12 +3,12 @@ ghost use Rattle.system_model.specs.System.{link_plan, place_of};
 
 use std::alloc::{AllocError, Global};
 use sys_plan::LinkPlan;
-use system_model::{LinkLine, NodeLine};
+use system_model::{GivenNode, LinkLine};
 
 // The plans of links between one or two nodes.
 pub fn link_plans(
     alloc: Global,
-    nodes: &[NodeLine],
+    nodes: &[GivenNode],
     links: &[LinkLine],
 ) -> Result<Vec<LinkPlan>, AllocError>
     requires few { length nodes.now ≤ 2 }
@@ -29,7 +29,7 @@ pub fn link_plans(
 }
 
 // Where a node stands by ascending number: the count of the nodes of lesser numbers.
-fn place_of(nodes: &[NodeLine], number: u8) -> u8
+fn place_of(nodes: &[GivenNode], number: u8) -> u8
     requires few { length nodes.now ≤ 2 }
     ensures { result ≡ place_of nodes.now number }
 {

@@ -1,30 +1,24 @@
-ghost use Rattle.std.specs.Prelude.{◌≡◌, ◌==◌, ◌&&◌, map};
-ghost use Rattle.std.specs.List.{AllByRecursion, list_any};
-ghost use Rattle.xs_text.specs.Lines.{lines_of};
+ghost use Rattle.std.specs.Prelude.{◌≡◌, ◌==◌, ◌&&◌};
+ghost use Rattle.std.specs.List.{list_any};
 ghost use Rattle.source_model.specs.Source.{assembled_lines};
-ghost use Rattle.system_model.specs.System.{node_plans, ways_of, way};
-ghost use Rattle.system_text.specs.Ranges.{IsShort};
+ghost use Rattle.system_model.specs.System.{node_plans, planned, source_of, ways_of, way};
 ghost use Rattle.system_text.specs.Plans.{GivesNode, GivesNodes};
 
-use crate::node_texts::NodeText;
+use crate::frame::Frame;
 use crate::system_error::SystemError;
 use std::alloc::Global;
 use sys_plan::NodePlan;
-use system_model::BitLine;
+use system_model::{BitLine, GivenNode};
 use xs_assembler::{AsmError, assemble};
 
-// The plans of nodes, in the order that they have here, or the refusal of the first source that is refused.
-pub fn node_plans(
-    alloc: Global,
-    bits: &[BitLine],
-    texts: &[NodeText],
-) -> Result<Vec<NodePlan>, SystemError>
-    requires short { AllByRecursion (λ t. IsShort t.source.now) texts.now }
-    ensures { GivesNodes (node_plans bits.now (map (λ t. record { number = t.number; id = t.id; source = lines_of t.source.now }) texts.now)) result }
+// The plans of the nodes of a frame by ascending number, or the refusal of the first source that is refused.
+pub fn node_plans(alloc: Global, frame: &Frame) -> Result<Vec<NodePlan>, SystemError>
+    ensures { GivesNodes (node_plans frame.now.bits frame.now.sources frame.now.nodes) result }
 {
+    let nodes = frame.nodes();
     let mut plans = Vec::new(alloc);
-    for text in texts {
-        match node_plan(alloc, bits, *text) {
+    for node in nodes {
+        match node_plan(alloc, frame, *node) {
             Ok(plan) => plans.push(plan)?,
             Err(error) => return Err(error),
         }
@@ -33,19 +27,18 @@ pub fn node_plans(
 }
 
 // The plan of a node, or the refusal of its source.
-fn node_plan(alloc: Global, bits: &[BitLine], text: NodeText) -> Result<NodePlan, SystemError>
-    requires short { IsShort text.source.now }
-    ensures { GivesNode bits.now (record { number = text.entry.number; id = text.entry.id; source = lines_of text.entry.source.now }) (assembled_lines (lines_of text.entry.source.now)) result }
+fn node_plan(alloc: Global, frame: &Frame, node: GivenNode) -> Result<NodePlan, SystemError>
+    ensures { GivesNode (planned frame.now.bits node (assembled_lines (source_of frame.now.sources node.number))) result }
 {
-    match assemble(alloc, text.source) {
+    match assemble(alloc, frame.source(node.number)) {
         Ok(image) => Ok(NodePlan {
-            number: text.number,
-            id: text.id,
+            number: node.number,
+            id: node.id,
             image,
-            ways: ways_of(bits, text.number),
+            ways: ways_of(frame.bits(), node.number),
         }),
         Err(AsmError::Fault { line, kind }) => Err(SystemError::Source {
-            node: text.number,
+            node: node.number,
             line,
             kind,
         }),

@@ -1,18 +1,29 @@
-ghost use Rattle.std.specs.Prelude.{◌≡◌, ◌≤◌, length, option_map, IfSome};
-ghost use Rattle.xs_text.specs.Lines.{lines_of, bytes_left};
-ghost use Rattle.system_text.specs.Parts.{section_of};
+ghost use Rattle.std.specs.Prelude.{◌≡◌, ◌≤◌, ◌+◌, length, option_map, IfSome};
+ghost use Rattle.xs_text.specs.Lines.{lines_of, bytes_left, line_bytes};
+ghost use Rattle.system_text.specs.Sections.{section_of};
 
 use crate::words::is_end;
-use xs_text::{Lines, all_allowed};
+use xs_text::{Line, Lines};
 
-// The lines of the section that begins here, as the part of the text that they are. The line that ends the section
-// is passed over.
+// The part of the text that the lines of a source are, and the line that ends it.
+#[derive(Clone, Copy)]
+pub struct Section<'a> {
+    pub text: &'a [u8],
+    pub end: Line,
+}
+
+// The source that begins here. The line that ends it is passed over. None where no line ends it.
 #[tactic(auto, using(crate::proofs::Sections::part_length))]
-pub fn read_section<'a>(text: &'a [u8], lines: &mut Lines) -> Option<&'a [u8]>
+pub fn read_section<'a>(text: &'a [u8], lines: &mut Lines) -> Option<Section<'a>>
     requires { lines.old.text ≡ text.now }
-    ensures section { option_map (λ part. record { lines = lines_of part.now; rest = lines_of (bytes_left lines.new) }) result ≡ section_of (lines_of (bytes_left lines.old)) }
-    ensures part { IfSome result (λ part. length part.now ≤ length text.now) }
+    ensures section { option_map (λ s. record { lines = lines_of s.text.now; end = line_bytes text.now s.end; rest = lines_of (bytes_left lines.new) }) result ≡ section_of (lines_of (bytes_left lines.old)) }
+    ensures part { IfSome result (λ s. length s.text.now ≤ length text.now) }
+    ensures counted { IfSome result (λ s. s.end.number ≡ lines.old.number + length (lines_of s.text.now) + 1) }
+    ensures numbered { IfSome result (λ s. lines.new.number ≡ s.end.number) }
+    ensures ordered { IfSome result (λ s. s.end.from ≤ s.end.to) }
+    ensures in_text { IfSome result (λ s. s.end.to ≤ length text.now) }
     ensures same_text { lines.new.text ≡ lines.old.text }
+    ensures onward { lines.old.at ≤ lines.new.at }
 {
     let Some(first) = lines.next_line() else {
         return None;
@@ -24,8 +35,8 @@ pub fn read_section<'a>(text: &'a [u8], lines: &mut Lines) -> Option<&'a [u8]>
         };
         line = next;
     }
-    if !all_allowed(&text[line.from..line.to]) {
-        return None;
-    }
-    Some(&text[first.from..line.from])
+    Some(Section {
+        text: &text[first.from..line.from],
+        end: line,
+    })
 }

@@ -6,14 +6,14 @@ use std::alloc::{AllocError, AllocFailed};
 use system_model::SysKind;
 use thiserror::Error;
 
-/// Why a system text has no plan.
+/// Why a system text has no plan. See docs/SYSTEM_TEXT.md.
 #[derive(Debug, Drop, Error)]
 pub enum SystemError {
-    /// The frame is refused. So far the line is 0, and the kind is `TooLong` for an input that is too long, and
-    /// `BadLine` for any other.
+    /// The frame is refused, at this line of the text, counted from 1. An input that is too long is refused at line 0.
     #[error("system line {line}: {kind:?}")]
     Frame { line: u32, kind: SysKind },
-    /// The source of the node with this number, 0 to 99, is refused. So far the line is 0.
+    /// The frame is accepted, and the source of the node with this number, 0 to 99, is refused, at this line of the
+    /// source, counted from 1 after the line that begins it. No node of a lesser number has a refused source.
     #[error("source {node} line {line}: {kind:?}")]
     Source { node: u8, line: u32, kind: AsmKind },
     /// Memory was wanting.
@@ -37,12 +37,9 @@ impl<T: Drop> From<AllocFailed<T>> for SystemError {
     }
 }
 
-// The one refusal of a frame so far that is not of its length.
-pub fn bad_line() -> SystemError
-    ensures { result ≡ SystemError.Frame 0 SysKind.BadLine }
+// The refusal of a frame at a line.
+pub fn refusal(line: u32, kind: SysKind) -> SystemError
+    ensures { result ≡ SystemError.Frame line kind }
 {
-    SystemError::Frame {
-        line: 0,
-        kind: SysKind::BadLine,
-    }
+    SystemError::Frame { line, kind }
 }

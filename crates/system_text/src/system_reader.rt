@@ -1,10 +1,12 @@
-ghost use Rattle.std.specs.Prelude.{◌≡◌, true, ℕ, IfOk};
+ghost use Rattle.std.specs.Prelude.{◌≡◌, ℕ, IfOk};
 ghost use Rattle.source_model.specs.declared.AsmKind.{AsmKind};
 ghost use Rattle.sys_plan.specs.Plan.{PlanRec};
 ghost use Rattle.system_model.specs.declared.SysKind.{SysKind};
+ghost use Rattle.system_model.specs.Frame.{framed};
 ghost use Rattle.system_model.specs.System as stands;
-ghost use Rattle.system_model.specs.System.{system_of, plan_of, plan_of_frame, framed, is_frame};
+ghost use Rattle.system_model.specs.System.{system_of, plan_of, plan_of_frame};
 ghost use Rattle.xs_text.specs.Lines.{lines_of};
+ghost use Rattle.system_text.specs.Kept.{IsFrame};
 ghost use Rattle.system_text.specs.Ranges.{IsShort};
 ghost use Rattle.system_text.specs.Reads.{ReadsSystem, GivesPlan, RefusesFrame, RefusesSource};
 
@@ -12,8 +14,7 @@ use crate::frame::Frame;
 use crate::frame_reader::read_frame;
 use crate::link_plans::link_plans;
 use crate::node_plans::node_plans;
-use crate::node_texts::texts_by_number;
-use crate::system_error::SystemError;
+use crate::system_error::{SystemError, refusal};
 use std::alloc::Global;
 use sys_plan::Plan;
 use system_model::SysKind;
@@ -22,7 +23,7 @@ use system_model::SysKind;
 pub const LONGEST_INPUT: usize = 4_194_304;
 
 /// The plan of the system that the bytes stand for. An error comes exactly where they stand for a refusal, and is
-/// that one; want of memory may come in place of either. See docs/SYSTEM_TEXT.md.
+/// that one, with its line; want of memory may come in place of either. See docs/SYSTEM_TEXT.md.
 #[tactic(auto, using(crate::proofs::Outcomes::outcomes), unfolding(system_model::specs::System::system_of))]
 pub fn read_system(alloc: Global, bytes: &[u8]) -> Result<Plan, SystemError>
     ensures exact { ReadsSystem (system_of bytes.now) result }
@@ -32,10 +33,7 @@ pub fn read_system(alloc: Global, bytes: &[u8]) -> Result<Plan, SystemError>
     ensures source { (node line : ℕ) (kind : AsmKind) → system_of bytes.now ≡ stands.Source node line kind → RefusesSource node line kind result }
 {
     if bytes.len() > LONGEST_INPUT {
-        return Err(SystemError::Frame {
-            line: 0,
-            kind: SysKind::TooLong,
-        });
+        return Err(refusal(0, SysKind::TooLong));
     }
     read_plan(alloc, bytes)
 }
@@ -51,13 +49,12 @@ fn read_plan(alloc: Global, bytes: &[u8]) -> Result<Plan, SystemError>
     }
 }
 
-// The plan of a whole frame.
+// The plan of a frame that is accepted.
 fn plan_of_frame(alloc: Global, frame: &Frame) -> Result<Plan, SystemError>
-    requires { is_frame frame.now ≡ true }
+    requires { IsFrame frame.now }
     ensures { ReadsSystem (plan_of_frame frame.now) result }
 {
-    let texts = texts_by_number(alloc, frame.nodes(), frame.sources())?;
     let links = link_plans(alloc, frame.nodes(), frame.links())?;
-    let nodes = node_plans(alloc, frame.bits(), &texts)?;
+    let nodes = node_plans(alloc, frame)?;
     Ok(Plan::of(nodes, links))
 }

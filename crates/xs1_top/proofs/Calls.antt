@@ -4,7 +4,6 @@ use Rattle.std.proofs.lemmas.List.{length-take}
 use Rattle.std.proofs.Math.Seq.{drop-append_seam}
 use Rattle.xs_edge.specs.Edge.{Took, Wrote, WrotePart}
 use Rattle.system_model.specs.declared.Form.{Form}
-use Rattle.system_model.specs.declared.Form.TheVariants.{Run}
 use Rattle.system_model.specs.declared.Answer.{Answer}
 use Rattle.system_model.specs.declared.Status.{Status}
 use Rattle.system_model.specs.declared.Status.TheVariants as status
@@ -70,29 +69,29 @@ AnswersInPart-form words left before after bytes text form a e front given t wro
 
 -- the statuses of answers
 status-frame : (form : Form) (system : System) → (answer_to form system).status ≡ status.SystemFault → IsFrame system
-status-frame (Run slots) (Plan plan) e = cc
-status-frame (Run slots) (Frame line kind) e = tt
-status-frame (Run slots) (Source node line kind) e = cc
+status-frame form (Plan plan) e = cc
+status-frame form (Frame line kind) e = tt
+status-frame form (Source node line kind) e = cc
 
 frame-status : (form : Form) (system : System) → IsFrame system → (answer_to form system).status ≡ status.SystemFault
-frame-status (Run slots) (Plan plan) h = absurd h
-frame-status (Run slots) (Frame line kind) h = refl
-frame-status (Run slots) (Source node line kind) h = absurd h
+frame-status form (Plan plan) h = absurd h
+frame-status form (Frame line kind) h = refl
+frame-status form (Source node line kind) h = absurd h
 
 status-source : (form : Form) (system : System) → (answer_to form system).status ≡ status.SourceFault → IsSource system
-status-source (Run slots) (Plan plan) e = cc
-status-source (Run slots) (Frame line kind) e = cc
-status-source (Run slots) (Source node line kind) e = tt
+status-source form (Plan plan) e = cc
+status-source form (Frame line kind) e = cc
+status-source form (Source node line kind) e = tt
 
 source-status : (form : Form) (system : System) → IsSource system → (answer_to form system).status ≡ status.SourceFault
-source-status (Run slots) (Plan plan) h = absurd h
-source-status (Run slots) (Frame line kind) h = absurd h
-source-status (Run slots) (Source node line kind) h = refl
+source-status form (Plan plan) h = absurd h
+source-status form (Frame line kind) h = absurd h
+source-status form (Source node line kind) h = refl
 
 status-plan : (form : Form) (system : System) → (answer_to form system).status ≡ status.Done → IsPlan system
-status-plan (Run slots) (Plan plan) e = tt
-status-plan (Run slots) (Frame line kind) e = cc
-status-plan (Run slots) (Source node line kind) e = cc
+status-plan form (Plan plan) e = tt
+status-plan form (Frame line kind) e = cc
+status-plan form (Source node line kind) e = cc
 
 ended_at : (form : Form) (system : System) (a : Answer) (ended wanted : Status) → a ≡ answer_to form system → Ends a.status ended → IsWhole wanted → ended ≡ wanted → (answer_to form system).status ≡ wanted
 ended_at form system a ended wanted given ends whole e =

@@ -2,15 +2,16 @@
 use Rattle.std.specs.Prelude.{ℕ, ◌≡◌, ◌≤◌, Option, Some, None, List, drop}
 use Rattle.xs_edge.specs.Edge.{Wrote, WrotePart}
 use Rattle.system_model.specs.declared.Form.{Form}
-use Rattle.system_model.specs.declared.Form.TheVariants.{Run}
+use Rattle.system_model.specs.declared.Form.TheVariants.{Run, Check}
 use Rattle.system_model.specs.declared.Status.{Status}
 use Rattle.system_model.specs.declared.Status.TheVariants.{Done, Memory, Usage, SystemFault, SourceFault, ScriptFault, ReadFault, WriteFault}
 use Rattle.system_model.specs.System.{System, Plan, Frame, Source}
 use Rattle.system_model.specs.Top.{answer, taken, most_slots}
 
--- the form has no more slots than a run may have
+-- a run of the form has no more slots than a run may have
 abbrev pub HasFewSlots : Form → Type 0
 HasFewSlots (Run slots) = slots ≤ most_slots
+HasFewSlots Check = Unit {0}
 
 -- Memory was there, the input was read and the text was written: a status of the definition's answers.
 abbrev pub IsWhole : Status → Type 0

@@ -2,31 +2,36 @@
 ghost use Rattle.std.specs.Prelude.{ℕ, ◌≡◌, ◌≢◌, ◌<◌, ◌+◌, ◌⊎◌, Some, None, IfOk, IfSome, IsSome, map, string_bytes};
 ghost use Rattle.xs_edge.specs.Edge.{HasRisen, Wrote, WrotePart};
 ghost use Rattle.system_model.specs.System.{system_of, longest_input};
-ghost use Rattle.system_model.specs.Top.{answer_to, form_of};
+ghost use Rattle.system_model.specs.Top.{answer_to, form_of, text_for};
 ghost use Rattle.xs1_top.specs.Call.{IsWhole, IsRead, IsSilent, Answers, AnswersInPart, TookInput, IsFrame, IsSource, IsPlan};
 ghost use Rattle.xs1_top.specs.Reads.{ReadsAtMost};
 
+use crate::check::check_text;
 use crate::input::{ReadError, read_all};
 use crate::output::write_all;
 use crate::refusals::{frame_line, source_line, usage_line};
 use crate::words::form_of;
 use std::alloc::{AllocError, Global};
+use sys_plan::Plan;
 pub use system_model::Status;
 use system_model::{Answer, Form};
 use system_text::{SystemError, read_system};
 use trace_text::trace;
+use xs_base::Text;
 use xs_edge::{Gate, Sink, Source};
 
-/// The whole program: takes the form of the words, reads the input to its end, runs the system that the input
-/// stands for, and writes the trace or the refusal. `words` are the program's, without its name. Nothing is written
-/// before the run is over, and writing takes no memory. Nothing waits at `gate` yet. See docs/OUTPUT.md.
+/// The whole program: takes the form of the words, reads the input to its end, does with the system that the input
+/// stands for what the form says, and writes the text or the refusal. `run SLOTS` and `run SLOTS serial` run it and
+/// write the trace; `check` writes each node's source as its image gives it, and runs nothing. `words` are the
+/// program's, without its name. Nothing is written before all is done, and writing takes no memory. Nothing waits at
+/// `gate` yet. See docs/OUTPUT.md.
 ///
 /// With words of no form nothing is read, and the usage line is written. An input of more than 4,194,304 bytes is
 /// refused; of it no more than 4,194,305 bytes are read.
 ///
 /// The statuses, of which `Status::number` gives the number:
 ///
-/// - `Done`: the trace was written.
+/// - `Done`: the trace, or the text of `check`, was written.
 /// - `Memory`: memory was wanting. Nothing was written.
 /// - `Usage`: the words are of no form. The usage line was written.
 /// - `SystemFault`, `SourceFault`: the frame, or a node's source, is refused. The line of the refusal was written.
@@ -82,10 +87,9 @@ pub fn top<S: Source, K: Sink, G: Gate>(
 fn answer_of(alloc: Global, form: Form, input: &[u8]) -> Result<Answer, AllocError>
     ensures { IfOk result (λ answer. answer ≡ answer_to form (system_of input.now)) }
 {
-    let Form::Run(slots) = form;
     let answer = match read_system(alloc, input) {
         Ok(plan) => Answer {
-            text: trace(alloc, &plan, slots)?,
+            text: text_of(alloc, form, &plan)?,
             status: Status::Done,
         },
         Err(SystemError::Frame { line, kind }) => Answer {
@@ -99,6 +103,16 @@ fn answer_of(alloc: Global, form: Form, input: &[u8]) -> Result<Answer, AllocErr
         Err(SystemError::Memory) => return Err(AllocError),
     };
     Ok(answer)
+}
+
+// What a form writes for a system that is not refused. The error is want of memory.
+fn text_of(alloc: Global, form: Form, plan: &Plan) -> Result<Text, AllocError>
+    ensures { IfOk result (λ text. text ≡ text_for form plan.now) }
+{
+    match form {
+        Form::Run(slots) => trace(alloc, plan, slots),
+        Form::Check => check_text(alloc, plan),
+    }
 }
 
 // Writes the text whole, and gives the status that the program ends with.

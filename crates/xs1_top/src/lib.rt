@@ -3,6 +3,7 @@
 #![tactic(auto)]
 
 mod call;
+mod check;
 mod input;
 mod output;
 mod refusals;

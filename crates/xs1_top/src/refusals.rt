@@ -48,8 +48,18 @@ fn text_of_sys_kind(kind: SysKind) -> &'static [u8]
     ensures { result.now ≡ text_of_sys_kind kind }
 {
     match kind {
+        SysKind::FirstLine => b"S1 first line is not xs1 1",
         SysKind::BadLine => b"S2 bad line",
+        SysKind::GivenTwice => b"S3 given twice",
+        SysKind::IdTwice => b"S4 id twice",
+        SysKind::LinkEndTwice => b"S5 link end twice",
+        SysKind::LinkToItself => b"S6 link from a node to itself",
+        SysKind::NumberOutOfRange => b"S7 number out of range",
+        SysKind::NodeWithoutSource => b"S8 node without source",
+        SysKind::SectionNotEnded => b"S9 section not ended",
         SysKind::TooLong => b"S10 input too long",
+        SysKind::BitTwice => b"S11 bit twice",
+        SysKind::NoSuchNode => b"S12 no such node or link end",
     }
 }
 
@@ -57,6 +67,14 @@ fn text_of_asm_kind(kind: AsmKind) -> &'static [u8]
     ensures { result.now ≡ text_of_asm_kind kind }
 {
     match kind {
+        AsmKind::BadByte => b"A1 bad byte",
         AsmKind::UnknownName => b"A2 unknown name",
+        AsmKind::WrongOperands => b"A3 wrong operands",
+        AsmKind::NumberOutOfRange => b"A4 number out of range",
+        AsmKind::LabelTwice => b"A5 label defined twice",
+        AsmKind::LabelMissing => b"A6 label missing",
+        AsmKind::DirectiveNotAllowed => b"A7 directive not allowed",
+        AsmKind::TooManyInstructions => b"A8 too many instructions",
+        AsmKind::TooManyBytes => b"A9 too many bytes",
     }
 }

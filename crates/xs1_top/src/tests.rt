@@ -41,6 +41,25 @@ const PAIR_LOST: &[u8] =
 const PAIR_LOST_TRACE: &[u8] =
     b"27 n1 lost 0x00010002\nlink 0:0>1:0 tokens 4 credits 0\nlink 1:0>0:0 tokens 0 credits 4\nn0 mem 0x00010000 0x00010002\nend 40\n";
 
+const USAGE: &[u8] =
+    b"usage: xs1 run SLOTS [serial|free|rounds] | play SLOTS | make NUMBER | check\n";
+
+const SUM_CHECKED: &[u8] =
+    b"source 0\nmain:\n  ldc r0, 5\n  ldc r1, 7\n  add r2, r0, r1\n  stw r2, dp[0]\n  freet\n.data\n.cp\nend\n";
+
+const TWO_EMPTY_CHECKED: &[u8] = b"source 0\n.data\n.cp\nend\nsource 1\n.data\n.cp\nend\n";
+
+// Each section, labels with one address, a name in brackets, and padding.
+const SECTIONS: &[u8] =
+    b"xs1 1\r\nnode 5 id 0x20\r\nsource 5\r\na: b: bu c # on\nldw r0 , dp [ x ]\n.align 3\nc:\n.data\n.short -2\n.align 4\nx: .word b\ny:\n.cp\nz: .byte 0b11, 0xff\nend";
+
+const SECTIONS_CHECKED: &[u8] =
+    b"source 5\na:\nb:\n  bu c\n  ldw r0, dp[1]\n  nop\nc:\n.data\n  .byte 254\n  .byte 255\n  .byte 0\n  .byte 0\nx:\n  .byte 0\n  .byte 0\n  .byte 4\n  .byte 0\n.cp\ny:\nz:\n  .byte 3\n  .byte 255\nend\n";
+
+// What `check` wrote, as the source of a system again.
+const SECTIONS_CHECKED_AS_SYSTEM: &[u8] =
+    b"xs1 1\nnode 5 id 0x20\nsource 5\na:\nb:\n  bu c\n  ldw r0, dp[1]\n  nop\nc:\n.data\n  .byte 254\n  .byte 255\n  .byte 0\n  .byte 0\nx:\n  .byte 0\n  .byte 0\n  .byte 4\n  .byte 0\n.cp\ny:\nz:\n  .byte 3\n  .byte 255\nend\n";
+
 const LONGEST: usize = 4_194_304;
 
 // One call with these words, with a source and a sink of the caller's.
@@ -97,23 +116,18 @@ fn answers_as_worked_by_hand(rt: HostRuntime) -> Result<(), Fail> {
             Status::Done,
             b"0 n0.t0 trap 2 pc 0x00040000 data 0x00040000\n0 n0.t0 halt\nn0.t0 halted\nend 1\n".as_slice(),
         ),
+        (["run", "1000001"].as_slice(), EMPTY, Status::Usage, USAGE),
         (
-            ["run", "1000001"].as_slice(),
-            EMPTY,
-            Status::Usage,
-            b"usage: xs1 run SLOTS [serial|free|rounds] | play SLOTS | make NUMBER | check\n".as_slice(),
+            ["run", "20", "serial"].as_slice(),
+            SUM,
+            Status::Done,
+            SUM_TRACE,
         ),
         (
-            ["run", "1"].as_slice(),
-            b"".as_slice(),
-            Status::SystemFault,
-            b"system line 0: S2 bad line\n".as_slice(),
-        ),
-        (
-            ["run", "1"].as_slice(),
-            b"xs1 1\nnode 7 id 0\nsource 7\nfoo\nend\n".as_slice(),
-            Status::SourceFault,
-            b"source 7 line 0: A2 unknown name\n".as_slice(),
+            ["run", "3"].as_slice(),
+            b"xs1 1\n".as_slice(),
+            Status::Done,
+            b"end 3\n".as_slice(),
         ),
     ];
     for (words, input, status, text) in rows {
@@ -122,6 +136,86 @@ fn answers_as_worked_by_hand(rt: HostRuntime) -> Result<(), Fail> {
         let ended = call(rt.alloc(), words, &mut source, &mut sink)?;
         assert_eq!(rt; ended, status);
         assert_eq!(rt; sink.bytes(), text);
+    }
+    Ok(())
+}
+
+#[test]
+fn checks_what_the_sources_say(rt: HostRuntime) -> Result<(), Fail> {
+    let rows = [
+        (b"xs1 1\n".as_slice(), b"".as_slice()),
+        (SUM, SUM_CHECKED),
+        (TWO_EMPTY, TWO_EMPTY_CHECKED),
+        (SECTIONS, SECTIONS_CHECKED),
+        (SECTIONS_CHECKED_AS_SYSTEM, SECTIONS_CHECKED),
+    ];
+    for (input, text) in rows {
+        let mut source = ListSource::new(input.to_vec(rt.alloc())?);
+        let mut sink = ListSink::with_room(rt.alloc(), 512)?;
+        let ended = call(rt.alloc(), &["check"], &mut source, &mut sink)?;
+        assert_eq!(rt; ended, Status::Done);
+        assert_eq!(rt; sink.bytes(), text);
+    }
+    Ok(())
+}
+
+#[test]
+fn refuses_with_the_line_and_the_kind(rt: HostRuntime) -> Result<(), Fail> {
+    let rows = [
+        (
+            b"".as_slice(),
+            Status::SystemFault,
+            b"system line 1: S1 first line is not xs1 1\n".as_slice(),
+        ),
+        (
+            b"xs1 1\nnode 0 id 0\n".as_slice(),
+            Status::SystemFault,
+            b"system line 2: S8 node without source\n".as_slice(),
+        ),
+        (
+            b"xs1 1\nnode 7 id 0\nsource 7\n\n  foo r0\n  a: a:\nend\n".as_slice(),
+            Status::SourceFault,
+            b"source 7 line 2: A2 unknown name\n".as_slice(),
+        ),
+        (
+            b"xs1 1\nnode 7 id 0\nsource 7\nmain: bu gone\nend\n".as_slice(),
+            Status::SourceFault,
+            b"source 7 line 1: A6 label missing\n".as_slice(),
+        ),
+    ];
+    for (input, status, text) in rows {
+        for words in [["run", "20"].as_slice(), ["check"].as_slice()] {
+            let mut source = ListSource::new(input.to_vec(rt.alloc())?);
+            let mut sink = ListSink::with_room(rt.alloc(), 256)?;
+            let ended = call(rt.alloc(), words, &mut source, &mut sink)?;
+            assert_eq!(rt; ended, status);
+            assert_eq!(rt; sink.bytes(), text);
+        }
+    }
+    Ok(())
+}
+
+#[test]
+fn other_words_have_no_form(rt: HostRuntime) -> Result<(), Fail> {
+    let rows = [
+        [].as_slice(),
+        ["run"].as_slice(),
+        ["run", "+5"].as_slice(),
+        ["run", "00000000020"].as_slice(),
+        ["run", "20", "Serial"].as_slice(),
+        ["run", "20", "free"].as_slice(),
+        ["run", "20", "serial", "x"].as_slice(),
+        ["serial", "20", "run"].as_slice(),
+        ["check", "x"].as_slice(),
+        ["Check"].as_slice(),
+        [""].as_slice(),
+    ];
+    for words in rows {
+        let mut source = ListSource::new(SUM.to_vec(rt.alloc())?);
+        let mut sink = ListSink::with_room(rt.alloc(), 256)?;
+        let ended = call(rt.alloc(), words, &mut source, &mut sink)?;
+        assert_eq!(rt; ended, Status::Usage);
+        assert_eq!(rt; sink.bytes(), USAGE);
     }
     Ok(())
 }

@@ -1,12 +1,13 @@
 //! The forms of the program's words.
-ghost use Rattle.std.specs.Prelude.{◌≡◌, ◌≤◌, map, string_bytes, IfSome};
+ghost use Rattle.std.specs.Prelude.{◌≡◌, ◌≤◌, [], ◌∷◌, map, string_bytes, IfSome};
 ghost use Rattle.std.specs.List.{list_all};
 ghost use Rattle.std.specs.Char.{is_ascii_digit};
 ghost use Rattle.xs_text.specs.Tokens.{is_run};
-ghost use Rattle.system_model.specs.Top.{count_of, form_of};
+ghost use Rattle.system_model.specs.Top.{count_of, form_of, run_of};
 ghost use Rattle.xs1_top.specs.Call.{HasFewSlots};
 
 use system_model::Form;
+use xs_instructions::same_name;
 use xs_text::number;
 
 // The most slots that a run may have.
@@ -15,19 +16,60 @@ const MOST_SLOTS: u32 = 1_000_000;
 // The most digits of a count.
 const MOST_DIGITS: usize = 10;
 
-/// The form of the program's words, without the program's name. `run SLOTS` is one: SLOTS is one to ten decimal
-/// digits with a value of at most 1,000,000. None comes exactly where the words are of no form. See docs/OUTPUT.md.
+/// The form of the program's words, without the program's name: `run SLOTS`, `run SLOTS serial` or `check`. SLOTS is
+/// one to ten decimal digits with a value of at most 1,000,000. None comes exactly where the words are of no form.
+/// See docs/OUTPUT.md.
 pub fn form_of(words: &[String]) -> Option<Form>
     ensures value { result ≡ form_of (map string_bytes words.now) }
     ensures few { IfSome result HasFewSlots }
 {
-    let [command, slots] = words else {
-        return None;
-    };
-    if command.as_str() != "run" {
+    match words {
+        [command] => form_of_one(command),
+        [command, slots] => form_of_two(command, slots),
+        [command, slots, mode] => form_of_three(command, slots, mode),
+        _ => None,
+    }
+}
+
+// The form of one word: `check`.
+#[tactic(auto, unfolding(system_model::specs::Top::form_of))]
+fn form_of_one(command: &str) -> Option<Form>
+    ensures value { result ≡ form_of (command.now ∷ []) }
+    ensures few { IfSome result HasFewSlots }
+{
+    same_name(b"check", command.as_bytes()).then_some(Form::Check)
+}
+
+// The form of two words: `run SLOTS`.
+#[tactic(auto, unfolding(system_model::specs::Top::form_of))]
+fn form_of_two(command: &str, slots: &str) -> Option<Form>
+    ensures value { result ≡ form_of (command.now ∷ slots.now ∷ []) }
+    ensures few { IfSome result HasFewSlots }
+{
+    if !same_name(b"run", command.as_bytes()) {
         return None;
     }
-    let slots = count(slots.as_bytes(), MOST_SLOTS)?;
+    run_of(slots)
+}
+
+// The form of three words: `run SLOTS serial`.
+#[tactic(auto, unfolding(system_model::specs::Top::form_of))]
+fn form_of_three(command: &str, slots: &str, mode: &str) -> Option<Form>
+    ensures value { result ≡ form_of (command.now ∷ slots.now ∷ mode.now ∷ []) }
+    ensures few { IfSome result HasFewSlots }
+{
+    if !same_name(b"run", command.as_bytes()) || !same_name(b"serial", mode.as_bytes()) {
+        return None;
+    }
+    run_of(slots)
+}
+
+// The run of so many slots as the word says.
+fn run_of(word: &str) -> Option<Form>
+    ensures value { result ≡ run_of word.now }
+    ensures few { IfSome result HasFewSlots }
+{
+    let slots = count(word.as_bytes(), MOST_SLOTS)?;
     Some(Form::Run(slots))
 }
 

@@ -1,1 +1,4 @@
 pub mod NameTable
+pub mod Steps
+pub mod Loops
+pub mod Sizes

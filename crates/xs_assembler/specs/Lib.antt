@@ -3,3 +3,7 @@ pub mod Parts
 pub mod Lines
 pub mod Sofar
 pub mod Contents
+pub mod Values
+pub mod Findings
+pub mod Output
+pub mod Assembles

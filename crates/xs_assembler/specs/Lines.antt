@@ -1,8 +1,9 @@
 -- What a line that was read stands for.
-use Rattle.std.specs.Prelude.{ℕ, Option, List, map}
+use Rattle.std.specs.Prelude.{ℕ, Bool, false, Option, List, [], ◌∷◌, map}
+use Rattle.xs_text.specs.Tokens.{Token}
 use denote.Ref.{Bor}
 use Rattle.source_model.specs.Statement as model
-use Rattle.source_model.specs.Statement.{NoEffect, Unknown, Misshapen, Instruction, Values, Zeros, Align}
+use Rattle.source_model.specs.Statement.{begins_label, NoEffect, Unknown, Misshapen, Instruction, Values, Zeros, Align}
 use Rattle.xs_assembler.specs.declared.statement.Says.{Says}
 use Rattle.xs_assembler.specs.declared.statement.Says.TheVariants as read
 use Rattle.xs_assembler.specs.declared.statement.Statement.{Statement}
@@ -27,3 +28,9 @@ names_in names = map (λ (name : Bor (List ℕ)). name.now) names
 
 abbrev pub line_value : Line → model.Line
 line_value line = record { bad_byte = line.bad_byte; labels = names_in line.labels.items; statement = statement_of line.statement }
+
+-- whether a label stands at the front
+abbrev pub begins_with_label : List Token → Bool
+begins_with_label [] = false
+begins_with_label (t ∷ []) = false
+begins_with_label (t ∷ c ∷ rest) = begins_label t c

@@ -1,6 +1,7 @@
-ghost use Rattle.std.specs.Prelude.{◌≡◌, IfOk};
-ghost use Rattle.source_model.specs.Statement.{line_of};
-ghost use Rattle.xs_assembler.specs.Lines.{line_value};
+ghost use Rattle.std.specs.Prelude.{◌≡◌, ◌≤◌, IfOk, IsTrue, length};
+ghost use Rattle.source_model.specs.Statement.{labels_first, after_labels, line_of};
+ghost use Rattle.xs_assembler.specs.Lines.{begins_with_label, line_value, names_in};
+ghost use Rattle.xs_assembler.specs.Parts.{tokens_in};
 
 use crate::pieces::{Piece, read_pieces};
 use crate::statement::{Statement, read_statement};
@@ -19,6 +20,8 @@ pub struct Line<'a> {
 
 // Whether a name and a colon stand at the front.
 fn begins_label(pieces: &[Piece]) -> bool
+    ensures two { IsTrue result → 2 ≤ length pieces.now }
+    ensures value { result ≡ begins_with_label (tokens_in pieces.now) }
 {
     pieces.len() >= 2
         && pieces[0].kind == TokKind::Name
@@ -30,6 +33,8 @@ fn split_labels<'a, 'p>(
     alloc: Global,
     pieces: &'p [Piece<'a>],
 ) -> Result<(Vec<&'a [u8]>, &'p [Piece<'a>]), AllocError>
+    ensures labels { IfOk result (λ parts. names_in parts.0.items ≡ labels_first (tokens_in pieces.now)) }
+    ensures rest { IfOk result (λ parts. tokens_in parts.1.now ≡ after_labels (tokens_in pieces.now)) }
 {
     let mut labels = Vec::new(alloc);
     let mut rest = pieces;

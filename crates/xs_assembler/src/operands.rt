@@ -3,6 +3,7 @@ ghost use Rattle.std.specs.List.{slice_range};
 ghost use Rattle.std.specs.Prelude.{vec_items, map};
 ghost use Rattle.xs_instructions.specs.Table.{parts_of, values_among};
 ghost use Rattle.source_model.specs.Operands.{base_named, base_after, operands_of, name_shape, shape_of, shapes_of, name_amount, amount_of, amounts_of};
+ghost use Rattle.xs_instructions.specs.Table.{register_number};
 ghost use Rattle.xs_assembler.specs.Parts.{tokens_in, operand_of, operands_in, amounts_in};
 ghost use Rattle.xs_assembler.specs.Parts.{amount_of as read_amount};
 
@@ -113,6 +114,7 @@ pub fn shapes(alloc: Global, operands: &[Operand]) -> Result<Option<Vec<Shape>>,
 
 // The amount of a register or of a label's name.
 fn name_amount<'a>(base: Option<Section>, name: &'a [u8]) -> Amount<'a>
+    ensures { read_amount result ≡ name_amount (register_number name.now) base name.now }
 {
     match (register_number(name), base) {
         (Some(register), _) => Amount::Known(Some(u32::from(register))),

@@ -1,5 +1,6 @@
-ghost use Rattle.std.specs.Prelude.{◌≡◌, ◌<◌, ◌^◌, ◌++◌, OnOk, replicate, flat_map};
+ghost use Rattle.std.specs.Prelude.{◌≡◌, ◌<◌, ◌^◌, ◌++◌, OnOk, [], replicate, flat_map};
 ghost use Rattle.source_model.specs.Values.{little_endian};
+ghost use Rattle.xs_assembler.specs.Output.{Grows};
 ghost use Rattle.xs_assembler.specs.Contents.{code_in, bytes_in};
 
 use crate::contents::Content;
@@ -18,7 +19,11 @@ pub struct Output {
 
 impl Output {
     // Nothing. It takes no memory.
-    pub fn new(alloc: Global) -> Output {
+    pub fn new(alloc: Global) -> Output
+        ensures code { result.code.items ≡ [] }
+        ensures data_bytes { result.data_bytes.items ≡ [] }
+        ensures constant_bytes { result.constant_bytes.items ≡ [] }
+    {
         Output {
             code: Vec::new(alloc),
             data_bytes: Vec::new(alloc),
@@ -32,7 +37,9 @@ impl Output {
         section: Section,
         long: u64,
         content: &Content,
-    ) -> Result<(), AllocError> {
+    ) -> Result<(), AllocError>
+        ensures { OnOk result (Grows section (code_in long content.now) (bytes_in long content.now) self.old self.new) }
+    {
         match section {
             Section::Text => put_code(&mut self.code, long, content),
             Section::Data => put_bytes(&mut self.data_bytes, long, content),

@@ -1,5 +1,10 @@
 ghost use Rattle.std.specs.Prelude.{◌≡◌, IfOk, IsTrue, option_map, option_copied};
 ghost use Rattle.source_model.specs.Statement.{is_nothing, is_lone_name, lone_number, shaped, zeros, aligned, directive, instruction, statement};
+ghost use Rattle.std.specs.Prelude.{option_and_then};
+ghost use Rattle.xs_text.specs.Numbers.{at_most, source_number_of};
+ghost use Rattle.source_model.specs.Operands.{operands_of};
+ghost use Rattle.source_model.specs.Values.{values_of};
+ghost use Rattle.source_model.specs.Statement.{not_zero, valued};
 ghost use Rattle.xs_assembler.specs.Parts.{token_of, tokens_in};
 ghost use Rattle.xs_assembler.specs.Lines.{says_of, statement_of};
 
@@ -84,6 +89,7 @@ fn aligned<'a>(pieces: &[Piece]) -> Says<'a>
 }
 
 fn unit(digits: &[u8]) -> Option<u32>
+    ensures { result ≡ option_and_then not_zero (at_most 1024 (source_number_of digits.now)) }
 {
     match source_number(digits, 1_024) {
         Some(0) => None,
@@ -93,6 +99,7 @@ fn unit(digits: &[u8]) -> Option<u32>
 
 // The values of a directive.
 fn valued<'a>(alloc: Global, width: Width, pieces: &[Piece<'a>]) -> Result<Says<'a>, AllocError>
+    ensures { IfOk result (λ says. says_of says ≡ valued width (values_of width (tokens_in pieces.now))) }
 {
     match read_values(alloc, width, pieces)? {
         Some(values) => Ok(Says::Values(width, values)),
@@ -129,6 +136,7 @@ fn read_instruction<'a>(
     name: &[u8],
     rest: &[Piece<'a>],
 ) -> Result<Says<'a>, AllocError>
+    ensures { IfOk result (λ says. says_of says ≡ instruction name.now (operands_of (tokens_in rest.now))) }
 {
     if !known(name) {
         return Ok(Says::Unknown);

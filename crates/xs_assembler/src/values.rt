@@ -1,6 +1,8 @@
-ghost use Rattle.std.specs.Prelude.{◌≡◌, ◌≤◌, IfOk, IfSome, option_map, vec_items};
-ghost use Rattle.source_model.specs.Values.{width_bytes, greatest_value, greatest_negative, negated, label_value, plain_value, signed_value, values_of};
-ghost use Rattle.xs_assembler.specs.Parts.{amount_of, amounts_in, tokens_in};
+ghost use Rattle.std.specs.Prelude.{◌≡◌, ◌≤◌, IfOk, IfSome, option_map, vec_items, List, ◌∷◌};
+ghost use Rattle.source_model.specs.Values.{width_bytes, greatest_value, greatest_negative, negated, label_value, plain_value, signed_value, values_from, values_of};
+ghost use Rattle.xs_assembler.specs.Parts.{amount_of, amounts_in, token_of, tokens_in};
+ghost use Rattle.xs_assembler.specs.Values.{next_of, after_step};
+ghost use Rattle.xs_text.specs.Tokens.{Token};
 
 use crate::amount::Amount;
 use crate::pieces::Piece;
@@ -128,7 +130,9 @@ pub fn read_values<'a>(
 }
 
 // The value that the token ends, if it does, and what may come next. None where the token may not come here.
+#[tactic(auto, unfolding(source_model::specs::Values::values_from))]
 fn value_step<'a>(piece: Piece<'a>, width: Width, next: Next) -> Option<(Option<Amount<'a>>, Next)>
+    ensures { (rest : List Token) → values_from (next_of next) width (token_of piece.entry ∷ rest) ≡ after_step width rest result }
 {
     match next {
         Next::Value if same_name(b"-", piece.bytes) => Some((None, Next::Digits)),

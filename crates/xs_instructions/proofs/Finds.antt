@@ -1,5 +1,5 @@
 -- Each row is found by its own name and the shapes of its form.
-use Rattle.std.proofs.Common.{⊎_elim, subst, ◌≡◌, ℕ, ◌<◌, ◌≤◌, Bool, true, false, not, ◌||◌, ◌==◌, nat_lt, if◌then◌else◌, Option, Some, None, List, [], ◌∷◌, drop, refl, sym, ◌∙◌, ap, arith}
+use Rattle.std.proofs.Common.{⊎_elim, subst, ◌≡◌, ℕ, Bool, true, false, not, ◌||◌, ◌==◌, nat_lt, if◌then◌else◌, Option, Some, None, List, [], ◌∷◌, refl, sym, ap, arith}
 use Rattle.std.specs.List.{filter}
 use Rattle.std.proofs.lemmas.Bool.{and_parts, or_cases, not-true, false≢true}
 use Rattle.std.proofs.lemmas.Option.{none-some}
@@ -7,7 +7,7 @@ use Rattle.std.proofs.Math.Bool.{and-false}
 use Rattle.std.proofs.lemmas.Bool.Decides.{nat_tests}
 use Rattle.xs_instructions.specs.declared.instr.Instr.{Instr}
 use Rattle.xs_instructions.specs.declared.rows.Part.{Part}
-use Rattle.xs_instructions.specs.declared.rows.Part.TheVariants.{Common, AnyRegister, Register, Small, Width, Short, Exactly, Label, Word}
+use Rattle.xs_instructions.specs.declared.rows.Part.TheVariants.{Common, AnyRegister, Register, Word}
 use Rattle.xs_instructions.specs.declared.rows.Row.{Row}
 use Rattle.xs_instructions.specs.declared.rows.Row.TheVariants as row
 use Rattle.xs_instructions.specs.declared.rows.TheConstants.{ROWS}
@@ -106,9 +106,9 @@ stand_not (p ∷ parts) [] values a h = refl
 stand_not (p ∷ parts) (q ∷ others) values a h =
     let both = first_and_rest p parts values h in
     ⊎_elim
-      (λ here. rw (stands_not p q values here both.0) refl)
-      (λ later. rw (stand_not parts others (values_after p values) later both.1) (and-false (may_stand q (shape_at p values))))
-      (or_cases (apart p q) (forms_apart parts others) a)
+    (λ here. rw (stands_not p q values here both.0) refl)
+    (λ later. rw (stand_not parts others (values_after p values) later both.1) (and-false (may_stand q (shape_at p values))))
+    (or_cases (apart p q) (forms_apart parts others) a)
 
 row_fits : (r : Row) (values : List ℕ) → are_in_range (value_parts r) values ≡ true → is_of_row r (name_of r) (shapes (parts_of r) values) ≡ true
 row_fits r values h = rw (same_name-same (name_of r), stand (parts_of r) values h) refl
@@ -116,9 +116,9 @@ row_fits r values h = rw (same_name-same (name_of r), stand (parts_of r) values 
 row_fits_not : (r q : Row) (values : List ℕ) → rows_apart r q ≡ true → are_in_range (value_parts r) values ≡ true → is_of_row q (name_of r) (shapes (parts_of r) values) ≡ false
 row_fits_not r q values a h =
     ⊎_elim
-      (λ other. rw (not-true (same_name (name_of q) (name_of r)) other) refl)
-      (λ forms. rw (stand_not (parts_of r) (parts_of q) values forms h) (and-false (same_name (name_of q) (name_of r))))
-      (or_cases (not (same_name (name_of q) (name_of r))) (forms_apart (parts_of r) (parts_of q)) a)
+    (λ other. rw (not-true (same_name (name_of q) (name_of r)) other) refl)
+    (λ forms. rw (stand_not (parts_of r) (parts_of q) values forms h) (and-false (same_name (name_of q) (name_of r))))
+    (or_cases (not (same_name (name_of q) (name_of r))) (forms_apart (parts_of r) (parts_of q)) a)
 
 abbrev row_or : Row → Option Row → Row
 row_or r None = r

@@ -3,3 +3,4 @@ pub mod Kept
 pub mod Made
 pub mod Finds
 pub mod Filled
+pub mod Labels

@@ -1,5 +1,6 @@
 -- A row and its values, and the instruction that they make.
-use Rattle.std.proofs.Common.{◌≡◌, ℕ, ◌<◌, Bool, true, false, if◌then◌else◌, Option, Some, List, [], ◌∷◌, refl, sym, ◌∙◌, ap, arith}
+use Rattle.std.proofs.Common.{◌≡◌, ℕ, Bool, true, false, if◌then◌else◌, Some, None, List, [], ◌∷◌, refl, ◌∙◌, arith}
+use Rattle.std.specs.Prelude.{IfSome}
 use Rattle.std.proofs.lemmas.Bool.{and_parts, false≢true, ltb-true}
 use Rattle.std.proofs.lemmas.Bool.Decides.{nat_tests}
 use Rattle.xs_instructions.specs.declared.instr.Instr.{Instr}
@@ -148,3 +149,12 @@ made-facts r values h =
     let of_values = values_made_back r values h in
     let ranges : AreInRange (value_parts (row_of (made r values))) (values_of (made r values)) = rw (of_row, of_values) (all_in_range_if (value_parts r) values h) in
     (InRange-intro (made r values) ranges, of_row, of_values)
+
+facts_if : (r : Row) (values : List ℕ) (b : Bool) → are_in_range (value_parts r) values ≡ b
+    → IfSome (if b then Some (made r values) else None) (λ ins. InRange ins × (row_of ins ≡ r) × (values_of ins ≡ values))
+facts_if r values true h = made-facts r values h
+facts_if r values false h = tt
+
+-- what a row builds of values is in range, of this row and of these values
+pub built_facts : (r : Row) (values : List ℕ) → IfSome (build r values) (λ ins. InRange ins × (row_of ins ≡ r) × (values_of ins ≡ values))
+built_facts r values = facts_if r values (are_in_range (value_parts r) values) refl

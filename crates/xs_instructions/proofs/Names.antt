@@ -1,21 +1,17 @@
 -- The names of labels: what a map's look-up says of `address_of`, and that a name's bytes are text.
-use Rattle.std.proofs.Common.{◌≡◌, ℕ, ◌<◌, ◌≤◌, true, false, List, [], ◌∷◌, ◌++◌, map, length, None, refl, sym, ◌∙◌, ap, subst, IsTrue, arith, rules, nat_lt}
-use Rattle.std.specs.Prelude.{String, string_bytes, bytes_eq, IsUtf8, IsAscii, string_eq}
+use Rattle.std.proofs.Common.{◌≡◌, ℕ, ◌<◌, ◌≤◌, true, false, List, [], ◌∷◌, length, refl, sym, ap, IsTrue, arith, rules, nat_lt}
+use Rattle.std.specs.Prelude.{bytes_eq, IsUtf8, IsAscii}
 use Rattle.std.specs.Bool.{Decides}
 use Rattle.std.specs.List.{list_all, list_any}
-use Rattle.std.specs.Map.{lookup}
 use Rattle.std.proofs.lemmas.Slice.Eq.{compares_Decides, bytes_eq-Decides}
 use Rattle.std.proofs.lemmas.Bool.{false_from_ne_true, and_parts, ltb-true}
-use Rattle.std.proofs.lemmas.List.{map-append}
 use Rattle.std.proofs.lemmas.Bool.Decides.{same_from_decides, nat_tests}
-use Rattle.std.proofs.lemmas.Str.{IsUtf8-nil, IsUtf8-from_ascii, IsUtf8-string_bytes}
+use Rattle.std.proofs.lemmas.Str.{IsUtf8-nil, IsUtf8-from_ascii}
 use Rattle.std.proofs.lemmas.Str.Ascii.{IsAscii-nil, IsAscii-cons}
-use Rattle.indexmap.specs.IndexMap.{IndexMap, get, insert_entry}
-use Rattle.indexmap.proofs.CallerLemmas.{insert_entry-new}
 use Rattle.xs_text.specs.Bytes.{is_name_byte, is_name_start}
 use Rattle.xs_text.specs.Tokens.{is_name}
 use Rattle.xs_instructions.specs.Words.{same_name}
-use Rattle.xs_instructions.specs.Image.{address_of, symbol_of_entry, is_reserved, reserved_names}
+use Rattle.xs_instructions.specs.Image.{is_reserved, reserved_names}
 
 pub same_name-Decides : (xs ys : List ℕ) → Decides (same_name xs ys) (xs ≡ ys)
 same_name-Decides = compares_Decides same_name (search rules)
@@ -29,18 +25,6 @@ same_name-is key name =
     let same = same_name-Decides key name in
     let equal = bytes_eq-Decides name key in
     same_from_decides _ _ same (λ t. sym (equal.0 t), λ e. equal.1 (sym e))
-
-pub address_of-entries : {A : Type 0} (name : List ℕ) (entries : List (String A × ℕ)) → address_of (map symbol_of_entry entries) name ≡ lookup (λ k. bytes_eq name (string_bytes k)) entries
-address_of-entries name [] = refl
-address_of-entries name (e ∷ es) = rw (same_name-is (string_bytes e.0) name, address_of-entries name es) refl
-
--- keys are text, so bytes that are no text are no key
-pub address_of-other_bytes : {A : Type 0} (name : List ℕ) → (IsUtf8 name → ⊥) → (entries : List (String A × ℕ)) → address_of (map symbol_of_entry entries) name ≡ None
-address_of-other_bytes name other [] = refl
-address_of-other_bytes name other (e ∷ es) =
-    let differs : same_name (string_bytes e.0) name ≡ false =
-    false_from_ne_true _ (λ t. other (subst IsUtf8 ((same_name-Decides (string_bytes e.0) name).0 t) (IsUtf8-string_bytes e.0))) in
-    rw differs (address_of-other_bytes name other es)
 
 name_start_ascii : (b : ℕ) → is_name_start b ≡ true → b < 128
 name_start_ascii b h = grind (arith, nat_tests)
@@ -59,16 +43,6 @@ IsUtf8-from_is_name [] h = IsUtf8-nil
 IsUtf8-from_is_name (b ∷ rest) h =
     let parts = and_parts (is_name_start b) (list_all is_name_byte rest) h in
     IsUtf8-from_ascii (b ∷ rest) (IsAscii-cons b rest (name_start_ascii b parts.0) (name_bytes_ascii rest parts.1))
-
--- a key whose bytes no symbol has goes last
-pub insert_entry-define : {A S : Type 0} (labels : IndexMap (String A) ℕ S) (key : String A) (at : ℕ) (name : List ℕ) → string_bytes key ≡ name
-    → address_of (map symbol_of_entry labels.entries) name ≡ None
-    → map symbol_of_entry (insert_entry string_eq labels.entries key at) ≡ map symbol_of_entry labels.entries ++ (name, at) ∷ []
-insert_entry-define labels key at name is new =
-    let absent : get string_eq labels key ≡ None =
-    sym (address_of-entries (string_bytes key) labels.entries) ∙ rw is new in
-    let last = insert_entry-new string_eq labels key at absent in
-    rw (last, map-append, is) refl
 
 -- a name longer than others is none of them
 same_name-longer : (key name : List ℕ) → length key < length name → same_name key name ≡ false

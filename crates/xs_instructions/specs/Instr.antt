@@ -1,5 +1,5 @@
 -- The ranges of an instruction's operands, its label, and whether it is built.
-use Rattle.std.specs.Prelude.{ℕ, ◌≡◌, ◌<◌, ◌^◌, Bool, true, false, ◌||◌, ◌&&◌, ◌==◌, nat_le, nat_lt, Option, Some, None, List, [], ◌∷◌, IsTrue}
+use Rattle.std.specs.Prelude.{ℕ, ◌≡◌, ◌<◌, ◌^◌, Bool, true, false, ◌||◌, ◌&&◌, ◌==◌, nat_le, Option, Some, None, List, [], ◌∷◌, IsTrue}
 use Rattle.std.specs.List.{filter}
 use Rattle.xs_instructions.specs.declared.instr.Instr.{Instr}
 use Rattle.xs_instructions.specs.declared.instr.Instr.TheVariants.{Words, Memory, Flow, Kernel, Threads, Resources}
@@ -15,7 +15,7 @@ use Rattle.xs_instructions.specs.declared.rows.Part.{Part}
 use Rattle.xs_instructions.specs.declared.rows.Part.TheVariants.{Common, AnyRegister, Register, Small, Width, Short, Exactly, Label, Word}
 use Rattle.xs_instructions.specs.declared.rows.Row.{Row}
 use Rattle.xs_instructions.specs.Rows.{parts_of, is_built}
-use Rattle.xs_instructions.specs.Operands.{row_of, row_of_words, row_of_memory, row_of_flow, row_of_kernel, row_of_threads, row_of_resources, values_of, values_of_words, values_of_memory, values_of_flow, values_of_kernel, values_of_threads, values_of_resources}
+use Rattle.xs_instructions.specs.Operands.{row_of, row_of_words, row_of_memory, row_of_flow, row_of_kernel, row_of_threads, row_of_resources, values_of_words, values_of_memory, values_of_flow, values_of_kernel, values_of_threads, values_of_resources}
 
 -- r0 to r11
 abbrev pub IsRegister : ℕ → Type 0
@@ -114,6 +114,16 @@ abbrev pub label_of : Instr → Option ℕ
 label_of (Flow ins) = label_of_flow ins
 label_of (Memory ins) = label_of_memory ins
 label_of _ = None
+
+-- the first of the values that stands at a label, if there is one
+abbrev pub labelled_at : Part → ℕ → Option ℕ → Option ℕ
+labelled_at Label v after = Some v
+labelled_at _ v after = after
+
+abbrev pub labelled : List Part → List ℕ → Option ℕ
+labelled [] values = None
+labelled (p ∷ parts) [] = None
+labelled (p ∷ parts) (v ∷ values) = labelled_at p v (labelled parts values)
 
 -- whether the core can do the instruction
 abbrev pub built : Instr → Bool

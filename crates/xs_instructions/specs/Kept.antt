@@ -1,7 +1,7 @@
 -- What the fields of an instruction keep of values that are not yet known to be in range.
 use Rattle.std.specs.Prelude.{ℕ, ◌+◌, ◌%◌, List, [], ◌∷◌}
 use Rattle.xs_instructions.specs.declared.rows.Part.{Part}
-use Rattle.xs_instructions.specs.declared.rows.Part.TheVariants.{Common, AnyRegister, Register, Small, Width, Short, Exactly, Label, Word}
+use Rattle.xs_instructions.specs.declared.rows.Part.TheVariants.{Short, Exactly, Label}
 use Rattle.xs_instructions.specs.Operands.{at}
 
 -- what is made of the value of each part, the first of them having this number

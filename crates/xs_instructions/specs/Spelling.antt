@@ -3,7 +3,6 @@ use Rattle.std.specs.Prelude.{ℕ, if◌then◌else◌, List, [], ◌∷◌, dro
 use Rattle.xs_instructions.specs.declared.instr.Instr.{Instr}
 use Rattle.xs_instructions.specs.declared.rows.Part.{Part}
 use Rattle.xs_instructions.specs.declared.rows.Part.TheVariants.{Common, AnyRegister, Register, Small, Width, Short, Exactly, Label, Word}
-use Rattle.xs_instructions.specs.declared.rows.Row.{Row}
 use Rattle.xs_instructions.specs.declared.shape.Shape.{Shape}
 use Rattle.xs_instructions.specs.declared.shape.Shape.TheVariants as shape
 use Rattle.xs_instructions.specs.declared.shape.Piece.{Piece}

@@ -6,31 +6,57 @@ use crate::rows::{Part, Row};
 
 // The classes of operands, and what a row itself names: registers, then the fixed words and marks.
 const R: Part = Part::Common;
+
 const G: Part = Part::AnyRegister;
+
 const I: Part = Part::Small;
+
 const B: Part = Part::Width;
+
 const U: Part = Part::Short;
+
 const L: Part = Part::Label;
+
 const R11: Part = Part::Register(11);
+
 const CP: Part = Part::Register(12);
+
 const DP: Part = Part::Register(13);
+
 const SP: Part = Part::Register(14);
+
 const LR: Part = Part::Register(15);
+
 const RES: Part = Part::Word(0);
+
 const T: Part = Part::Word(1);
+
 const PC: Part = Part::Word(2);
+
 const KEP: Part = Part::Word(3);
+
 const KSP: Part = Part::Word(4);
+
 const ED: Part = Part::Word(5);
+
 const ET: Part = Part::Word(6);
+
 const ID: Part = Part::Word(7);
+
 const SPC: Part = Part::Word(8);
+
 const SSR: Part = Part::Word(9);
+
 const SED: Part = Part::Word(10);
+
 const COMMA: Part = Part::Word(11);
+
 const COLON: Part = Part::Word(12);
+
 const LEFT: Part = Part::Word(13);
+
 const RIGHT: Part = Part::Word(14);
+
 const MINUS: Part = Part::Word(15);
 
 impl Row {
@@ -72,13 +98,34 @@ impl Row {
             Row::Maccs => "maccs",
             Row::Ldc => "ldc",
             Row::Nop => "nop",
-            Row::LdwImm | Row::Ldw | Row::LdwDp | Row::LdwSp | Row::LdwCp | Row::LdwSpc | Row::LdwSsr | Row::LdwSed | Row::LdwEt => "ldw",
-            Row::StwImm | Row::Stw | Row::StwDp | Row::StwSp | Row::StwSpc | Row::StwSsr | Row::StwSed | Row::StwEt => "stw",
+            Row::LdwImm
+            | Row::Ldw
+            | Row::LdwDp
+            | Row::LdwSp
+            | Row::LdwCp
+            | Row::LdwSpc
+            | Row::LdwSsr
+            | Row::LdwSed
+            | Row::LdwEt => "ldw",
+            Row::StwImm
+            | Row::Stw
+            | Row::StwDp
+            | Row::StwSp
+            | Row::StwSpc
+            | Row::StwSsr
+            | Row::StwSed
+            | Row::StwEt => "stw",
             Row::Ld16s => "ld16s",
             Row::Ld8u => "ld8u",
             Row::St16 => "st16",
             Row::St8 => "st8",
-            Row::Ldaw | Row::LdawBack | Row::LdawImm | Row::LdawBackImm | Row::LdawDp | Row::LdawSp | Row::LdawCp => "ldaw",
+            Row::Ldaw
+            | Row::LdawBack
+            | Row::LdawImm
+            | Row::LdawBackImm
+            | Row::LdawDp
+            | Row::LdawSp
+            | Row::LdawCp => "ldaw",
             Row::Lda16 | Row::Lda16Back => "lda16",
             Row::Ldap => "ldap",
             Row::Bt => "bt",
@@ -155,9 +202,32 @@ impl Row {
         ensures value { result.now ≡ parts_of self }
     {
         match self {
-            Row::Add | Row::Sub | Row::And | Row::Or | Row::Xor | Row::Eq | Row::Lss | Row::Lsu | Row::Shl | Row::Shr | Row::Ashr | Row::Mul | Row::Divu | Row::Remu | Row::Divs | Row::Rems => &[R, COMMA, R, COMMA, R],
+            Row::Add
+            | Row::Sub
+            | Row::And
+            | Row::Or
+            | Row::Xor
+            | Row::Eq
+            | Row::Lss
+            | Row::Lsu
+            | Row::Shl
+            | Row::Shr
+            | Row::Ashr
+            | Row::Mul
+            | Row::Divu
+            | Row::Remu
+            | Row::Divs
+            | Row::Rems => &[R, COMMA, R, COMMA, R],
             Row::AddImm | Row::SubImm | Row::EqImm => &[R, COMMA, R, COMMA, I],
-            Row::Neg | Row::Not | Row::AndNot | Row::Mkmsk | Row::Sext | Row::Zext | Row::Bitrev | Row::Byterev | Row::Clz => &[R, COMMA, R],
+            Row::Neg
+            | Row::Not
+            | Row::AndNot
+            | Row::Mkmsk
+            | Row::Sext
+            | Row::Zext
+            | Row::Bitrev
+            | Row::Byterev
+            | Row::Clz => &[R, COMMA, R],
             Row::ShlImm | Row::ShrImm | Row::AshrImm => &[R, COMMA, R, COMMA, B],
             Row::MkmskImm | Row::SextImm | Row::ZextImm => &[R, COMMA, B],
             Row::Ladd | Row::Lsub | Row::Ldivu => &[R, COMMA, R, COMMA, R, COMMA, R, COMMA, R],
@@ -166,7 +236,14 @@ impl Row {
             Row::Ldc => &[R, COMMA, U],
             Row::Nop | Row::Kret | Row::Ssync | Row::Freet | Row::Clre | Row::Waiteu => &[],
             Row::LdwImm | Row::StwImm | Row::LdawImm => &[R, COMMA, R, LEFT, I, RIGHT],
-            Row::Ldw | Row::Stw | Row::Ld16s | Row::Ld8u | Row::St16 | Row::St8 | Row::Ldaw | Row::Lda16 => &[R, COMMA, R, LEFT, R, RIGHT],
+            Row::Ldw
+            | Row::Stw
+            | Row::Ld16s
+            | Row::Ld8u
+            | Row::St16
+            | Row::St8
+            | Row::Ldaw
+            | Row::Lda16 => &[R, COMMA, R, LEFT, R, RIGHT],
             Row::LdwDp | Row::StwDp => &[G, COMMA, DP, LEFT, U, RIGHT],
             Row::LdwSp | Row::StwSp => &[G, COMMA, SP, LEFT, U, RIGHT],
             Row::LdwCp => &[R, COMMA, CP, LEFT, U, RIGHT],
@@ -178,9 +255,24 @@ impl Row {
             Row::Ldap => &[R11, COMMA, L],
             Row::Bt | Row::Bf => &[R, COMMA, L],
             Row::Bu | Row::Bl => &[L],
-            Row::Bru | Row::Bau | Row::Bla | Row::Kcall | Row::Ecallt | Row::Ecallf | Row::Waitet | Row::Waitef => &[R],
+            Row::Bru
+            | Row::Bau
+            | Row::Bla
+            | Row::Kcall
+            | Row::Ecallt
+            | Row::Ecallf
+            | Row::Waitet
+            | Row::Waitef => &[R],
             Row::BlaCp => &[CP, LEFT, U, RIGHT],
-            Row::Entsp | Row::Retsp | Row::Extsp | Row::Extdp | Row::KcallImm | Row::Kentsp | Row::Krestsp | Row::Setsr | Row::Clrsr => &[U],
+            Row::Entsp
+            | Row::Retsp
+            | Row::Extsp
+            | Row::Extdp
+            | Row::KcallImm
+            | Row::Kentsp
+            | Row::Krestsp
+            | Row::Setsr
+            | Row::Clrsr => &[U],
             Row::SetSp => &[SP, COMMA, R],
             Row::SetDp => &[DP, COMMA, R],
             Row::SetCp => &[CP, COMMA, R],
@@ -195,7 +287,19 @@ impl Row {
             Row::LdwSsr | Row::StwSsr => &[SSR, COMMA, SP, LEFT, Part::Exactly(2), RIGHT],
             Row::LdwSed | Row::StwSed => &[SED, COMMA, SP, LEFT, Part::Exactly(3), RIGHT],
             Row::LdwEt | Row::StwEt => &[ET, COMMA, SP, LEFT, Part::Exactly(4), RIGHT],
-            Row::Getst | Row::In | Row::Int | Row::Inct | Row::Testct | Row::Testwct | Row::Getd | Row::Eet | Row::Eef | Row::Inshr | Row::Peek | Row::Endin | Row::Getts => &[R, COMMA, RES, LEFT, R, RIGHT],
+            Row::Getst
+            | Row::In
+            | Row::Int
+            | Row::Inct
+            | Row::Testct
+            | Row::Testwct
+            | Row::Getd
+            | Row::Eet
+            | Row::Eef
+            | Row::Inshr
+            | Row::Peek
+            | Row::Endin
+            | Row::Getts => &[R, COMMA, RES, LEFT, R, RIGHT],
             Row::InitPc => &[T, LEFT, R, RIGHT, COLON, PC, COMMA, R],
             Row::InitSp => &[T, LEFT, R, RIGHT, COLON, SP, COMMA, R],
             Row::InitDp => &[T, LEFT, R, RIGHT, COLON, DP, COMMA, R],
@@ -203,9 +307,20 @@ impl Row {
             Row::InitLr => &[T, LEFT, R, RIGHT, COLON, LR, COMMA, R],
             Row::SetOther => &[T, LEFT, R, RIGHT, COLON, R, COMMA, R],
             Row::Start => &[T, LEFT, R, RIGHT],
-            Row::Msync | Row::Mjoin | Row::Freer | Row::Eeu | Row::Edu | Row::Syncr | Row::Clrpt => &[RES, LEFT, R, RIGHT],
+            Row::Msync | Row::Mjoin | Row::Freer | Row::Eeu | Row::Edu | Row::Syncr | Row::Clrpt =>
+                &[RES, LEFT, R, RIGHT],
             Row::Getr => &[R, COMMA, I],
-            Row::Out | Row::Outt | Row::Outct | Row::Chkct | Row::Setd | Row::Setc | Row::Outshr | Row::Setpt | Row::Setclk | Row::Setrdy | Row::Settw => &[RES, LEFT, R, RIGHT, COMMA, R],
+            Row::Out
+            | Row::Outt
+            | Row::Outct
+            | Row::Chkct
+            | Row::Setd
+            | Row::Setc
+            | Row::Outshr
+            | Row::Setpt
+            | Row::Setclk
+            | Row::Setrdy
+            | Row::Settw => &[RES, LEFT, R, RIGHT, COMMA, R],
             Row::OutctImm | Row::ChkctImm => &[RES, LEFT, R, RIGHT, COMMA, I],
             Row::SetcImm => &[RES, LEFT, R, RIGHT, COMMA, U],
             Row::Setv | Row::Setev => &[RES, LEFT, R, RIGHT, COMMA, R11],
@@ -220,7 +335,21 @@ impl Row {
     {
         matches!(
             self,
-            Row::Add | Row::Sub | Row::Eq | Row::Ldc | Row::Nop | Row::LdwDp | Row::StwDp | Row::Bt | Row::Bf | Row::Bu | Row::Freet | Row::Getr | Row::Setd | Row::OutctImm | Row::ChkctImm
+            Row::Add
+                | Row::Sub
+                | Row::Eq
+                | Row::Ldc
+                | Row::Nop
+                | Row::LdwDp
+                | Row::StwDp
+                | Row::Bt
+                | Row::Bf
+                | Row::Bu
+                | Row::Freet
+                | Row::Getr
+                | Row::Setd
+                | Row::OutctImm
+                | Row::ChkctImm
         )
     }
 }

@@ -3,27 +3,27 @@
 
 mod build;
 mod code;
-mod laws;
-mod look_up;
 mod forms;
 mod image;
 mod instr;
+mod laws;
+mod look_up;
 mod rows;
 mod shape;
-mod writing;
 mod symbols;
 mod words;
+mod writing;
 
 pub use code::{MOST_CODE, instr_at};
-pub use laws::written_is_read;
-pub use look_up::{find, known};
 pub use image::Image;
 pub use instr::{FlowIns, Instr, KernelIns, MemIns, ResIns, ThreadIns, WordIns};
+pub use laws::{built_is_of_its_row, written_is_read};
+pub use look_up::{find, known};
 pub use rows::{Part, ROWS, Row};
 pub use shape::{Form, Piece, Shape};
-pub use writing::spelling;
-pub use words::{fixed, register_number};
 pub use symbols::{Symbols, is_reserved, same_name};
+pub use words::{fixed, register_number};
+pub use writing::{built, spelling};
 
 #[cfg(test)]
 mod tests;

@@ -1,9 +1,8 @@
-ghost use Rattle.std.specs.Prelude.{◌≡◌, [], ◌∷◌, ◌++◌, None, IsTrue, OnOk, OnErr, length, option_map};
+ghost use Rattle.std.specs.Prelude.{◌≡◌, [], ◌∷◌, ◌++◌, None, IsTrue, OnOk, OnErr, length, map, option_map};
 ghost use Rattle.xs_text.specs.Tokens.{is_name};
-ghost use Rattle.xs_instructions.specs.Image.{address_of, is_reserved, symbol_at, symbol_of_pair};
+ghost use Rattle.xs_instructions.specs.Image.{address_of, is_reserved, symbol_at, symbol_of_entry, symbol_of_pair};
 ghost use Rattle.xs_instructions.specs.Words.{same_name};
 
-use indexmap::IndexMap;
 use std::alloc::{AllocError, Global};
 use std::marker::Model;
 
@@ -11,7 +10,7 @@ use std::marker::Model;
 /// the list of pairs of a name's bytes and its address.
 #[derive(Drop)]
 pub struct Symbols {
-    addresses: IndexMap<String, u32>,
+    labels: Vec<(String, u32)>,
 }
 
 impl Model for Symbols {
@@ -20,7 +19,7 @@ impl Model for Symbols {
 
     ghost Value = { List Symbol };
 
-    ghost view = { λ s. map symbol_of_entry s.addresses.entries };
+    ghost view = { λ s. map symbol_of_entry s.labels.items };
 }
 
 impl Symbols {
@@ -29,39 +28,35 @@ impl Symbols {
         ensures empty { result ≡ [] }
     {
         Symbols {
-            addresses: IndexMap::new(alloc),
+            labels: Vec::new(alloc),
         }
     }
 
-    /// Puts a label at the end, for a name that is no label's yet. The error is want of memory, and changes nothing.
+    /// Puts a label at the end. The error is want of memory, and changes nothing.
     pub fn define(&mut self, alloc: Global, name: &[u8], at: u32) -> Result<(), AllocError>
-        requires name { IsTrue (is_name name.now) }
-        requires new { address_of self.old name.now ≡ None }
+        requires { IsTrue (is_name name.now) }
         ensures ok { OnOk result (self.new ≡ self.old ++ (name.now, at) ∷ []) }
         ensures err { OnErr result (self.new ≡ self.old) }
     {
         // A name is ASCII, so nothing in it is replaced.
         let key = String::from_utf8_lossy(alloc, name)?;
-        self.addresses.insert(key, at)?;
+        self.labels.push((key, at))?;
         Ok(())
     }
 
-    /// The address of the label with this name, or None exactly where there is none. Any bytes may be asked for.
+    /// The address of the first label with this name, or None exactly where there is none. Any bytes may be asked
+    /// for. It looks through the labels in order.
     pub fn address(&self, name: &[u8]) -> Option<u32>
         ensures value { result ≡ address_of self.now name.now }
     {
-        match str::from_utf8(name) {
-            Ok(text) => self.addresses.get(text).copied(),
-            // Each label is text, so other bytes are no label's.
-            Err(_) => None,
-        }
+        address_of(&self.labels, name)
     }
 
     /// How many labels there are.
     pub fn count(&self) -> usize
         ensures value { result ≡ length self.now }
     {
-        self.addresses.len()
+        self.labels.len()
     }
 
     /// The label with the number `k` in the order of definition, from 0, with its address. None comes exactly past
@@ -69,9 +64,21 @@ impl Symbols {
     pub fn at(&self, k: usize) -> Option<(&str, u32)>
         ensures value { option_map symbol_of_pair result ≡ symbol_at k self.now }
     {
-        let (name, at) = self.addresses.get_index(k)?;
+        let (name, at) = self.labels.get(k)?;
         Some((name.as_str(), *at))
     }
+}
+
+// The address of the first of the labels with this name.
+fn address_of(labels: &[(String, u32)], name: &[u8]) -> Option<u32>
+    ensures { result ≡ address_of (map symbol_of_entry labels.now) name.now }
+{
+    for label in labels {
+        if same_name(label.0.as_bytes(), name) {
+            return Some(label.1);
+        }
+    }
+    None
 }
 
 /// Whether two names are the same, byte for byte. Case counts. See docs/ASSEMBLY.md.

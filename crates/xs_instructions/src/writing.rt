@@ -2,6 +2,7 @@ ghost use Rattle.std.specs.Prelude.{◌≡◌, [], ◌∷◌, map};
 ghost use Rattle.xs_instructions.specs.Words.{fixed_text};
 ghost use Rattle.xs_instructions.specs.Rows.{name_of, parts_of};
 ghost use Rattle.xs_instructions.specs.Operands.{row_of, values_of};
+ghost use Rattle.xs_instructions.specs.Instr.{built};
 ghost use Rattle.xs_instructions.specs.declared.instr.Instr.TheVariants as instr;
 ghost use Rattle.xs_instructions.specs.Spelling.{Text, spelled_piece, spelling};
 ghost use Rattle.xs_instructions.specs.Spelling.{Num as number};
@@ -20,6 +21,13 @@ pub fn spelling(ins: Instr) -> Form
 {
     let taken = taken_apart(ins);
     form(taken.row, &taken.operands)
+}
+
+/// Whether the core can do an instruction. See docs/INSTRUCTIONS.md.
+pub fn built(ins: Instr) -> bool
+    ensures value { result ≡ built ins }
+{
+    taken_apart(ins).row.is_built()
 }
 
 // A row's name and its form with the operands filled in.
@@ -102,49 +110,70 @@ fn none(row: Row) -> Taken
     ensures row { result.row ≡ row }
     ensures operands { map spelled_piece result.operands ≡ number 0 ∷ number 0 ∷ number 0 ∷ number 0 ∷ number 0 ∷ number 0 ∷ [] }
 {
-    Taken { row, operands: [Num(0), Num(0), Num(0), Num(0), Num(0), Num(0)] }
+    Taken {
+        row,
+        operands: [Num(0), Num(0), Num(0), Num(0), Num(0), Num(0)],
+    }
 }
 
 fn one(row: Row, a: Piece) -> Taken
     ensures row { result.row ≡ row }
     ensures operands { map spelled_piece result.operands ≡ spelled_piece a ∷ number 0 ∷ number 0 ∷ number 0 ∷ number 0 ∷ number 0 ∷ [] }
 {
-    Taken { row, operands: [a, Num(0), Num(0), Num(0), Num(0), Num(0)] }
+    Taken {
+        row,
+        operands: [a, Num(0), Num(0), Num(0), Num(0), Num(0)],
+    }
 }
 
 fn two(row: Row, a: Piece, b: Piece) -> Taken
     ensures row { result.row ≡ row }
     ensures operands { map spelled_piece result.operands ≡ spelled_piece a ∷ spelled_piece b ∷ number 0 ∷ number 0 ∷ number 0 ∷ number 0 ∷ [] }
 {
-    Taken { row, operands: [a, b, Num(0), Num(0), Num(0), Num(0)] }
+    Taken {
+        row,
+        operands: [a, b, Num(0), Num(0), Num(0), Num(0)],
+    }
 }
 
 fn three(row: Row, a: Piece, b: Piece, c: Piece) -> Taken
     ensures row { result.row ≡ row }
     ensures operands { map spelled_piece result.operands ≡ spelled_piece a ∷ spelled_piece b ∷ spelled_piece c ∷ number 0 ∷ number 0 ∷ number 0 ∷ [] }
 {
-    Taken { row, operands: [a, b, c, Num(0), Num(0), Num(0)] }
+    Taken {
+        row,
+        operands: [a, b, c, Num(0), Num(0), Num(0)],
+    }
 }
 
 fn four(row: Row, a: Piece, b: Piece, c: Piece, d: Piece) -> Taken
     ensures row { result.row ≡ row }
     ensures operands { map spelled_piece result.operands ≡ spelled_piece a ∷ spelled_piece b ∷ spelled_piece c ∷ spelled_piece d ∷ number 0 ∷ number 0 ∷ [] }
 {
-    Taken { row, operands: [a, b, c, d, Num(0), Num(0)] }
+    Taken {
+        row,
+        operands: [a, b, c, d, Num(0), Num(0)],
+    }
 }
 
 fn five(row: Row, a: Piece, b: Piece, c: Piece, d: Piece, e: Piece) -> Taken
     ensures row { result.row ≡ row }
     ensures operands { map spelled_piece result.operands ≡ spelled_piece a ∷ spelled_piece b ∷ spelled_piece c ∷ spelled_piece d ∷ spelled_piece e ∷ number 0 ∷ [] }
 {
-    Taken { row, operands: [a, b, c, d, e, Num(0)] }
+    Taken {
+        row,
+        operands: [a, b, c, d, e, Num(0)],
+    }
 }
 
 fn six(row: Row, a: Piece, b: Piece, c: Piece, d: Piece, e: Piece, f: Piece) -> Taken
     ensures row { result.row ≡ row }
     ensures operands { map spelled_piece result.operands ≡ spelled_piece a ∷ spelled_piece b ∷ spelled_piece c ∷ spelled_piece d ∷ spelled_piece e ∷ spelled_piece f ∷ [] }
 {
-    Taken { row, operands: [a, b, c, d, e, f] }
+    Taken {
+        row,
+        operands: [a, b, c, d, e, f],
+    }
 }
 
 fn words(ins: WordIns) -> Taken
@@ -188,7 +217,15 @@ fn words(ins: WordIns) -> Taken
         WordIns::Clz(d, x) => two(Row::Clz, Reg(d), Reg(x)),
         WordIns::Ladd(d, e, x, y, v) => five(Row::Ladd, Reg(d), Reg(e), Reg(x), Reg(y), Reg(v)),
         WordIns::Lsub(d, e, x, y, v) => five(Row::Lsub, Reg(d), Reg(e), Reg(x), Reg(y), Reg(v)),
-        WordIns::Lmul(d, e, x, y, v, w) => six(Row::Lmul, Reg(d), Reg(e), Reg(x), Reg(y), Reg(v), Reg(w)),
+        WordIns::Lmul(d, e, x, y, v, w) => six(
+            Row::Lmul,
+            Reg(d),
+            Reg(e),
+            Reg(x),
+            Reg(y),
+            Reg(v),
+            Reg(w),
+        ),
         WordIns::Ldivu(d, e, x, y, v) => five(Row::Ldivu, Reg(d), Reg(e), Reg(x), Reg(y), Reg(v)),
         WordIns::Maccu(d, e, x, y) => four(Row::Maccu, Reg(d), Reg(e), Reg(x), Reg(y)),
         WordIns::Maccs(d, e, x, y) => four(Row::Maccs, Reg(d), Reg(e), Reg(x), Reg(y)),

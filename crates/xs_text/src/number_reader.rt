@@ -1,9 +1,16 @@
-ghost use Rattle.std.specs.Prelude.{◌≡◌, ◌≤◌, Some, IfSome};
+ghost use Rattle.std.specs.Prelude.{◌≡◌, ◌≤◌, Some, IfSome, is_some};
 ghost use Rattle.std.specs.Char.{digit_value};
 ghost use Rattle.std.specs.Str.Parse.{digits_value};
 ghost use Rattle.xs_text.specs.Numbers.{at_most, number_of, source_number_of};
 
 use crate::token_reader::{is_binary, is_decimal, is_hex};
+
+/// Whether the bytes as a whole are a number, however great: decimal digits, or `0x` and hex digits.
+pub fn is_plain_number(bytes: &[u8]) -> bool
+    ensures { result ≡ is_some (number_of bytes.now) }
+{
+    is_decimal(bytes) || is_hex(bytes)
+}
 
 /// The number that the bytes are as a whole, in decimal digits or as `0x` and hex digits, with any count of
 /// leading zeros. None where they are no number, or one past the limit.

@@ -10,6 +10,7 @@ pub invariant_of-self-in-Resources : goal.invariant_of-self-in-Resources
 invariant_of-self-in-Resources c = record {
   eight = c.resources.ensures.count;
   operands = c.self-in-Resources.invariant.operands;
+  built = c.self-in-Resources.invariant.built;
   node = c.self-in-Resources.invariant.node;
   rest = λ known. absurd (false≢true known);
 }

@@ -1,0 +1,19 @@
+use Rattle.std.proofs.Common.{refl}
+use Rattle.system_model.proofs.Computes.{computes}
+use Rattle.system_model.proofs.worked_checks.Goals as goal
+
+pub returns : goal.returns
+unfolding computes
+returns c = record {
+  no_nodes = refl;
+  nothing = refl;
+  sum = refl;
+  two_nodes = refl;
+  labels = refl;
+  sections = refl;
+  names_in_brackets = refl;
+  least_line = refl;
+  wrong_shape = refl;
+  least_node = refl;
+  no_source = refl;
+}

@@ -1,0 +1,230 @@
+-- The frame of a system text: all its lines but those of the sources. Each line is tested by what the lines before it
+-- have given, and the first line that has a fault refuses the text.
+use Rattle.std.specs.Prelude.{ℕ, ◌+◌, Bool, true, false, not, ◌&&◌, ◌||◌, ◌==◌, nat_lt, if◌then◌else◌, Option, Some, None, option_map, option_to_list, List, [], ◌∷◌, ◌++◌, length, find}
+use Rattle.std.specs.List.{list_any, list_all}
+use Rattle.xs_text.specs.Bytes.{all_allowed}
+use Rattle.xs_text.specs.Words.{words_of_line}
+use Rattle.system_model.specs.declared.SysKind.{SysKind}
+use Rattle.system_model.specs.declared.SysKind.TheVariants.{FirstLine, BadLine, GivenTwice, IdTwice, LinkEndTwice, LinkToItself, NumberOutOfRange, NodeWithoutSource, SectionNotEnded, BitTwice, NoSuchNode}
+use Rattle.system_model.specs.declared.frame_line.BitLine.{BitLine}
+use Rattle.system_model.specs.declared.frame_line.FrameLine.{FrameLine}
+use Rattle.system_model.specs.declared.frame_line.FrameLine.TheVariants.{Node, Link, Bit, Source}
+use Rattle.system_model.specs.declared.frame_line.GivenNode.{GivenNode}
+use Rattle.system_model.specs.declared.frame_line.LinkLine.{LinkLine}
+use Rattle.system_model.specs.FrameLines.{is_header, is_end, frame_line, is_in_range}
+
+-- a source: the number of its node, the line that begins it, and its own lines
+pub record SourceText : Type 0 where
+  pub number : ℕ
+  pub line : ℕ
+  pub lines : List (List ℕ)
+
+-- What the lines so far have given: whether one of them had words; the nodes, by ascending number; the links, the bits
+-- and the sources that have ended, in the order of the lines; and the source that has not ended yet.
+pub record Given : Type 0 where
+  pub begun : Bool
+  pub nodes : List GivenNode
+  pub links : List LinkLine
+  pub bits : List BitLine
+  pub sources : List SourceText
+  pub reading : Option SourceText
+
+abbrev pub nothing_given : Given
+nothing_given = record { begun = false; nodes = []; links = []; bits = []; sources = []; reading = None }
+
+-- What a line says
+
+pub data Says : Type 0 where
+  -- it is a source's own
+  Own : Says
+  -- it ends a source
+  End : Says
+  -- it has no words
+  Blank : Says
+  -- it is the first with words, and is `xs1 1`
+  Header : Says
+  -- it is the first with words, and is something else
+  NoHeader : Says
+  -- it is a later one, and has no form
+  NoForm : Says
+  -- it is a later one of a form
+  Form : (form : FrameLine) → Says
+
+abbrev pub says_form : Option FrameLine → Says
+says_form None = NoForm
+says_form (Some form) = Form form
+
+-- outside of the sources, by whether a line before it had words, and by its own words
+abbrev pub says_in_frame : Bool → List (List ℕ) → Says
+says_in_frame begun [] = Blank
+says_in_frame false (w ∷ ws) = if is_header (w ∷ ws) then Header else NoHeader
+says_in_frame true (w ∷ ws) = says_form (frame_line (w ∷ ws))
+
+abbrev pub says_by : Bool → Option SourceText → List ℕ → Says
+says_by begun None l = says_in_frame begun (words_of_line l)
+says_by begun (Some source) l = if is_end l then End else Own
+
+-- what a line says after what is given
+abbrev pub says : Given → List ℕ → Says
+says given l = says_by given.begun given.reading l
+
+-- The tests of a line
+
+abbrev pub has_node : List GivenNode → ℕ → Bool
+has_node nodes number = list_any (λ (node : GivenNode). node.number == number) nodes
+
+-- whether link end 0 of a node is in a link
+abbrev pub has_link_end : List LinkLine → ℕ → Bool
+has_link_end links number = list_any (λ (link : LinkLine). (link.a == number) || (link.b == number)) links
+
+abbrev pub has_source : List SourceText → ℕ → Bool
+has_source sources number = list_any (λ (source : SourceText). source.number == number) sources
+
+-- it is the first line with words, and is not `xs1 1`
+abbrev pub is_other_first_line : Says → Bool
+is_other_first_line NoHeader = true
+is_other_first_line _ = false
+
+-- the frame looks at each line but a source's own
+abbrev pub is_of_the_frame : Says → Bool
+is_of_the_frame Own = false
+is_of_the_frame _ = true
+
+-- there are at most two nodes and one link so far
+abbrev pub is_built : Given → FrameLine → Bool
+is_built given (Node node) = nat_lt (length given.nodes) 2
+is_built given (Link link) = nat_lt (length given.links) 1
+is_built given _ = true
+
+-- it has no form that is built
+abbrev pub is_unknown : Given → Says → Bool
+is_unknown given NoForm = true
+is_unknown given (Form form) = not (is_built given form)
+is_unknown given _ = false
+
+abbrev pub is_out_of_range : Says → Bool
+is_out_of_range (Form form) = not (is_in_range form)
+is_out_of_range _ = false
+
+-- it names a node that is not given, or a link end that no link has given
+abbrev pub names_none : Given → Says → Bool
+names_none given (Form (Link link)) = not (has_node given.nodes link.a && has_node given.nodes link.b)
+names_none given (Form (Bit bit)) = not (has_node given.nodes bit.node && has_link_end given.links bit.node)
+names_none given (Form (Source n)) = not (has_node given.nodes n)
+names_none given _ = false
+
+-- it gives the number of a node, or the source of a node, once more
+abbrev pub is_given_twice : Given → Says → Bool
+is_given_twice given (Form (Node node)) = has_node given.nodes node.number
+is_given_twice given (Form (Source n)) = has_source given.sources n
+is_given_twice given _ = false
+
+abbrev pub is_id_twice : Given → Says → Bool
+is_id_twice given (Form (Node node)) = list_any (λ (other : GivenNode). other.id == node.id) given.nodes
+is_id_twice given _ = false
+
+abbrev pub is_link_to_itself : Says → Bool
+is_link_to_itself (Form (Link link)) = link.a == link.b
+is_link_to_itself _ = false
+
+-- it gives a link end twice, or one that a link has
+abbrev pub is_link_end_twice : Given → Says → Bool
+is_link_end_twice given (Form (Link link)) =
+    (link.a == link.b) || (has_link_end given.links link.a || has_link_end given.links link.b)
+is_link_end_twice given _ = false
+
+abbrev pub is_bit_twice : Given → Says → Bool
+is_bit_twice given (Form (Bit bit)) =
+    list_any (λ (other : BitLine). (other.node == bit.node) && (other.bit == bit.bit)) given.bits
+is_bit_twice given _ = false
+
+-- the tests of a line by what it says, in the order in which they refuse
+abbrev pub tests : Given → List ℕ → Says → List (SysKind × Bool)
+tests given l said =
+    (FirstLine, is_other_first_line said)
+    ∷ (BadLine, (is_of_the_frame said && not (all_allowed l)) || is_unknown given said)
+    ∷ (NumberOutOfRange, is_out_of_range said)
+    ∷ (NoSuchNode, names_none given said)
+    ∷ (GivenTwice, is_given_twice given said)
+    ∷ (IdTwice, is_id_twice given said)
+    ∷ (LinkToItself, is_link_to_itself said)
+    ∷ (LinkEndTwice, is_link_end_twice given said)
+    ∷ (BitTwice, is_bit_twice given said)
+    ∷ []
+
+-- the kind of the first test that holds
+abbrev pub first_that_holds : List (SysKind × Bool) → Option SysKind
+first_that_holds [] = None
+first_that_holds (test ∷ others) = if test.1 then Some test.0 else first_that_holds others
+
+-- the fault of a line, if it has one, after what is given
+abbrev pub fault_of : Given → List ℕ → Option SysKind
+fault_of given l = first_that_holds (tests given l (says given l))
+
+-- What a line gives
+
+-- a node among nodes by ascending number
+abbrev pub put_by_number : GivenNode → List GivenNode → List GivenNode
+put_by_number node [] = node ∷ []
+put_by_number node (n ∷ nodes) = if nat_lt n.number node.number then n ∷ put_by_number node nodes else node ∷ (n ∷ nodes)
+
+abbrev pub with_own_line : List ℕ → SourceText → SourceText
+with_own_line l source = record source { lines = source.lines ++ l ∷ [] }
+
+-- what is given after line n
+abbrev pub given_with : ℕ → List ℕ → Says → Given → Given
+given_with n l Own given = record given { reading = option_map (with_own_line l) given.reading }
+given_with n l End given = record given { sources = given.sources ++ option_to_list given.reading; reading = None }
+given_with n l Header given = record given { begun = true }
+given_with n l (Form (Node node)) given =
+    record given { nodes = put_by_number (record { line = n; number = node.number; id = node.id }) given.nodes }
+given_with n l (Form (Link link)) given = record given { links = given.links ++ link ∷ [] }
+given_with n l (Form (Bit bit)) given = record given { bits = given.bits ++ bit ∷ [] }
+given_with n l (Form (Source number)) given =
+    record given { reading = Some (record { number = number; line = n; lines = [] }) }
+given_with n l _ given = given
+
+abbrev pub given_after : ℕ → List ℕ → Given → Given
+given_after n l given = given_with n l (says given l) given
+
+-- The whole frame
+
+-- a frame: what it gives, or the line that refuses it and why
+pub data Framed : Type 0 where
+  Whole : (given : Given) → Framed
+  Refused : (line : ℕ) (kind : SysKind) → Framed
+
+-- the first node that has no source
+abbrev pub without_source : Given → Option GivenNode
+without_source given = find (λ (node : GivenNode). not (has_source given.sources node.number)) given.nodes
+
+abbrev pub whole_but_for : Option GivenNode → Given → Framed
+whole_but_for None given = Whole given
+whole_but_for (Some node) given = Refused node.line NodeWithoutSource
+
+-- the end of the text: no source may be without an end, and no node without a source
+abbrev pub at_the_end : Given → Option SourceText → Framed
+at_the_end given (Some source) = Refused source.line SectionNotEnded
+at_the_end given None = whole_but_for (without_source given) given
+
+-- line n and those after it, by its fault
+abbrev pub unless_faulty : Option SysKind → ℕ → Framed → Framed
+unless_faulty None n rest = rest
+unless_faulty (Some kind) n rest = Refused n kind
+
+-- the frame of the lines from line n on, after what is given
+unfoldable pub frame_from : ℕ → Given → List (List ℕ) → Framed
+frame_from n given [] = at_the_end given given.reading
+frame_from n given (l ∷ ls) = unless_faulty (fault_of given l) n (frame_from (n + 1) (given_after n l given) ls)
+
+abbrev pub is_empty : List (List ℕ) → Bool
+is_empty [] = true
+is_empty (w ∷ ws) = false
+
+-- whether no line has words
+abbrev pub have_no_words : List (List ℕ) → Bool
+have_no_words ls = list_all (λ (l : List ℕ). is_empty (words_of_line l)) ls
+
+-- the frame of a text by its lines, which count from 1
+unfoldable pub framed : List (List ℕ) → Framed
+framed ls = if have_no_words ls then Refused 1 FirstLine else frame_from 1 nothing_given ls

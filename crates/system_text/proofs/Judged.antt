@@ -1,0 +1,184 @@
+-- What is found of a line of the frame.
+use Rattle.std.proofs.Common.{◌≡◌, ℕ, suc, ◌+◌, ◌≤◌, Bool, true, false, ◌&&◌, ◌||◌, not, List, [], ◌∷◌, length, map, drop, Option, Some, None, Ok, Err, refl, sym, ap, ◌∙◌, nat_lt, cond, length-drop, arith}
+use Rattle.std.specs.Prelude.{insert, if◌then◌else◌, ◌==◌}
+use Rattle.std.specs.List.{list_any, prefix_len}
+use Rattle.std.proofs.lemmas.Bool.Decides.{nat_tests}
+use Rattle.xs_text.specs.Bytes.{all_allowed}
+use Rattle.xs_text.specs.Lines.{lines_of}
+use Rattle.xs_text.specs.Words.{words_of_line}
+use Rattle.system_model.specs.declared.SysKind.{SysKind}
+use Rattle.system_model.specs.declared.SysKind.TheVariants.{FirstLine, BadLine, GivenTwice, IdTwice, LinkEndTwice, LinkToItself, NumberOutOfRange, BitTwice, NoSuchNode}
+use Rattle.system_model.specs.declared.frame_line.FrameLine.{FrameLine}
+use Rattle.system_model.specs.declared.frame_line.FrameLine.TheVariants.{Node, Link, Bit, Source}
+use Rattle.system_model.specs.declared.frame_line.GivenNode.{GivenNode}
+use Rattle.system_model.specs.FrameLines.{is_header, frame_line, is_in_range}
+use Rattle.system_model.specs.Frame.{SourceText, Given, Says, Blank, Header, NoHeader, Form, says_in_frame, says_by, says_form, says, is_empty, is_other_first_line, is_of_the_frame, is_unknown, is_out_of_range, names_none, is_given_twice, is_id_twice, is_link_to_itself, is_link_end_twice, is_bit_twice, fault_of, first_that_holds, put_by_number}
+use Rattle.system_model.specs.System.{source_of}
+use Rattle.system_text.specs.Forms.{when, in_range, in_room, formed}
+use Rattle.system_text.specs.Judged.{later_fault}
+
+pub list_any_map : {X Y : Type 0} (p : Y → Bool) (f : X → Y) (xs : List X) → list_any p (map f xs) ≡ list_any (λ x. p (f x)) xs
+list_any_map p f [] = refl
+list_any_map p f (x ∷ xs) = rw (list_any_map p f xs) refl
+
+abbrev lesser : ℕ → GivenNode → Bool
+lesser number node = nat_lt node.number number
+
+put_by : (b : Bool) (node n : GivenNode) (ns : List GivenNode) (k : ℕ) → put_by_number node ns ≡ insert ns k node → cond b (n ∷ put_by_number node ns) (node ∷ (n ∷ ns)) ≡ insert (n ∷ ns) (cond b (1 + k) 0) node
+put_by true node n ns k h = let one : 1 + k ≡ suc k = omega arith in rw one (ap (λ xs. n ∷ xs) h)
+put_by false node n ns k h = refl
+
+pub put_is : (node : GivenNode) (nodes : List GivenNode) → put_by_number node nodes ≡ insert nodes (prefix_len (λ n. nat_lt n.number node.number) nodes) node
+put_is node [] = refl
+put_is node (n ∷ ns) = put_by (nat_lt n.number node.number) node n ns (prefix_len (lesser node.number) ns) (put_is node ns)
+
+-- one more node, as the model has it
+pub node_added : (given now : Given) (node : GivenNode) (nodes : List GivenNode) (place : ℕ) → given ≡ now → place ≡ prefix_len (λ n. nat_lt n.number node.number) given.nodes → nodes ≡ insert given.nodes place node → record given { nodes = nodes } ≡ record now { nodes = put_by_number node now.nodes }
+node_added given now node nodes place e p h =
+    ap (λ ns. record given { nodes = ns }) (h ∙ (ap (λ k. insert given.nodes k node) p ∙ sym (put_is node given.nodes)))
+    ∙ ap (λ (g : Given). record g { nodes = put_by_number node g.nodes }) e
+
+-- The fault of a line by whether its bytes are allowed, and by what it says
+
+abbrev pub fault_by : Given → Bool → Says → Option SysKind
+fault_by given allowed said = first_that_holds (
+    (FirstLine, is_other_first_line said)
+    ∷ (BadLine, (is_of_the_frame said && not allowed) || is_unknown given said)
+    ∷ (NumberOutOfRange, is_out_of_range said)
+    ∷ (NoSuchNode, names_none given said)
+    ∷ (GivenTwice, is_given_twice given said)
+    ∷ (IdTwice, is_id_twice given said)
+    ∷ (LinkToItself, is_link_to_itself said)
+    ∷ (LinkEndTwice, is_link_end_twice given said)
+    ∷ (BitTwice, is_bit_twice given said)
+    ∷ []
+    )
+
+pub fault_is : (given : Given) (l : List ℕ) (allowed : Bool) (said : Says) → all_allowed l ≡ allowed → says given l ≡ said → fault_of given l ≡ fault_by given allowed said
+fault_is given l allowed said a s = ap (λ b. fault_by given b (says given l)) a ∙ ap (λ x. fault_by given allowed x) s
+
+says_outside : (given : Given) (l : List ℕ) → given.reading ≡ None → says given l ≡ says_in_frame given.begun (words_of_line l)
+says_outside given l e = ap (λ r. says_by given.begun r l) e
+
+blank_by : (begun : Bool) (words : List (List ℕ)) → is_empty words ≡ true → says_in_frame begun words ≡ Blank
+blank_by begun [] e = refl
+blank_by begun (w ∷ ws) e = cc
+
+pub blank_allowed : (given : Given) (l : List ℕ) → given.reading ≡ None → is_empty (words_of_line l) ≡ true → all_allowed l ≡ true → (fault_of given l ≡ None) × (says given l ≡ Blank)
+blank_allowed given l r e a = let is = says_outside given l r ∙ blank_by given.begun (words_of_line l) e in (fault_is given l true Blank a is, is)
+
+pub blank_refused : (given : Given) (l : List ℕ) → given.reading ≡ None → is_empty (words_of_line l) ≡ true → all_allowed l ≡ false → fault_of given l ≡ Some BadLine
+blank_refused given l r e a = fault_is given l false Blank a (says_outside given l r ∙ blank_by given.begun (words_of_line l) e)
+
+first_by : (words : List (List ℕ)) (header : Bool) → is_empty words ≡ false → is_header words ≡ header → says_in_frame false words ≡ (if header then Header else NoHeader)
+first_by [] header e h = cc
+first_by (w ∷ ws) header e h = rw h refl
+
+first_said : (given : Given) (l : List ℕ) (header : Bool) → given.begun ≡ false → given.reading ≡ None → is_empty (words_of_line l) ≡ false → is_header (words_of_line l) ≡ header → says given l ≡ (if header then Header else NoHeader)
+first_said given l header b r e h = says_outside given l r ∙ (ap (λ x. says_in_frame x (words_of_line l)) b ∙ first_by (words_of_line l) header e h)
+
+no_header_by : (given : Given) (allowed : Bool) → fault_by given allowed NoHeader ≡ Some FirstLine
+no_header_by given allowed = refl
+
+pub no_header : (given : Given) (l : List ℕ) → given.begun ≡ false → given.reading ≡ None → is_empty (words_of_line l) ≡ false → is_header (words_of_line l) ≡ false → fault_of given l ≡ Some FirstLine
+no_header given l b r e h = fault_is given l (all_allowed l) NoHeader refl (first_said given l false b r e h)
+
+pub header_refused : (given : Given) (l : List ℕ) → given.begun ≡ false → given.reading ≡ None → is_empty (words_of_line l) ≡ false → is_header (words_of_line l) ≡ true → all_allowed l ≡ false → fault_of given l ≡ Some BadLine
+header_refused given l b r e h a = fault_is given l false Header a (first_said given l true b r e h)
+
+pub header_allowed : (given : Given) (l : List ℕ) → given.begun ≡ false → given.reading ≡ None → is_empty (words_of_line l) ≡ false → is_header (words_of_line l) ≡ true → all_allowed l ≡ true → (fault_of given l ≡ None) × (says given l ≡ Header)
+header_allowed given l b r e h a = let is = first_said given l true b r e h in (fault_is given l true Header a is, is)
+
+form_by : (words : List (List ℕ)) → is_empty words ≡ false → says_in_frame true words ≡ says_form (frame_line words)
+form_by [] e = cc
+form_by (w ∷ ws) e = refl
+
+form_said : (given : Given) (l : List ℕ) → given.begun ≡ true → given.reading ≡ None → is_empty (words_of_line l) ≡ false → says given l ≡ says_form (frame_line (words_of_line l))
+form_said given l b r e = says_outside given l r ∙ (ap (λ x. says_in_frame x (words_of_line l)) b ∙ form_by (words_of_line l) e)
+
+bad_form : (given : Given) (o : Option FrameLine) → fault_by given false (says_form o) ≡ Some BadLine
+bad_form given None = refl
+bad_form given (Some (Node node)) = refl
+bad_form given (Some (Link link)) = refl
+bad_form given (Some (Bit bit)) = refl
+bad_form given (Some (Source n)) = refl
+
+pub form_not_allowed : (given : Given) (l : List ℕ) → given.begun ≡ true → given.reading ≡ None → is_empty (words_of_line l) ≡ false → all_allowed l ≡ false → fault_of given l ≡ Some BadLine
+form_not_allowed given l b r e a = fault_is given l false _ a (form_said given l b r e) ∙ bad_form given (frame_line (words_of_line l))
+
+-- the tests on form and numbers, before the others
+abbrev checked : Bool → Bool → Option SysKind → Option SysKind
+checked room range later = if not room then Some BadLine else (if not range then Some NumberOutOfRange else later)
+
+checked_refused : (room range : Bool) (f : FrameLine) (later : Option SysKind) (kind : SysKind) → Err kind ≡ in_room room (when range f) → checked room range later ≡ Some kind
+checked_refused false range f later kind e = cc
+checked_refused true false f later kind e = cc
+checked_refused true true f later kind e = cc
+
+checked_good : (room range : Bool) (f form : FrameLine) (later : Option SysKind) → Ok form ≡ in_room room (when range f) → (checked room range later ≡ later) × (f ≡ form)
+checked_good false range f form later e = absurd cc
+checked_good true false f form later e = absurd cc
+checked_good true true f form later e = (refl, cc)
+
+-- the room that the nodes and the links so far leave
+abbrev pub node_room : Given → Bool
+node_room given = nat_lt (length given.nodes) 2
+
+abbrev pub link_room : Given → Bool
+link_room given = nat_lt (length given.links) 1
+
+pub room_one : (n : ℕ) → (n == 0) ≡ nat_lt n 1
+room_one n = grind (arith, nat_tests)
+
+refused_by : (given : Given) (o : Option FrameLine) (kind : SysKind) → Err kind ≡ formed (node_room given) (link_room given) o → fault_by given true (says_form o) ≡ Some kind
+refused_by given None kind e = cc
+refused_by given (Some (Node node)) kind e = checked_refused (node_room given) (is_in_range (Node node)) (Node node) (later_fault given (Node node)) kind e
+refused_by given (Some (Link link)) kind e = checked_refused (link_room given) (is_in_range (Link link)) (Link link) (later_fault given (Link link)) kind e
+refused_by given (Some (Bit bit)) kind e = checked_refused true (is_in_range (Bit bit)) (Bit bit) (later_fault given (Bit bit)) kind e
+refused_by given (Some (Source n)) kind e = checked_refused true (is_in_range (Source n)) (Source n) (later_fault given (Source n)) kind e
+
+-- the fault of a line whose form and numbers are good
+record IsGood (given : Given) (o : Option FrameLine) (form : FrameLine) : Type 0 where
+  pub fault : fault_by given true (says_form o) ≡ later_fault given form
+  pub said : says_form o ≡ Form form
+
+good_by : (given : Given) (f form : FrameLine) (room : Bool) → Ok form ≡ in_room room (in_range f) → fault_by given true (Form f) ≡ checked room (is_in_range f) (later_fault given f) → IsGood given (Some f) form
+good_by given f form room e is =
+    let both = checked_good room (is_in_range f) f form (later_fault given f) e in
+    record { fault = is ∙ (both.0 ∙ ap (λ x. later_fault given x) both.1); said = ap (λ x. Form x) both.1 }
+
+good : (given : Given) (o : Option FrameLine) (form : FrameLine) → Ok form ≡ formed (node_room given) (link_room given) o → IsGood given o form
+good given None form e = absurd cc
+good given (Some (Node node)) form e = good_by given (Node node) form (node_room given) e refl
+good given (Some (Link link)) form e = good_by given (Link link) form (link_room given) e refl
+good given (Some (Bit bit)) form e = good_by given (Bit bit) form true e refl
+good given (Some (Source n)) form e = good_by given (Source n) form true e refl
+
+pub form_refused : (given : Given) (l : List ℕ) (nodes links : Bool) (kind : SysKind) → given.begun ≡ true → given.reading ≡ None → is_empty (words_of_line l) ≡ false → all_allowed l ≡ true → nodes ≡ node_room given → links ≡ link_room given → Err kind ≡ formed nodes links (frame_line (words_of_line l)) → fault_of given l ≡ Some kind
+form_refused given l nodes links kind b r e a n m f =
+    fault_is given l true _ a (form_said given l b r e) ∙ refused_by given (frame_line (words_of_line l)) kind (rw (sym n, sym m) f)
+
+pub form_faulty : (given : Given) (l : List ℕ) (nodes links : Bool) (form : FrameLine) (kind : SysKind) → given.begun ≡ true → given.reading ≡ None → is_empty (words_of_line l) ≡ false → all_allowed l ≡ true → nodes ≡ node_room given → links ≡ link_room given → Ok form ≡ formed nodes links (frame_line (words_of_line l)) → Some kind ≡ later_fault given form → fault_of given l ≡ Some kind
+form_faulty given l nodes links form kind b r e a n m f k =
+    let is = good given (frame_line (words_of_line l)) form (rw (sym n, sym m) f) in
+    fault_is given l true _ a (form_said given l b r e) ∙ (is.fault ∙ sym k)
+
+pub form_good : (given : Given) (l : List ℕ) (nodes links : Bool) (form : FrameLine) → given.begun ≡ true → given.reading ≡ None → is_empty (words_of_line l) ≡ false → all_allowed l ≡ true → nodes ≡ node_room given → links ≡ link_room given → Ok form ≡ formed nodes links (frame_line (words_of_line l)) → None ≡ later_fault given form → (fault_of given l ≡ None) × (says given l ≡ Form form)
+form_good given l nodes links form b r e a n m f k =
+    let is = good given (frame_line (words_of_line l)) form (rw (sym n, sym m) f) in
+    (fault_is given l true _ a (form_said given l b r e) ∙ (is.fault ∙ sym k), form_said given l b r e ∙ is.said)
+
+lines_of-none : lines_of [] ≡ []
+unfolding lines_of
+lines_of-none = refl
+
+pub no_more : {X : Type 0} (ys : List X) → length ys ≡ 0 → ys ≡ []
+no_more [] e = refl
+no_more (y ∷ ys) e = absurd (omega (arith, e))
+
+none_left : {X : Type 0} (xs : List X) (i : ℕ) → length xs ≤ i → drop i xs ≡ []
+none_left xs i h = no_more (drop i xs) (omega (arith, h, length-drop i xs))
+
+-- no source is left to be looked at
+pub no_source_left : {X : Type 0} (f : X → SourceText) (xs : List X) (i number : ℕ) → length xs ≤ i → lines_of [] ≡ source_of (map f (drop i xs)) number
+no_source_left f xs i number h = lines_of-none ∙ sym (ap (λ ys. source_of (map f ys) number) (none_left xs i h))
