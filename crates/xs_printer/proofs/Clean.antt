@@ -72,8 +72,8 @@ module _ (whole : Sofar) where
   clean-cons before between after line lines c c' d d' k k' h r = record {
     after = after-cons before line lines ∙ (ap (λ s. after_lines s lines) h.after ∙ r.after);
     fault = λ n. fault-cons before n line lines
-    ∙ (ap (λ o. or_fault n o (first_fault whole (after_line before line) (n + 1) lines)) h.fault
-    ∙ (ap (λ s. first_fault whole s (n + 1) lines) h.after ∙ r.fault (n + 1)));
+        ∙ (ap (λ o. or_fault n o (first_fault whole (after_line before line) (n + 1) lines)) h.fault
+        ∙ (ap (λ s. first_fault whole s (n + 1) lines) h.after ∙ r.fault (n + 1)));
     code = code-cons before line lines ∙ (ap (λ l. l ++ code_from whole (after_line before line) lines) h.code ∙ ap (λ l. c ++ l) (ap (λ s. code_from whole s lines) h.after ∙ r.code));
     in_data = bytes-cons Data before line lines ∙ (ap (λ l. l ++ bytes_from Data whole (after_line before line) lines) h.in_data ∙ ap (λ l. d ++ l) (ap (λ s. bytes_from Data whole s lines) h.after ∙ r.in_data));
     in_constants = bytes-cons Constants before line lines ∙ (ap (λ l. l ++ bytes_from Constants whole (after_line before line) lines) h.in_constants ∙ ap (λ l. k ++ l) (ap (λ s. bytes_from Constants whole s lines) h.after ∙ r.in_constants));

@@ -16,8 +16,8 @@ one_more_first symbols p next firsts pushed e here h =
     record {
       count = ap length e ∙ (length_push firsts next ∙ ap (λ n. n + 1) long);
       each = below_more (λ (q : ℕ). drop (get_or pushed q 0) symbols ≡ symbols_from (place_address q) symbols) p
-      (λ q below. ap (λ (l : List ℕ). drop (get_or l q 0) symbols) e ∙ (ap (λ n. drop n symbols) (get_or_append_left firsts (next ∷ []) 0 q (omega (arith, long, below))) ∙ h.each q below))
-      (ap (λ (l : List ℕ). drop (get_or l p 0) symbols) e ∙ (ap (λ n. drop n symbols) (get_or_push firsts next 0 p long) ∙ here));
+          (λ q below. ap (λ (l : List ℕ). drop (get_or l q 0) symbols) e ∙ (ap (λ n. drop n symbols) (get_or_append_left firsts (next ∷ []) 0 q (omega (arith, long, below))) ∙ h.each q below))
+          (ap (λ (l : List ℕ). drop (get_or l p 0) symbols) e ∙ (ap (λ n. drop n symbols) (get_or_push firsts next 0 p long) ∙ here));
     }
 
 -- past the labels of a place the symbols from the next place on are left

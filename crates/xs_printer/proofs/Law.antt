@@ -98,11 +98,11 @@ module _ (image : ImageRec) (h : IsImage image) (bytes : AllByRecursion IsByte i
       let full : d ≡ cp - data_start = omega (arith, long_first, long_second) in
       let word : round_up_to_word d ≡ d = omega (arith, full, h.cp_aligned, h.cp_in_data) in
       cond-case m s full word where
-    cond-case : (m : ℕ) → suc m ≤ k → d ≡ cp - data_start → round_up_to_word d ≡ d → bytes_length d (suc m) ≤ 65536
-    cond-case m s full word =
-        let other : (suc m == 0) ≡ false = grind (arith, nat_tests) in
-        let P : ℕ → Type 0 = λ x. x ≤ 65536 in
-        subst P (sym (cond-false (suc m == 0) d (round_up_to_word d + suc m) other)) (omega (arith, word, full, s, long_second, h.bytes_fit, long_first))
+        cond-case : (m : ℕ) → suc m ≤ k → d ≡ cp - data_start → round_up_to_word d ≡ d → bytes_length d (suc m) ≤ 65536
+        cond-case m s full word =
+            let other : (suc m == 0) ≡ false = grind (arith, nat_tests) in
+            let P : ℕ → Type 0 = λ x. x ≤ 65536 in
+            subst P (sym (cond-false (suc m == 0) d (round_up_to_word d + suc m) other)) (omega (arith, word, full, s, long_second, h.bytes_fit, long_first))
 
   fits_constants : (m : ℕ) → m ≤ k → Fits (state Constants n d m []).layout
   fits_constants m s = record { code = code_fits; bytes = together m s }
@@ -184,21 +184,21 @@ module _ (image : ImageRec) (h : IsImage image) (bytes : AllByRecursion IsByte i
       let here = labels_at symbols (data_start + length image.bytes) in
       elim (cases_Bool (nat_lt (data_start + length image.bytes) cp)) [
         | inl t ↦
-          let below : data_start + length image.bytes < cp = grind (arith, nat_tests) in
-          let short : d ≡ length image.bytes = omega (arith, long_first, below) in
-          let at : data_start + d ≡ data_start + length image.bytes = ap (λ m. data_start + m) short in
-          let Q : ℕ → Type 0 = λ x. IsNext x cp symbols in
-          let w = labels_walked cp symbols whole h.names h.order Data n d 0 (data_start + d) cp before (fits_data d (omega arith)) (data_place cp d (omega (arith, below, short)) (omega (arith, small))) (subst Q (sym at) (next_constants image h below)) left in
-          let R : ℕ → Type 0 = λ x. Part cp before (λ l. state Data n d 0 l) (λ l. state Data n d 0 l) (map line (labels_at symbols x)) [] [] [] in
-          subst P (sym (cond-true _ here [] t)) (subst R at w)
+            let below : data_start + length image.bytes < cp = grind (arith, nat_tests) in
+            let short : d ≡ length image.bytes = omega (arith, long_first, below) in
+            let at : data_start + d ≡ data_start + length image.bytes = ap (λ m. data_start + m) short in
+            let Q : ℕ → Type 0 = λ x. IsNext x cp symbols in
+            let w = labels_walked cp symbols whole h.names h.order Data n d 0 (data_start + d) cp before (fits_data d (omega arith)) (data_place cp d (omega (arith, below, short)) (omega (arith, small))) (subst Q (sym at) (next_constants image h below)) left in
+            let R : ℕ → Type 0 = λ x. Part cp before (λ l. state Data n d 0 l) (λ l. state Data n d 0 l) (map line (labels_at symbols x)) [] [] [] in
+            subst P (sym (cond-true _ here [] t)) (subst R at w)
         | inr f ↦
-          let above : cp ≤ data_start + length image.bytes = grind (arith, nat_tests) in
-          let full : data_start + d ≡ cp = omega (arith, long_first, above, h.cp_in_data) in
-          subst P (sym (cond-false _ here [] f)) (record {
-            after = before;
-            clean = clean-nil whole (state Data n d 0 (labels_of cp before));
-            left = left ∙ ap (λ x. before ++ symbols_from x symbols) full;
-          })
+            let above : cp ≤ data_start + length image.bytes = grind (arith, nat_tests) in
+            let full : data_start + d ≡ cp = omega (arith, long_first, above, h.cp_in_data) in
+            subst P (sym (cond-false _ here [] f)) (record {
+              after = before;
+              clean = clean-nil whole (state Data n d 0 (labels_of cp before));
+              left = left ∙ ap (λ x. before ++ symbols_from x symbols) full;
+            })
       ]
 
   -- the bytes from `cp_at` on
@@ -230,8 +230,8 @@ module _ (image : ImageRec) (h : IsImage image) (bytes : AllByRecursion IsByte i
       let far : data_start + length image.bytes ≤ cp + k = omega (arith, long_second) in
       let near : cp + (k + 1) < code_start = omega (arith, small, long_second) in
       past_is n (length image.bytes) cp k a far near p where
-    past_is : (n m cp k a : ℕ) → data_start + m ≤ cp + k → cp + (k + 1) < code_start → is_place n m cp a ≡ true → may_follow (cp + (k + 1)) a ≡ false
-    past_is n m cp k a far near p = grind (arith, nat_tests)
+        past_is : (n m cp k a : ℕ) → data_start + m ≤ cp + k → cp + (k + 1) < code_start → is_place n m cp a ≡ true → may_follow (cp + (k + 1)) a ≡ false
+        past_is n m cp k a far near p = grind (arith, nat_tests)
 
   none_past : (all : List Symbol) → AllByRecursion (λ (s : Symbol). is_place n (length image.bytes) cp s.1 ≡ true) all → symbols_from (cp + (k + 1)) all ≡ []
   none_past [] p = refl
@@ -324,16 +324,16 @@ module _ (image : ImageRec) (h : IsImage image) (bytes : AllByRecursion IsByte i
   address_is a p =
       elim (cases_Bool (nat_le code_start a)) [
         | inl t ↦
-          let word : a % 4 ≡ 0 = grind (arith, nat_tests) in
-          let above : code_start ≤ a = grind (arith, nat_tests) in
-          ap (address_in whole.layout) (cond-true _ _ _ t) ∙ (omega (arith, word, above))
+            let word : a % 4 ≡ 0 = grind (arith, nat_tests) in
+            let above : code_start ≤ a = grind (arith, nat_tests) in
+            ap (address_in whole.layout) (cond-true _ _ _ t) ∙ (omega (arith, word, above))
         | inr f ↦ elim (cases_Bool (nat_lt a cp)) [
           | inl t ↦
-            let above : data_start ≤ a = grind (arith, nat_tests) in
-            ap (address_in whole.layout) (cond-false _ _ _ f ∙ cond-true _ _ _ t) ∙ (omega (arith, above))
+              let above : data_start ≤ a = grind (arith, nat_tests) in
+              ap (address_in whole.layout) (cond-false _ _ _ f ∙ cond-true _ _ _ t) ∙ (omega (arith, above))
           | inr g ↦
-            let above : cp ≤ a = grind (arith, nat_tests) in
-            ap (address_in whole.layout) (cond-false _ _ _ f ∙ cond-false _ _ _ g) ∙ (omega (arith, above, cp_is))
+              let above : cp ≤ a = grind (arith, nat_tests) in
+              ap (address_in whole.layout) (cond-false _ _ _ f ∙ cond-false _ _ _ g) ∙ (omega (arith, above, cp_is))
         ]
       ]
 

@@ -33,7 +33,7 @@ begins_at (s ∷ symbols) at h =
     elim (cases_Bool (s.1 == at)) [
       | inl e ↦ record { head = s; rest = symbols_at at symbols; is = cond-true _ _ _ e; named = sym (first_name-same s symbols at e) }
       | inr n ↦ let k = begins_at symbols at (sym (ap (λ b. b || has_symbol_at symbols at) n) ∙ h) in
-        record { head = k.head; rest = k.rest; is = cond-false _ _ _ n ∙ k.is; named = k.named ∙ sym (first_name-other s symbols at n) }
+          record { head = k.head; rest = k.rest; is = cond-false _ _ _ n ∙ k.is; named = k.named ∙ sym (first_name-other s symbols at n) }
     ]
 
 begins_first : (at : ℕ) (symbols : List Symbol) (s : Symbol) (rest : List Symbol) → first_at at symbols ≡ s ∷ rest → (more : List Symbol) × (symbols ≡ s ∷ more)
@@ -41,7 +41,7 @@ begins_first at [] s rest h = absurd (let e : [] ≡ s ∷ rest = sym (first_at-
 begins_first at (t ∷ symbols) s rest h =
     elim (cases_Bool (t.1 == at)) [
       | inl e ↦ let k : t ∷ first_at at symbols ≡ s ∷ rest = sym (first_at-same at t symbols e) ∙ h in
-        (symbols, ap (λ x. x ∷ symbols) (let j : t ≡ s = cc in j))
+          (symbols, ap (λ x. x ∷ symbols) (let j : t ≡ s = cc in j))
       | inr n ↦ absurd (let k : [] ≡ s ∷ rest = sym (first_at-other at t symbols n) ∙ h in cc)
     ]
 

@@ -115,11 +115,13 @@ module _ (symbols : List Symbol) where
   parted (p ∷ []) values h k = any_part p values h.0
   parted (p ∷ q ∷ parts) values h k =
       let c = and_parts (is_mark_part p || is_mark_part q) (are_parted (q ∷ parts)) k in
-      let after = values_after p values in
-      (elim (cases_Bool (is_mark_part p)) [
-        | inl t ↦ inl (mark_part p values h.0 t)
-        | inr f ↦ inr (word_part p values h.0 f, mark_part q after h.1.0 (sym (ap (λ b. b || is_mark_part q) f) ∙ c.0))
-      ], parted (q ∷ parts) after h.1 c.1)
+      let after = values_after p values in (
+        elim (cases_Bool (is_mark_part p)) [
+          | inl t ↦ inl (mark_part p values h.0 t)
+          | inr f ↦ inr (word_part p values h.0 f, mark_part q after h.1.0 (sym (ap (λ b. b || is_mark_part q) f) ∙ c.0))
+        ],
+        parted (q ∷ parts) after h.1 c.1,
+      )
 
   -- shapes and amounts
 

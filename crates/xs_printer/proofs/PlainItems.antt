@@ -65,10 +65,12 @@ items_plain image h bytes code =
     let symbols = image.symbols in
     let room = data_room image in
     both symbols (code_items image) _
-    (both symbols (behind_labels Instruction symbols 4 code_start image.code) _ (behind_plain symbols h.names Instruction 4 code_start image.code code) (labels_plain symbols h.names (place_address (length image.code))))
-    (tt, both symbols (data_items image) _
-    (both symbols (behind_labels Byte symbols 1 data_start (take room image.bytes)) _ (behind_plain symbols h.names Byte 1 data_start (take room image.bytes) (taken room image.bytes bytes)) (below_plain symbols h.names image.cp_at (data_start + length image.bytes)))
-    (tt, both symbols (behind_labels Byte symbols 1 image.cp_at (drop room image.bytes)) _ (behind_plain symbols h.names Byte 1 image.cp_at (drop room image.bytes) (dropped room image.bytes bytes)) (labels_plain symbols h.names (image.cp_at + length (drop room image.bytes)))))
+    (both symbols (behind_labels Instruction symbols 4 code_start image.code) _ (behind_plain symbols h.names Instruction 4 code_start image.code code) (labels_plain symbols h.names (place_address (length image.code)))) (
+      tt,
+      both symbols (data_items image) _
+          (both symbols (behind_labels Byte symbols 1 data_start (take room image.bytes)) _ (behind_plain symbols h.names Byte 1 data_start (take room image.bytes) (taken room image.bytes bytes)) (below_plain symbols h.names image.cp_at (data_start + length image.bytes)))
+          (tt, both symbols (behind_labels Byte symbols 1 image.cp_at (drop room image.bytes)) _ (behind_plain symbols h.names Byte 1 image.cp_at (drop room image.bytes) (dropped room image.bytes bytes)) (labels_plain symbols h.names (image.cp_at + length (drop room image.bytes)))),
+    )
 
 pub all_bytes : (bytes : List ℕ) → ((i : ℕ) → Fits w8 (get_or bytes i 0)) → AllByRecursion IsByte bytes
 all_bytes [] h = tt

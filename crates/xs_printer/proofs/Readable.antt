@@ -41,10 +41,11 @@ module _ (image : ImageRec) (h : IsImage image) (whole : Sofar) (labels : whole.
 
   stands : (p : ℕ) → Leads p → StandsAt image.symbols whole p
   stands p k =
-      let short : p ≤ length image.code = labelled_within _ _ _ p image.symbols h.places k in
-      (ap (λ l. place_of l (name_of_place image.symbols p)) labels
-      ∙ (first_name_leads image.cp_at image.symbols (place_address p) h.names k ∙ ap (λ x. Some x) (text_place image.cp_at p)),
-      omega (arith, short, h.code_fits))
+      let short : p ≤ length image.code = labelled_within _ _ _ p image.symbols h.places k in (
+        ap (λ l. place_of l (name_of_place image.symbols p)) labels
+            ∙ (first_name_leads image.cp_at image.symbols (place_address p) h.names k ∙ ap (λ x. Some x) (text_place image.cp_at p)),
+        omega (arith, short, h.code_fits),
+      )
 
   pub is_readable : (ins : Instr) → InRange ins → built ins ≡ true → IfSome (label_of ins) Leads → IsReadable image.symbols ins
   is_readable ins r b k = record {

@@ -113,10 +113,10 @@ module _ (cp : ℕ) where
   first_name_leads (s ∷ symbols) at h k =
       elim (cases_Bool (s.1 == at)) [
         | inl e ↦ ap (λ x. place_of (labels_of (s ∷ symbols)) x) (first_name-same s symbols at e)
-          ∙ (place_of-same (label_of s) (labels_of symbols) s.0 (same_name-self s.0) ∙ ap (λ a. Some (place_at cp a)) (eqb-true s.1 at e))
+            ∙ (place_of-same (label_of s) (labels_of symbols) s.0 (same_name-self s.0) ∙ ap (λ a. Some (place_at cp a)) (eqb-true s.1 at e))
         | inr f ↦ let rest : has_symbol_at symbols at ≡ true = sym (ap (λ b. b || has_symbol_at symbols at) f) ∙ k in
-          ap (λ x. place_of (labels_of (s ∷ symbols)) x) (first_name-other s symbols at f)
-          ∙ (place_of-other (label_of s) (labels_of symbols) _ (other_way (first_name_at symbols at) s.0 (not_the_first_name symbols at s.0 rest h.1)) ∙ first_name_leads symbols at h.2 rest)
+            ap (λ x. place_of (labels_of (s ∷ symbols)) x) (first_name-other s symbols at f)
+            ∙ (place_of-other (label_of s) (labels_of symbols) _ (other_way (first_name_at symbols at) s.0 (not_the_first_name symbols at s.0 rest h.1)) ∙ first_name_leads symbols at h.2 rest)
       ]
 
   pub first_name_named : (symbols : List Symbol) (at : ℕ) → AreLabels symbols → has_symbol_at symbols at ≡ true → may_be_label (first_name_at symbols at) ≡ true

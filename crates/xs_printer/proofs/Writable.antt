@@ -120,9 +120,11 @@ module _ (symbols : List Symbol) where
   parts_writable (Word n ∷ parts) values ok h k = (tt, parts_writable parts values ok h k)
 
   writable : (ins : Instr) → InRange ins → IfSome (label_of ins) LeadsToLabel → AllByRecursion (IsWritable symbols) (spelling ins)
-  writable ins h k =
-      (tt, parts_writable (parts_of (row_of ins)) (values_of ins) (rows_name_registers (row_of ins)) (in_range_parts ins h)
-      (subst (AllByRecursion LeadsToLabel) (sym (has_labels ins)) (all_from_some (label_of ins) k)))
+  writable ins h k = (
+    tt,
+    parts_writable (parts_of (row_of ins)) (values_of ins) (rows_name_registers (row_of ins)) (in_range_parts ins h)
+        (subst (AllByRecursion LeadsToLabel) (sym (has_labels ins)) (all_from_some (label_of ins) k)),
+  )
 
   unmapped : (pieces : List Piece) → AllByRecursion (IsWritable symbols) (map spelled_piece pieces) → AllByRecursion (λ (p : Piece). IsWritable symbols (spelled_piece p)) pieces
   unmapped [] h = tt

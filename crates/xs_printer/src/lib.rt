@@ -10,6 +10,8 @@ ghost use Rattle.xs_printer.specs.StandsFor.{StandsFor};
 mod labels;
 mod sections;
 mod statement;
+#[cfg(test)]
+mod tests;
 
 use labels::first_labels;
 use sections::{append_code, append_constants, append_data};

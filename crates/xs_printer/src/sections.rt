@@ -14,6 +14,7 @@ use xs_instructions::{Image, Instr, spelling};
 
 // The address of the first instruction, and that of the first byte.
 const CODE_START: u32 = 0x0004_0000;
+
 const DATA_START: u32 = 0x0001_0000;
 
 // Puts the line of an instruction.
