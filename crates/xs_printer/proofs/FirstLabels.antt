@@ -1,11 +1,11 @@
 -- The numbers of the first labels, a place more each time.
-use Rattle.std.proofs.Common.{◌≡◌, ℕ, ◌+◌, ◌<◌, ◌≤◌, List, [], ◌∷◌, ◌++◌, length, get_or, drop, refl, sym, ap, ◌∙◌, inl, inr, arith, below_more}
+use Rattle.std.proofs.Common.{◌≡◌, ℕ, ◌+◌, List, [], ◌∷◌, ◌++◌, length, get_or, drop, ap, ◌∙◌, arith, below_more}
 use Rattle.std.proofs.lemmas.List.{length_push, get_or_push, get_or_append_left}
 use Rattle.xs_instructions.specs.Code.{place_address}
 use Rattle.xs_instructions.specs.Image.{ImageRec, IsImage, Symbol}
 use Rattle.xs_printer.specs.Walk.{past_address, symbols_from, AreFirstLabels}
 use Rattle.xs_printer.proofs.Order.{past_from}
-use Rattle.xs_printer.proofs.Places.{next_place, from_first}
+use Rattle.xs_printer.proofs.Places.{next_place}
 
 pub none_yet : (symbols : List Symbol) (firsts : List ℕ) → firsts ≡ [] → AreFirstLabels symbols 0 firsts
 none_yet symbols firsts e = record { count = ap length e; each = λ p h. absurd (omega (arith, h)) }

@@ -1,34 +1,29 @@
 -- Assembling the canonical text of an image gives the image.
-use Rattle.std.proofs.Common.{◌≡◌, ℕ, suc, zero, ◌+◌, ◌-◌, ◌*◌, ◌/◌, ◌%◌, ◌<◌, ◌≤◌, Bool, true, false, ◌==◌, List, [], ◌∷◌, ◌++◌, map, length, take, drop, replicate, refl, sym, ap, ◌∙◌, subst, inl, inr, arith, append_assoc, append-nil, add-zero, nat_lt, nat_le, length-drop, length-append}
-use Rattle.std.specs.Prelude.{Option, Some, None, min, if◌then◌else◌}
+use Rattle.std.proofs.Common.{◌≡◌, ℕ, suc, zero, ◌+◌, ◌-◌, ◌%◌, ◌<◌, ◌≤◌, true, false, ◌==◌, List, [], ◌∷◌, ◌++◌, map, length, take, drop, replicate, refl, sym, ap, ◌∙◌, subst, inl, inr, arith, append-nil, nat_lt, nat_le, length-drop}
+use Rattle.std.specs.Prelude.{Some, min}
 use Rattle.std.specs.List.{AllByRecursion, flat_map}
 use Rattle.std.proofs.lemmas.Bool.{cases_Bool, cond-true, cond-false}
 use Rattle.std.proofs.lemmas.Bool.Decides.{nat_tests}
-use Rattle.std.proofs.lemmas.List.{map-append, length-take, take_all, drop_all, take-append-drop}
-use Rattle.xs_text.specs.Lines.{lines_of}
+use Rattle.std.proofs.lemmas.List.{map-append, length-take, take-append-drop}
 use Rattle.xs_instructions.specs.declared.instr.Instr.{Instr}
-use Rattle.xs_instructions.specs.declared.shape.Shape.{Shape}
 use Rattle.xs_instructions.specs.Rows.{name_of, parts_of}
 use Rattle.xs_instructions.specs.Operands.{row_of, values_of}
 use Rattle.xs_instructions.specs.Instr.{InRange}
 use Rattle.xs_instructions.specs.Find.{find, build}
 use Rattle.xs_instructions.specs.Spelling.{shapes}
 use Rattle.xs_instructions.specs.Code.{code_start, place_address}
-use Rattle.xs_instructions.specs.Image.{ImageRec, IsImage, Symbol, AreLabels, may_follow, is_place, data_start}
-use Rattle.source_model.specs.declared.layout.Section.{Section}
+use Rattle.xs_instructions.specs.Image.{ImageRec, IsImage, Symbol, may_follow, is_place, data_start}
 use Rattle.source_model.specs.declared.layout.Section.TheVariants.{Text, Data, Constants}
-use Rattle.source_model.specs.declared.layout.Layout.{Layout}
 use Rattle.source_model.specs.Statement.{Line, line_of}
-use Rattle.source_model.specs.Layout.{Label, Sofar, nothing_yet, whole_of, bytes_length, round_up_to_word, section_start, address_in}
-use Rattle.source_model.specs.Source.{Assembled, Image, assembled, assembled_from, outcome, image_of, first_fault, code_from, bytes_from, bytes_together, symbol_of}
+use Rattle.source_model.specs.Layout.{Label, Sofar, nothing_yet, bytes_length, round_up_to_word, section_start, address_in}
+use Rattle.source_model.specs.Source.{Image, assembled, assembled_from, outcome, image_of, first_fault, bytes_from, bytes_together, symbol_of}
 use Rattle.source_model.specs.Canonical as canonical
 use Rattle.source_model.specs.Canonical.{Item, Instruction, DataSection, ConstantSection, Byte, labels_at, labels_below, behind_labels, data_room, items, item_line}
 use Rattle.xs_printer.specs.Walk.{symbols_from, IsNext}
-use Rattle.xs_printer.proofs.Order.{may_follow-same}
 use Rattle.xs_printer.proofs.Places.{each, next_place, next_data, next_byte, next_constants, from_first, cp_small}
 use Rattle.xs_printer.proofs.TextLines.{lines_of-lines_text, IsAllowedLine}
-use Rattle.xs_printer.proofs.ItemLines.{line_item, IsPlain, IsReadable, item_is_read, item_is_allowed}
-use Rattle.xs_printer.proofs.Stands.{place_at, label_of, labels_of, text_place, data_place, constant_place}
+use Rattle.xs_printer.proofs.ItemLines.{line_item, IsPlain, item_is_read, item_is_allowed}
+use Rattle.xs_printer.proofs.Stands.{place_at, labels_of, text_place, data_place, constant_place}
 use Rattle.xs_printer.proofs.Clean.{state, Fits, IsClean, AreClean, clean-nil, clean-cons, clean-append, clean_instruction, clean_data, clean_constant, clean_begins_data, clean_begins_constants}
 use Rattle.xs_printer.proofs.Segments.{Walked, labels_walked, run_walked}
 use Rattle.xs_printer.proofs.Readable.{IsGiven, code_readable, code_given}

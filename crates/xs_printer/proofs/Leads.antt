@@ -1,12 +1,12 @@
 -- A place's first label, by its number.
-use Rattle.std.proofs.Common.{◌≡◌, ℕ, ◌+◌, ◌<◌, ◌≤◌, true, false, ◌||◌, ◌==◌, List, [], ◌∷◌, Option, Some, length, drop, refl, sym, ap, ◌∙◌, inl, inr, arith, IsTrue}
+use Rattle.std.proofs.Common.{◌≡◌, ℕ, ◌+◌, ◌<◌, ◌≤◌, true, false, ◌||◌, ◌==◌, List, [], ◌∷◌, Some, length, drop, sym, ap, ◌∙◌, inl, inr, arith, IsTrue}
 use Rattle.std.specs.Prelude.{slice_get}
-use Rattle.std.specs.List.{AllByRecursion, list_any}
-use Rattle.std.proofs.lemmas.Bool.{cases_Bool, cond-true, cond-false, or_parts}
+use Rattle.std.specs.List.{AllByRecursion}
+use Rattle.std.proofs.lemmas.Bool.{cases_Bool, cond-true, cond-false}
 use Rattle.std.proofs.lemmas.Bool.Decides.{nat_tests}
-use Rattle.std.proofs.lemmas.List.{drop_all, length-drop}
-use Rattle.xs_instructions.specs.Code.{code_start, place_address}
-use Rattle.xs_instructions.specs.Image.{ImageRec, IsImage, Symbol, AreInOrder, has_symbol_at, is_place}
+use Rattle.std.proofs.lemmas.List.{length-drop}
+use Rattle.xs_instructions.specs.Code.{place_address}
+use Rattle.xs_instructions.specs.Image.{Symbol, AreInOrder, has_symbol_at, is_place}
 use Rattle.source_model.specs.Canonical.{first_name_at}
 use Rattle.xs_printer.specs.Walk.{first_at, symbols_from}
 use Rattle.xs_printer.proofs.Order.{first_at-same, first_at-other, first_at-none, first_from, symbols_at}

@@ -1,11 +1,10 @@
 -- Symbols in order: those of an address stand together, and those of later addresses after them.
-use Rattle.std.proofs.Common.{drop, length, ◌≡◌, ℕ, ◌+◌, ◌<◌, ◌≤◌, Bool, true, false, ◌&&◌, ◌||◌, ◌==◌, not, cond, List, [], ◌∷◌, ◌++◌, ◌⊎◌, if◌then◌else◌, refl, sym, ap, ◌∙◌, inl, inr, arith, nat_le, nat_lt, IsTrue}
+use Rattle.std.proofs.Common.{drop, length, ◌≡◌, ℕ, ◌≤◌, true, false, ◌==◌, List, [], ◌∷◌, refl, sym, ap, ◌∙◌, inl, inr, arith}
 use Rattle.std.specs.Prelude.{filter, Result, IfOk}
 use Rattle.std.proofs.lemmas.Result.{IfOk-weaker}
 use Rattle.std.specs.List.{AllByRecursion}
 use Rattle.std.proofs.lemmas.Bool.{cases_Bool, cond-true, cond-false}
 use Rattle.std.proofs.lemmas.Bool.Decides.{nat_tests}
-use Rattle.xs_instructions.specs.Code.{code_start}
 use Rattle.xs_instructions.specs.Image.{Symbol, AreInOrder, may_follow}
 use Rattle.xs_printer.specs.Walk.{first_at, past_address, symbols_from, IsNext, IsFirstFrom}
 

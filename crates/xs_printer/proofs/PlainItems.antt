@@ -1,13 +1,12 @@
 -- Each item of an image's canonical text can be read by itself.
-use Rattle.std.proofs.Common.{◌≡◌, ℕ, ◌+◌, ◌<◌, ◌≤◌, true, false, ◌==◌, List, [], ◌∷◌, ◌++◌, length, take, drop, get_or, refl, sym, ap, ◌∙◌, subst, inl, inr, arith, nat_lt, Fits, w8}
+use Rattle.std.proofs.Common.{ℕ, ◌+◌, ◌<◌, ◌==◌, List, [], ◌∷◌, ◌++◌, length, take, drop, get_or, sym, subst, inl, inr, nat_lt, Fits, w8}
 use Rattle.std.specs.Prelude.{filter, suc, zero}
 use Rattle.std.proofs.Math.Facts.{Fits-lt-pow}
 use Rattle.std.specs.List.{AllByRecursion}
 use Rattle.std.proofs.lemmas.Bool.{cases_Bool, cond-true, cond-false}
-use Rattle.xs_instructions.specs.declared.instr.Instr.{Instr}
 use Rattle.xs_instructions.specs.Code.{code_start, place_address}
 use Rattle.xs_instructions.specs.Image.{ImageRec, IsImage, Symbol, AreLabels, data_start}
-use Rattle.source_model.specs.Canonical.{Item, Instruction, DataSection, ConstantSection, Byte, labels_of, labels_at, labels_below, behind_labels, code_items, data_items, constant_items, data_room, items}
+use Rattle.source_model.specs.Canonical.{Item, Instruction, Byte, labels_of, labels_at, labels_below, behind_labels, code_items, data_items, data_room, items}
 use Rattle.xs_printer.proofs.ItemLines.{IsPlain, IsReadable}
 
 abbrev pub IsByte : ℕ → Type 0

@@ -1,5 +1,5 @@
 -- The instructions of an image can be read: their labels' names lead to their places.
-use Rattle.std.proofs.Common.{◌≡◌, ℕ, ◌<◌, ◌≤◌, true, false, List, [], ◌∷◌, length, refl, sym, ap, ◌∙◌, subst, arith, IsTrue}
+use Rattle.std.proofs.Common.{◌≡◌, ℕ, ◌≤◌, true, false, List, [], ◌∷◌, length, sym, ap, ◌∙◌, subst, arith, IsTrue}
 use Rattle.std.specs.Prelude.{Option, Some, None, IfSome, option_to_list, option_and_then}
 use Rattle.std.specs.List.{AllByRecursion, list_any}
 use Rattle.xs_instructions.specs.declared.instr.Instr.{Instr}

@@ -1,14 +1,11 @@
 -- Where the labels of an image stand, section by section, and how a name leads there.
-use Rattle.std.proofs.Common.{◌≡◌, ℕ, ◌+◌, ◌-◌, ◌*◌, ◌/◌, ◌%◌, ◌<◌, ◌≤◌, Bool, true, false, ◌&&◌, ◌||◌, not, ◌==◌, List, [], ◌∷◌, ◌++◌, map, length, refl, sym, ap, ◌∙◌, subst, inl, inr, arith, append_assoc, append-nil, nat_lt, nat_le, IsTrue}
-use Rattle.std.specs.Prelude.{Option, Some, None, IfSome, option_to_list, filter, if◌then◌else◌}
-use Rattle.std.specs.List.{AllByRecursion}
-use Rattle.std.proofs.lemmas.Bool.{cond-true, cond-false, cases_Bool, and_parts, and_from, false_from_ne_true, eqb-true}
+use Rattle.std.proofs.Common.{◌≡◌, ℕ, ◌+◌, ◌-◌, ◌/◌, ◌<◌, true, false, ◌||◌, ◌==◌, List, [], ◌∷◌, ◌++◌, map, refl, sym, ap, ◌∙◌, inl, inr, arith, nat_lt, nat_le}
+use Rattle.std.specs.Prelude.{Some, None, if◌then◌else◌}
+use Rattle.std.proofs.lemmas.Bool.{cond-true, cond-false, cases_Bool, false_from_ne_true, eqb-true}
 use Rattle.std.proofs.lemmas.Bool.Decides.{nat_tests}
-use Rattle.std.proofs.lemmas.List.{map-append}
 use Rattle.xs_instructions.specs.Code.{code_start, place_address}
 use Rattle.xs_instructions.specs.Words.{same_name}
-use Rattle.xs_instructions.specs.Image.{ImageRec, IsImage, Symbol, AreLabels, address_of, may_be_label, is_reserved, has_symbol_at, is_place, data_start}
-use Rattle.source_model.specs.declared.layout.Section.{Section}
+use Rattle.xs_instructions.specs.Image.{Symbol, AreLabels, address_of, may_be_label, has_symbol_at, data_start}
 use Rattle.source_model.specs.declared.layout.Section.TheVariants.{Text, Data, Constants}
 use Rattle.source_model.specs.declared.layout.Place.{Place}
 use Rattle.source_model.specs.Layout.{Label, place_of}

@@ -1,21 +1,18 @@
 -- The names of registers, the fixed words and marks, and names of labels: what kind of token each is, and its shape.
-use Rattle.std.proofs.Common.{◌≡◌, ℕ, zero, suc, ◌+◌, ◌<◌, ◌≤◌, Bool, true, false, ◌&&◌, ◌||◌, not, ◌==◌, List, [], ◌∷◌, ◌++◌, length, get_or, refl, sym, ap, ◌∙◌, subst, inl, inr, arith, rules, IsTrue, nat_le}
-use Rattle.std.specs.Prelude.{Option, Some, None, if◌then◌else◌, option_map}
-use Rattle.std.specs.List.{list_any, list_all, AllByRecursion}
+use Rattle.std.proofs.Common.{◌≡◌, ℕ, ◌+◌, ◌<◌, Bool, true, false, ◌||◌, not, ◌==◌, List, [], ◌∷◌, get_or, refl, sym, ap, ◌∙◌, rules, nat_le}
+use Rattle.std.specs.Prelude.{Option, Some, None}
+use Rattle.std.specs.List.{list_all, AllByRecursion}
 use Rattle.std.specs.Bool.{Decides}
 use Rattle.std.proofs.lemmas.Slice.Eq.{compares_Decides}
-use Rattle.std.proofs.lemmas.Bool.{and_parts, and_from, cond-true, cond-false, cases_Bool, or_parts, false_from_ne_true, not-true}
-use Rattle.std.proofs.lemmas.Bool.Decides.{nat_tests}
-use Rattle.xs_text.specs.Bytes.{is_name_byte, is_name_start, is_allowed, all_allowed}
+use Rattle.std.proofs.lemmas.Bool.{and_parts, cond-true, cond-false, false_from_ne_true, not-true}
+use Rattle.xs_text.specs.Bytes.{all_allowed}
 use Rattle.xs_text.specs.Tokens.{kind_of, is_name, is_mark}
-use Rattle.xs_text.specs.declared.token_reader.TokKind.{TokKind}
-use Rattle.xs_text.specs.declared.token_reader.TokKind.TheVariants.{Name, Number, Mark, Stray}
+use Rattle.xs_text.specs.declared.token_reader.TokKind.TheVariants.{Name}
 use Rattle.xs_instructions.specs.Words.{same_name, register_names, register_number, fixed_words, fixed, fixed_text, place_from}
-use Rattle.xs_instructions.specs.Image.{is_reserved, reserved_names, may_be_label}
-use Rattle.xs_instructions.specs.declared.shape.Shape.{Shape}
+use Rattle.xs_instructions.specs.Image.{is_reserved, may_be_label}
 use Rattle.xs_instructions.specs.declared.shape.Shape.TheVariants as shape
 use Rattle.source_model.specs.declared.layout.Section.{Section}
-use Rattle.source_model.specs.Operands.{Amount, Known, Target, shape_by_kind, amount_by_kind}
+use Rattle.source_model.specs.Operands.{shape_by_kind}
 use Rattle.xs_printer.proofs.Below.{AllBelow, below}
 
 pub same_name-Decides : (xs ys : List ℕ) → Decides (same_name xs ys) (xs ≡ ys)

@@ -1,4 +1,4 @@
-use Rattle.std.proofs.Common.{◌≡◌, ◌≤◌, ◌++◌, length, drop, sym, ◌∙◌, ap, arith}
+use Rattle.std.proofs.Common.{◌≡◌, ◌++◌, drop, sym, ◌∙◌, ap, arith}
 use Rattle.xs_printer.proofs.Order.{first_past}
 use Rattle.xs_printer.proofs.Pieces.{two_more, none_left}
 use Rattle.xs_printer.proofs.LabelWalk.{past_more, past_stop, past_end, lines_more, lines_stop, lines_end, lines_of_address}

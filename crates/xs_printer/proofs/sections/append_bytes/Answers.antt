@@ -1,4 +1,4 @@
-use Rattle.std.proofs.Common.{◌≡◌, ◌+◌, ◌<◌, ◌≤◌, length, get_or, refl, arith}
+use Rattle.std.proofs.Common.{◌+◌, ◌<◌, refl, arith}
 use Rattle.std.proofs.lemmas.List.{get_or_default}
 use Rattle.xs_instructions.specs.Code.{code_start}
 use Rattle.source_model.specs.Canonical.{Byte}

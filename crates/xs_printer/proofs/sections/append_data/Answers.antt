@@ -1,4 +1,4 @@
-use Rattle.std.proofs.Common.{◌≡◌, ◌+◌, ◌-◌, ◌<◌, length, arith}
+use Rattle.std.proofs.Common.{◌+◌, ◌-◌, ◌<◌, length, arith}
 use Rattle.xs_instructions.specs.Image.{data_start}
 use Rattle.xs_printer.proofs.Order.{first_of_result}
 use Rattle.xs_printer.proofs.Places.{next_constants_at}
