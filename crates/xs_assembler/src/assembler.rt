@@ -58,11 +58,7 @@ fn read_whole(alloc: Global, text: &[u8]) -> Result<Sofar<'_>, AllocError>
 }
 
 // Notes a line.
-fn note_line<'a>(
-    alloc: Global,
-    sofar: &mut Sofar<'a>,
-    bytes: &'a [u8],
-) -> Result<(), AllocError>
+fn note_line<'a>(alloc: Global, sofar: &mut Sofar<'a>, bytes: &'a [u8]) -> Result<(), AllocError>
     requires before { AreWithin (2 ^ 50) sofar.old.layout }
     requires little { length bytes.now < 2 ^ 32 }
     ensures { OnOk result (sofar_of sofar.new ≡ after_line (sofar_of sofar.old) (line_of bytes.now)) }
