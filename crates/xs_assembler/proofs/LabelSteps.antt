@@ -26,8 +26,8 @@ split_next all (t ∷ []) d old new e is inv = cc
 split_next all (t ∷ c ∷ rest) d old new e is inv =
     let after = suffix 2 (t ∷ c ∷ rest) in (
       ap (λ xs. names_in new ++ labels_first (tokens_in xs)) after
-      ∙ (ap (λ ns. names_in ns ++ labels_first (tokens_in rest)) is
-      ∙ pushed name_now old t.bytes (labels_first (tokens_in rest)) _ (ap (λ ls. names_in old ++ ls) (sym (cond-true (begins_label (token_of t) (token_of c)) _ _ e)) ∙ inv.0)),
+          ∙ (ap (λ ns. names_in ns ++ labels_first (tokens_in rest)) is
+          ∙ pushed name_now old t.bytes (labels_first (tokens_in rest)) _ (ap (λ ls. names_in old ++ ls) (sym (cond-true (begins_label (token_of t) (token_of c)) _ _ e)) ∙ inv.0)),
       ap (λ xs. after_labels (tokens_in xs)) after ∙ (sym (cond-true (begins_label (token_of t) (token_of c)) _ _ e) ∙ inv.1),
     )
 

@@ -174,11 +174,7 @@ fn resolve_values(
 }
 
 // What a statement adds, or None where a value is out of range.
-pub fn resolve(
-    alloc: Global,
-    whole: &Sofar,
-    says: &Says,
-) -> Result<Option<Content>, AllocError>
+pub fn resolve(alloc: Global, whole: &Sofar, says: &Says) -> Result<Option<Content>, AllocError>
     requires { whole.now.layout.data_bytes < 2 ^ 62 }
     ensures { IfOk result (Resolves (sofar_of whole.now) (says_of says.now)) }
 {
@@ -208,9 +204,7 @@ pub fn names_missing(whole: &Sofar, says: &Says) -> bool
     ensures { result ≡ names_missing (sofar_of whole.now) (says_of says.now) }
 {
     match says {
-        Says::Instruction(_, amounts) | Says::Values(_, amounts) => {
-            any_missing(whole, amounts)
-        }
+        Says::Instruction(_, amounts) | Says::Values(_, amounts) => { any_missing(whole, amounts) }
         _ => false,
     }
 }

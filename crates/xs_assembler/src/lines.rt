@@ -23,9 +23,7 @@ fn begins_label(pieces: &[Piece]) -> bool
     ensures two { IsTrue result → 2 ≤ length pieces.now }
     ensures value { result ≡ begins_with_label (tokens_in pieces.now) }
 {
-    pieces.len() >= 2
-        && pieces[0].kind == TokKind::Name
-        && same_name(b":", pieces[1].bytes)
+    pieces.len() >= 2 && pieces[0].kind == TokKind::Name && same_name(b":", pieces[1].bytes)
 }
 
 // The labels at the front, and the tokens after them.

@@ -32,12 +32,7 @@ impl Output {
     }
 
     // Puts what a statement adds to a section of this length.
-    pub fn put(
-        &mut self,
-        section: Section,
-        long: u64,
-        content: &Content,
-    ) -> Result<(), AllocError>
+    pub fn put(&mut self, section: Section, long: u64, content: &Content) -> Result<(), AllocError>
         ensures { OnOk result (Grows section (code_in long content.now) (bytes_in long content.now) self.old self.new) }
     {
         match section {

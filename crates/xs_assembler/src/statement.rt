@@ -194,10 +194,7 @@ fn read_instruction<'a>(
 }
 
 // What comes after the labels.
-pub fn read_statement<'a>(
-    alloc: Global,
-    pieces: &[Piece<'a>],
-) -> Result<Statement<'a>, AllocError>
+pub fn read_statement<'a>(alloc: Global, pieces: &[Piece<'a>]) -> Result<Statement<'a>, AllocError>
     ensures { IfOk result (λ s. statement_of s ≡ statement (tokens_in pieces.now)) }
 {
     if pieces.is_empty() {

@@ -57,10 +57,7 @@ fn plain_value<'a>(piece: Piece<'a>, width: Width) -> Option<Amount<'a>>
     ensures { option_map amount_of result ≡ plain_value piece.entry.kind width piece.entry.bytes.now }
 {
     match piece.kind {
-        TokKind::Number => Some(Amount::Known(source_number(
-            piece.bytes,
-            greatest_value(width),
-        ))),
+        TokKind::Number => Some(Amount::Known(source_number(piece.bytes, greatest_value(width)))),
         TokKind::Name => label_value(piece.bytes, width),
         TokKind::Mark | TokKind::Stray => None,
     }

@@ -7,11 +7,11 @@ pub loop-piece-preserved : goal.loop-piece-preserved
 loop-piece-preserved c =
     elim c.match-value.branch [
       | in-Some-value+in_ok-push w ↦
-        value_next c.args.width c.loop-piece.next c.in-Some.after c.match-value.next c.in-Some.value w.in-Some-value.value c.args.pieces.now c.loop-piece.piece-index no_piece c.loop-piece.values.items c.match-value.values.items _
-        c.loop-piece-test.true c.in-Some.ensures w.in-Some-value.is (ap (λ v. v.items) w.values-is ∙ w.in_ok-push.ensures.items) w.next-is c.loop-piece.invariant
+          value_next c.args.width c.loop-piece.next c.in-Some.after c.match-value.next c.in-Some.value w.in-Some-value.value c.args.pieces.now c.loop-piece.piece-index no_piece c.loop-piece.values.items c.match-value.values.items _
+          c.loop-piece-test.true c.in-Some.ensures w.in-Some-value.is (ap (λ v. v.items) w.values-is ∙ w.in_ok-push.ensures.items) w.next-is c.loop-piece.invariant
       | in_default-value w ↦
-        no_value_next c.args.width c.loop-piece.next c.in-Some.after c.match-value.next c.in-Some.value c.args.pieces.now c.loop-piece.piece-index no_piece c.loop-piece.values.items c.match-value.values.items _
-        c.loop-piece-test.true c.in-Some.ensures w.in_default-value.is (ap (λ v. v.items) w.values-is) w.next-is c.loop-piece.invariant
+          no_value_next c.args.width c.loop-piece.next c.in-Some.after c.match-value.next c.in-Some.value c.args.pieces.now c.loop-piece.piece-index no_piece c.loop-piece.values.items c.match-value.values.items _
+          c.loop-piece-test.true c.in-Some.ensures w.in_default-value.is (ap (λ v. v.items) w.values-is) w.next-is c.loop-piece.invariant
     ]
 
 pub returns-in_default : goal.returns-in_default

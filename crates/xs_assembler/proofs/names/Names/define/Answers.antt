@@ -12,6 +12,6 @@ invariant_of-self-in-Continue-branch-3 c =
     let items = c.in_ok-push.ensures.items ∙ ap (λ ls. ls ++ record { name = c.args.name; place = c.args.place } ∷ []) c.in_ok-reserve.ensures.items in
     finds_same c.insert.new.self _ _ (one_more c.self.inside.labels.items c.push.new.self.items (record { name = c.args.name; place = c.args.place }) items)
     (finds_more c.self.inside.places c.insert.new.self c.args.name.now c.args.place (labels_in c.self.inside.labels.items)
-      (btree_map_updates_str c.args.name.now c.self.inside.places c.insert.new.self _ c.in_ok-insert.ensures.updates)
-      none
-      c.self.invariant)
+    (btree_map_updates_str c.args.name.now c.self.inside.places c.insert.new.self _ c.in_ok-insert.ensures.updates)
+    none
+    c.self.invariant)
