@@ -76,6 +76,15 @@ abbrev pub valued : Width → Option (List Amount) → Says
 valued width None = Misshapen
 valued width (Some amounts) = Values width amounts
 
+-- the directives of bytes
+abbrev pub bytes_directive : List ℕ → List Token → Statement
+bytes_directive name rest =
+    if same_name (codes ".word") name then record { home = InBytes; says = valued Word (values_of Word rest) }
+    else (if same_name (codes ".short") name then record { home = InBytes; says = valued Short (values_of Short rest) }
+    else (if same_name (codes ".byte") name then record { home = InBytes; says = valued Byte (values_of Byte rest) }
+    else (if same_name (codes ".space") name then record { home = InBytes; says = zeros (lone_number rest) }
+    else record { home = Nowhere; says = NoEffect })))
+
 abbrev pub directive : List ℕ → List Token → Statement
 directive name rest =
     if same_name (codes ".text") name then record { home = InText; says = shaped (is_nothing rest) }
@@ -83,11 +92,7 @@ directive name rest =
     else (if same_name (codes ".align") name then record { home = Anywhere; says = aligned (lone_number rest) }
     else (if same_name (codes ".data") name then record { home = BeginsData; says = shaped (is_nothing rest) }
     else (if same_name (codes ".cp") name then record { home = BeginsConstants; says = shaped (is_nothing rest) }
-    else (if same_name (codes ".word") name then record { home = InBytes; says = valued Word (values_of Word rest) }
-    else (if same_name (codes ".short") name then record { home = InBytes; says = valued Short (values_of Short rest) }
-    else (if same_name (codes ".byte") name then record { home = InBytes; says = valued Byte (values_of Byte rest) }
-    else (if same_name (codes ".space") name then record { home = InBytes; says = zeros (lone_number rest) }
-    else record { home = Nowhere; says = NoEffect }))))))))
+    else bytes_directive name rest))))
 
 -- the instruction of a row, if the row is built
 abbrev pub of_row : List Operand → Option Row → Says

@@ -10,6 +10,7 @@ use Rattle.xs_instructions.specs.declared.instr.ThreadIns.TheVariants as threads
 use Rattle.xs_instructions.specs.declared.instr.ResIns.TheVariants as resources
 use Rattle.xs_instructions.specs.Image.{ImageRec, Symbol}
 use Rattle.source_model.specs.Canonical.{canonical}
+use Rattle.source_model.specs.Source.{Assembled, Image, Fault, assembled}
 
 abbrev pub image : List Instr → List ℕ → ℕ → List Symbol → ImageRec
 image code bytes cp_at symbols = record { code = code; bytes = bytes; cp_at = cp_at; symbols = symbols }
@@ -35,3 +36,13 @@ pub record WorkedSpellings : Type 0 where
   pub kernel : code_alone (Kernel kernel.Kret ∷ Kernel kernel.SetKep ∷ Kernel kernel.GetId ∷ Kernel (kernel.Getsr 16) ∷ Kernel kernel.LdwSpc ∷ Kernel kernel.StwEt ∷ []) ≡ codes "  kret\n  set kep, r11\n  get r11, id\n  getsr r11, 16\n  ldw spc, sp[1]\n  stw et, sp[4]\n.data\n.cp\n"
   pub threads : code_alone (Threads (threads.Getst 1 2) ∷ Threads (threads.InitPc 3 4) ∷ Threads (threads.InitLr 3 4) ∷ Threads (threads.SetOther 3 2 4) ∷ Threads (threads.Start 5) ∷ []) ≡ codes "  getst r1, res[r2]\n  init t[r3]:pc, r4\n  init t[r3]:lr, r4\n  set t[r3]:r2, r4\n  start t[r5]\n.data\n.cp\n"
   pub resources : code_alone (Resources (resources.Getr 0 2) ∷ Resources (resources.OutctImm 5 11) ∷ Resources (resources.In 6 0) ∷ Resources (resources.Setv 0) ∷ Resources (resources.Inpw 1 2 32) ∷ Resources (resources.Outpw 2 1 8) ∷ []) ≡ codes "  getr r0, 2\n  outct res[r5], 11\n  in r6, res[r0]\n  setv res[r0], r11\n  inpw r1, res[r2], 32\n  outpw res[r2], r1, 8\n.data\n.cp\n"
+
+abbrev pub text_of : Assembled → List ℕ
+text_of (Image image) = canonical image
+text_of (Fault line kind) = []
+
+-- the canonical text of a source, and that of this text
+pub record WorkedRewriting : Type 0 where
+  pub source : text_of (assembled (codes "main: ldc r0, 0x10       // sixteen times\n  ldc r1, 1\nagain: loop:\n  sub r0 , r0,r1\n  bt r0, loop\n  ldw r2, dp[limit]\n  .align 4\n  freet\n.data\n  .short 258\n  .align 4\nlimit: .word 5\nafter:\n.cp\n  .byte 0b11\n")) ≡ codes "main:\n  ldc r0, 16\n  ldc r1, 1\nagain:\nloop:\n  sub r0, r0, r1\n  bt r0, again\n  ldw r2, dp[1]\n  nop\n  nop\n  nop\n  freet\n.data\n  .byte 2\n  .byte 1\n  .byte 0\n  .byte 0\nlimit:\n  .byte 5\n  .byte 0\n  .byte 0\n  .byte 0\n.cp\nafter:\n  .byte 3\n"
+  pub nothing : text_of (assembled []) ≡ codes ".data\n.cp\n"
+  pub names : text_of (assembled (codes ".data\nx: .cp\n.byte -1\ny: .word x, y")) ≡ codes ".data\n.cp\nx:\n  .byte 255\ny:\n  .byte 0\n  .byte 0\n  .byte 1\n  .byte 0\n  .byte 1\n  .byte 0\n  .byte 1\n  .byte 0\n"

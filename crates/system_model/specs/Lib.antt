@@ -1,5 +1,6 @@
 pub mod FrameLines
 pub mod Frame
+pub mod FirstFault
 pub mod Check
 pub mod System
 pub mod Top

@@ -9,8 +9,10 @@ ghost use Rattle.system_model.specs.WorkedEdges.{WorkedFrames, WorkedSources, Wo
 ghost use Rattle.system_model.specs.WorkedPairs.{WorkedPairs};
 ghost use Rattle.system_model.specs.WorkedSystems.{WorkedRefusals, WorkedSystems};
 
+mod first_fault;
 mod frame_line;
 
+pub use first_fault::least_faulty_line_decides;
 pub use frame_line::{BitLine, FrameLine, GivenNode, LinkLine, NodeLine};
 use xs_base::Text;
 

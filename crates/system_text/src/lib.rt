@@ -9,6 +9,8 @@ mod node_plans;
 mod section;
 mod system_error;
 mod system_reader;
+#[cfg(test)]
+mod tests;
 mod words;
 
 pub use source_model::AsmKind;

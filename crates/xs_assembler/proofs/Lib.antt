@@ -1,4 +1,11 @@
 pub mod NameTable
 pub mod Steps
+pub mod DefineSteps
+pub mod LabelSteps
+pub mod ValueSteps
 pub mod Loops
 pub mod Sizes
+pub mod Passing
+pub mod Judging
+pub mod Labelling
+pub mod Outcome

@@ -73,7 +73,7 @@ amounts_next row xs k d old new amount all h takes e is inv =
     ∙ (ap (λ l. amounts_in old ++ l) (sym (taken_at true (parts_of row) k x rest refl (past_parts (parts_of row) k takes) takes))
     ∙ (ap (λ l. amounts_in old ++ values_among (drop k (parts_of row)) (map model_amount (operands_in l))) (sym (drop_more xs k d h)) ∙ inv)))
 
-pub no_operand : Operand
+abbrev pub no_operand : Operand
 no_operand = record { base = None; piece = record { kind = Name; bytes = record { ref_ptr = (0, 0); now = [] } } }
 
 pub amounts_left : (row : Row) (xs : List Operand) (k : ℕ) (d : Operand) (old new : List Amount) (all : List model.Amount)

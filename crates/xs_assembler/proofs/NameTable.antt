@@ -1,7 +1,8 @@
 -- A table of names finds what the labels have, also with a label more.
 use Rattle.std.proofs.Common.{◌≡◌, ℕ, Bool, true, false, cond, if◌then◌else◌, ◌&&◌, ◌||◌, ◌==◌, List, [], ◌∷◌, ◌++◌, Option, Some, None, refl, sym, ap, ◌∙◌, subst}
 use Rattle.std.specs.Prelude.{bytes_eq, is_some}
-use Rattle.std.specs.BTreeMap.{get_by, is_at}
+use Rattle.std.specs.BTreeMap.{BTreeMap, get_by, is_at}
+use denote.Ref.{Bor}
 use Rattle.std.specs.Cmp.Lexicographic.{slice_cmp}
 use Rattle.std.specs.Ordering.{nat_cmp}
 use Rattle.std.specs.Map.{update, lookup}
@@ -12,8 +13,9 @@ use Rattle.xs_instructions.specs.Image.{is_reserved}
 use Rattle.xs_instructions.specs.Words.{same_name}
 use Rattle.source_model.specs.declared.layout.Place.{Place}
 use Rattle.source_model.specs.Layout.{Label, place_of, define}
-use Rattle.xs_assembler.specs.declared.names.Names.{Names}
-use Rattle.xs_assembler.specs.Names.{Finds}
+use Rattle.xs_assembler.specs.declared.names.Label.{Label as ReadLabel}
+use Rattle.xs_assembler.specs.Names.{Finds, label_of, labels_in}
+use Rattle.std.proofs.lemmas.List.{map-append}
 
 same_is_eq : (a b : List ℕ) → same_name a b ≡ bytes_eq a b
 same_is_eq [] [] = refl
@@ -53,29 +55,36 @@ pushed name place (label ∷ labels) cs e =
     (λ same. other_name (bytes_eq name cs) name cs label.0 refl parts.0 same)
     (pushed name place labels cs parts.1)
 
-define_new : (place : Place) (name : List ℕ) (labels : List Label) → is_reserved name ≡ false → place_of labels name ≡ None → define place name labels ≡ labels ++ (name, place) ∷ []
+pub define_new : (place : Place) (name : List ℕ) (labels : List Label) → is_reserved name ≡ false → place_of labels name ≡ None → define place name labels ≡ labels ++ (name, place) ∷ []
 define_new place name labels e f = cond-false _ _ _ (ap (λ b. b || is_some (place_of labels name)) e ∙ ap (λ o. is_some o) f)
 
-define_old : (place : Place) (name : List ℕ) (labels : List Label) → is_some (place_of labels name) ≡ true → define place name labels ≡ labels
+pub define_old : (place : Place) (name : List ℕ) (labels : List Label) → is_some (place_of labels name) ≡ true → define place name labels ≡ labels
 define_old place name labels e = cond-true _ _ _ (ap (λ b. is_reserved name || b) e ∙ or-true (is_reserved name))
 
-not_some : (o : Option Place) → is_some o ≡ false → o ≡ None
+pub not_some : (o : Option Place) → is_some o ≡ false → o ≡ None
 not_some (Some x) e = cc
 not_some None e = refl
 
-pub finds_more : (names more : Names) (name : List ℕ) (place : Place) (labels : List Label)
-    → ((cs : List ℕ) → get_by (λ k. slice_cmp nat_cmp cs k.now) more.places ≡ update bytes_eq (λ ds. get_by (λ k. slice_cmp nat_cmp ds k.now) names.places) name (Some place) cs)
-    → (reserved : Bool) (found : Option Place) → reserved ≡ is_reserved name → reserved ≡ false
-    → ((ls : List Label) → Finds names ls → found ≡ place_of ls name) → is_some found ≡ false
-    → Finds names labels → Finds more (define place name labels)
-finds_more names more name place labels updates reserved found is apart finding absent finds = record {
-  found = λ cs.
-      let fresh : is_reserved name ≡ false = sym is ∙ apart in
-      let none : place_of labels name ≡ None = sym (finding labels finds) ∙ not_some found absent in
-      updates cs ∙ (ap (λ o. cond (bytes_eq name cs) (Some place) o) (finds.found cs)
-      ∙ (sym (pushed name place labels cs none) ∙ ap (λ ls. place_of ls cs) (sym (define_new place name labels fresh none))));
+abbrev pub Table : Type 0
+Table = BTreeMap (Bor (List ℕ)) Place
+
+abbrev pub look_up : Table → List ℕ → Option Place
+look_up places name = get_by (λ k. slice_cmp nat_cmp name k.now) places
+
+pub finds_more : (places more : Table) (name : List ℕ) (place : Place) (labels : List Label)
+    → ((cs : List ℕ) → look_up more cs ≡ update bytes_eq (look_up places) name (Some place) cs)
+    → place_of labels name ≡ None → Finds places labels → Finds more (labels ++ (name, place) ∷ [])
+finds_more places more name place labels updates none finds = record {
+  found = λ cs. updates cs ∙ (ap (λ o. cond (bytes_eq name cs) (Some place) o) (finds.found cs) ∙ sym (pushed name place labels cs none));
 }
 
-pub finds_none : (names : Names) → names.places.entries ≡ [] → Finds names []
+pub finds_none : (places : Table) → places.entries ≡ [] → Finds places []
 unfolding place_of
-finds_none names e = record { found = λ name. ap (λ es. lookup (is_at (λ k. slice_cmp nat_cmp name k.now)) es) e }
+finds_none places e = record { found = λ name. ap (λ es. lookup (is_at (λ k. slice_cmp nat_cmp name k.now)) es) e }
+
+pub finds_same : (places : Table) (labels same : List Label) → labels ≡ same → Finds places same → Finds places labels
+finds_same places labels same e finds = subst (Finds places) (sym e) finds
+
+-- the labels with one more
+pub one_more : (old new : List ReadLabel) (label : ReadLabel) → new ≡ old ++ label ∷ [] → labels_in new ≡ labels_in old ++ (label.name.now, label.place) ∷ []
+one_more old new label e = ap labels_in e ∙ map-append label_of old (label ∷ [])

@@ -1,6 +1,6 @@
 -- Steps of loops that put one element after the other into a vector.
-use Rattle.std.proofs.Common.{◌≡◌, ℕ, ◌+◌, ◌<◌, ◌≤◌, Bool, true, false, cond, if◌then◌else◌, List, [], ◌∷◌, ◌++◌, length, get_or, drop, map, Option, Some, None, refl, sym, ap, ◌∙◌, subst, arith, append_assoc}
-use Rattle.std.specs.Prelude.{option_map}
+use Rattle.std.proofs.Common.{◌≡◌, ℕ, ◌+◌, ◌<◌, ◌≤◌, Bool, true, false, ◌||◌, List, [], ◌∷◌, ◌++◌, length, get_or, drop, map, Option, Some, None, refl, sym, ap, ◌∙◌, subst, arith, append_assoc}
+use Rattle.std.specs.List.{list_any}
 use Rattle.std.proofs.lemmas.List.{map-append, append-nil, drop_more, drop_all}
 use Rattle.source_model.specs.Each.{all_some, put_first}
 
@@ -13,7 +13,7 @@ abbrev pub before_all : {B : Type 0} → List B → Option (List B) → Option (
 before_all ys None = None
 before_all ys (Some zs) = Some (ys ++ zs)
 
-before_put : {B : Type 0} (ys : List B) (y : B) (o : Option (List B)) → before_all (ys ++ y ∷ []) o ≡ before_all ys (put_first (Some y) o)
+pub before_put : {B : Type 0} (ys : List B) (y : B) (o : Option (List B)) → before_all (ys ++ y ∷ []) o ≡ before_all ys (put_first (Some y) o)
 before_put ys y None = refl
 before_put ys y (Some zs) = ap (λ l. Some l) (append_assoc ys (y ∷ []) zs)
 
@@ -48,3 +48,22 @@ pub each_done : {X A B : Type 0} (f : A → Option B) (g : X → A) (xs : List X
 unfolding all_some
 each_done f g xs i ys all h inv =
     ap (λ zs. Some zs) (sym (append-nil ys)) ∙ (ap (λ l. before_all ys (all_some f (map g l))) (sym (drop_all i xs h)) ∙ inv)
+
+-- a loop that looks for one that passes
+pub any_next : {X A : Type 0} (p : A → Bool) (g : X → A) (xs : List X) (i : ℕ) (d : X) (all b : Bool)
+    → i < length xs → b ≡ p (g (get_or xs i d)) → b ≡ false
+    → list_any p (map g (drop i xs)) ≡ all → list_any p (map g (drop (i + 1) xs)) ≡ all
+any_next p g xs i d all b h e none inv =
+    sym (ap (λ c. c || list_any p (map g (drop (i + 1) xs))) (sym e ∙ none))
+    ∙ (ap (λ l. list_any p (map g l)) (sym (drop_more xs i d h)) ∙ inv)
+
+pub any_found : {X A : Type 0} (p : A → Bool) (g : X → A) (xs : List X) (i : ℕ) (d : X) (all b : Bool)
+    → i < length xs → b ≡ p (g (get_or xs i d)) → b ≡ true
+    → list_any p (map g (drop i xs)) ≡ all → true ≡ all
+any_found p g xs i d all b h e some inv =
+    sym (ap (λ c. c || list_any p (map g (drop (i + 1) xs))) (sym e ∙ some))
+    ∙ (ap (λ l. list_any p (map g l)) (sym (drop_more xs i d h)) ∙ inv)
+
+pub any_done : {X A : Type 0} (p : A → Bool) (g : X → A) (xs : List X) (i : ℕ) (all : Bool)
+    → length xs ≤ i → list_any p (map g (drop i xs)) ≡ all → false ≡ all
+any_done p g xs i all h inv = ap (λ l. list_any p (map g l)) (sym (drop_all i xs h)) ∙ inv

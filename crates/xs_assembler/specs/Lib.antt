@@ -7,3 +7,4 @@ pub mod Values
 pub mod Findings
 pub mod Output
 pub mod Assembles
+pub mod Passes

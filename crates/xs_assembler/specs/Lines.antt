@@ -22,9 +22,12 @@ says_of (read.Align unit) = Align unit
 abbrev pub statement_of : Statement → model.Statement
 statement_of s = record { home = s.home; says = says_of s.says }
 
+abbrev pub name_now : Bor (List ℕ) → List ℕ
+name_now name = name.now
+
 -- names that are lent
 abbrev pub names_in : List (Bor (List ℕ)) → List (List ℕ)
-names_in names = map (λ (name : Bor (List ℕ)). name.now) names
+names_in names = map name_now names
 
 abbrev pub line_value : Line → model.Line
 line_value line = record { bad_byte = line.bad_byte; labels = names_in line.labels.items; statement = statement_of line.statement }

@@ -1,5 +1,17 @@
-ghost use Rattle.std.specs.Prelude.{◌≡◌, ◌^◌, ◌<◌, ◌≤◌, length, IfOk, IfErr};
-ghost use Rattle.source_model.specs.Source.{assembled, Image, Fault};
+ghost use Rattle.std.specs.Prelude.{ℕ, ◌≡◌, ◌+◌, ◌^◌, ◌<◌, ◌≤◌, List, None, length, map, IfOk, IfErr, IfSome, OnOk};
+ghost use Rattle.std.specs.List.{AllByRecursion};
+ghost use Rattle.xs_instructions.specs.Image.{ImageRec, IsImage, Symbol, AreLabels};
+ghost use Rattle.source_model.specs.declared.AsmKind.{AsmKind};
+ghost use Rattle.source_model.specs.Statement.{line_of};
+ghost use Rattle.source_model.specs.Layout.{nothing_yet, whole_of, section_length, added, after_line, address_in};
+ghost use Rattle.source_model.specs.Source.{assembled, Image as ImageOf, Fault as FaultAt, first_fault, fault_of_line, is_out_of_range, bytes_together, symbol_of};
+ghost use Rattle.xs_assembler.specs.Assembles.{Assembles, FaultOf, FirstFault, GivesImage, GivesFault};
+ghost use Rattle.xs_assembler.specs.Contents.{code_in, bytes_in};
+ghost use Rattle.xs_assembler.specs.Lines.{line_value, says_of};
+ghost use Rattle.xs_assembler.specs.Names.{labels_in};
+ghost use Rattle.xs_assembler.specs.Output.{Grows, HasLine, HasLines};
+ghost use Rattle.xs_assembler.specs.Passes.{source_lines, AreWithin, image_with};
+ghost use Rattle.xs_assembler.specs.Sofar.{sofar_of};
 
 use crate::asm_error::AsmError;
 use crate::contents::{Content, resolve};
@@ -9,7 +21,7 @@ use crate::lines::{Line, read_line};
 use crate::names::Label;
 use crate::output::{Output, put_zeros};
 use crate::sofar::Sofar;
-use source_model::{AsmKind, Layout, Section};
+use source_model::{AsmKind, Layout, Place, Section, sources_make_images};
 use std::alloc::{AllocError, Global};
 use xs_instructions::{Image, Symbols};
 use xs_text::Lines;
@@ -18,40 +30,60 @@ use xs_text::Lines;
 /// first faulty line and kind; want of memory may come in place of either. See docs/ASSEMBLY.md.
 pub fn assemble(alloc: Global, text: &[u8]) -> Result<Image, AsmError>
     requires { length text.now < 2 ^ 32 }
+
+    ensures exact { Assembles (assembled text.now) result }
+    ensures ok { IfOk result (λ image. assembled text.now ≡ ImageOf image) }
+    ensures fault { IfErr result (FaultOf (assembled text.now)) }
+    ensures taken { (image : ImageRec) → assembled text.now ≡ ImageOf image → GivesImage image result }
+    ensures refused { (line : ℕ) (kind : AsmKind) → assembled text.now ≡ FaultAt line kind → GivesFault line kind result }
 {
     let whole = read_whole(alloc, text)?;
     let output = read_output(alloc, text, &whole)?;
-    let symbols = symbols(alloc, whole.layout, whole.names.labels())?;
-    let bytes = together(output.data_bytes, &output.constant_bytes)?;
-    let cp_at = section_start(whole.layout, Section::Constants) as u32;
-    Ok(Image::of(output.code, bytes, cp_at, symbols))
+    sources_make_images();
+    Ok(make_image(alloc, &whole, output)?)
 }
 
 // What all lines say together. It reads past faulty lines, since a fault of a line may hang on later ones.
-fn read_whole<'a>(alloc: Global, text: &'a [u8]) -> Result<Sofar<'a>, AllocError>
+fn read_whole(alloc: Global, text: &[u8]) -> Result<Sofar<'_>, AllocError>
     requires { length text.now < 2 ^ 32 }
+    ensures value { IfOk result (λ whole. sofar_of whole ≡ whole_of (source_lines text.now)) }
+    ensures within { IfOk result (λ whole. AreWithin (2 ^ 50) whole.layout) }
 {
     let mut lines = Lines::new(text);
     let mut sofar = Sofar::new(alloc);
     while let Some(line) = lines.next_line() {
-        let line = read_line(alloc, &text[line.from..line.to])?;
-        sofar.note(&line)?;
+        note_line(alloc, &mut sofar, &text[line.from..line.to])?;
     }
     Ok(sofar)
 }
 
+// Notes a line.
+fn note_line<'a>(alloc: Global, sofar: &mut Sofar<'a>, bytes: &'a [u8]) -> Result<(), AllocError>
+    requires before { AreWithin (2 ^ 50) sofar.old.layout }
+    requires little { length bytes.now < 2 ^ 32 }
+    ensures { OnOk result (sofar_of sofar.new ≡ after_line (sofar_of sofar.old) (line_of bytes.now)) }
+{
+    let line = read_line(alloc, bytes)?;
+    sofar.note(&line)?;
+    Ok(())
+}
+
 // Code and bytes of the lines up to the first fault.
 fn read_output(alloc: Global, text: &[u8], whole: &Sofar) -> Result<Output, AsmError>
-    requires { length text.now < 2 ^ 32 }
+    requires small { length text.now < 2 ^ 32 }
+    requires within { AreWithin (2 ^ 50) whole.now.layout }
+    ensures ok { IfOk result (λ _. first_fault (sofar_of whole.now) nothing_yet 1 (source_lines text.now) ≡ None) }
+    ensures output { IfOk result (HasLines (sofar_of whole.now) nothing_yet (source_lines text.now)) }
+    ensures fault { IfErr result (FirstFault (first_fault (sofar_of whole.now) nothing_yet 1 (source_lines text.now))) }
 {
     let mut lines = Lines::new(text);
     let mut sofar = Sofar::new(alloc);
     let mut output = Output::new(alloc);
     while let Some(line) = lines.next_line() {
-        let number = line.number;
-        let line = read_line(alloc, &text[line.from..line.to])?;
-        if let Some(kind) = put_line(alloc, whole, &mut sofar, &line, &mut output)? {
-            return Err(AsmError::Fault { line: number, kind });
+        let bytes = &text[line.from..line.to];
+        if let Some(kind) = put_line(alloc, whole, &mut sofar, bytes, &mut output)? {
+            let line = line.number;
+            return Err(AsmError::Fault { line, kind });
         }
     }
     Ok(output)
@@ -62,51 +94,116 @@ fn put_line<'a>(
     alloc: Global,
     whole: &Sofar,
     sofar: &mut Sofar<'a>,
-    line: &Line<'a>,
+    bytes: &'a [u8],
     output: &mut Output,
 ) -> Result<Option<AsmKind>, AllocError>
+    requires whole { AreWithin (2 ^ 50) whole.now.layout }
+    requires before { AreWithin (2 ^ 50) sofar.old.layout }
+    requires little { length bytes.now < 2 ^ 32 }
+    ensures fault { IfOk result (λ kind. kind ≡ fault_of_line (sofar_of whole.now) (sofar_of sofar.old) (line_of bytes.now)) }
+    ensures noted { OnOk result (sofar_of sofar.new ≡ after_line (sofar_of sofar.old) (line_of bytes.now)) }
+    ensures output { IfOk result (λ kind. kind ≡ None → HasLine (sofar_of whole.now) (sofar_of sofar.old) (line_of bytes.now) output.old output.new) }
 {
-    let before = sofar.layout;
+    let line = read_line(alloc, bytes)?;
     let content = resolve(alloc, whole, &line.statement.says)?;
+    let before = sofar.layout;
+    if let Some(kind) = note_and_judge(whole, sofar, &line, content.is_none())? {
+        return Ok(Some(kind));
+    }
+    put_content(output, before, &content)?;
+    Ok(None)
+}
+
+// Notes a line, and gives the first kind of which it has a fault, by whether a value is out of range.
+fn note_and_judge<'a>(
+    whole: &Sofar,
+    sofar: &mut Sofar<'a>,
+    line: &Line<'a>,
+    out_of_range: bool,
+) -> Result<Option<AsmKind>, AllocError>
+    requires before { AreWithin (2 ^ 50) sofar.old.layout }
+    requires after { AreWithin (2 ^ 51) (after_line (sofar_of sofar.old) (line_value line.now)).layout }
+    requires fits { section_length sofar.old.layout sofar.old.layout.section + added (section_length sofar.old.layout sofar.old.layout.section) (says_of line.now.statement.says) < 2 ^ 64 }
+    requires out { out_of_range ≡ is_out_of_range (sofar_of whole.now) (says_of line.now.statement.says) }
+    ensures fault { IfOk result (λ kind. kind ≡ fault_of_line (sofar_of whole.now) (sofar_of sofar.old) (line_value line.now)) }
+    ensures noted { OnOk result (sofar_of sofar.new ≡ after_line (sofar_of sofar.old) (line_value line.now)) }
+{
+    let section = sofar.layout.section;
     let label_twice = sofar.note(line)?;
     let found = Findings {
-        section: before.section,
+        section,
         label_twice,
-        out_of_range: content.is_none(),
+        out_of_range,
         after: sofar.layout,
     };
-    let kind = fault_of_line(whole, line, found);
-    if let (None, Some(content)) = (kind, content) {
-        output.put(
+    Ok(fault_of_line(whole, line, found))
+}
+
+// Puts what a line adds to the section in which it stands.
+fn put_content(
+    output: &mut Output,
+    before: Layout,
+    content: &Option<Content>,
+) -> Result<(), AllocError>
+    ensures { OnOk result (IfSome content.now (λ c. Grows before.section (code_in (section_length before before.section) c) (bytes_in (section_length before before.section) c) output.old output.new)) }
+{
+    match content {
+        Some(content) => output.put(
             before.section,
             section_length(before, before.section),
-            &content,
-        )?;
+            content,
+        ),
+        None => Ok(()),
     }
-    Ok(kind)
+}
+
+// The image of what the lines give, where it keeps what every image keeps.
+fn make_image(alloc: Global, whole: &Sofar, output: Output) -> Result<Image, AllocError>
+    requires within { AreWithin (2 ^ 50) whole.now.layout }
+    requires kept { IsImage (image_with (sofar_of whole.now) output) }
+    ensures { IfOk result (λ image. image ≡ image_with (sofar_of whole.now) output) }
+{
+    let Output {
+        code,
+        data_bytes,
+        constant_bytes,
+    } = output;
+    let symbols = symbols(alloc, whole.layout, whole.names.labels())?;
+    let bytes = together(data_bytes, &constant_bytes)?;
+    let cp_at = section_start(whole.layout, Section::Constants) as u32;
+    Ok(Image::of(code, bytes, cp_at, symbols))
 }
 
 // The symbols of the labels.
 fn symbols(alloc: Global, whole: Layout, labels: &[Label]) -> Result<Symbols, AllocError>
+    requires within { AreWithin (2 ^ 50) whole }
+    requires names { AreLabels (map (symbol_of whole) (labels_in labels.now)) }
+    requires addresses { AllByRecursion (λ (s : Symbol). s.1 < 2 ^ 32) (map (symbol_of whole) (labels_in labels.now)) }
+    ensures { IfOk result (λ symbols. symbols ≡ map (symbol_of whole) (labels_in labels.now)) }
 {
     let mut symbols = Symbols::new(alloc);
     for label in labels {
-        symbols.define(alloc, label.name, address(whole, *label))?;
+        symbols.define(alloc, label.name, address(whole, label.place))?;
     }
     Ok(symbols)
 }
 
-fn address(whole: Layout, label: Label) -> u32
+// The address of a place.
+fn address(whole: Layout, place: Place) -> u32
+    requires within { AreWithin (2 ^ 50) whole }
+    requires small { address_in whole place < 2 ^ 32 }
+    ensures { result ≡ address_in whole place }
 {
-    let start = section_start(whole, label.place.section);
-    match label.place.section {
-        Section::Text => (start + 4 * label.place.offset) as u32,
-        _ => (start + label.place.offset) as u32,
+    let start = section_start(whole, place.section);
+    match place.section {
+        Section::Text => (start + 4 * place.offset) as u32,
+        Section::Data | Section::Constants => (start + place.offset) as u32,
     }
 }
 
 // The bytes of both sections: zeros come before the first constant, up to a word.
 fn together(bytes: Vec<u8>, constants: &[u8]) -> Result<Vec<u8>, AllocError>
+    ensures { IfOk result (λ all. all.items ≡ bytes_together bytes.items constants.now) }
 {
     let mut bytes = bytes;
     if !constants.is_empty() {

@@ -1,7 +1,8 @@
-ghost use Rattle.std.specs.Prelude.{◌≡◌, ◌<◌, ◌^◌, ℕ, true, false, IfOk, option_map, vec_items};
+ghost use Rattle.std.specs.Prelude.{◌≡◌, ◌<◌, ◌≤◌, ◌^◌, ℕ, true, false, IfOk, MatchOption, option_map, vec_items};
 ghost use Rattle.std.specs.Prelude.{◌%◌};
 ghost use Rattle.std.specs.List.{list_any};
 ghost use Rattle.source_model.specs.Layout.{address_in};
+ghost use Rattle.source_model.specs.Statement.{Instruction, Values};
 ghost use Rattle.source_model.specs.Source.{words_past, amount_value, target_value, offset_value, address_value, values_in, is_missing, names_missing};
 ghost use Rattle.xs_assembler.specs.Parts.{amount_of, amounts_in};
 ghost use Rattle.xs_assembler.specs.Lines.{says_of};
@@ -14,7 +15,7 @@ use crate::sofar::Sofar;
 use crate::statement::Says;
 use source_model::{Layout, Place, Section, Width};
 use std::alloc::{AllocError, Global};
-use xs_instructions::Instr;
+use xs_instructions::{Instr, Row};
 
 // What a statement adds to its section, by what all lines say.
 #[derive(Drop)]
@@ -50,11 +51,15 @@ fn address_word(whole: Layout, place: Place) -> u32
 // The address of a place, or None where it is past 64 bits.
 fn address(whole: Layout, place: Place) -> Option<u64>
     requires { whole.data_bytes < 2 ^ 62 }
+    ensures { MatchOption result (2 ^ 64 ≤ address_in whole place) (λ at. at ≡ address_in whole place) }
 {
     let start = section_start(whole, place.section);
     match place.section {
-        Section::Text => place.offset.checked_mul(4)?.checked_add(start),
-        Section::Data | Section::Constants => place.offset.checked_add(start),
+        Section::Text => match place.offset.checked_mul(4) {
+            Some(bytes) => start.checked_add(bytes),
+            None => None,
+        },
+        Section::Data | Section::Constants => start.checked_add(place.offset),
     }
 }
 
@@ -90,10 +95,11 @@ fn offset_value(whole: Layout, base: Section, place: Option<Place>) -> Option<u3
 {
     match place {
         None => Some(0),
-        Some(place) => {
-            let address = address(whole, place)?;
-            words_past(section_start(whole, base), address)
-        }
+        Some(place) => match address(whole, place) {
+            Some(at) => words_past(section_start(whole, base), at),
+            // Such an address is past all of them.
+            None => None,
+        },
     }
 }
 
@@ -132,6 +138,41 @@ fn values_in(
     Ok(Some(values))
 }
 
+// The instruction of a row, or None where a value is out of range.
+fn resolve_instruction(
+    alloc: Global,
+    whole: &Sofar,
+    row: Row,
+    amounts: &[Amount],
+) -> Result<Option<Content>, AllocError>
+    requires { whole.now.layout.data_bytes < 2 ^ 62 }
+    ensures { IfOk result (Resolves (sofar_of whole.now) (Instruction row (amounts_in amounts.now))) }
+{
+    let Some(values) = values_in(alloc, whole, amounts)? else {
+        return Ok(None);
+    };
+    match row.build(&values) {
+        Some(instruction) => Ok(Some(Content::Instruction(instruction))),
+        None => Ok(None),
+    }
+}
+
+// The values of a directive, or None where one is out of range.
+fn resolve_values(
+    alloc: Global,
+    whole: &Sofar,
+    width: Width,
+    amounts: &[Amount],
+) -> Result<Option<Content>, AllocError>
+    requires { whole.now.layout.data_bytes < 2 ^ 62 }
+    ensures { IfOk result (Resolves (sofar_of whole.now) (Values width (amounts_in amounts.now))) }
+{
+    match values_in(alloc, whole, amounts)? {
+        Some(values) => Ok(Some(Content::Values(width, values))),
+        None => Ok(None),
+    }
+}
+
 // What a statement adds, or None where a value is out of range.
 pub fn resolve(
     alloc: Global,
@@ -143,14 +184,8 @@ pub fn resolve(
 {
     match says {
         Says::NoEffect | Says::Unknown | Says::Misshapen => Ok(Some(Content::Nothing)),
-        Says::Instruction(row, amounts) => match values_in(alloc, whole, amounts)? {
-            Some(values) => Ok(row.build(&values).map(Content::Instruction)),
-            None => Ok(None),
-        },
-        Says::Values(width, amounts) => match values_in(alloc, whole, amounts)? {
-            Some(values) => Ok(Some(Content::Values(*width, values))),
-            None => Ok(None),
-        },
+        Says::Instruction(row, amounts) => resolve_instruction(alloc, whole, *row, amounts),
+        Says::Values(width, amounts) => resolve_values(alloc, whole, *width, amounts),
         Says::Zeros(count) => Ok(count.map(Content::Zeros)),
         Says::Align(unit) => Ok(unit.map(Content::Padding)),
     }
@@ -183,5 +218,10 @@ pub fn names_missing(whole: &Sofar, says: &Says) -> bool
 fn any_missing(whole: &Sofar, amounts: &[Amount]) -> bool
     ensures { result ≡ list_any (is_missing (sofar_of whole.now)) (amounts_in amounts.now) }
 {
-    amounts.iter().any(|amount| is_missing(whole, *amount))
+    for amount in amounts {
+        if is_missing(whole, *amount) {
+            return true;
+        }
+    }
+    false
 }

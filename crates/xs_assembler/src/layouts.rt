@@ -66,7 +66,8 @@ pub fn padding(long: u64, unit: u32) -> u64
 
 // How much a statement adds to a section of some length.
 fn added(long: u64, says: &Says) -> u64
-    ensures value { result ≡ added long (says_of says.now) }
+    requires { added long (says_of says.now) < 2 ^ 64 }
+    ensures { result ≡ added long (says_of says.now) }
 {
     match says {
         Says::Instruction(_, _) => 1,

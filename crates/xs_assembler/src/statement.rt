@@ -1,5 +1,5 @@
 ghost use Rattle.std.specs.Prelude.{◌≡◌, IfOk, IsTrue, option_map, option_copied};
-ghost use Rattle.source_model.specs.Statement.{is_nothing, is_lone_name, lone_number, shaped, zeros, aligned, directive, instruction, statement};
+ghost use Rattle.source_model.specs.Statement.{is_nothing, is_lone_name, lone_number, shaped, zeros, aligned, bytes_directive, directive, instruction, statement};
 ghost use Rattle.std.specs.Prelude.{option_and_then};
 ghost use Rattle.xs_text.specs.Numbers.{at_most, source_number_of};
 ghost use Rattle.source_model.specs.Operands.{operands_of};
@@ -14,7 +14,7 @@ use crate::pieces::Piece;
 use crate::values::read_values;
 use source_model::{Home, Width};
 use std::alloc::{AllocError, Global};
-use xs_instructions::{Row, find, known};
+use xs_instructions::{Row, find, known, same_name};
 use xs_text::{TokKind, source_number};
 
 // What a statement says.
@@ -58,13 +58,19 @@ fn lone_number<'a>(pieces: &[Piece<'a>]) -> Option<&'a [u8]>
 }
 
 // A directive without effect, if it has its shape.
-fn shaped<'a>(is_shaped: bool) -> Says<'a>
-    ensures { says_of result ≡ shaped is_shaped }
+fn no_effect<'a>(home: Home, is_shaped: bool) -> Statement<'a>
+    ensures { statement_of result ≡ record { home = home; says = shaped is_shaped } }
 {
     if is_shaped {
-        Says::NoEffect
+        Statement {
+            home,
+            says: Says::NoEffect,
+        }
     } else {
-        Says::Misshapen
+        Statement {
+            home,
+            says: Says::Misshapen,
+        }
     }
 }
 
@@ -107,6 +113,35 @@ fn valued<'a>(alloc: Global, width: Width, pieces: &[Piece<'a>]) -> Result<Says<
     }
 }
 
+// The statement of a directive of bytes, and of one that there is not.
+fn read_bytes_directive<'a>(
+    alloc: Global,
+    name: &[u8],
+    rest: &[Piece<'a>],
+) -> Result<Statement<'a>, AllocError>
+    ensures { IfOk result (λ s. statement_of s ≡ bytes_directive name.now (tokens_in rest.now)) }
+{
+    let home = Home::InBytes;
+    if same_name(b".word", name) {
+        let says = valued(alloc, Width::Word, rest)?;
+        Ok(Statement { home, says })
+    } else if same_name(b".short", name) {
+        let says = valued(alloc, Width::Short, rest)?;
+        Ok(Statement { home, says })
+    } else if same_name(b".byte", name) {
+        let says = valued(alloc, Width::Byte, rest)?;
+        Ok(Statement { home, says })
+    } else if same_name(b".space", name) {
+        let says = zeros(rest);
+        Ok(Statement { home, says })
+    } else {
+        Ok(Statement {
+            home: Home::Nowhere,
+            says: Says::NoEffect,
+        })
+    }
+}
+
 // A directive's statement.
 fn read_directive<'a>(
     alloc: Global,
@@ -115,19 +150,23 @@ fn read_directive<'a>(
 ) -> Result<Statement<'a>, AllocError>
     ensures { IfOk result (λ s. statement_of s ≡ directive name.now (tokens_in rest.now)) }
 {
-    let (home, says) = match name {
-        b".text" => (Home::InText, shaped(rest.is_empty())),
-        b".globl" => (Home::InText, shaped(is_lone_name(rest))),
-        b".align" => (Home::Anywhere, aligned(rest)),
-        b".data" => (Home::BeginsData, shaped(rest.is_empty())),
-        b".cp" => (Home::BeginsConstants, shaped(rest.is_empty())),
-        b".word" => (Home::InBytes, valued(alloc, Width::Word, rest)?),
-        b".short" => (Home::InBytes, valued(alloc, Width::Short, rest)?),
-        b".byte" => (Home::InBytes, valued(alloc, Width::Byte, rest)?),
-        b".space" => (Home::InBytes, zeros(rest)),
-        _ => (Home::Nowhere, Says::NoEffect),
-    };
-    Ok(Statement { home, says })
+    if same_name(b".text", name) {
+        Ok(no_effect(Home::InText, rest.is_empty()))
+    } else if same_name(b".globl", name) {
+        Ok(no_effect(Home::InText, is_lone_name(rest)))
+    } else if same_name(b".align", name) {
+        let says = aligned(rest);
+        Ok(Statement {
+            home: Home::Anywhere,
+            says,
+        })
+    } else if same_name(b".data", name) {
+        Ok(no_effect(Home::BeginsData, rest.is_empty()))
+    } else if same_name(b".cp", name) {
+        Ok(no_effect(Home::BeginsConstants, rest.is_empty()))
+    } else {
+        read_bytes_directive(alloc, name, rest)
+    }
 }
 
 // An instruction by its name and the tokens after it.

@@ -15,10 +15,12 @@ fn expect_fault(rt: &impl Abort, alloc: Global, text: &[u8], line: u32, kind: As
     requires { length text.now < 2 ^ 32 }
 {
     match assemble(alloc, text) {
-        Err(AsmError::Fault {
-            line: found,
-            kind: why,
-        }) => {
+        Err(
+            AsmError::Fault {
+                line: found,
+                kind: why,
+            },
+        ) => {
             assert_eq!(rt; found, line);
             assert_eq!(rt; why, kind);
         }
@@ -101,11 +103,7 @@ fn refused(rt: HostRuntime) {
         (b"bu x\nx: # \x01", 1, LabelMissing),
         (b"bu x\n.data 5\nx:", 1, NumberOutOfRange),
         (b"bu x\n.data # \x01\nx:", 2, BadByte),
-        (
-            b"ldw r0, dp[x]\n.data\n.byte 256\nx:",
-            1,
-            NumberOutOfRange,
-        ),
+        (b"ldw r0, dp[x]\n.data\n.byte 256\nx:", 1, NumberOutOfRange),
         (b"ldw r0, dp[x]\n.data\n.byte 1 2\nx:", 3, WrongOperands),
         (b"bu y\nx: r0: y: nop", 2, WrongOperands),
         // Sections.
@@ -135,14 +133,22 @@ fn repeated(alloc: Global, piece: &[u8], count: u32, end: &[u8]) -> Result<Vec<u
 
 #[test]
 fn at_the_limits(rt: HostRuntime) -> Result<(), Fail> {
-    let text = repeated(rt.alloc(), b".align 1024\nnop\n", 16, b".align 1023\nend:\n")?;
+    let text = repeated(
+        rt.alloc(),
+        b".align 1024\nnop\n",
+        16,
+        b".align 1023\nend:\n",
+    )?;
     let text_end = repeated(rt.alloc(), b"nop\n", 16_385, b"")?;
     if text.len() < 1_000 && text_end.len() < 100_000 {
         let image = assemble(rt.alloc(), &text)?;
         assert_eq!(rt; image.code().len(), 16_368);
         expect_fault(&rt, rt.alloc(), &text_end, 16_385, TooManyInstructions);
     }
-    let image = assemble(rt.alloc(), b".data\n.space 65532\n.cp\n.byte 1, 2, 3, 4\nlast:")?;
+    let image = assemble(
+        rt.alloc(),
+        b".data\n.space 65532\n.cp\n.byte 1, 2, 3, 4\nlast:",
+    )?;
     assert_eq!(rt; image.bytes().len(), 65_536);
     assert_eq!(rt; image.cp_at(), 0x0001_fffc);
     let (name, at) = image.symbol(0).ok_or("a label")?;
@@ -153,7 +159,8 @@ fn at_the_limits(rt: HostRuntime) -> Result<(), Fail> {
 
 #[test]
 fn code(rt: HostRuntime) -> Result<(), Fail> {
-    let text = b"# from 3\n.globl gone\nmain : ldc r0, 0x3\nloop: sub r0, r0, r1\r\n bt r0, loop\nstw lr , dp [ x ]\n.align 3\nbu end\nend:\nadd: .word:\n.data\n.byte 1\n.align 4\nx:";
+    let text =
+        b"# from 3\n.globl gone\nmain : ldc r0, 0x3\nloop: sub r0, r0, r1\r\n bt r0, loop\nstw lr , dp [ x ]\n.align 3\nbu end\nend:\nadd: .word:\n.data\n.byte 1\n.align 4\nx:";
     let image = assemble(rt.alloc(), text)?;
     let code = image.code();
     assert_eq!(rt; code.len(), 7);
@@ -181,7 +188,8 @@ fn code(rt: HostRuntime) -> Result<(), Fail> {
 
 #[test]
 fn bytes(rt: HostRuntime) -> Result<(), Fail> {
-    let text = b"getr r4, 2\noutct res[r4], 0b11\nldw r0, dp[z]\nfreet\n.data\nx: .word 0x12345678, - 5, x\n.short -32768, 65535\n.byte -128, 255, -0\ny: .cp\nz: .word z\n.space 2\n.byte 9";
+    let text =
+        b"getr r4, 2\noutct res[r4], 0b11\nldw r0, dp[z]\nfreet\n.data\nx: .word 0x12345678, - 5, x\n.short -32768, 65535\n.byte -128, 255, -0\ny: .cp\nz: .word z\n.space 2\n.byte 9";
     let image = assemble(rt.alloc(), text)?;
     let code = image.code();
     assert!(rt; matches!(code[0], Instr::Resources(ResIns::Getr(4, 2))));

@@ -114,18 +114,17 @@ pub fn read_values<'a>(
     let mut values = Vec::new(alloc);
     let mut next = Next::Value;
     for piece in pieces {
-        next = match value_step(*piece, width, next) {
-            None => return Ok(None),
-            Some((None, after)) => after,
-            Some((Some(value), after)) => {
-                values.push(value)?;
-                after
-            }
+        let Some((value, after)) = value_step(*piece, width, next) else {
+            return Ok(None);
         };
+        if let Some(value) = value {
+            values.push(value)?;
+        }
+        next = after;
     }
     match next {
         Next::Comma => Ok(Some(values)),
-        Next::Value | Next::Digits => Ok(None),
+        _ => Ok(None),
     }
 }
 

@@ -1,8 +1,8 @@
 -- Lines without a fault: the state after them, and the code and the bytes that they give.
-use Rattle.std.proofs.Common.{◌≡◌, ℕ, ◌+◌, ◌*◌, ◌%◌, ◌<◌, ◌≤◌, Bool, true, false, ◌&&◌, ◌||◌, not, ◌==◌, List, [], ◌∷◌, ◌++◌, map, length, refl, sym, ap, ◌∙◌, subst, inl, inr, arith, append_assoc, append-nil, add-zero, nat_lt, nat_le}
-use Rattle.std.specs.Prelude.{Option, Some, None, is_some, is_none, option_to_list, option_and_then, if◌then◌else◌}
-use Rattle.std.specs.List.{list_any, flat_map}
-use Rattle.std.proofs.lemmas.Bool.{cond-true, cond-false, or_from}
+use Rattle.std.proofs.Common.{◌≡◌, ℕ, ◌+◌, ◌%◌, ◌<◌, ◌≤◌, false, List, [], ◌∷◌, ◌++◌, refl, sym, ap, ◌∙◌, arith, append_assoc, add-zero, nat_lt}
+use Rattle.std.specs.Prelude.{Option, Some, None, is_some, is_none, option_to_list}
+use Rattle.std.specs.List.{list_any}
+use Rattle.std.proofs.lemmas.Bool.{cond-false, or_from}
 use Rattle.std.proofs.lemmas.Bool.Decides.{nat_tests}
 use Rattle.xs_instructions.specs.declared.rows.Row.{Row}
 use Rattle.xs_instructions.specs.declared.instr.Instr.{Instr}
@@ -19,8 +19,8 @@ use Rattle.source_model.specs.Each.{all_some}
 use Rattle.source_model.specs.Operands.{Amount, Known}
 use Rattle.source_model.specs.Statement as says
 use Rattle.source_model.specs.Statement.{Line}
-use Rattle.source_model.specs.Layout.{Label, Sofar, place_of, section_length, here, define, define_all, after_line, after_lines, bytes_length}
-use Rattle.source_model.specs.Source.{values_in, instruction_in, is_missing, fault_of_line, first_fault, or_fault, has_bad_byte, has_label_twice, is_not_allowed, has_unknown_name, has_wrong_operands, has_number_out_of_range, has_label_missing, has_too_many_instructions, has_too_many_bytes, defines_twice, code_of_line, code_from, bytes_of_line, bytes_from, bytes_of_values}
+use Rattle.source_model.specs.Layout.{Label, Sofar, place_of, section_length, here, define_all, after_line, after_lines, bytes_length}
+use Rattle.source_model.specs.Source.{values_in, instruction_in, is_missing, fault_of_line, first_fault, or_fault, has_bad_byte, has_label_twice, is_not_allowed, has_unknown_name, has_wrong_operands, has_number_out_of_range, has_label_missing, defines_twice, code_of_line, code_from, bytes_of_line, bytes_from, bytes_of_values}
 
 -- the state in a section, with so many instructions, bytes of data and bytes of constants
 abbrev pub state : Section → ℕ → ℕ → ℕ → List Label → Sofar
@@ -72,8 +72,8 @@ module _ (whole : Sofar) where
   clean-cons before between after line lines c c' d d' k k' h r = record {
     after = after-cons before line lines ∙ (ap (λ s. after_lines s lines) h.after ∙ r.after);
     fault = λ n. fault-cons before n line lines
-    ∙ (ap (λ o. or_fault n o (first_fault whole (after_line before line) (n + 1) lines)) h.fault
-    ∙ (ap (λ s. first_fault whole s (n + 1) lines) h.after ∙ r.fault (n + 1)));
+        ∙ (ap (λ o. or_fault n o (first_fault whole (after_line before line) (n + 1) lines)) h.fault
+        ∙ (ap (λ s. first_fault whole s (n + 1) lines) h.after ∙ r.fault (n + 1)));
     code = code-cons before line lines ∙ (ap (λ l. l ++ code_from whole (after_line before line) lines) h.code ∙ ap (λ l. c ++ l) (ap (λ s. code_from whole s lines) h.after ∙ r.code));
     in_data = bytes-cons Data before line lines ∙ (ap (λ l. l ++ bytes_from Data whole (after_line before line) lines) h.in_data ∙ ap (λ l. d ++ l) (ap (λ s. bytes_from Data whole s lines) h.after ∙ r.in_data));
     in_constants = bytes-cons Constants before line lines ∙ (ap (λ l. l ++ bytes_from Constants whole (after_line before line) lines) h.in_constants ∙ ap (λ l. k ++ l) (ap (λ s. bytes_from Constants whole s lines) h.after ∙ r.in_constants));

@@ -1,18 +1,16 @@
 -- A number in decimal is read as this number.
-use Rattle.std.proofs.Common.{◌≡◌, ℕ, suc, ◌+◌, ◌%◌, ◌/◌, ◌<◌, ◌≤◌, ◌^◌, Bool, true, false, ◌&&◌, ◌||◌, not, ◌==◌, List, [], ◌∷◌, ◌++◌, length, refl, sym, ap, ◌∙◌, inl, inr, arith, lit<, length-append}
-use Rattle.std.specs.Prelude.{decimal, Option, Some, None, if◌then◌else◌, nat_le}
+use Rattle.std.proofs.Common.{◌≡◌, ℕ, ◌+◌, ◌%◌, ◌<◌, ◌^◌, true, false, ◌&&◌, not, ◌==◌, List, [], ◌∷◌, length, refl, ap, ◌∙◌, arith}
+use Rattle.std.specs.Prelude.{decimal, Option, Some}
 use Rattle.std.specs.List.{list_all}
 use Rattle.std.specs.Char.{is_ascii_digit}
-use Rattle.std.specs.Str.Parse.{digits_value}
 use Rattle.std.proofs.lemmas.Bool.{and_parts, and_from, cond-true, cond-false, or_left}
 use Rattle.std.proofs.lemmas.Bool.Decides.{nat_tests}
 use Rattle.std.proofs.lemmas.Fmt.{decimal_by_steps, decimal_is_IsNumeral, decimal_nonempty}
 use Rattle.std.proofs.lemmas.List.Folds.{list_all-append}
 use Rattle.xs_text.specs.Bytes.{is_allowed, all_allowed, is_name_start, is_name_byte}
-use Rattle.xs_text.specs.Tokens.{kind_of, is_name, is_number, is_run}
-use Rattle.xs_text.specs.Numbers.{source_number_of, number_of, value_in, at_most, or_else}
-use Rattle.xs_text.specs.declared.token_reader.TokKind.{TokKind}
-use Rattle.xs_text.specs.declared.token_reader.TokKind.TheVariants.{Name, Number, Mark, Stray}
+use Rattle.xs_text.specs.Tokens.{kind_of, is_name, is_run}
+use Rattle.xs_text.specs.Numbers.{source_number_of, number_of, value_in, or_else}
+use Rattle.xs_text.specs.declared.token_reader.TokKind.TheVariants.{Number}
 
 digit_of : (n : ℕ) → n < 10 → is_ascii_digit (48 + n) ≡ true
 digit_of n h = grind (arith, nat_tests)

@@ -1,11 +1,11 @@
 -- The numbers of the first labels, a place more each time.
-use Rattle.std.proofs.Common.{◌≡◌, ℕ, ◌+◌, ◌<◌, ◌≤◌, List, [], ◌∷◌, ◌++◌, length, get_or, drop, refl, sym, ap, ◌∙◌, inl, inr, arith, below_more}
+use Rattle.std.proofs.Common.{◌≡◌, ℕ, ◌+◌, List, [], ◌∷◌, ◌++◌, length, get_or, drop, ap, ◌∙◌, arith, below_more}
 use Rattle.std.proofs.lemmas.List.{length_push, get_or_push, get_or_append_left}
 use Rattle.xs_instructions.specs.Code.{place_address}
 use Rattle.xs_instructions.specs.Image.{ImageRec, IsImage, Symbol}
 use Rattle.xs_printer.specs.Walk.{past_address, symbols_from, AreFirstLabels}
 use Rattle.xs_printer.proofs.Order.{past_from}
-use Rattle.xs_printer.proofs.Places.{next_place, from_first}
+use Rattle.xs_printer.proofs.Places.{next_place}
 
 pub none_yet : (symbols : List Symbol) (firsts : List ℕ) → firsts ≡ [] → AreFirstLabels symbols 0 firsts
 none_yet symbols firsts e = record { count = ap length e; each = λ p h. absurd (omega (arith, h)) }
@@ -16,8 +16,8 @@ one_more_first symbols p next firsts pushed e here h =
     record {
       count = ap length e ∙ (length_push firsts next ∙ ap (λ n. n + 1) long);
       each = below_more (λ (q : ℕ). drop (get_or pushed q 0) symbols ≡ symbols_from (place_address q) symbols) p
-      (λ q below. ap (λ (l : List ℕ). drop (get_or l q 0) symbols) e ∙ (ap (λ n. drop n symbols) (get_or_append_left firsts (next ∷ []) 0 q (omega (arith, long, below))) ∙ h.each q below))
-      (ap (λ (l : List ℕ). drop (get_or l p 0) symbols) e ∙ (ap (λ n. drop n symbols) (get_or_push firsts next 0 p long) ∙ here));
+          (λ q below. ap (λ (l : List ℕ). drop (get_or l q 0) symbols) e ∙ (ap (λ n. drop n symbols) (get_or_append_left firsts (next ∷ []) 0 q (omega (arith, long, below))) ∙ h.each q below))
+          (ap (λ (l : List ℕ). drop (get_or l p 0) symbols) e ∙ (ap (λ n. drop n symbols) (get_or_push firsts next 0 p long) ∙ here));
     }
 
 -- past the labels of a place the symbols from the next place on are left

@@ -1,16 +1,14 @@
 -- What each line of a canonical text says.
-use Rattle.std.proofs.Common.{◌≡◌, ℕ, ◌+◌, ◌<◌, ◌≤◌, ◌^◌, Bool, true, false, ◌&&◌, ◌||◌, not, ◌==◌, List, [], ◌∷◌, ◌++◌, map, refl, sym, ap, ◌∙◌, subst, inl, inr, arith, append-nil, length, nat_le, IsTrue}
-use Rattle.std.specs.Prelude.{Option, Some, None, decimal, option_and_then, if◌then◌else◌}
-use Rattle.std.specs.List.{AllByRecursion, list_all, list_any, filter}
+use Rattle.std.proofs.Common.{◌≡◌, ℕ, ◌<◌, true, false, ◌&&◌, not, ◌==◌, List, [], ◌∷◌, ◌++◌, map, refl, sym, ap, ◌∙◌, subst, inl, inr, arith, append-nil, length, nat_le}
+use Rattle.std.specs.Prelude.{Some, decimal, option_and_then}
+use Rattle.std.specs.List.{AllByRecursion, list_all, list_any}
 use Rattle.std.specs.Char.{is_ascii_digit}
-use Rattle.std.proofs.lemmas.Bool.{cases_Bool, and_parts, and_from, cond-true, cond-false, and_right, or_left, or_right, not-true}
+use Rattle.std.proofs.lemmas.Bool.{cases_Bool, and_parts, and_from, cond-true, cond-false, and_right, or_left, or_right}
 use Rattle.std.proofs.lemmas.Bool.Decides.{nat_tests}
 use Rattle.std.proofs.lemmas.List.Folds.{list_all-append}
-use Rattle.xs_text.specs.Bytes.{is_allowed, all_allowed, begins_with, is_name_byte, is_name_start}
+use Rattle.xs_text.specs.Bytes.{is_allowed, all_allowed, is_name_byte, is_name_start}
 use Rattle.xs_text.specs.Tokens.{Token, tokens_of, tokens_after, token_of, kind_of, is_name, is_run}
-use Rattle.xs_text.specs.Numbers.{source_number_of, at_most}
-use Rattle.xs_text.specs.declared.token_reader.TokKind.{TokKind}
-use Rattle.xs_text.specs.declared.token_reader.TokKind.TheVariants.{Name, Number, Mark, Stray}
+use Rattle.xs_text.specs.Numbers.{at_most}
 use Rattle.xs_text.proofs.FirstToken.{tokens_of-none}
 use Rattle.xs_instructions.specs.declared.rows.Row.{Row}
 use Rattle.xs_instructions.specs.declared.rows.TheConstants.{ROWS}
@@ -19,16 +17,15 @@ use Rattle.xs_instructions.specs.declared.rows.Part.TheVariants as part
 use Rattle.xs_instructions.specs.declared.shape.Shape.{Shape}
 use Rattle.xs_instructions.specs.declared.instr.Instr.{Instr}
 use Rattle.xs_instructions.specs.Words.{same_name}
-use Rattle.xs_instructions.specs.Rows.{name_of, parts_of, is_built}
+use Rattle.xs_instructions.specs.Rows.{name_of, parts_of}
 use Rattle.xs_instructions.specs.Operands.{row_of, values_of, at}
 use Rattle.xs_instructions.specs.Instr.{InRange, built}
 use Rattle.xs_instructions.specs.Find.{find, known, first_row, is_of_row, have_form}
 use Rattle.xs_instructions.specs.Spelling.{Spelled, spelled, spelled_at, spelling, shapes, values_after}
 use Rattle.xs_instructions.specs.Image.{Symbol, may_be_label, is_reserved}
-use Rattle.source_model.specs.declared.layout.Home.{Home}
 use Rattle.source_model.specs.declared.layout.Home.TheVariants.{Anywhere, InText, InBytes, BeginsData, BeginsConstants}
 use Rattle.source_model.specs.declared.layout.Width.TheVariants as width
-use Rattle.source_model.specs.Operands.{Amount, Known, Operand, operands_of, shapes_of, amounts_of}
+use Rattle.source_model.specs.Operands.{Known, Operand, operands_of, shapes_of}
 use Rattle.source_model.specs.Values as values
 use Rattle.source_model.specs.Values.{values_from}
 use Rattle.source_model.specs.Statement as says
@@ -36,7 +33,7 @@ use Rattle.source_model.specs.Statement.{Says, Statement, Line, line_of, stateme
 use Rattle.source_model.specs.Canonical as item
 use Rattle.source_model.specs.Canonical.{Item, item_line, statement_text, operands_text, piece_text, first_name_at}
 use Rattle.xs_printer.proofs.TokenText.{name_first, digits_first, mark_first, blank_first}
-use Rattle.xs_printer.proofs.Words.{register_name, is_register_name, is_fixed_text, name_kind}
+use Rattle.xs_printer.proofs.Words.{is_register_name, is_fixed_text, name_kind}
 use Rattle.xs_printer.proofs.Digits.{decimal_run, number_back, run_is_number, decimal_allowed}
 use Rattle.xs_printer.proofs.RowFacts.{rows_name_what_is, rows_are_parted, rows_labels_clear, begins_with_colon, rows_no_colon, rows_have_names}
 use Rattle.xs_printer.proofs.PieceTokens.{piece_bytes, piece_token, pieces_text, text_is, operands_tokens, operands_stop}

@@ -1,12 +1,12 @@
 -- A place's first label, by its number.
-use Rattle.std.proofs.Common.{◌≡◌, ℕ, ◌+◌, ◌<◌, ◌≤◌, true, false, ◌||◌, ◌==◌, List, [], ◌∷◌, Option, Some, length, drop, refl, sym, ap, ◌∙◌, inl, inr, arith, IsTrue}
+use Rattle.std.proofs.Common.{◌≡◌, ℕ, ◌+◌, ◌<◌, ◌≤◌, true, false, ◌||◌, ◌==◌, List, [], ◌∷◌, Some, length, drop, sym, ap, ◌∙◌, inl, inr, arith, IsTrue}
 use Rattle.std.specs.Prelude.{slice_get}
-use Rattle.std.specs.List.{AllByRecursion, list_any}
-use Rattle.std.proofs.lemmas.Bool.{cases_Bool, cond-true, cond-false, or_parts}
+use Rattle.std.specs.List.{AllByRecursion}
+use Rattle.std.proofs.lemmas.Bool.{cases_Bool, cond-true, cond-false}
 use Rattle.std.proofs.lemmas.Bool.Decides.{nat_tests}
-use Rattle.std.proofs.lemmas.List.{drop_all, length-drop}
-use Rattle.xs_instructions.specs.Code.{code_start, place_address}
-use Rattle.xs_instructions.specs.Image.{ImageRec, IsImage, Symbol, AreInOrder, has_symbol_at, is_place}
+use Rattle.std.proofs.lemmas.List.{length-drop}
+use Rattle.xs_instructions.specs.Code.{place_address}
+use Rattle.xs_instructions.specs.Image.{Symbol, AreInOrder, has_symbol_at, is_place}
 use Rattle.source_model.specs.Canonical.{first_name_at}
 use Rattle.xs_printer.specs.Walk.{first_at, symbols_from}
 use Rattle.xs_printer.proofs.Order.{first_at-same, first_at-other, first_at-none, first_from, symbols_at}
@@ -33,7 +33,7 @@ begins_at (s ∷ symbols) at h =
     elim (cases_Bool (s.1 == at)) [
       | inl e ↦ record { head = s; rest = symbols_at at symbols; is = cond-true _ _ _ e; named = sym (first_name-same s symbols at e) }
       | inr n ↦ let k = begins_at symbols at (sym (ap (λ b. b || has_symbol_at symbols at) n) ∙ h) in
-        record { head = k.head; rest = k.rest; is = cond-false _ _ _ n ∙ k.is; named = k.named ∙ sym (first_name-other s symbols at n) }
+          record { head = k.head; rest = k.rest; is = cond-false _ _ _ n ∙ k.is; named = k.named ∙ sym (first_name-other s symbols at n) }
     ]
 
 begins_first : (at : ℕ) (symbols : List Symbol) (s : Symbol) (rest : List Symbol) → first_at at symbols ≡ s ∷ rest → (more : List Symbol) × (symbols ≡ s ∷ more)
@@ -41,7 +41,7 @@ begins_first at [] s rest h = absurd (let e : [] ≡ s ∷ rest = sym (first_at-
 begins_first at (t ∷ symbols) s rest h =
     elim (cases_Bool (t.1 == at)) [
       | inl e ↦ let k : t ∷ first_at at symbols ≡ s ∷ rest = sym (first_at-same at t symbols e) ∙ h in
-        (symbols, ap (λ x. x ∷ symbols) (let j : t ≡ s = cc in j))
+          (symbols, ap (λ x. x ∷ symbols) (let j : t ≡ s = cc in j))
       | inr n ↦ absurd (let k : [] ≡ s ∷ rest = sym (first_at-other at t symbols n) ∙ h in cc)
     ]
 

@@ -19,3 +19,6 @@ pub mod ItemLines
 pub mod Clean
 pub mod Stands
 pub mod Segments
+pub mod Readable
+pub mod PlainItems
+pub mod Law

@@ -1,26 +1,24 @@
 -- The operands of an instruction's text have the shapes of its form, and stand for its values.
-use Rattle.std.proofs.Common.{◌≡◌, ℕ, ◌+◌, ◌<◌, ◌≤◌, Bool, true, false, ◌&&◌, ◌||◌, not, ◌==◌, List, [], ◌∷◌, ◌++◌, map, refl, sym, ap, ◌∙◌, subst, inl, inr, IsTrue, arith}
-use Rattle.std.specs.Prelude.{Option, Some, None, min, is_none, if◌then◌else◌}
+use Rattle.std.proofs.Common.{◌≡◌, ℕ, ◌≤◌, Bool, true, false, ◌==◌, List, [], ◌∷◌, map, refl, sym, ap, ◌∙◌, subst, inl, inr, arith}
+use Rattle.std.specs.Prelude.{Option, Some, min, is_none}
 use Rattle.std.specs.List.{AllByRecursion, filter, list_any}
 use Rattle.std.proofs.lemmas.Bool.{and_parts, cond-true, cond-false, cases_Bool, eqb-true, or_from}
-use Rattle.xs_text.specs.Tokens.{Token, token_of, kind_of}
+use Rattle.xs_text.specs.Tokens.{Token}
 use Rattle.xs_instructions.specs.declared.rows.Part.{Part}
 use Rattle.xs_instructions.specs.declared.rows.Part.TheVariants.{Common, AnyRegister, Register, Small, Width, Short, Exactly, Label, Word}
-use Rattle.xs_instructions.specs.declared.shape.Shape.{Shape}
 use Rattle.xs_instructions.specs.Words.{same_name, fixed_text}
 use Rattle.xs_instructions.specs.Operands.{at}
 use Rattle.xs_instructions.specs.Instr.{AreInRange, takes_value}
 use Rattle.xs_instructions.specs.Find.{values_among}
-use Rattle.xs_instructions.specs.Spelling.{Spelled, spelled, spelled_at, shapes, shape_at, values_after}
+use Rattle.xs_instructions.specs.Spelling.{spelled, spelled_at, shapes, shape_at, values_after}
 use Rattle.xs_instructions.specs.Image.{Symbol}
 use Rattle.source_model.specs.declared.layout.Section.{Section}
 use Rattle.source_model.specs.declared.layout.Section.TheVariants.{Text}
-use Rattle.source_model.specs.declared.layout.Place.{Place}
-use Rattle.source_model.specs.Operands.{Amount, Known, Target, Operand, operands_after, base_after, base_named, shapes_of, shape_of, amount_of}
+use Rattle.source_model.specs.Operands.{Amount, Known, Target, Operand, operands_after, base_after, shapes_of, shape_of, amount_of}
 use Rattle.source_model.specs.Layout.{Sofar, place_of}
 use Rattle.source_model.specs.Source.{values_in, amount_value, is_missing, target_value}
 use Rattle.source_model.specs.Each.{all_some, put_first}
-use Rattle.xs_printer.proofs.RowFacts.{labels_clear, is_comma}
+use Rattle.xs_printer.proofs.RowFacts.{labels_clear}
 use Rattle.xs_printer.proofs.PieceTokens.{piece_bytes, piece_token}
 use Rattle.xs_printer.proofs.PartsRead.{AllFit, FirstFits, BaseFits, part_shape, part_amount, amount_at, amounts_at, name_of_place}
 use Rattle.xs_printer.proofs.Writable.{labels_in}

@@ -1,11 +1,10 @@
 -- Symbols in order: those of an address stand together, and those of later addresses after them.
-use Rattle.std.proofs.Common.{drop, length, ◌≡◌, ℕ, ◌+◌, ◌<◌, ◌≤◌, Bool, true, false, ◌&&◌, ◌||◌, ◌==◌, not, cond, List, [], ◌∷◌, ◌++◌, ◌⊎◌, if◌then◌else◌, refl, sym, ap, ◌∙◌, inl, inr, arith, nat_le, nat_lt, IsTrue}
+use Rattle.std.proofs.Common.{drop, length, ◌≡◌, ℕ, ◌≤◌, true, false, ◌==◌, List, [], ◌∷◌, refl, sym, ap, ◌∙◌, inl, inr, arith}
 use Rattle.std.specs.Prelude.{filter, Result, IfOk}
 use Rattle.std.proofs.lemmas.Result.{IfOk-weaker}
 use Rattle.std.specs.List.{AllByRecursion}
 use Rattle.std.proofs.lemmas.Bool.{cases_Bool, cond-true, cond-false}
 use Rattle.std.proofs.lemmas.Bool.Decides.{nat_tests}
-use Rattle.xs_instructions.specs.Code.{code_start}
 use Rattle.xs_instructions.specs.Image.{Symbol, AreInOrder, may_follow}
 use Rattle.xs_printer.specs.Walk.{first_at, past_address, symbols_from, IsNext, IsFirstFrom}
 
@@ -78,10 +77,10 @@ first_from at (s ∷ symbols) h =
     let rest = first_from at symbols (ordered_rest s symbols h) in
     elim (cases_Bool (s.1 == at)) [
       | inl e ↦ ap (first_at at) (cond-true _ _ _ (may_follow-same at s.1 e))
-        ∙ (first_at-same at s (symbols_from at symbols) e ∙ (ap (λ (l : List Symbol). s ∷ l) rest ∙ sym (cond-true _ _ _ e)))
+          ∙ (first_at-same at s (symbols_from at symbols) e ∙ (ap (λ (l : List Symbol). s ∷ l) rest ∙ sym (cond-true _ _ _ e)))
       | inr n ↦ elim (cases_Bool (may_follow at s.1)) [
         | inl f ↦ ap (first_at at) (cond-true _ _ _ f)
-          ∙ (first_at-other at s (symbols_from at symbols) n ∙ sym (cond-false _ _ _ n ∙ none_at at s.1 symbols f n (all_after s symbols h)))
+            ∙ (first_at-other at s (symbols_from at symbols) n ∙ sym (cond-false _ _ _ n ∙ none_at at s.1 symbols f n (all_after s symbols h)))
         | inr f ↦ ap (first_at at) (cond-false _ _ _ f) ∙ (rest ∙ sym (cond-false _ _ _ n))
       ]
     ]
@@ -99,14 +98,14 @@ past_from at next (s ∷ symbols) h k =
     let rest = past_from at next symbols (ordered_rest s symbols h) (record { follows = k.follows; past = k.past; gap = k.gap.1 }) in
     elim (cases_Bool (s.1 == at)) [
       | inl e ↦ ap (past_address at) (cond-true _ _ _ (may_follow-same at s.1 e))
-        ∙ (past_address-same at s (symbols_from at symbols) e ∙ (rest ∙ sym (cond-false _ _ _ (past_same at next s.1 k.past e))))
+          ∙ (past_address-same at s (symbols_from at symbols) e ∙ (rest ∙ sym (cond-false _ _ _ (past_same at next s.1 k.past e))))
       | inr n ↦ elim (cases_Bool (may_follow at s.1)) [
         | inl f ↦ let later = all_after s symbols h in
-          let g = k.gap.0 f n in
-          ap (past_address at) (cond-true _ _ _ f)
-          ∙ (past_address-other at s (symbols_from at symbols) n
-          ∙ (ap (λ (l : List Symbol). s ∷ l) (from_all at symbols (after_earlier at s.1 symbols f later) ∙ sym (from_all next symbols (after_earlier next s.1 symbols g later)))
-          ∙ sym (cond-true _ _ _ g)))
+            let g = k.gap.0 f n in
+            ap (past_address at) (cond-true _ _ _ f)
+            ∙ (past_address-other at s (symbols_from at symbols) n
+            ∙ (ap (λ (l : List Symbol). s ∷ l) (from_all at symbols (after_earlier at s.1 symbols f later) ∙ sym (from_all next symbols (after_earlier next s.1 symbols g later)))
+            ∙ sym (cond-true _ _ _ g)))
         | inr f ↦ ap (past_address at) (cond-false _ _ _ f) ∙ (rest ∙ sym (cond-false _ _ _ (not_back at next s.1 k.follows f)))
       ]
     ]

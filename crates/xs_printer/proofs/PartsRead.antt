@@ -1,31 +1,27 @@
 -- The parts of a form, written with values in range, are read as these parts and values.
-use Rattle.std.proofs.Common.{◌≡◌, ℕ, ◌+◌, ◌<◌, ◌≤◌, ◌^◌, Bool, true, false, ◌&&◌, ◌||◌, not, ◌==◌, List, [], ◌∷◌, ◌++◌, ◌⊎◌, map, refl, sym, ap, ◌∙◌, subst, inl, inr, arith, nat_lt, nat_le, IsTrue}
+use Rattle.std.proofs.Common.{◌≡◌, ℕ, ◌<◌, true, false, ◌||◌, not, List, [], ◌∷◌, ◌⊎◌, sym, ap, ◌∙◌, inl, inr, arith, nat_lt, nat_le}
 use Rattle.std.specs.Prelude.{Option, Some, None, option_map, decimal, if◌then◌else◌}
 use Rattle.std.specs.List.{AllByRecursion, list_all, filter}
-use Rattle.std.proofs.lemmas.Bool.{and_parts, cond-true, cond-false, cases_Bool, not-true, eqb-true}
+use Rattle.std.proofs.lemmas.Bool.{and_parts, cond-true, cond-false, cases_Bool, not-true}
 use Rattle.std.proofs.lemmas.Bool.Decides.{nat_tests}
-use Rattle.xs_text.specs.Tokens.{Token, token_of, kind_of, is_name, is_mark}
-use Rattle.xs_text.specs.declared.token_reader.TokKind.{TokKind}
-use Rattle.xs_text.specs.declared.token_reader.TokKind.TheVariants.{Name, Number, Mark, Stray}
+use Rattle.xs_text.specs.Tokens.{kind_of, is_name}
 use Rattle.xs_text.specs.Numbers.{at_most}
 use Rattle.xs_instructions.specs.declared.rows.Part.{Part}
 use Rattle.xs_instructions.specs.declared.rows.Part.TheVariants.{Common, AnyRegister, Register, Small, Width, Short, Exactly, Label, Word}
-use Rattle.xs_instructions.specs.declared.shape.Shape.{Shape}
 use Rattle.xs_instructions.specs.declared.shape.Shape.TheVariants as shape
-use Rattle.xs_instructions.specs.Words.{same_name, register_number, fixed, fixed_text}
+use Rattle.xs_instructions.specs.Words.{register_number, fixed}
 use Rattle.xs_instructions.specs.Operands.{at}
 use Rattle.xs_instructions.specs.Instr.{AreInRange, takes_value, is_width}
-use Rattle.xs_instructions.specs.Find.{values_among}
-use Rattle.xs_instructions.specs.Spelling.{Spelled, Text, Reg, Num, Place, spelled, spelled_at, shapes, shape_at, values_after}
+use Rattle.xs_instructions.specs.Spelling.{Num, spelled, spelled_at, shape_at, values_after}
 use Rattle.xs_instructions.specs.Code.{place_address}
 use Rattle.xs_instructions.specs.Image.{Symbol, may_be_label, is_reserved}
 use Rattle.source_model.specs.declared.layout.Section.{Section}
-use Rattle.source_model.specs.Operands.{Amount, Known, Target, Operand, operands_after, base_after, shape_of, shapes_of, shape_by_kind, amount_of, amount_by_kind, name_shape, or_shape, label_shape, name_amount}
+use Rattle.source_model.specs.Operands.{Amount, Known, Target, shape_by_kind, amount_by_kind, name_shape, or_shape, label_shape, name_amount}
 use Rattle.source_model.specs.Canonical.{first_name_at}
 use Rattle.xs_printer.proofs.Words.{register_name, is_register_name, is_fixed_text, label_no_register, label_not_fixed, name_kind}
 use Rattle.xs_printer.proofs.Digits.{decimal_run, number_back, run_is_number}
-use Rattle.xs_printer.proofs.RowFacts.{names_what_is, is_mark_part, are_parted, is_comma, labels_clear}
-use Rattle.xs_printer.proofs.PieceTokens.{piece_bytes, piece_token, IsMarkPiece, IsWordPiece, ArePartedPieces}
+use Rattle.xs_printer.proofs.RowFacts.{names_what_is, is_mark_part, are_parted}
+use Rattle.xs_printer.proofs.PieceTokens.{piece_bytes, IsMarkPiece, IsWordPiece, ArePartedPieces}
 use Rattle.xs_printer.proofs.Writable.{labels_in}
 
 width_small : (v : ℕ) → is_width v ≡ true → v < 65536
@@ -115,11 +111,13 @@ module _ (symbols : List Symbol) where
   parted (p ∷ []) values h k = any_part p values h.0
   parted (p ∷ q ∷ parts) values h k =
       let c = and_parts (is_mark_part p || is_mark_part q) (are_parted (q ∷ parts)) k in
-      let after = values_after p values in
-      (elim (cases_Bool (is_mark_part p)) [
-        | inl t ↦ inl (mark_part p values h.0 t)
-        | inr f ↦ inr (word_part p values h.0 f, mark_part q after h.1.0 (sym (ap (λ b. b || is_mark_part q) f) ∙ c.0))
-      ], parted (q ∷ parts) after h.1 c.1)
+      let after = values_after p values in (
+        elim (cases_Bool (is_mark_part p)) [
+          | inl t ↦ inl (mark_part p values h.0 t)
+          | inr f ↦ inr (word_part p values h.0 f, mark_part q after h.1.0 (sym (ap (λ b. b || is_mark_part q) f) ∙ c.0))
+        ],
+        parted (q ∷ parts) after h.1 c.1,
+      )
 
   -- shapes and amounts
 

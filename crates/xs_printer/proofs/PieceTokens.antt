@@ -1,6 +1,6 @@
 -- The tokens of an instruction's text are its pieces.
-use Rattle.std.proofs.Common.{◌≡◌, ℕ, ◌<◌, Bool, true, false, ◌&&◌, ◌||◌, not, List, [], ◌∷◌, ◌++◌, ◌⊎◌, map, refl, sym, ap, ◌∙◌, subst, inl, inr, append_assoc, append-nil}
-use Rattle.std.specs.Prelude.{decimal, if◌then◌else◌}
+use Rattle.std.proofs.Common.{◌≡◌, ℕ, true, List, [], ◌∷◌, ◌++◌, ◌⊎◌, map, refl, sym, ap, ◌∙◌, subst, inl, inr}
+use Rattle.std.specs.Prelude.{decimal}
 use Rattle.std.specs.List.{flat_map}
 use Rattle.std.specs.Char.{is_ascii_digit, is_ascii_alphanumeric}
 use Rattle.std.proofs.lemmas.Bool.{cond-true, cond-false, cases_Bool}
@@ -55,8 +55,8 @@ module _ (symbols : List Symbol) where
       elim (text_is p) [
         | inl e ↦ ap (λ t. tokens_of (t ++ rest)) e ∙ mark_first (piece_bytes p) rest h
         | inr e ↦ ap (λ t. tokens_of (t ++ rest)) e.1
-          ∙ (mark_first (44 ∷ []) (32 ∷ rest) refl
-          ∙ (ap (λ t. token_of (44 ∷ []) ∷ t) (blank_first rest) ∙ ap (λ t. token_of t ∷ tokens_of rest) (sym e.0)))
+            ∙ (mark_first (44 ∷ []) (32 ∷ rest) refl
+            ∙ (ap (λ t. token_of (44 ∷ []) ∷ t) (blank_first rest) ∙ ap (λ t. token_of t ∷ tokens_of rest) (sym e.0)))
       ]
 
   mark_piece_stops : (p : Spelled) (rest : List ℕ) → IsMarkPiece p → (stops is_name_byte (piece_text symbols p ++ rest) ≡ true) × (stops is_ascii_alphanumeric (piece_text symbols p ++ rest) ≡ true)

@@ -1,5 +1,5 @@
 -- A text that grows by a piece of what is to be written.
-use Rattle.std.proofs.Common.{◌≡◌, ℕ, List, [], ◌∷◌, ◌++◌, refl, sym, ap, ◌∙◌, append_assoc, append-nil}
+use Rattle.std.proofs.Common.{◌≡◌, ℕ, List, [], ◌++◌, sym, ap, ◌∙◌, append_assoc, append-nil}
 
 pub one_more : (so_far after piece left rest all : List ℕ) → after ≡ so_far ++ piece → left ≡ piece ++ rest → so_far ++ left ≡ all → after ++ rest ≡ all
 one_more so_far after piece left rest all added split h =

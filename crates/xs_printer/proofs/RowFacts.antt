@@ -1,10 +1,10 @@
 -- What all forms of the table have in common, row by row.
-use Rattle.std.proofs.Common.{◌≡◌, ℕ, Bool, true, false, ◌&&◌, ◌||◌, not, ◌==◌, List, [], ◌∷◌, refl, nat_lt, nat_le}
+use Rattle.std.proofs.Common.{◌≡◌, ℕ, Bool, true, false, ◌&&◌, ◌||◌, ◌==◌, List, [], ◌∷◌, refl, nat_lt, nat_le}
 use Rattle.std.specs.List.{list_all}
 use Rattle.xs_text.specs.Bytes.{all_allowed, begins_with}
 use Rattle.xs_text.specs.Tokens.{is_name}
 use Rattle.xs_instructions.specs.declared.rows.Part.{Part}
-use Rattle.xs_instructions.specs.declared.rows.Part.TheVariants.{Common, AnyRegister, Register, Small, Width, Short, Exactly, Label, Word}
+use Rattle.xs_instructions.specs.declared.rows.Part.TheVariants.{Register, Exactly, Label, Word}
 use Rattle.xs_instructions.specs.declared.rows.Row.{Row}
 use Rattle.xs_instructions.specs.declared.rows.Row.TheVariants as row
 use Rattle.xs_instructions.specs.Words.{same_name}

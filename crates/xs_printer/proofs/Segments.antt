@@ -1,6 +1,5 @@
 -- The lines of a section, walked beside the symbols: no line has a fault, and each symbol is defined where it stands.
-use Rattle.std.proofs.Common.{◌≡◌, ℕ, suc, ◌+◌, ◌<◌, ◌≤◌, true, false, ◌&&◌, not, ◌==◌, List, [], ◌∷◌, ◌++◌, map, length, refl, sym, ap, ◌∙◌, subst, inl, inr, arith, append_assoc, append-nil, add-zero}
-use Rattle.std.specs.Prelude.{filter}
+use Rattle.std.proofs.Common.{◌≡◌, ℕ, suc, ◌+◌, ◌<◌, ◌≤◌, true, false, not, ◌==◌, List, [], ◌∷◌, ◌++◌, map, length, refl, sym, ap, ◌∙◌, subst, inl, inr, arith, append_assoc, append-nil, add-zero}
 use Rattle.std.specs.List.{AllByRecursion, flat_map}
 use Rattle.std.proofs.lemmas.Bool.{cases_Bool, cond-true, cond-false, and_parts, not-true, eqb-true}
 use Rattle.std.proofs.lemmas.List.{map-append}
@@ -25,7 +24,7 @@ first_and_past at [] = sym (ap (λ l. l ++ past_address at []) (first_at-none at
 first_and_past at (s ∷ symbols) =
     elim (cases_Bool (s.1 == at)) [
       | inl e ↦ ap (λ l. s ∷ l) (first_and_past at symbols)
-        ∙ sym (ap (λ l. l ++ past_address at (s ∷ symbols)) (first_at-same at s symbols e) ∙ ap (λ l. s ∷ (first_at at symbols ++ l)) (past_address-same at s symbols e))
+          ∙ sym (ap (λ l. l ++ past_address at (s ∷ symbols)) (first_at-same at s symbols e) ∙ ap (λ l. s ∷ (first_at at symbols ++ l)) (past_address-same at s symbols e))
       | inr f ↦ sym (ap (λ l. l ++ past_address at (s ∷ symbols)) (first_at-other at s symbols f) ∙ past_address-other at s symbols f)
     ]
 
@@ -117,7 +116,7 @@ module _ (cp : ℕ) (symbols : List Symbol) (whole : Sofar) where
           record {
             after = r.after;
             clean = subst P (sym lines) (clean-append whole _ _ _ (map line (labels_at symbols (addr m))) (line (item x) ∷ map line rest) [] _ [] _ [] _ w.clean
-            (clean-cons whole _ _ _ (line (item x)) (map line rest) (c x) (flat_map c xs) (d x) (flat_map d xs) (k x) (flat_map k xs) (item_ok m below x ok (labels_of cp w.after)) r.clean));
+                (clean-cons whole _ _ _ (line (item x)) (map line rest) (c x) (flat_map c xs) (d x) (flat_map d xs) (k x) (flat_map k xs) (item_ok m below x ok (labels_of cp w.after)) r.clean));
             left = r.left;
           }
 

@@ -1,14 +1,11 @@
 -- Where the labels of an image stand, section by section, and how a name leads there.
-use Rattle.std.proofs.Common.{◌≡◌, ℕ, ◌+◌, ◌-◌, ◌*◌, ◌/◌, ◌%◌, ◌<◌, ◌≤◌, Bool, true, false, ◌&&◌, ◌||◌, not, ◌==◌, List, [], ◌∷◌, ◌++◌, map, length, refl, sym, ap, ◌∙◌, subst, inl, inr, arith, append_assoc, append-nil, nat_lt, nat_le, IsTrue}
-use Rattle.std.specs.Prelude.{Option, Some, None, IfSome, option_to_list, filter, if◌then◌else◌}
-use Rattle.std.specs.List.{AllByRecursion}
-use Rattle.std.proofs.lemmas.Bool.{cond-true, cond-false, cases_Bool, and_parts, and_from, false_from_ne_true, eqb-true}
+use Rattle.std.proofs.Common.{◌≡◌, ℕ, ◌+◌, ◌-◌, ◌/◌, ◌<◌, true, false, ◌||◌, ◌==◌, List, [], ◌∷◌, ◌++◌, map, refl, sym, ap, ◌∙◌, inl, inr, arith, nat_lt, nat_le}
+use Rattle.std.specs.Prelude.{Some, None, if◌then◌else◌}
+use Rattle.std.proofs.lemmas.Bool.{cond-true, cond-false, cases_Bool, false_from_ne_true, eqb-true}
 use Rattle.std.proofs.lemmas.Bool.Decides.{nat_tests}
-use Rattle.std.proofs.lemmas.List.{map-append}
 use Rattle.xs_instructions.specs.Code.{code_start, place_address}
 use Rattle.xs_instructions.specs.Words.{same_name}
-use Rattle.xs_instructions.specs.Image.{ImageRec, IsImage, Symbol, AreLabels, address_of, may_be_label, is_reserved, has_symbol_at, is_place, data_start}
-use Rattle.source_model.specs.declared.layout.Section.{Section}
+use Rattle.xs_instructions.specs.Image.{Symbol, AreLabels, address_of, may_be_label, has_symbol_at, data_start}
 use Rattle.source_model.specs.declared.layout.Section.TheVariants.{Text, Data, Constants}
 use Rattle.source_model.specs.declared.layout.Place.{Place}
 use Rattle.source_model.specs.Layout.{Label, place_of}
@@ -113,10 +110,10 @@ module _ (cp : ℕ) where
   first_name_leads (s ∷ symbols) at h k =
       elim (cases_Bool (s.1 == at)) [
         | inl e ↦ ap (λ x. place_of (labels_of (s ∷ symbols)) x) (first_name-same s symbols at e)
-          ∙ (place_of-same (label_of s) (labels_of symbols) s.0 (same_name-self s.0) ∙ ap (λ a. Some (place_at cp a)) (eqb-true s.1 at e))
+            ∙ (place_of-same (label_of s) (labels_of symbols) s.0 (same_name-self s.0) ∙ ap (λ a. Some (place_at cp a)) (eqb-true s.1 at e))
         | inr f ↦ let rest : has_symbol_at symbols at ≡ true = sym (ap (λ b. b || has_symbol_at symbols at) f) ∙ k in
-          ap (λ x. place_of (labels_of (s ∷ symbols)) x) (first_name-other s symbols at f)
-          ∙ (place_of-other (label_of s) (labels_of symbols) _ (other_way (first_name_at symbols at) s.0 (not_the_first_name symbols at s.0 rest h.1)) ∙ first_name_leads symbols at h.2 rest)
+            ap (λ x. place_of (labels_of (s ∷ symbols)) x) (first_name-other s symbols at f)
+            ∙ (place_of-other (label_of s) (labels_of symbols) _ (other_way (first_name_at symbols at) s.0 (not_the_first_name symbols at s.0 rest h.1)) ∙ first_name_leads symbols at h.2 rest)
       ]
 
   pub first_name_named : (symbols : List Symbol) (at : ℕ) → AreLabels symbols → has_symbol_at symbols at ≡ true → may_be_label (first_name_at symbols at) ≡ true

@@ -1,19 +1,13 @@
 -- The token that stands first in a text: a name, a number or a mark that ends where the next byte does not go on with it.
-use Rattle.std.proofs.Common.{◌≡◌, ℕ, suc, ◌+◌, ◌<◌, ◌≤◌, ◌^◌, Bool, true, false, ◌&&◌, ◌||◌, not, ◌==◌, List, [], ◌∷◌, ◌++◌, length, take, drop, refl, sym, ap, ◌∙◌, inl, inr, arith}
-use Rattle.std.specs.Prelude.{decimal, Option, Some, if◌then◌else◌}
+use Rattle.std.proofs.Common.{◌≡◌, ℕ, suc, ◌+◌, Bool, true, false, ◌&&◌, not, ◌==◌, List, [], ◌∷◌, ◌++◌, length, drop, refl, ap, ◌∙◌, arith}
 use Rattle.std.specs.List.{list_all, prefix_len}
 use Rattle.std.specs.Char.{is_ascii_digit, is_ascii_alphanumeric}
-use Rattle.std.specs.Str.Parse.{digits_value}
-use Rattle.std.proofs.lemmas.Bool.{and_parts, and_from, cond-true, cond-false, or_from, cases_Bool}
+use Rattle.std.proofs.lemmas.Bool.{and_parts, and_from, cond-true, cond-false, or_from}
 use Rattle.std.proofs.lemmas.Bool.Decides.{nat_tests}
-use Rattle.std.proofs.lemmas.Fmt.{decimal_by_steps, decimal_is_IsNumeral, decimal_nonempty}
 use Rattle.std.proofs.lemmas.List.{take_at, drop_at}
-use Rattle.xs_text.specs.Bytes.{is_blank, is_name_byte, is_name_start, is_allowed, all_allowed, begins_with}
-use Rattle.xs_text.specs.Tokens.{Token, tokens_of, tokens_after, token_of, tail_length, begins_comment, kind_of, is_name, is_number, is_run, is_mark, is_mark_byte}
-use Rattle.xs_text.specs.Numbers.{source_number_of, number_of, value_in}
-use Rattle.xs_text.specs.declared.token_reader.TokKind.{TokKind}
-use Rattle.xs_text.specs.declared.token_reader.TokKind.TheVariants.{Name, Number, Mark, Stray}
-use Rattle.xs_text.proofs.FirstToken.{tokens_of-token, tokens_of-none}
+use Rattle.xs_text.specs.Bytes.{is_blank, is_name_byte, is_name_start, begins_with}
+use Rattle.xs_text.specs.Tokens.{tokens_of, tokens_after, token_of, tail_length, begins_comment, is_name, is_run, is_mark, is_mark_byte}
+use Rattle.xs_text.proofs.FirstToken.{tokens_of-token}
 
 -- whether no byte that passes stands first
 abbrev pub stops : (ℕ → Bool) → List ℕ → Bool

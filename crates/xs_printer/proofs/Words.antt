@@ -1,21 +1,18 @@
 -- The names of registers, the fixed words and marks, and names of labels: what kind of token each is, and its shape.
-use Rattle.std.proofs.Common.{◌≡◌, ℕ, zero, suc, ◌+◌, ◌<◌, ◌≤◌, Bool, true, false, ◌&&◌, ◌||◌, not, ◌==◌, List, [], ◌∷◌, ◌++◌, length, get_or, refl, sym, ap, ◌∙◌, subst, inl, inr, arith, rules, IsTrue, nat_le}
-use Rattle.std.specs.Prelude.{Option, Some, None, if◌then◌else◌, option_map}
-use Rattle.std.specs.List.{list_any, list_all, AllByRecursion}
+use Rattle.std.proofs.Common.{◌≡◌, ℕ, ◌+◌, ◌<◌, Bool, true, false, ◌||◌, not, ◌==◌, List, [], ◌∷◌, get_or, refl, sym, ap, ◌∙◌, rules, nat_le}
+use Rattle.std.specs.Prelude.{Option, Some, None}
+use Rattle.std.specs.List.{list_all, AllByRecursion}
 use Rattle.std.specs.Bool.{Decides}
 use Rattle.std.proofs.lemmas.Slice.Eq.{compares_Decides}
-use Rattle.std.proofs.lemmas.Bool.{and_parts, and_from, cond-true, cond-false, cases_Bool, or_parts, false_from_ne_true, not-true}
-use Rattle.std.proofs.lemmas.Bool.Decides.{nat_tests}
-use Rattle.xs_text.specs.Bytes.{is_name_byte, is_name_start, is_allowed, all_allowed}
+use Rattle.std.proofs.lemmas.Bool.{and_parts, cond-true, cond-false, false_from_ne_true, not-true}
+use Rattle.xs_text.specs.Bytes.{all_allowed}
 use Rattle.xs_text.specs.Tokens.{kind_of, is_name, is_mark}
-use Rattle.xs_text.specs.declared.token_reader.TokKind.{TokKind}
-use Rattle.xs_text.specs.declared.token_reader.TokKind.TheVariants.{Name, Number, Mark, Stray}
+use Rattle.xs_text.specs.declared.token_reader.TokKind.TheVariants.{Name}
 use Rattle.xs_instructions.specs.Words.{same_name, register_names, register_number, fixed_words, fixed, fixed_text, place_from}
-use Rattle.xs_instructions.specs.Image.{is_reserved, reserved_names, may_be_label}
-use Rattle.xs_instructions.specs.declared.shape.Shape.{Shape}
+use Rattle.xs_instructions.specs.Image.{is_reserved, may_be_label}
 use Rattle.xs_instructions.specs.declared.shape.Shape.TheVariants as shape
 use Rattle.source_model.specs.declared.layout.Section.{Section}
-use Rattle.source_model.specs.Operands.{Amount, Known, Target, shape_by_kind, amount_by_kind}
+use Rattle.source_model.specs.Operands.{shape_by_kind}
 use Rattle.xs_printer.proofs.Below.{AllBelow, below}
 
 pub same_name-Decides : (xs ys : List ℕ) → Decides (same_name xs ys) (xs ≡ ys)
@@ -37,11 +34,43 @@ pub record IsRegisterName (n : ℕ) : Type 0 where
 
 registers : AllBelow IsRegisterName 16
 unfolding register_number
-registers = let r : (n : ℕ) → kind_of (register_name n) ≡ Name → is_name (register_name n) ≡ true → register_number (register_name n) ≡ Some n → all_allowed (register_name n) ≡ true → same_name (58 ∷ []) (register_name n) ≡ false → IsRegisterName n = λ n a b c d e. record { kind = a; named = b; number = c; allowed = d; no_colon = e } in
-    (r 15 refl refl refl refl refl, (r 14 refl refl refl refl refl, (r 13 refl refl refl refl refl, (r 12 refl refl refl refl refl,
-    (r 11 refl refl refl refl refl, (r 10 refl refl refl refl refl, (r 9 refl refl refl refl refl, (r 8 refl refl refl refl refl,
-    (r 7 refl refl refl refl refl, (r 6 refl refl refl refl refl, (r 5 refl refl refl refl refl, (r 4 refl refl refl refl refl,
-    (r 3 refl refl refl refl refl, (r 2 refl refl refl refl refl, (r 1 refl refl refl refl refl, (r 0 refl refl refl refl refl, tt))))))))))))))))
+registers = let r : (n : ℕ) → kind_of (register_name n) ≡ Name → is_name (register_name n) ≡ true → register_number (register_name n) ≡ Some n → all_allowed (register_name n) ≡ true → same_name (58 ∷ []) (register_name n) ≡ false → IsRegisterName n = λ n a b c d e. record { kind = a; named = b; number = c; allowed = d; no_colon = e } in (
+  r 15 refl refl refl refl refl,
+  (
+    r 14 refl refl refl refl refl,
+    (
+      r 13 refl refl refl refl refl,
+      (
+        r 12 refl refl refl refl refl,
+        (
+          r 11 refl refl refl refl refl,
+          (
+            r 10 refl refl refl refl refl,
+            (
+              r 9 refl refl refl refl refl,
+              (
+                r 8 refl refl refl refl refl,
+                (
+                  r 7 refl refl refl refl refl,
+                  (
+                    r 6 refl refl refl refl refl,
+                    (
+                      r 5 refl refl refl refl refl,
+                      (
+                        r 4 refl refl refl refl refl,
+                        (r 3 refl refl refl refl refl, (r 2 refl refl refl refl refl, (r 1 refl refl refl refl refl, (r 0 refl refl refl refl refl, tt)))),
+                      ),
+                    ),
+                  ),
+                ),
+              ),
+            ),
+          ),
+        ),
+      ),
+    ),
+  ),
+)
 
 pub is_register_name : (n : ℕ) → n < 16 → IsRegisterName n
 is_register_name n h = below IsRegisterName 16 registers n h
@@ -57,11 +86,43 @@ pub record IsFixedText (n : ℕ) : Type 0 where
 
 fixed_texts : AllBelow IsFixedText 16
 unfolding register_number fixed
-fixed_texts = let r : (n : ℕ) → ((base : Option Section) → shape_by_kind (kind_of (fixed_text n)) base (fixed_text n) ≡ Some (shape.Word n)) → all_allowed (fixed_text n) ≡ true → is_name (fixed_text n) ≡ not (nat_le 11 n) → is_mark (fixed_text n) ≡ nat_le 11 n → same_name (58 ∷ []) (fixed_text n) ≡ (12 == n) → same_name (44 ∷ []) (fixed_text n) ≡ (11 == n) → IsFixedText n = λ n a b c m d e. record { shape = a; allowed = b; named = c; mark = m; colon = d; comma = e } in
-    (r 15 (λ base. refl) refl refl refl refl refl, (r 14 (λ base. refl) refl refl refl refl refl, (r 13 (λ base. refl) refl refl refl refl refl, (r 12 (λ base. refl) refl refl refl refl refl,
-    (r 11 (λ base. refl) refl refl refl refl refl, (r 10 (λ base. refl) refl refl refl refl refl, (r 9 (λ base. refl) refl refl refl refl refl, (r 8 (λ base. refl) refl refl refl refl refl,
-    (r 7 (λ base. refl) refl refl refl refl refl, (r 6 (λ base. refl) refl refl refl refl refl, (r 5 (λ base. refl) refl refl refl refl refl, (r 4 (λ base. refl) refl refl refl refl refl,
-    (r 3 (λ base. refl) refl refl refl refl refl, (r 2 (λ base. refl) refl refl refl refl refl, (r 1 (λ base. refl) refl refl refl refl refl, (r 0 (λ base. refl) refl refl refl refl refl, tt))))))))))))))))
+fixed_texts = let r : (n : ℕ) → ((base : Option Section) → shape_by_kind (kind_of (fixed_text n)) base (fixed_text n) ≡ Some (shape.Word n)) → all_allowed (fixed_text n) ≡ true → is_name (fixed_text n) ≡ not (nat_le 11 n) → is_mark (fixed_text n) ≡ nat_le 11 n → same_name (58 ∷ []) (fixed_text n) ≡ (12 == n) → same_name (44 ∷ []) (fixed_text n) ≡ (11 == n) → IsFixedText n = λ n a b c m d e. record { shape = a; allowed = b; named = c; mark = m; colon = d; comma = e } in (
+  r 15 (λ base. refl) refl refl refl refl refl,
+  (
+    r 14 (λ base. refl) refl refl refl refl refl,
+    (
+      r 13 (λ base. refl) refl refl refl refl refl,
+      (
+        r 12 (λ base. refl) refl refl refl refl refl,
+        (
+          r 11 (λ base. refl) refl refl refl refl refl,
+          (
+            r 10 (λ base. refl) refl refl refl refl refl,
+            (
+              r 9 (λ base. refl) refl refl refl refl refl,
+              (
+                r 8 (λ base. refl) refl refl refl refl refl,
+                (
+                  r 7 (λ base. refl) refl refl refl refl refl,
+                  (
+                    r 6 (λ base. refl) refl refl refl refl refl,
+                    (
+                      r 5 (λ base. refl) refl refl refl refl refl,
+                      (
+                        r 4 (λ base. refl) refl refl refl refl refl,
+                        (r 3 (λ base. refl) refl refl refl refl refl, (r 2 (λ base. refl) refl refl refl refl refl, (r 1 (λ base. refl) refl refl refl refl refl, (r 0 (λ base. refl) refl refl refl refl refl, tt)))),
+                      ),
+                    ),
+                  ),
+                ),
+              ),
+            ),
+          ),
+        ),
+      ),
+    ),
+  ),
+)
 
 pub is_fixed_text : (n : ℕ) → n < 16 → IsFixedText n
 is_fixed_text n h = below IsFixedText 16 fixed_texts n h

@@ -1,5 +1,5 @@
 -- Each piece of an instruction can be written: its registers are there, and a label leads to its place.
-use Rattle.std.proofs.Common.{◌≡◌, ℕ, ◌<◌, ◌≤◌, Bool, true, false, ◌&&◌, List, [], ◌∷◌, Option, Some, None, refl, sym, ap, ◌∙◌, subst, arith, nat_lt, IsTrue, lit<}
+use Rattle.std.proofs.Common.{◌≡◌, ℕ, Bool, true, List, [], ◌∷◌, Option, Some, None, refl, sym, subst, arith, nat_lt, IsTrue}
 use Rattle.std.specs.Prelude.{IfSome, option_to_list, map}
 use Rattle.std.specs.List.{AllByRecursion, list_all, filter}
 use Rattle.std.proofs.lemmas.Bool.{and_parts}
@@ -26,7 +26,7 @@ use Rattle.xs_instructions.specs.declared.shape.Piece.{Piece}
 use Rattle.xs_instructions.specs.Rows.{parts_of}
 use Rattle.xs_instructions.specs.Operands.{row_of, values_of, at}
 use Rattle.xs_instructions.specs.Instr.{InRange, AreInRange, label_of, takes_value}
-use Rattle.xs_instructions.specs.Spelling.{Spelled, spelled, spelled_piece, spelling, values_after}
+use Rattle.xs_instructions.specs.Spelling.{spelled, spelled_piece, spelling, values_after}
 use Rattle.xs_instructions.specs.Code.{place_address}
 use Rattle.xs_instructions.specs.Image.{Symbol, has_symbol_at}
 use Rattle.xs_printer.specs.Walk.{IsWritable}
@@ -120,9 +120,11 @@ module _ (symbols : List Symbol) where
   parts_writable (Word n ∷ parts) values ok h k = (tt, parts_writable parts values ok h k)
 
   writable : (ins : Instr) → InRange ins → IfSome (label_of ins) LeadsToLabel → AllByRecursion (IsWritable symbols) (spelling ins)
-  writable ins h k =
-      (tt, parts_writable (parts_of (row_of ins)) (values_of ins) (rows_name_registers (row_of ins)) (in_range_parts ins h)
-      (subst (AllByRecursion LeadsToLabel) (sym (has_labels ins)) (all_from_some (label_of ins) k)))
+  writable ins h k = (
+    tt,
+    parts_writable (parts_of (row_of ins)) (values_of ins) (rows_name_registers (row_of ins)) (in_range_parts ins h)
+        (subst (AllByRecursion LeadsToLabel) (sym (has_labels ins)) (all_from_some (label_of ins) k)),
+  )
 
   unmapped : (pieces : List Piece) → AllByRecursion (IsWritable symbols) (map spelled_piece pieces) → AllByRecursion (λ (p : Piece). IsWritable symbols (spelled_piece p)) pieces
   unmapped [] h = tt

@@ -1,30 +1,45 @@
 //! The canonical text of an image. See docs/OUTPUT.md.
 #![tactic(auto)]
 
-ghost use Rattle.std.specs.Prelude.{◌≡◌, IfOk};
+ghost use Rattle.std.specs.Prelude.{ℕ, ◌≡◌, ◌<◌, IfOk};
+ghost use Rattle.std.specs.List.{AllByRecursion};
+ghost use Rattle.xs_instructions.specs.Image.{ImageRec, IsImage};
 ghost use Rattle.source_model.specs.Canonical.{canonical};
+ghost use Rattle.xs_printer.specs.StandsFor.{StandsFor};
 
 mod labels;
 mod sections;
 mod statement;
+#[cfg(test)]
+mod tests;
 
 use labels::first_labels;
 use sections::{append_code, append_constants, append_data};
 use std::alloc::{AllocError, Global};
 use xs_base::Text;
-use xs_instructions::Image;
+use xs_instructions::{Image, written_is_read};
 
 /// The canonical text of an image: source lines that stand for this image. The error is want of memory. See
 /// docs/OUTPUT.md.
 pub fn print_image(alloc: Global, image: &Image) -> Result<Text, AllocError>
     ensures text { IfOk result (λ text. text ≡ canonical image.now) }
+    ensures reads_back { IfOk result (λ text. StandsFor text image.now) }
 {
+    canonical_is_read_back();
     let firsts = first_labels(alloc, image)?;
+    let bytes = image.bytes();
     let mut out = Text::new(alloc);
     let first_of_data = append_code(&mut out, image, &firsts)?;
     out.append(b".data\n")?;
-    let first_of_constants = append_data(&mut out, image, first_of_data)?;
+    let first_of_constants = append_data(&mut out, image, bytes, first_of_data)?;
     out.append(b".cp\n")?;
-    append_constants(&mut out, image, first_of_constants)?;
+    append_constants(&mut out, image, bytes, first_of_constants)?;
     Ok(out)
+}
+
+/// Law: the canonical text of an image is read as this image, whatever the image. See docs/OUTPUT.md.
+pub fn canonical_is_read_back()
+    ensures { (image : ImageRec) → IsImage image → AllByRecursion (λ b. b < 256) image.bytes → StandsFor (canonical image) image }
+{
+    written_is_read();
 }

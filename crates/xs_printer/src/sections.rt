@@ -14,6 +14,7 @@ use xs_instructions::{Image, Instr, spelling};
 
 // The address of the first instruction, and that of the first byte.
 const CODE_START: u32 = 0x0004_0000;
+
 const DATA_START: u32 = 0x0001_0000;
 
 // Puts the line of an instruction.
@@ -90,12 +91,17 @@ fn append_bytes(
 
 /// Puts the lines of the bytes below `cp_at`, with those of their labels. It gives the number of the first label from
 /// there on.
-pub(crate) fn append_data(out: &mut Text, image: &Image, first: usize) -> Result<usize, AllocError>
-    requires { IsFirstFrom image.now.symbols data_start first }
+pub(crate) fn append_data(
+    out: &mut Text,
+    image: &Image,
+    bytes: &[u8],
+    first: usize,
+) -> Result<usize, AllocError>
+    requires bytes { bytes.now ≡ image.now.bytes }
+    requires first { IsFirstFrom image.now.symbols data_start first }
     ensures lines { OnOk result (out.new ≡ out.old ++ lines_text image.now.symbols (data_items image.now)) }
     ensures next { IfOk result (λ k. IsFirstFrom image.now.symbols image.now.cp_at k) }
 {
-    let bytes = image.bytes();
     let room = (image.cp_at() - DATA_START) as usize;
     if bytes.len() < room {
         let next = append_bytes(out, image, bytes, DATA_START, first)?;
@@ -109,12 +115,13 @@ pub(crate) fn append_data(out: &mut Text, image: &Image, first: usize) -> Result
 pub(crate) fn append_constants(
     out: &mut Text,
     image: &Image,
+    bytes: &[u8],
     first: usize,
 ) -> Result<(), AllocError>
-    requires { IsFirstFrom image.now.symbols image.now.cp_at first }
+    requires bytes { bytes.now ≡ image.now.bytes }
+    requires first { IsFirstFrom image.now.symbols image.now.cp_at first }
     ensures { OnOk result (out.new ≡ out.old ++ lines_text image.now.symbols (constant_items image.now)) }
 {
-    let bytes = image.bytes();
     let cp_at = image.cp_at();
     let room = (cp_at - DATA_START) as usize;
     let constants = &bytes[room.min(bytes.len())..];

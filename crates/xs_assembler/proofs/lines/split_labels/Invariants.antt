@@ -4,10 +4,10 @@ use Rattle.xs_assembler.specs.Parts.{tokens_in}
 use Rattle.xs_assembler.specs.Lines.{names_in}
 use Rattle.xs_assembler.proofs.lines.split_labels.Given as goal
 
-abbrev pub invariant-loop : goal.invariant-loop
-invariant-loop l =
+abbrev pub invariant-loop-labels : goal.invariant-loop-labels
+invariant-loop-labels l =
     (names_in l.labels.items ++ labels_first (tokens_in l.rest) ≡ labels_first (tokens_in l.pieces))
     × (after_labels (tokens_in l.rest) ≡ after_labels (tokens_in l.pieces))
 
-abbrev pub decreases-loop : goal.decreases-loop
-decreases-loop l = length l.rest
+abbrev pub decreases-loop-labels : goal.decreases-loop-labels
+decreases-loop-labels l = length l.rest

@@ -1,4 +1,4 @@
-use Rattle.std.proofs.Common.{◌≡◌, ◌≤◌, ◌++◌, length, drop, sym, ◌∙◌, ap, arith}
+use Rattle.std.proofs.Common.{◌≡◌, ◌++◌, drop, sym, ◌∙◌, ap, arith}
 use Rattle.xs_printer.proofs.Order.{first_past}
 use Rattle.xs_printer.proofs.Pieces.{two_more, none_left}
 use Rattle.xs_printer.proofs.LabelWalk.{past_more, past_stop, past_end, lines_more, lines_stop, lines_end, lines_of_address}
@@ -21,7 +21,7 @@ loop-k-preserved c =
     record {
       rest = sym (past_more c.args.at symbols c.loop-k.k _ c.label-address.ensures c.if-address-at.false) ∙ c.loop-k.invariant.rest;
       lines = two_more _ _ _ _ _ _ _ _ (c.in_ok-append.ensures.ok ∙ ap (λ b. c.loop-k.out ++ b) c.as_bytes.ensures.value) c.in_ok-append-2.ensures.ok
-      (lines_more c.args.at symbols c.loop-k.k _ c.label-address.ensures c.if-address-at.false) c.loop-k.invariant.lines;
+          (lines_more c.args.at symbols c.loop-k.k _ c.label-address.ensures c.if-address-at.false) c.loop-k.invariant.lines;
     }
 
 pub returns-clause-lines : goal.returns-clause-lines

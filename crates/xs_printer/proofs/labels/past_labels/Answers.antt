@@ -1,4 +1,4 @@
-use Rattle.std.proofs.Common.{◌≡◌, ◌≤◌, length, drop, sym, ◌∙◌, ap, arith}
+use Rattle.std.proofs.Common.{◌≡◌, drop, sym, ◌∙◌, ap, arith}
 use Rattle.xs_printer.proofs.LabelWalk.{past_more, past_stop, past_end}
 use Rattle.xs_printer.proofs.labels.past_labels.Goals as goal
 

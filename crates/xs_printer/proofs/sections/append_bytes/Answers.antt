@@ -1,4 +1,4 @@
-use Rattle.std.proofs.Common.{◌≡◌, ◌+◌, ◌<◌, ◌≤◌, length, get_or, refl, arith}
+use Rattle.std.proofs.Common.{◌+◌, ◌<◌, refl, arith}
 use Rattle.std.proofs.lemmas.List.{get_or_default}
 use Rattle.xs_instructions.specs.Code.{code_start}
 use Rattle.source_model.specs.Canonical.{Byte}
@@ -15,7 +15,7 @@ loop-byte-preserved c =
       at = omega arith;
       first = c.in_ok-next.ensures.next (c.loop-byte.at + 1) (next_byte c.loop-byte.at symbols small);
       lines = pair_more _ _ _ _ _ _ _ _ c.in_ok-next.ensures.lines c.in_ok-append_byte.ensures
-      (lines_behind-next (λ n. Byte n) symbols 1 c.loop-byte.at (c.loop-byte.at + 1) c.loop-byte.byte-index c.args.bytes.now _ (omega arith) (get_or_default c.args.bytes.now c.loop-byte.byte-index 0 _ (omega arith)) refl) c.loop-byte.invariant.lines;
+          (lines_behind-next (λ n. Byte n) symbols 1 c.loop-byte.at (c.loop-byte.at + 1) c.loop-byte.byte-index c.args.bytes.now _ (omega arith) (get_or_default c.args.bytes.now c.loop-byte.byte-index 0 _ (omega arith)) refl) c.loop-byte.invariant.lines;
     }
 
 pub returns-clause-lines : goal.returns-clause-lines

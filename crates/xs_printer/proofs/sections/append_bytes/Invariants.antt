@@ -8,5 +8,5 @@ invariant-loop-byte l = record {
   at : l.at ≡ l.from + l.byte-index;
   first : IsFirstFrom l.image.symbols l.at l.next;
   lines : l.out ++ lines_text l.image.symbols (behind_labels Byte l.image.symbols 1 l.at (drop l.byte-index l.bytes))
-  ≡ l.initial.out ++ lines_text l.image.symbols (behind_labels Byte l.image.symbols 1 l.from l.bytes);
+      ≡ l.initial.out ++ lines_text l.image.symbols (behind_labels Byte l.image.symbols 1 l.from l.bytes);
 }

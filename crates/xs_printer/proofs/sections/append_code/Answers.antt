@@ -1,4 +1,4 @@
-use Rattle.std.proofs.Common.{ℕ, ◌++◌, ◌≡◌, ◌+◌, ◌*◌, ◌<◌, ◌≤◌, length, get_or, refl, sym, ap, ◌∙◌, arith}
+use Rattle.std.proofs.Common.{ℕ, ◌++◌, ◌≡◌, ◌+◌, ◌<◌, ◌≤◌, length, refl, sym, ap, ◌∙◌, arith}
 use Rattle.std.proofs.lemmas.Result.{IfOk-equal}
 use Rattle.xs_instructions.specs.Image.{data_start}
 use Rattle.xs_instructions.specs.Code.{code_start, place_address}
@@ -28,7 +28,7 @@ loop-ins-preserved c =
       at = omega arith;
       first = c.in_ok-next.ensures.next (at + 4) (next_place_at image p at c.code-ins-items.ensures.image c.loop-ins.invariant.at);
       lines = pair_more _ _ _ _ _ _ _ _ c.in_ok-next.ensures.lines c.in_ok-append_instruction.ensures
-      (lines_behind-next (λ ins. Instruction ins) image.symbols 4 at (at + 4) p image.code _ below (read_same c.code-ins-items.result.now image.code p _ same below) refl) c.loop-ins.invariant.lines;
+          (lines_behind-next (λ ins. Instruction ins) image.symbols 4 at (at + 4) p image.code _ below (read_same c.code-ins-items.result.now image.code p _ same below) refl) c.loop-ins.invariant.lines;
     }
 
 at_end : (n m k at : ℕ) → at ≡ place_address k → n ≡ m → n ≤ k → k ≤ n → at ≡ place_address m

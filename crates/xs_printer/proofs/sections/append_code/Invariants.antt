@@ -9,5 +9,5 @@ invariant-loop-ins l = record {
   at : l.at ≡ place_address l.ins-index;
   first : IsFirstFrom l.image.symbols l.at l.next;
   lines : l.out ++ lines_text l.image.symbols (behind_labels Instruction l.image.symbols 4 l.at (drop l.ins-index l.image.code))
-  ≡ l.initial.out ++ lines_text l.image.symbols (behind_labels Instruction l.image.symbols 4 code_start l.image.code);
+      ≡ l.initial.out ++ lines_text l.image.symbols (behind_labels Instruction l.image.symbols 4 code_start l.image.code);
 }

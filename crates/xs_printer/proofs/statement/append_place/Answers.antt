@@ -1,4 +1,4 @@
-use Rattle.std.proofs.Common.{◌≡◌, ◌+◌, ◌<◌, ◌≤◌, length, arith}
+use Rattle.std.proofs.Common.{◌≡◌, ◌≤◌, length, arith}
 use Rattle.xs_instructions.specs.Code.{place_address}
 use Rattle.source_model.specs.Canonical.{first_name_at}
 use Rattle.xs_printer.proofs.Leads.{within, named, labelled_within}
