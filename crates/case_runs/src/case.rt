@@ -31,7 +31,9 @@ impl Case {
     pub fn input_bytes(&self, alloc: Global) -> Result<Vec<u8>> {
         let mut bytes = Vec::new(alloc);
         for letter in self.input.chars() {
-            let byte = u8::try_from(u32::from(letter)).context("a character of an input is no byte")?;
+            let byte = u8::try_from(u32::from(letter)).context(
+                "a character of an input is no byte",
+            )?;
             bytes.push(byte)?;
         }
         Ok(bytes)
