@@ -192,6 +192,7 @@ fn bytes(rt: HostRuntime) -> Result<(), Fail> {
         b"getr r4, 2\noutct res[r4], 0b11\nldw r0, dp[z]\nfreet\n.data\nx: .word 0x12345678, - 5, x\n.short -32768, 65535\n.byte -128, 255, -0\ny: .cp\nz: .word z\n.space 2\n.byte 9";
     let image = assemble(rt.alloc(), text)?;
     let code = image.code();
+    assert_eq!(rt; code.len(), 4);
     assert!(rt; matches!(code[0], Instr::Resources(ResIns::Getr(4, 2))));
     assert!(rt; matches!(code[1], Instr::Resources(ResIns::OutctImm(4, 3))));
     assert!(rt; matches!(code[2], Instr::Memory(MemIns::LdwDp(0, 5))));
