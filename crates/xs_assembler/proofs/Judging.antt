@@ -1,5 +1,5 @@
 -- A line without faults adds what its content is.
-use Rattle.std.proofs.Common.{◌≡◌, ℕ, Bool, true, false, cond, List, [], ◌∷◌, ◌++◌, Option, Some, None, if◌then◌else◌, refl, sym, ap, ◌∙◌, subst}
+use Rattle.std.proofs.Common.{◌≡◌, ℕ, Bool, true, false, cond, List, [], ◌++◌, Option, Some, None, if◌then◌else◌, refl, sym, ap, ◌∙◌, subst}
 use Rattle.std.specs.Prelude.{is_some, not, find, IfSome}
 use Rattle.xs_instructions.specs.declared.instr.Instr.{Instr}
 use Rattle.source_model.specs.declared.AsmKind.{AsmKind}
@@ -9,7 +9,7 @@ use Rattle.source_model.specs.declared.layout.Section.TheVariants.{Text, Data, C
 use Rattle.source_model.specs.declared.layout.Layout.{Layout}
 use Rattle.source_model.specs.Statement.{Says, Line}
 use Rattle.source_model.specs.Layout.{Sofar, section_length}
-use Rattle.source_model.specs.Source.{has_kind, order, fault_of_line, is_out_of_range, code_of, bytes_of, same_section, code_of_line, bytes_of_line}
+use Rattle.source_model.specs.Source.{has_kind, order, fault_of_line, is_out_of_range, code_of, bytes_of, same_section}
 use Rattle.xs_assembler.specs.declared.contents.Content.{Content}
 use Rattle.xs_assembler.specs.declared.output.Output.{Output}
 use Rattle.xs_assembler.specs.Contents.{code_in, bytes_in, Resolves}

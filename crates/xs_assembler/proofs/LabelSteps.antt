@@ -1,9 +1,8 @@
 -- Steps of the loop over the labels at the front of a line.
-use Rattle.std.proofs.Common.{◌≡◌, ℕ, ◌+◌, ◌-◌, ◌<◌, ◌≤◌, Bool, true, false, if◌then◌else◌, List, [], ◌∷◌, ◌++◌, length, get_or, drop, take, map, Option, Some, None, Bor, refl, sym, ap, ◌∙◌, subst, arith, length-drop}
+use Rattle.std.proofs.Common.{◌≡◌, ℕ, ◌-◌, ◌<◌, ◌≤◌, true, false, List, [], ◌∷◌, ◌++◌, length, get_or, drop, take, Bor, refl, sym, ap, ◌∙◌, arith, length-drop}
 use Rattle.std.proofs.Math.Seq.{take-length}
 use Rattle.std.proofs.lemmas.List.{append-nil}
 use Rattle.std.proofs.lemmas.Bool.{cond-true, cond-false}
-use Rattle.xs_text.specs.Tokens.{Token}
 use Rattle.source_model.specs.Statement.{begins_label, labels_first, after_labels}
 use Rattle.xs_assembler.specs.declared.pieces.Piece.{Piece}
 use Rattle.xs_assembler.specs.Parts.{token_of, tokens_in}

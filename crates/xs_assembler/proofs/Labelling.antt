@@ -1,11 +1,11 @@
 -- The symbols of an image, one after the other.
-use Rattle.std.proofs.Common.{◌≡◌, ℕ, ◌+◌, ◌*◌, ◌%◌, ◌<◌, ◌≤◌, ◌^◌, Bool, true, false, ◌&&◌, ◌||◌, ◌==◌, not, cond, if◌then◌else◌, List, [], ◌∷◌, ◌++◌, length, Option, Some, None, refl, sym, ap, ◌∙◌, subst, arith, map, drop, get_or, append_assoc, append-nil, IsTrue, nat_le}
+use Rattle.std.proofs.Common.{◌≡◌, ℕ, ◌+◌, ◌%◌, ◌<◌, ◌≤◌, ◌^◌, Bool, true, false, ◌&&◌, ◌||◌, ◌==◌, not, if◌then◌else◌, List, [], ◌∷◌, ◌++◌, length, refl, sym, ap, ◌∙◌, subst, arith, map, drop, get_or, append_assoc, append-nil, IsTrue, nat_le}
 use Rattle.std.specs.List.{AllByRecursion}
 use Rattle.std.proofs.lemmas.Bool.{and_parts, leb-true, leb-false}
 use Rattle.std.proofs.lemmas.List.{drop_all, drop_more}
 use Rattle.xs_text.specs.Tokens.{is_name}
 use Rattle.xs_instructions.specs.Code.{code_start, place_address}
-use Rattle.xs_instructions.specs.Image.{Symbol, ImageRec, IsImage, AreLabels, may_be_label, is_reserved, is_place, data_start}
+use Rattle.xs_instructions.specs.Image.{Symbol, ImageRec, IsImage, AreLabels, is_reserved, is_place, data_start}
 use Rattle.source_model.specs.Layout.{Label}
 use Rattle.xs_assembler.specs.declared.names.Label.{Label as Read}
 use Rattle.xs_assembler.specs.Names.{label_of, labels_in}

@@ -1,8 +1,7 @@
 -- Steps of the loops over tokens, operands and labels.
-use Rattle.std.proofs.Common.{suc, zero, add-one, ◌≡◌, ℕ, ◌+◌, ◌<◌, ◌≤◌, Bool, true, false, ◌||◌, if◌then◌else◌, List, [], ◌∷◌, ◌++◌, length, get_or, drop, map, Option, Some, None, refl, sym, ap, ◌∙◌, subst, arith, append_assoc}
+use Rattle.std.proofs.Common.{suc, zero, add-one, ◌≡◌, ℕ, ◌+◌, ◌<◌, ◌≤◌, Bool, true, false, List, [], ◌∷◌, ◌++◌, length, get_or, drop, map, Option, None, refl, sym, ap, ◌∙◌, arith}
 use Rattle.std.proofs.lemmas.List.{append-nil, drop_more, drop_all}
 use Rattle.std.proofs.lemmas.Bool.{cond-true, cond-false}
-use Rattle.xs_text.specs.Tokens.{Token}
 use Rattle.xs_instructions.specs.Table.{values_among, takes_value_at, parts_of}
 use Rattle.xs_instructions.specs.Instr.{takes_value}
 use Rattle.xs_instructions.specs.declared.rows.Part.{Part}
@@ -10,8 +9,6 @@ use Rattle.xs_instructions.specs.declared.rows.Row.{Row}
 use Rattle.xs_instructions.specs.declared.rows.Part.TheVariants.{Word}
 use Rattle.xs_text.specs.declared.token_reader.TokKind.TheVariants.{Name}
 use Rattle.source_model.specs.declared.layout.Section.{Section}
-use Rattle.source_model.specs.declared.layout.Width.{Width}
-use Rattle.source_model.specs.Each.{put_first}
 use Rattle.source_model.specs.Operands as model
 use Rattle.source_model.specs.Operands.{operands_after, base_after}
 use Rattle.source_model.specs.Operands.{amount_of as model_amount}

@@ -1,5 +1,5 @@
 -- What the passes gave is what the source stands for.
-use Rattle.std.proofs.Common.{◌≡◌, ℕ, List, Option, Some, None, Result, Ok, Err, refl, sym, ap, ◌∙◌, subst, map}
+use Rattle.std.proofs.Common.{◌≡◌, ℕ, List, None, Result, Ok, Err, refl, sym, ap, ◌∙◌, subst, map}
 use Rattle.std.specs.Prelude.{IfOk, IfErr, IsErrAnd}
 use Rattle.xs_text.specs.Lines.{lines_of}
 use Rattle.xs_instructions.specs.declared.instr.Instr.{Instr}

@@ -1,20 +1,20 @@
 -- A line adds little more than it is long, so lengths of sections fit 64 bits.
-use Rattle.std.proofs.Common.{◌≡◌, ℕ, zero, suc, ◌+◌, ◌-◌, ◌*◌, ◌%◌, ◌<◌, ◌≤◌, Bool, true, false, ◌&&◌, ◌||◌, ◌==◌, if◌then◌else◌, List, [], ◌∷◌, ◌++◌, length, Option, Some, None, refl, sym, ap, ◌∙◌, subst, arith, length-append, map, take}
+use Rattle.std.proofs.Common.{◌≡◌, ℕ, zero, suc, ◌+◌, ◌-◌, ◌*◌, ◌%◌, ◌≤◌, Bool, true, false, ◌||◌, ◌==◌, if◌then◌else◌, List, [], ◌∷◌, length, Option, Some, None, refl, arith, length-append, take}
 use Rattle.std.specs.Prelude.{IfSome, option_and_then, codes, nat_le, not}
 use Rattle.std.proofs.Math.Nat.{mod-le, mul-le-mul_left, mul-le-mul_right}
 use Rattle.std.proofs.lemmas.Bool.{leb-true}
 use Rattle.xs_text.specs.Tokens.{Token, tokens_of, tokens_after, token_at, skip_at, token_of, tail_length, begins_comment}
 use Rattle.xs_text.specs.Bytes.{begins_with, is_blank}
 use Rattle.xs_text.specs.Numbers.{source_number_of, at_most}
-use Rattle.xs_instructions.specs.Table.{known, find, is_built}
+use Rattle.xs_instructions.specs.Table.{known, is_built}
 use Rattle.xs_instructions.specs.declared.rows.Row.{Row}
 use Rattle.xs_instructions.specs.Image.{same_name}
 use Rattle.source_model.specs.declared.layout.Width.{Width}
 use Rattle.source_model.specs.declared.layout.Width.TheVariants.{Byte, Short, Word}
 use Rattle.source_model.specs.Each.{put_first}
-use Rattle.source_model.specs.Operands.{Amount, Operand, operands_of, shapes_of, amounts_of}
-use Rattle.source_model.specs.Values.{values_from, values_of, ValueNext, DigitsNext, CommaNext, Next, plain_value, signed_value, width_bytes}
-use Rattle.source_model.specs.Statement.{Says, NoEffect, Unknown, Misshapen, Instruction, Values, Zeros, Align, Statement, statement, is_name_kind, directive, instruction, of_row, shaped, zeros, aligned, valued, not_zero, lone_number, is_lone_name, is_nothing, after_labels, begins_label, line_of}
+use Rattle.source_model.specs.Operands.{Amount, Operand, operands_of}
+use Rattle.source_model.specs.Values.{values_from, ValueNext, DigitsNext, CommaNext, Next, plain_value, signed_value, width_bytes}
+use Rattle.source_model.specs.Statement.{Says, Zeros, Align, Statement, statement, is_name_kind, directive, instruction, of_row, shaped, zeros, aligned, valued, not_zero, lone_number, is_lone_name, is_nothing, after_labels, begins_label, line_of}
 use Rattle.source_model.specs.Layout.{added, padding}
 
 one_token : (b : Bool) (t : Token) → length (if b then [] else t ∷ []) ≤ 1

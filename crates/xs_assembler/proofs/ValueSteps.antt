@@ -1,10 +1,9 @@
 -- Steps of the loop over the values of a directive.
-use Rattle.std.proofs.Common.{◌≡◌, ℕ, ◌+◌, ◌<◌, ◌≤◌, List, [], ◌∷◌, ◌++◌, length, get_or, drop, map, Option, Some, None, refl, sym, ap, ◌∙◌}
+use Rattle.std.proofs.Common.{◌≡◌, ℕ, ◌+◌, ◌<◌, ◌≤◌, List, [], ◌∷◌, ◌++◌, length, get_or, drop, Option, Some, None, refl, sym, ap, ◌∙◌}
 use Rattle.std.proofs.lemmas.List.{append-nil, drop_more, drop_all, map-append}
 use Rattle.xs_text.specs.Tokens.{Token}
 use Rattle.xs_text.specs.declared.token_reader.TokKind.TheVariants.{Name}
 use Rattle.source_model.specs.declared.layout.Width.{Width}
-use Rattle.source_model.specs.Each.{put_first}
 use Rattle.source_model.specs.Operands as model
 use Rattle.source_model.specs.Values.{values_from}
 use Rattle.xs_assembler.specs.declared.pieces.Piece.{Piece}

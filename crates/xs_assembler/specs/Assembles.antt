@@ -1,5 +1,5 @@
 -- What the assembler returns for a source.
-use Rattle.std.specs.Prelude.{ℕ, ◌≡◌, Option, Some, None, Result, Ok, Err}
+use Rattle.std.specs.Prelude.{ℕ, ◌≡◌, Option, Some, Result, Ok, Err}
 use Rattle.xs_instructions.specs.Image.{ImageRec}
 use Rattle.source_model.specs.declared.AsmKind.{AsmKind}
 use Rattle.source_model.specs.Source.{Assembled, Image, Fault}

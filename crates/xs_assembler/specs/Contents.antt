@@ -8,7 +8,7 @@ use Rattle.source_model.specs.Values.{little_endian}
 use Rattle.source_model.specs.Statement.{Says}
 use Rattle.source_model.specs.Source.{is_out_of_range, code_of, bytes_of}
 use Rattle.xs_assembler.specs.declared.contents.Content.{Content}
-use Rattle.xs_assembler.specs.declared.contents.Content.TheVariants.{Nothing, Instruction, Values, Zeros, Padding}
+use Rattle.xs_assembler.specs.declared.contents.Content.TheVariants.{Instruction, Values, Zeros, Padding}
 
 -- the code of a content after so many instructions
 abbrev pub code_in : ℕ → Content → List Instr

@@ -1,5 +1,5 @@
 -- What the second pass finds out about a line.
-use Rattle.std.specs.Prelude.{◌≡◌, Bool, false}
+use Rattle.std.specs.Prelude.{◌≡◌, false}
 use Rattle.source_model.specs.Statement.{Line}
 use Rattle.source_model.specs.Layout.{Sofar, after_line}
 use Rattle.source_model.specs.Source.{has_label_twice, is_out_of_range}

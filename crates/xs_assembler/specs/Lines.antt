@@ -1,5 +1,5 @@
 -- What a line that was read stands for.
-use Rattle.std.specs.Prelude.{ℕ, Bool, false, Option, List, [], ◌∷◌, map}
+use Rattle.std.specs.Prelude.{ℕ, Bool, false, List, [], ◌∷◌, map}
 use Rattle.xs_text.specs.Tokens.{Token}
 use denote.Ref.{Bor}
 use Rattle.source_model.specs.Statement as model

@@ -1,5 +1,5 @@
 -- What the parts of a line stand for as they are read.
-use Rattle.std.specs.Prelude.{ℕ, Option, Some, None, List, [], ◌∷◌, map}
+use Rattle.std.specs.Prelude.{List, map}
 use Rattle.xs_text.specs.Tokens.{Token}
 use Rattle.source_model.specs.Operands as model
 use Rattle.source_model.specs.Operands.{Known, Target, Address, Offset}

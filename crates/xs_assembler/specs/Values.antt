@@ -1,5 +1,5 @@
 -- One step through the values of a directive.
-use Rattle.std.specs.Prelude.{ℕ, Option, Some, None, List}
+use Rattle.std.specs.Prelude.{Option, Some, None, List}
 use Rattle.xs_text.specs.Tokens.{Token}
 use Rattle.source_model.specs.declared.layout.Width.{Width}
 use Rattle.source_model.specs.Each.{put_first}

@@ -1,5 +1,4 @@
-use Rattle.std.proofs.Common.{◌≡◌, ℕ, refl, sym, ap, ◌∙◌}
-use Rattle.xs_assembler.proofs.Outcome.{stands, kept, refuses, ok_so, fault_so, taken_so, refused_so}
+use Rattle.xs_assembler.proofs.Outcome.{stands, kept, refuses, fault_so, taken_so, refused_so}
 use Rattle.xs_assembler.proofs.assembler.assemble.Goals as goal
 
 pub make_image-requires : goal.make_image-requires

@@ -1,4 +1,4 @@
-use Rattle.std.proofs.Common.{◌≡◌, ap, sym, ◌∙◌, refl}
+use Rattle.std.proofs.Common.{ap, sym, ◌∙◌, refl}
 use Rattle.source_model.specs.Source.{fault_of_line}
 use Rattle.source_model.specs.Statement.{line_of}
 use Rattle.xs_assembler.specs.Lines.{line_value, says_of}

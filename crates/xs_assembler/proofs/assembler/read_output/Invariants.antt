@@ -1,5 +1,4 @@
-use Rattle.std.proofs.Common.{◌≡◌, ◌-◌, length}
-use Rattle.xs_text.specs.Lines.{lines_of, bytes_left}
+use Rattle.std.proofs.Common.{◌-◌, length}
 use Rattle.xs_assembler.specs.Sofar.{sofar_of}
 use Rattle.xs_assembler.proofs.Passing.{OutputSoFar}
 use Rattle.xs_assembler.proofs.assembler.read_output.Given as goal

@@ -1,4 +1,3 @@
-use Rattle.std.proofs.Common.{sym}
 use Rattle.source_model.specs.Source.{is_missing}
 use Rattle.xs_assembler.specs.Parts.{amount_of}
 use Rattle.xs_assembler.specs.Sofar.{sofar_of}

@@ -1,4 +1,4 @@
-use Rattle.std.proofs.Common.{ap, sym, ◌∙◌, ◌≡◌, ◌++◌, ◌+◌, drop, map}
+use Rattle.std.proofs.Common.{ap, sym, ◌∙◌}
 use Rattle.xs_assembler.proofs.Loops.{amounts_next, amounts_left, amounts_done, no_operand}
 use Rattle.xs_assembler.proofs.operands.amounts.Goals as goal
 use Rattle.xs_assembler.proofs.operands.amounts.Goals.{then-takes_value+in_ok-push, else-takes_value}

@@ -1,6 +1,6 @@
-use Rattle.std.proofs.Common.{◌≡◌, ◌++◌, length, List, sym, ap, ◌∙◌, arith}
+use Rattle.std.proofs.Common.{◌++◌, length, sym, ap, ◌∙◌, arith}
 use Rattle.std.proofs.lemmas.List.{append-nil}
-use Rattle.xs_text.specs.Tokens.{Token, tokens_of}
+use Rattle.xs_text.specs.Tokens.{tokens_of}
 use Rattle.xs_assembler.specs.Parts.{token_of, tokens_in}
 use Rattle.xs_assembler.proofs.Steps.{pushed}
 use Rattle.xs_assembler.proofs.pieces.read_pieces.Goals as goal
