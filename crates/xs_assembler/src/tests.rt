@@ -1,5 +1,3 @@
-ghost use Rattle.std.specs.Prelude.{◌<◌, ◌^◌, length};
-
 use crate::AsmKind::{
     BadByte, DirectiveNotAllowed, LabelMissing, LabelTwice, NumberOutOfRange, TooManyBytes,
     TooManyInstructions, UnknownName, WrongOperands,
@@ -11,9 +9,8 @@ use std::test::Fail;
 use xs_instructions::{FlowIns, Instr, MemIns, ResIns, ThreadIns, WordIns};
 
 // Asserts that the source is refused at the line for the kind.
-fn expect_fault(rt: &impl Abort, alloc: Global, text: &[u8], line: u32, kind: AsmKind)
-    requires { length text.now < 2 ^ 32 }
-{
+fn expect_fault(rt: &impl Abort, alloc: Global, text: &[u8], line: u32, kind: AsmKind) {
+    assert!(rt; text.len() <= u32::MAX as usize);
     match assemble(alloc, text) {
         Err(
             AsmError::Fault {
