@@ -197,18 +197,18 @@ fn refuses_with_the_line_and_the_kind(rt: HostRuntime) -> Result<(), Fail> {
 
 #[test]
 fn other_words_have_no_form(rt: HostRuntime) -> Result<(), Fail> {
-    let rows = [
-        [].as_slice(),
-        ["run"].as_slice(),
-        ["run", "+5"].as_slice(),
-        ["run", "00000000020"].as_slice(),
-        ["run", "20", "Serial"].as_slice(),
-        ["run", "20", "free"].as_slice(),
-        ["run", "20", "serial", "x"].as_slice(),
-        ["serial", "20", "run"].as_slice(),
-        ["check", "x"].as_slice(),
-        ["Check"].as_slice(),
-        [""].as_slice(),
+    let rows: &[&[&str]] = &[
+        &[],
+        &["run"],
+        &["run", "+5"],
+        &["run", "00000000020"],
+        &["run", "20", "Serial"],
+        &["run", "20", "free"],
+        &["run", "20", "serial", "x"],
+        &["serial", "20", "run"],
+        &["check", "x"],
+        &["Check"],
+        &[""],
     ];
     for words in rows {
         let mut source = ListSource::new(SUM.to_vec(rt.alloc())?);
