@@ -2,5 +2,4 @@ pub mod Names
 pub mod Kept
 pub mod Made
 pub mod Finds
-pub mod Filled
 pub mod Labels

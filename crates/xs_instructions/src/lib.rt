@@ -11,6 +11,7 @@ mod look_up;
 mod rows;
 mod shape;
 mod symbols;
+mod table;
 mod words;
 mod writing;
 
