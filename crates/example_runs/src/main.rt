@@ -35,12 +35,12 @@ fn verdict(as_expected: bool) -> &'static str {
     }
 }
 
-// The names of the examples, in order: of the files that end in .xs1.
+// The names of the runs, in order: of the files that end in .args.
 fn names(rt: &HostRuntime) -> Result<Vec<String>> {
     let mut names = Vec::new(rt.alloc());
     for entry in fs::read_dir(rt, ".")? {
         let entry = entry?;
-        if let Some(name) = entry.file_name().strip_suffix(".xs1") {
+        if let Some(name) = entry.file_name().strip_suffix(".args") {
             names.push(name.to_string(rt.alloc())?)?;
         }
     }
@@ -48,11 +48,19 @@ fn names(rt: &HostRuntime) -> Result<Vec<String>> {
     Ok(names)
 }
 
-// Whether the example ends and writes as it should.
+// Whether the run ends and writes as it should.
 fn is_as_expected(rt: &HostRuntime, name: &str) -> Result<bool> {
     let line = fs::read_to_string(rt, format!(in rt.alloc(); "{name}.args")?)?;
     let expected = fs::read(rt, format!(in rt.alloc(); "{name}.txt")?)?;
-    writes(rt, name, &line, &expected, status_of(rt, name)?)
+    writes(rt, system_of(name), &line, &expected, status_of(rt, name)?)
+}
+
+// The example that a run is of: NAME of NAME.check.
+fn system_of(name: &str) -> &str {
+    match name.split_once('.') {
+        Some((system, _)) => system,
+        None => name,
+    }
 }
 
 // The number that the example is to end with: that of its file, or 0 where it has none.
