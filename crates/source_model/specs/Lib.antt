@@ -4,7 +4,6 @@ pub mod Values
 pub mod Statement
 pub mod Layout
 pub mod Source
-pub mod Faults
 pub mod WorkedSourceLines
 pub mod Canonical
 pub mod WorkedCanonical

@@ -1,15 +1,11 @@
 -- A place's first label, by its number.
-use Rattle.std.proofs.Common.{◌≡◌, ℕ, ◌+◌, ◌<◌, ◌≤◌, true, false, ◌||◌, ◌==◌, List, [], ◌∷◌, Some, length, drop, sym, ap, ◌∙◌, inl, inr, arith, IsTrue}
+use Rattle.std.proofs.Common.{◌≡◌, ℕ, ◌+◌, ◌<◌, true, false, ◌||◌, ◌==◌, List, [], ◌∷◌, Some, length, drop, sym, ap, ◌∙◌, inl, inr, arith}
 use Rattle.std.specs.Prelude.{slice_get}
-use Rattle.std.specs.List.{AllByRecursion}
 use Rattle.std.proofs.lemmas.Bool.{cases_Bool, cond-true, cond-false}
-use Rattle.std.proofs.lemmas.Bool.Decides.{nat_tests}
 use Rattle.std.proofs.lemmas.List.{length-drop}
-use Rattle.xs_instructions.specs.Code.{place_address}
-use Rattle.xs_instructions.specs.Image.{Symbol, AreInOrder, has_symbol_at, is_place}
+use Rattle.xs_instructions.specs.Image.{Symbol, has_symbol_at}
 use Rattle.source_model.specs.Canonical.{first_name_at}
-use Rattle.xs_printer.specs.Walk.{first_at, symbols_from}
-use Rattle.xs_printer.proofs.Order.{first_at-same, first_at-other, first_at-none, first_from, symbols_at}
+use Rattle.source_laws.specs.LabelOrder.{first_at, symbols_at, symbols_from}
 use Rattle.xs_printer.proofs.LabelWalk.{drop_at}
 
 first_name-same : (s : Symbol) (symbols : List Symbol) (at : ℕ) → (s.1 == at) ≡ true → first_name_at (s ∷ symbols) at ≡ s.0
@@ -37,20 +33,21 @@ begins_at (s ∷ symbols) at h =
     ]
 
 begins_first : (at : ℕ) (symbols : List Symbol) (s : Symbol) (rest : List Symbol) → first_at at symbols ≡ s ∷ rest → (more : List Symbol) × (symbols ≡ s ∷ more)
-begins_first at [] s rest h = absurd (let e : [] ≡ s ∷ rest = sym (first_at-none at) ∙ h in cc)
+unfolding first_at
+begins_first at [] s rest h = absurd (cc)
 begins_first at (t ∷ symbols) s rest h =
     elim (cases_Bool (t.1 == at)) [
-      | inl e ↦ let k : t ∷ first_at at symbols ≡ s ∷ rest = sym (first_at-same at t symbols e) ∙ h in
+      | inl e ↦ let k : t ∷ first_at at symbols ≡ s ∷ rest = sym (cond-true _ _ _ e) ∙ h in
           (symbols, ap (λ x. x ∷ symbols) (let j : t ≡ s = cc in j))
-      | inr n ↦ absurd (let k : [] ≡ s ∷ rest = sym (first_at-other at t symbols n) ∙ h in cc)
+      | inr n ↦ absurd (let k : [] ≡ s ∷ rest = sym (cond-false _ _ _ n) ∙ h in cc)
     ]
 
-module _ (symbols : List Symbol) (at : ℕ) (ordered : AreInOrder symbols) (has : has_symbol_at symbols at ≡ true) (k : ℕ) (here : drop k symbols ≡ symbols_from at symbols) where
+module _ (symbols : List Symbol) (at : ℕ) (first : first_at at (symbols_from at symbols) ≡ symbols_at at symbols) (has : has_symbol_at symbols at ≡ true) (k : ℕ) (here : drop k symbols ≡ symbols_from at symbols) where
   begins : BeginsWith (drop k symbols) (first_name_at symbols at)
   begins =
-      let first = begins_at symbols at has in
-      let more = begins_first at (symbols_from at symbols) first.head first.rest (first_from at symbols ordered ∙ first.is) in
-      record { head = first.head; rest = more.0; is = here ∙ more.1; named = first.named }
+      let name = begins_at symbols at has in
+      let more = begins_first at (symbols_from at symbols) name.head name.rest (first ∙ name.is) in
+      record { head = name.head; rest = more.0; is = here ∙ more.1; named = name.named }
 
   pub within : k < length symbols
   within = let e : length (drop k symbols) ≡ length (begins.head ∷ begins.rest) = ap length begins.is in omega (arith, length-drop k symbols, e)
@@ -60,15 +57,3 @@ module _ (symbols : List Symbol) (at : ℕ) (ordered : AreInOrder symbols) (has 
       let e : t ∷ drop (k + 1) symbols ≡ begins.head ∷ begins.rest = sym (drop_at symbols k t h) ∙ begins.is in
       let j : t ≡ begins.head = cc in
       ap (λ (s : Symbol). s.0) j ∙ begins.named
-
-place_within : (n m cp p a : ℕ) → is_place n m cp a ≡ true → (a == place_address p) ≡ true → p ≤ n
-place_within n m cp p a h e = grind (arith, nat_tests)
-
--- a place with a label is one of the code or its end
-pub labelled_within : (n m cp p : ℕ) (symbols : List Symbol) → AllByRecursion (λ (s : Symbol). IsTrue (is_place n m cp s.1)) symbols → has_symbol_at symbols (place_address p) ≡ true → p ≤ n
-labelled_within n m cp p [] places h = absurd (cc)
-labelled_within n m cp p (s ∷ symbols) places h =
-    elim (cases_Bool (s.1 == place_address p)) [
-      | inl e ↦ place_within n m cp p s.1 places.0 e
-      | inr f ↦ labelled_within n m cp p symbols places.1 (sym (ap (λ b. b || has_symbol_at symbols (place_address p)) f) ∙ h)
-    ]

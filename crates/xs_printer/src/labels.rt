@@ -2,8 +2,10 @@
 ghost use Rattle.std.specs.Prelude.{ℕ, ◌≡◌, ◌+◌, ◌≤◌, ◌++◌, ◌<◌, Some, length, drop, IfOk, OnOk};
 ghost use Rattle.xs_instructions.specs.Image.{IsImage, symbol_at, symbol_of_pair};
 ghost use Rattle.source_model.specs.Canonical.{labels_at, lines_text};
-ghost use Rattle.xs_printer.specs.Walk.{past_address, AreFirstLabels, IsFirstFrom, IsNext};
+ghost use Rattle.source_laws.specs.LabelOrder.{past_address, IsNext};
+ghost use Rattle.xs_printer.specs.Firsts.{AreFirstLabels, IsFirstFrom};
 
+use source_laws::labels_stand_in_order;
 use std::alloc::{AllocError, Global};
 use xs_base::Text;
 use xs_instructions::Image;
@@ -45,6 +47,7 @@ pub(crate) fn append_labels(
     ensures lines { OnOk result (out.new ≡ out.old ++ lines_text image.now.symbols (labels_at image.now.symbols at)) }
     ensures next { IfOk result (λ k. (next : ℕ) → IsNext at next image.now.symbols → IsFirstFrom image.now.symbols next k) }
 {
+    labels_stand_in_order();
     let count = image.symbol_count();
     for k in from..count {
         let (name, address) = label(image, k);
@@ -61,6 +64,7 @@ pub(crate) fn append_labels(
 pub(crate) fn first_labels(alloc: Global, image: &Image) -> Result<Vec<usize>, AllocError>
     ensures { IfOk result (λ firsts. AreFirstLabels image.now.symbols (length image.now.code + 1) firsts.items) }
 {
+    labels_stand_in_order();
     let places = image.code().len() + 1;
     let mut firsts = Vec::new(alloc);
     let mut next = 0;

@@ -1,11 +1,9 @@
 //! The canonical text of an image. See docs/OUTPUT.md.
 #![tactic(auto)]
 
-ghost use Rattle.std.specs.Prelude.{ℕ, ◌≡◌, ◌<◌, IfOk};
-ghost use Rattle.std.specs.List.{AllByRecursion};
-ghost use Rattle.xs_instructions.specs.Image.{ImageRec, IsImage};
+ghost use Rattle.std.specs.Prelude.{◌≡◌, IfOk};
 ghost use Rattle.source_model.specs.Canonical.{canonical};
-ghost use Rattle.xs_printer.specs.StandsFor.{StandsFor};
+ghost use Rattle.source_laws.specs.StandsFor.{StandsFor};
 
 mod labels;
 mod sections;
@@ -15,9 +13,10 @@ mod tests;
 
 use labels::first_labels;
 use sections::{append_code, append_constants, append_data};
+use source_laws::canonical_is_read_back;
 use std::alloc::{AllocError, Global};
 use xs_base::Text;
-use xs_instructions::{Image, written_is_read};
+use xs_instructions::Image;
 
 /// The canonical text of an image: source lines that stand for this image. The error is want of memory. See
 /// docs/OUTPUT.md.
@@ -35,11 +34,4 @@ pub fn print_image(alloc: Global, image: &Image) -> Result<Text, AllocError>
     out.append(b".cp\n")?;
     append_constants(&mut out, image, bytes, first_of_constants)?;
     Ok(out)
-}
-
-/// Law: the canonical text of an image is read as this image, whatever the image. See docs/OUTPUT.md.
-pub fn canonical_is_read_back()
-    ensures { (image : ImageRec) → IsImage image → AllByRecursion (λ b. b < 256) image.bytes → StandsFor (canonical image) image }
-{
-    written_is_read();
 }

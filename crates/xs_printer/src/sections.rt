@@ -4,10 +4,11 @@ ghost use Rattle.xs_instructions.specs.Code.{code_start, place_address};
 ghost use Rattle.xs_instructions.specs.Instr.{InRange, label_of};
 ghost use Rattle.xs_instructions.specs.Image.{IsImage, has_symbol_at, data_start};
 ghost use Rattle.source_model.specs.Canonical.{Instruction, Byte, behind_labels, lines_text, code_items, data_items, constant_items, data_room};
-ghost use Rattle.xs_printer.specs.Walk.{AreFirstLabels, IsFirstFrom};
+ghost use Rattle.xs_printer.specs.Firsts.{AreFirstLabels, IsFirstFrom};
 
 use crate::labels::append_labels;
 use crate::statement::{append_decimal, append_statement};
+use source_laws::{labels_stand_in_order, labels_stand_in_their_parts};
 use std::alloc::AllocError;
 use xs_base::Text;
 use xs_instructions::{Image, Instr, spelling};
@@ -30,6 +31,7 @@ fn append_instruction(
     requires target { IfSome (label_of ins) (λ place. IsTrue (has_symbol_at image.now.symbols (place_address place))) }
     ensures { OnOk result (out.new ≡ out.old ++ lines_text image.now.symbols (Instruction ins ∷ [])) }
 {
+    labels_stand_in_their_parts();
     out.append(b"  ")?;
     append_statement(out, image, firsts, spelling(ins).as_slice())?;
     out.append(b"\n")
@@ -45,6 +47,7 @@ pub(crate) fn append_code(
     ensures lines { OnOk result (out.new ≡ out.old ++ lines_text image.now.symbols (code_items image.now)) }
     ensures next { IfOk result (λ k. IsFirstFrom image.now.symbols data_start k) }
 {
+    labels_stand_in_order();
     let mut next = 0;
     let mut at = CODE_START;
     for ins in image.code() {
@@ -79,6 +82,7 @@ fn append_bytes(
     ensures lines { OnOk result (out.new ≡ out.old ++ lines_text image.now.symbols (behind_labels Byte image.now.symbols 1 from bytes.now)) }
     ensures next { IfOk result (λ k. IsFirstFrom image.now.symbols (from + length bytes.now) k) }
 {
+    labels_stand_in_order();
     let mut next = first;
     let mut at = from;
     for byte in bytes {
@@ -102,6 +106,7 @@ pub(crate) fn append_data(
     ensures lines { OnOk result (out.new ≡ out.old ++ lines_text image.now.symbols (data_items image.now)) }
     ensures next { IfOk result (λ k. IsFirstFrom image.now.symbols image.now.cp_at k) }
 {
+    labels_stand_in_order();
     let room = (image.cp_at() - DATA_START) as usize;
     if bytes.len() < room {
         let next = append_bytes(out, image, bytes, DATA_START, first)?;

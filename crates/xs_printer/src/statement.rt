@@ -6,10 +6,11 @@ ghost use Rattle.xs_instructions.specs.Code.{place_address};
 ghost use Rattle.xs_instructions.specs.Image.{IsImage, has_symbol_at};
 ghost use Rattle.xs_instructions.specs.Spelling.{spelled_piece};
 ghost use Rattle.source_model.specs.Canonical.{first_name_at, piece_text, statement_text};
-ghost use Rattle.xs_printer.specs.Walk.{AreFirstLabels, IsWritable};
+ghost use Rattle.xs_printer.specs.Firsts.{AreFirstLabels, IsWritable};
 
 use crate::labels::label;
 use itoa::Buffer;
+use source_laws::{labels_stand_in_order, labels_stand_in_their_parts};
 use std::alloc::AllocError;
 use xs_base::Text;
 use xs_instructions::{Image, Piece};
@@ -59,6 +60,8 @@ fn append_place(
     requires target { IsTrue (has_symbol_at image.now.symbols (place_address place)) }
     ensures { OnOk result (out.new ≡ out.old ++ first_name_at image.now.symbols (place_address place)) }
 {
+    labels_stand_in_order();
+    labels_stand_in_their_parts();
     let (name, _) = label(image, firsts[place as usize]);
     out.append(name.as_bytes())
 }

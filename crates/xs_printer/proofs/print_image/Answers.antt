@@ -1,8 +1,8 @@
 use Rattle.std.proofs.Common.{ℕ, List, sym, subst, arith, rules}
 use Rattle.std.specs.List.{AllByRecursion}
 use Rattle.std.proofs.lemmas.Grind.{common_steps}
-use Rattle.xs_printer.specs.StandsFor.{StandsFor}
-use Rattle.xs_printer.proofs.PlainItems.{IsByte, all_bytes}
+use Rattle.source_laws.specs.StandsFor.{StandsFor}
+use Rattle.xs_printer.proofs.Bytes.{IsByte, all_bytes}
 use Rattle.xs_printer.proofs.print_image.Goals as goal
 
 pub returns-clause-text : goal.returns-clause-text

@@ -1,5 +1,5 @@
 use Rattle.std.proofs.Common.{◌≡◌, ◌++◌, drop}
-use Rattle.xs_printer.specs.Walk.{past_address}
+use Rattle.source_laws.specs.LabelOrder.{past_address}
 use Rattle.xs_printer.proofs.LabelWalk.{lines_at}
 use Rattle.xs_printer.proofs.labels.append_labels.Given as goal
 

@@ -1,5 +1,4 @@
 use Rattle.std.proofs.Common.{sym, arith}
-use Rattle.xs_printer.proofs.Places.{from_first}
 use Rattle.xs_printer.proofs.FirstLabels.{none_yet, one_more_first, past_place}
 use Rattle.xs_printer.proofs.labels.first_labels.Goals as goal
 
@@ -7,7 +6,7 @@ pub loop-place-init : goal.loop-place-init
 loop-place-init c = record {
   firsts = none_yet c.args.image.now.symbols c.new-firsts.result.items c.new-firsts.ensures.items;
   within = omega arith;
-  rest = sym (from_first c.args.image.now c.code.ensures.image);
+  rest = sym (c.labels_stand_in_order.ensures.first_place c.args.image.now c.code.ensures.image);
 }
 
 pub loop-place-preserved : goal.loop-place-preserved
@@ -17,5 +16,5 @@ loop-place-preserved c =
     record {
       firsts = one_more_first image.symbols p c.loop-place.next _ _ c.in_ok-push.ensures.items c.loop-place.invariant.rest c.loop-place.invariant.firsts;
       within = c.past_labels-next.ensures.within;
-      rest = past_place image p c.loop-place.next _ c.code.ensures.image c.loop-place.invariant.rest c.past_labels-next.ensures.rest;
+      rest = past_place image.symbols p c.loop-place.next _ (c.labels_stand_in_order.ensures.later _ _ image.symbols c.code.ensures.image.order (c.labels_stand_in_order.ensures.next_place image p c.code.ensures.image)) c.loop-place.invariant.rest c.past_labels-next.ensures.rest;
     }

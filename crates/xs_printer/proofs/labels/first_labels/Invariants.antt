@@ -1,6 +1,7 @@
 use Rattle.std.proofs.Common.{◌≡◌, ◌≤◌, length, drop}
 use Rattle.xs_instructions.specs.Code.{place_address}
-use Rattle.xs_printer.specs.Walk.{symbols_from, AreFirstLabels}
+use Rattle.source_laws.specs.LabelOrder.{symbols_from}
+use Rattle.xs_printer.specs.Firsts.{AreFirstLabels}
 use Rattle.xs_printer.proofs.labels.first_labels.Given as goal
 
 abbrev pub invariant-loop-place : goal.invariant-loop-place

@@ -1,6 +1,6 @@
 use Rattle.std.proofs.Common.{◌≡◌, ◌+◌, ◌++◌, drop}
 use Rattle.source_model.specs.Canonical.{Byte, behind_labels, lines_text}
-use Rattle.xs_printer.specs.Walk.{IsFirstFrom}
+use Rattle.xs_printer.specs.Firsts.{IsFirstFrom}
 use Rattle.xs_printer.proofs.sections.append_bytes.Given as goal
 
 abbrev pub invariant-loop-byte : goal.invariant-loop-byte

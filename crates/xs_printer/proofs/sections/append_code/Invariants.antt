@@ -1,7 +1,7 @@
 use Rattle.std.proofs.Common.{◌≡◌, ◌++◌, drop}
 use Rattle.xs_instructions.specs.Code.{code_start, place_address}
 use Rattle.source_model.specs.Canonical.{Instruction, behind_labels, lines_text}
-use Rattle.xs_printer.specs.Walk.{IsFirstFrom}
+use Rattle.xs_printer.specs.Firsts.{IsFirstFrom}
 use Rattle.xs_printer.proofs.sections.append_code.Given as goal
 
 abbrev pub invariant-loop-ins : goal.invariant-loop-ins

@@ -1,9 +1,0 @@
-pub mod FirstFault
-pub mod Each
-pub mod Sound
-pub mod Fine
-pub mod Lengths
-pub mod Labels
-pub mod Targets
-pub mod GoodCode
-pub mod IsImage
