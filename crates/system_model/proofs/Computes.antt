@@ -1,34 +1,20 @@
--- The definitions by which an answer comes from words and input. A proof that runs them names `computes` alone.
-use Rattle.std.specs.Fmt.{digits}
+-- The definitions by which a plan or a refusal comes from a system text. A proof that runs them names `computes` alone.
 use Rattle.xs_text.specs.Words.{without_comment, parted}
 use Rattle.xs_text.specs.Lines.{lines_of}
 use Rattle.xs_text.specs.Tokens.{tokens_after}
 use Rattle.system_model.specs.FrameLines.{node_line, node_of_end, link_line, bit_line, source_line, frame_line}
 use Rattle.system_model.specs.Frame.{frame_from, framed}
 use Rattle.system_model.specs.System.{node_plans, system_of}
-use Rattle.system_model.specs.Top.{form_of, answer}
 use Rattle.xs_instructions.specs.Words.{register_number, fixed}
 use Rattle.xs_instructions.specs.Find.{find, known}
-use Rattle.source_model.specs.Canonical.{behind_labels, first_name_at}
 use Rattle.source_model.specs.Each.{all_some}
 use Rattle.source_model.specs.Operands.{operands_after}
 use Rattle.source_model.specs.Values.{values_from}
 use Rattle.source_model.specs.Statement.{labels_first, after_labels}
 use Rattle.source_model.specs.Layout.{place_of, define_all, after_lines}
 use Rattle.source_model.specs.Source.{defines_twice, first_fault, code_from, bytes_from}
-use Rattle.xs_model.specs.Picks.{pick_from}
-use Rattle.xs_model.specs.Memory.{words_of}
-use Rattle.net_model.specs.Ids.{first_difference}
-use Rattle.net_model.specs.Links.{links_after_arrivals}
-use Rattle.net_model.specs.Chans.{free_chan}
-use Rattle.net_model.specs.Switch.{free_end, moves_from}
-use Rattle.step_model.specs.Step.{node_step}
-use Rattle.serial_model.specs.Serial.{serial}
-use Rattle.trace_lines.specs.Lines.{hex_word}
-use Rattle.trace_model.specs.EventOrder.{merged}
-use Rattle.trace_model.specs.Trace.{halted_lines, memory_lines, by_position, events_in_order, trace_text}
 
 -- names them all on its own line, so that they unfold where it does
 unfoldable pub computes : Type 0
-unfolding digits without_comment parted lines_of tokens_after node_line node_of_end link_line bit_line source_line frame_line frame_from framed node_plans system_of form_of answer register_number fixed find known behind_labels first_name_at all_some operands_after values_from labels_first after_labels place_of define_all after_lines defines_twice first_fault code_from bytes_from pick_from words_of first_difference links_after_arrivals free_chan free_end moves_from node_step serial hex_word merged halted_lines memory_lines by_position events_in_order trace_text
+unfolding without_comment parted lines_of tokens_after node_line node_of_end link_line bit_line source_line frame_line frame_from framed node_plans system_of register_number fixed find known all_some operands_after values_from labels_first after_labels place_of define_all after_lines defines_twice first_fault code_from bytes_from
 computes = Unit {0}

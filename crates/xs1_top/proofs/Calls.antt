@@ -3,12 +3,12 @@ use Rattle.std.proofs.Common.{◌≡◌, ℕ, ◌+◌, ◌⊎◌, List, [], leng
 use Rattle.std.proofs.lemmas.List.{length-take}
 use Rattle.std.proofs.Math.Seq.{drop-append_seam}
 use Rattle.xs_edge.specs.Edge.{Took, Wrote, WrotePart}
-use Rattle.system_model.specs.declared.Form.{Form}
-use Rattle.system_model.specs.declared.Answer.{Answer}
-use Rattle.system_model.specs.declared.Status.{Status}
-use Rattle.system_model.specs.declared.Status.TheVariants as status
+use Rattle.answer_model.specs.declared.Form.{Form}
+use Rattle.answer_model.specs.declared.Answer.{Answer}
+use Rattle.answer_model.specs.declared.Status.{Status}
+use Rattle.answer_model.specs.declared.Status.TheVariants as status
 use Rattle.system_model.specs.System.{System, Plan, Frame, Source, system_of, longest_input}
-use Rattle.system_model.specs.Top.{answer, answer_to, answer_of_form, usage_answer, form_of, taken_by}
+use Rattle.answer_model.specs.Top.{answer, answer_to, answer_of_form, usage_answer, form_of, taken_by}
 use Rattle.xs1_top.specs.Call.{IsWhole, IsInput, Answers, AnswersInPart, TookInput, IsFrame, IsSource, IsPlan}
 use Rattle.xs1_top.proofs.Systems.{system_of-front}
 

@@ -1,7 +1,7 @@
 -- The form of words by how many they are.
 use Rattle.std.proofs.Common.{◌≡◌, ◌<◌, ◌≤◌, List, [], ◌∷◌, map, length, None, refl, arith}
 use Rattle.std.specs.Prelude.{String, string_bytes}
-use Rattle.system_model.specs.Top.{form_of}
+use Rattle.answer_model.specs.Top.{form_of}
 
 pub form_of-none : {A : Type 0} (words : List (String A)) → length words < 1 → None ≡ form_of (map string_bytes words)
 unfolding form_of

@@ -1,12 +1,12 @@
 -- What the program's one call does to its source and its sink, and the status that it ends with.
 use Rattle.std.specs.Prelude.{ℕ, ◌≡◌, ◌≤◌, Option, Some, None, List, drop}
 use Rattle.xs_edge.specs.Edge.{Wrote, WrotePart}
-use Rattle.system_model.specs.declared.Form.{Form}
-use Rattle.system_model.specs.declared.Form.TheVariants.{Run, Check}
-use Rattle.system_model.specs.declared.Status.{Status}
-use Rattle.system_model.specs.declared.Status.TheVariants.{Done, Memory, Usage, SystemFault, SourceFault, ScriptFault, ReadFault, WriteFault}
+use Rattle.answer_model.specs.declared.Form.{Form}
+use Rattle.answer_model.specs.declared.Form.TheVariants.{Run, Check}
+use Rattle.answer_model.specs.declared.Status.{Status}
+use Rattle.answer_model.specs.declared.Status.TheVariants.{Done, Memory, Usage, SystemFault, SourceFault, ScriptFault, ReadFault, WriteFault}
 use Rattle.system_model.specs.System.{System, Plan, Frame, Source}
-use Rattle.system_model.specs.Top.{answer, taken, most_slots}
+use Rattle.answer_model.specs.Top.{answer, taken, most_slots}
 
 -- a run of the form has no more slots than a run may have
 abbrev pub HasFewSlots : Form → Type 0

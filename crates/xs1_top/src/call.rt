@@ -2,7 +2,7 @@
 ghost use Rattle.std.specs.Prelude.{ℕ, ◌≡◌, ◌≢◌, ◌<◌, ◌+◌, ◌⊎◌, Some, None, IfOk, IfSome, IsSome, map, string_bytes};
 ghost use Rattle.xs_edge.specs.Edge.{HasRisen, Wrote, WrotePart};
 ghost use Rattle.system_model.specs.System.{system_of, longest_input};
-ghost use Rattle.system_model.specs.Top.{answer_to, form_of, text_for};
+ghost use Rattle.answer_model.specs.Top.{answer_to, form_of, text_for};
 ghost use Rattle.xs1_top.specs.Call.{IsWhole, IsRead, IsSilent, Answers, AnswersInPart, TookInput, IsFrame, IsSource, IsPlan};
 ghost use Rattle.xs1_top.specs.Reads.{ReadsAtMost};
 
@@ -13,8 +13,8 @@ use crate::refusals::{frame_line, source_line, usage_line};
 use crate::words::form_of;
 use std::alloc::{AllocError, Global};
 use sys_plan::Plan;
-pub use system_model::Status;
-use system_model::{Answer, Form};
+pub use answer_model::Status;
+use answer_model::{Answer, Form};
 use system_text::{SystemError, read_system};
 use trace_text::trace;
 use xs_base::Text;

@@ -1,7 +1,7 @@
 //! The sources of a system as the images of its nodes give them.
 ghost use Rattle.std.specs.Prelude.{◌≡◌, ◌++◌, IfOk, OnOk};
 ghost use Rattle.std.specs.List.{flat_map};
-ghost use Rattle.system_model.specs.Check.{check_text, source_section};
+ghost use Rattle.answer_model.specs.Check.{check_text, source_section};
 
 use std::alloc::{AllocError, Global};
 use sys_plan::{NodePlan, Plan};

@@ -12,4 +12,4 @@ mod tests;
 mod words;
 
 pub use call::top;
-pub use system_model::Status;
+pub use answer_model::Status;

@@ -1,6 +1,6 @@
 //! The lines that tell why nothing was run.
 ghost use Rattle.std.specs.Prelude.{◌≡◌, ◌++◌, IfOk, OnOk};
-ghost use Rattle.system_model.specs.Top.{frame_text, source_text, text_of_asm_kind, text_of_sys_kind, usage_text};
+ghost use Rattle.answer_model.specs.Top.{frame_text, source_text, text_of_asm_kind, text_of_sys_kind, usage_text};
 
 use source_model::AsmKind;
 use std::alloc::{AllocError, Global};

@@ -3,7 +3,7 @@ ghost use Rattle.std.specs.Prelude.{◌≡◌, Some};
 use crate::top;
 use std::alloc::{AllocError, Global};
 use std::test::Fail;
-use system_model::Status;
+use answer_model::Status;
 use xs_edge::{Failed, FailingSink, FailingSource, ListSink, ListSource, OpenGate, Sink, Source};
 
 const SUM: &[u8] =

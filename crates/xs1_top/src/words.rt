@@ -3,10 +3,10 @@ ghost use Rattle.std.specs.Prelude.{◌≡◌, ◌≤◌, [], ◌∷◌, map, st
 ghost use Rattle.std.specs.List.{list_all};
 ghost use Rattle.std.specs.Char.{is_ascii_digit};
 ghost use Rattle.xs_text.specs.Tokens.{is_run};
-ghost use Rattle.system_model.specs.Top.{count_of, form_of, run_of};
+ghost use Rattle.answer_model.specs.Top.{count_of, form_of, run_of};
 ghost use Rattle.xs1_top.specs.Call.{HasFewSlots};
 
-use system_model::Form;
+use answer_model::Form;
 use xs_instructions::same_name;
 use xs_text::number;
 
@@ -32,7 +32,7 @@ pub fn form_of(words: &[String]) -> Option<Form>
 }
 
 // The form of one word: `check`.
-#[tactic(auto, unfolding(system_model::specs::Top::form_of))]
+#[tactic(auto, unfolding(answer_model::specs::Top::form_of))]
 fn form_of_one(command: &str) -> Option<Form>
     ensures value { result ≡ form_of (command.now ∷ []) }
     ensures few { IfSome result HasFewSlots }
@@ -41,7 +41,7 @@ fn form_of_one(command: &str) -> Option<Form>
 }
 
 // The form of two words: `run SLOTS`.
-#[tactic(auto, unfolding(system_model::specs::Top::form_of))]
+#[tactic(auto, unfolding(answer_model::specs::Top::form_of))]
 fn form_of_two(command: &str, slots: &str) -> Option<Form>
     ensures value { result ≡ form_of (command.now ∷ slots.now ∷ []) }
     ensures few { IfSome result HasFewSlots }
@@ -53,7 +53,7 @@ fn form_of_two(command: &str, slots: &str) -> Option<Form>
 }
 
 // The form of three words: `run SLOTS serial`.
-#[tactic(auto, unfolding(system_model::specs::Top::form_of))]
+#[tactic(auto, unfolding(answer_model::specs::Top::form_of))]
 fn form_of_three(command: &str, slots: &str, mode: &str) -> Option<Form>
     ensures value { result ≡ form_of (command.now ∷ slots.now ∷ mode.now ∷ []) }
     ensures few { IfSome result HasFewSlots }

@@ -1,7 +1,7 @@
 use Rattle.std.proofs.Common.{◌≡◌, ◌∙◌, ap}
 use Rattle.system_model.specs.System.{system_of}
-use Rattle.system_model.specs.Top.{answer_to}
-use Rattle.system_model.specs.declared.Status.TheVariants as status
+use Rattle.answer_model.specs.Top.{answer_to}
+use Rattle.answer_model.specs.declared.Status.TheVariants as status
 use Rattle.xs1_top.specs.Call.{IsFrame, IsSource, IsPlan}
 use Rattle.xs1_top.proofs.Systems.{told}
 use Rattle.xs1_top.proofs.Calls.{Answers-usage, AnswersInPart-usage, Answers-form, AnswersInPart-form, TookInput-form, frame-ended, ended-frame, source-ended, ended-source, plan-ended}

@@ -1,7 +1,7 @@
 -- The number that the program ends with.
 use Rattle.std.specs.Prelude.{ℕ}
-use Rattle.system_model.specs.declared.Status.{Status}
-use Rattle.system_model.specs.declared.Status.TheVariants.{Done, Memory, Usage, SystemFault, SourceFault, ScriptFault, ReadFault, WriteFault}
+use Rattle.answer_model.specs.declared.Status.{Status}
+use Rattle.answer_model.specs.declared.Status.TheVariants.{Done, Memory, Usage, SystemFault, SourceFault, ScriptFault, ReadFault, WriteFault}
 
 abbrev pub number_of_status : Status → ℕ
 number_of_status Done = 0

@@ -1,7 +1,7 @@
 -- Answers at the edges, worked out by hand.
 use Rattle.std.specs.Prelude.{◌≡◌, [], ◌∷◌, ◌++◌, codes}
-use Rattle.system_model.specs.Top.{answer}
-use Rattle.system_model.specs.Worked.{lone, run_for, done, frame_refused, source_refused, no_usage}
+use Rattle.answer_model.specs.Top.{answer}
+use Rattle.answer_model.specs.Worked.{lone, run_for, done, frame_refused, source_refused, no_usage}
 
 -- at the frame of a system text
 pub record WorkedFrames : Type 0 where

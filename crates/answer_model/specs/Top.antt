@@ -8,12 +8,12 @@ use Rattle.source_model.specs.declared.AsmKind.TheVariants as asm
 use Rattle.sys_plan.specs.Plan.{PlanRec}
 use Rattle.system_model.specs.declared.SysKind.{SysKind}
 use Rattle.system_model.specs.declared.SysKind.TheVariants as sys
-use Rattle.system_model.specs.declared.Form.{Form}
-use Rattle.system_model.specs.declared.Form.TheVariants.{Run, Check}
-use Rattle.system_model.specs.declared.Answer.{Answer}
-use Rattle.system_model.specs.declared.Status.TheVariants as status
+use Rattle.answer_model.specs.declared.Form.{Form}
+use Rattle.answer_model.specs.declared.Form.TheVariants.{Run, Check}
+use Rattle.answer_model.specs.declared.Answer.{Answer}
+use Rattle.answer_model.specs.declared.Status.TheVariants as status
 use Rattle.system_model.specs.System.{System, Plan, Frame, Source, system_of, longest_input}
-use Rattle.system_model.specs.Check.{check_text}
+use Rattle.answer_model.specs.Check.{check_text}
 use Rattle.trace_model.specs.Trace.{trace_text}
 
 -- one to ten decimal digits, of a value of at most a limit

@@ -1,7 +1,7 @@
 -- Answers for two nodes, worked out by hand.
 use Rattle.std.specs.Prelude.{ℕ, ◌≡◌, List, ◌++◌, codes}
-use Rattle.system_model.specs.Top.{answer}
-use Rattle.system_model.specs.Worked.{run_for, done}
+use Rattle.answer_model.specs.Top.{answer}
+use Rattle.answer_model.specs.Worked.{run_for, done}
 
 -- two nodes that no link joins, with these sources
 abbrev pub apart : List ℕ → List ℕ → List ℕ

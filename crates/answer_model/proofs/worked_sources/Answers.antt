@@ -1,6 +1,6 @@
 use Rattle.std.proofs.Common.{refl}
-use Rattle.system_model.proofs.Computes.{computes}
-use Rattle.system_model.proofs.worked_sources.Goals as goal
+use Rattle.answer_model.proofs.Computes.{computes}
+use Rattle.answer_model.proofs.worked_sources.Goals as goal
 
 pub returns : goal.returns
 unfolding computes

@@ -1,8 +1,8 @@
 -- Answers worked out by hand: what the program writes for small systems.
 use Rattle.std.specs.Prelude.{ℕ, ◌≡◌, List, [], ◌∷◌, ◌++◌, codes}
-use Rattle.system_model.specs.declared.Answer.{Answer}
-use Rattle.system_model.specs.declared.Status.TheVariants.{Done, Usage, SystemFault, SourceFault}
-use Rattle.system_model.specs.Top.{answer, usage_text}
+use Rattle.answer_model.specs.declared.Answer.{Answer}
+use Rattle.answer_model.specs.declared.Status.TheVariants.{Done, Usage, SystemFault, SourceFault}
+use Rattle.answer_model.specs.Top.{answer, usage_text}
 
 -- node 0 with this source
 abbrev pub lone : List ℕ → List ℕ

@@ -1,0 +1,6 @@
+pub mod Check
+pub mod Top
+pub mod Worked
+pub mod WorkedEdges
+pub mod WorkedPairs
+pub mod StatusNumber

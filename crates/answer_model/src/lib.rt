@@ -1,0 +1,87 @@
+//! What the program answers to its words and its input: definitions alone, with the plain types that they speak of. See
+//! docs/OUTPUT.md.
+#![tactic(auto)]
+
+ghost use Rattle.std.specs.Prelude.{◌≡◌};
+ghost use Rattle.answer_model.specs.StatusNumber.{number_of_status};
+ghost use Rattle.answer_model.specs.Worked.{WorkedAnswers, WorkedChecks};
+ghost use Rattle.answer_model.specs.WorkedEdges.{WorkedFrames, WorkedSources, WorkedRuns};
+ghost use Rattle.answer_model.specs.WorkedPairs.{WorkedPairs};
+
+use xs_base::Text;
+
+/// The forms of the command words. See docs/OUTPUT.md.
+#[derive(Clone, Copy)]
+pub enum Form {
+    /// `run SLOTS`, and `run SLOTS serial` likewise: a run of so many slots.
+    Run(u32),
+    /// `check`: the source of each node as its image gives it.
+    Check,
+}
+
+/// How the program ends.
+#[derive(Clone, Copy, PartialEq, Eq, Debug)]
+pub enum Status {
+    /// The words, the input and the run were taken whole.
+    Done,
+    /// Memory was wanting; nothing was written.
+    Memory,
+    /// The words are none of the forms.
+    Usage,
+    /// The frame of the system text was refused.
+    SystemFault,
+    /// A node's source was refused.
+    SourceFault,
+    /// The pin script was refused.
+    ScriptFault,
+    /// The input could not be read; nothing was written.
+    ReadFault,
+    /// The text could not be written whole.
+    WriteFault,
+}
+
+impl Status {
+    /// The number that the program ends with, 0 to 7. See docs/OUTPUT.md.
+    pub fn number(self) -> u8
+        ensures { result ≡ number_of_status self }
+    {
+        self as u8
+    }
+}
+
+/// What is written, and how the program ends.
+#[derive(Drop)]
+pub struct Answer {
+    pub text: Text,
+    pub status: Status,
+}
+
+/// The definitions give what was worked out by hand.
+pub fn worked_answers()
+    ensures { WorkedAnswers }
+{}
+
+/// The same of `check`.
+pub fn worked_checks()
+    ensures { WorkedChecks }
+{}
+
+/// The same at the frame of a system text.
+pub fn worked_frames()
+    ensures { WorkedFrames }
+{}
+
+/// The same at the lines of a source.
+pub fn worked_sources()
+    ensures { WorkedSources }
+{}
+
+/// The same at runs.
+pub fn worked_runs()
+    ensures { WorkedRuns }
+{}
+
+/// The same at runs of two nodes.
+pub fn worked_pairs()
+    ensures { WorkedPairs }
+{}
