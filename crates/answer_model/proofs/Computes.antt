@@ -24,7 +24,7 @@ use Rattle.net_model.specs.Chans.{free_chan}
 use Rattle.net_model.specs.Switch.{free_end, moves_from}
 use Rattle.step_model.specs.Step.{node_step}
 use Rattle.serial_model.specs.Serial.{serial}
-use Rattle.trace_lines.specs.Lines.{hex_word}
+use Rattle.trace_model.specs.EventLines.{hex_word}
 use Rattle.trace_model.specs.EventOrder.{merged}
 use Rattle.trace_model.specs.Trace.{halted_lines, memory_lines, by_position, events_in_order, trace_text}
 

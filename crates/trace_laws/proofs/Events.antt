@@ -14,7 +14,7 @@ use Rattle.sys_plan.specs.Plan.{PlanRec}
 use Rattle.step_model.specs.Fixed.{Fixed}
 use Rattle.step_model.specs.Step.{Stepped, node_step}
 use Rattle.serial_model.specs.Serial.{serial, steps_from, longer_events}
-use Rattle.trace_lines.specs.Kept.{kept_at_most}
+use Rattle.xs_model.specs.FirstEvents.{kept_at_most}
 use Rattle.trace_model.specs.EventOrder.{told_by}
 use Rattle.trace_model.specs.Trace.{events_at, events_in_order}
 use Rattle.trace_laws.specs.Order.{RiseFrom, of_slot, node_by_node}

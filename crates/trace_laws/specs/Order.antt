@@ -3,7 +3,7 @@ use Rattle.std.specs.Prelude.{ℕ, ◌≡◌, ◌+◌, ◌≤◌, ◌==◌, List
 use Rattle.sys_plan.specs.declared.NodePlan.{NodePlan}
 use Rattle.sys_plan.specs.Plan.{PlanRec}
 use Rattle.serial_model.specs.Serial.{SystemRec, serial}
-use Rattle.trace_lines.specs.Kept.{first_events}
+use Rattle.xs_model.specs.FirstEvents.{first_events}
 use Rattle.trace_model.specs.declared.NodeEvent.{NodeEvent}
 use Rattle.trace_model.specs.EventOrder.{told_by}
 use Rattle.trace_model.specs.Trace.{events_at, events_in_order}

@@ -1,21 +1,13 @@
 -- What is kept of a node's events: the first 262,144, and the count of the rest.
-use Rattle.std.specs.Prelude.{ℕ, ◌≡◌, ◌-◌, ◌<◌, ◌≤◌, List, length, take}
+use Rattle.std.specs.Prelude.{ℕ, ◌≡◌, ◌<◌, ◌≤◌, List, length}
 use Rattle.xs_model.specs.declared.event.Event.{Event}
-
-abbrev pub kept_at_most : ℕ
-kept_at_most = 262144
+use Rattle.xs_model.specs.FirstEvents.{kept_at_most, first_events, left_out}
 
 -- what NodeEvents keeps: events in their order, how many more there were, and for how many more there is room
 pub record KeptEvents : Type 0 where
   pub events : List Event
   pub more : ℕ
   pub spare : ℕ
-
-abbrev pub first_events : List Event → List Event
-first_events all = take kept_at_most all
-
-abbrev pub left_out : List Event → ℕ
-left_out all = length all - kept_at_most
 
 -- these are all the events of a node, kept so far as they are kept
 pub record Keeps (kept : KeptEvents) (all : List Event) : Type 0 where

@@ -1,7 +1,8 @@
 -- How NodeEvents lie in memory.
 use Rattle.std.specs.Prelude.{◌+◌, ◌≤◌, length, vec_len, vec_capacity, All}
 use Rattle.xs_model.specs.Events.{IsWithinCounts}
-use Rattle.trace_lines.specs.Kept.{KeptEvents, kept_at_most}
+use Rattle.xs_model.specs.FirstEvents.{kept_at_most}
+use Rattle.trace_lines.specs.Kept.{KeptEvents}
 use Rattle.trace_lines.specs.declared.kept.NodeEvents.TheInside.{Inside}
 
 abbrev pub kept_in : Inside → KeptEvents

@@ -2,7 +2,8 @@
 ghost use Rattle.std.specs.Prelude.{ℕ, ◌≡◌, ◌+◌, ◌-◌, ◌^◌, ◌<◌, ◌≤◌, List, [], ◌∷◌, ◌++◌, length, OnOk, OnErr, All};
 ghost use Rattle.xs_model.specs.declared.event.Event.{Event};
 ghost use Rattle.xs_model.specs.Events.{IsWithinCounts};
-ghost use Rattle.trace_lines.specs.Kept.{Keeps, HasRoom, kept_at_most};
+ghost use Rattle.xs_model.specs.FirstEvents.{kept_at_most};
+ghost use Rattle.trace_lines.specs.Kept.{Keeps, HasRoom};
 
 use std::alloc::{AllocError, Global};
 use std::marker::Model;

@@ -1,4 +1,6 @@
+pub mod EventLines
 pub mod EventOrder
 pub mod Trace
 pub mod Worked
 pub mod WorkedLinks
+pub mod WorkedLines

@@ -10,8 +10,8 @@ use Rattle.xs_model.specs.declared.thread.Thread.{Thread}
 use Rattle.xs_model.specs.declared.event.Event.{Event}
 use Rattle.xs_model.specs.Memory.{memory_base, words_of}
 use Rattle.xs_model.specs.Record.{NodeRec, first_node}
-use Rattle.trace_lines.specs.Lines.{event_line, hex_word}
-use Rattle.trace_lines.specs.Kept.{first_events, left_out}
+use Rattle.trace_model.specs.EventLines.{event_line, hex_word}
+use Rattle.xs_model.specs.FirstEvents.{first_events, left_out}
 use Rattle.sys_plan.specs.declared.NodePlan.{NodePlan}
 use Rattle.sys_plan.specs.Plan.{PlanRec, Direction, directions}
 use Rattle.serial_model.specs.Serial.{SystemRec, serial, is_credit}

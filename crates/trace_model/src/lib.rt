@@ -2,6 +2,7 @@
 #![tactic(auto)]
 
 ghost use Rattle.trace_model.specs.Worked.{WorkedOrder, WorkedTraces};
+ghost use Rattle.trace_model.specs.WorkedLines.{WorkedLines};
 ghost use Rattle.trace_model.specs.WorkedLinks.{WorkedLinks};
 
 use xs_model::Event;
@@ -15,6 +16,7 @@ pub struct NodeEvent {
 
 /// A law: the definitions give the order and the texts that were worked out by hand. It does nothing.
 pub fn worked_texts()
+    ensures lines { WorkedLines }
     ensures order { WorkedOrder }
     ensures traces { WorkedTraces }
     ensures links { WorkedLinks }

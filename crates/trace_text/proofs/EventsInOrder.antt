@@ -2,7 +2,8 @@
 use Rattle.std.proofs.Common.{◌≡◌, ℕ, ◌+◌, ◌<◌, ◌≤◌, List, [], ◌∷◌, length, get_or, drop, refl, ap, sym, ◌∙◌}
 use Rattle.std.proofs.lemmas.List.{at_drop_more, drop_all}
 use Rattle.xs_model.specs.declared.event.Event.{Event}
-use Rattle.trace_lines.specs.Kept.{KeptEvents, Keeps, first_events}
+use Rattle.xs_model.specs.FirstEvents.{first_events}
+use Rattle.trace_lines.specs.Kept.{KeptEvents, Keeps}
 use Rattle.sys_plan.specs.declared.NodePlan.{NodePlan}
 use Rattle.serial_model.specs.Serial.{SystemRec}
 use Rattle.trace_model.specs.declared.NodeEvent.{NodeEvent}

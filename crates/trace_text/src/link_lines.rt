@@ -3,7 +3,7 @@ ghost use Rattle.std.specs.Prelude.{◌≡◌, ◌++◌, OnOk};
 ghost use Rattle.trace_model.specs.Trace.{tokens_in, credits_in, link_end_text, counts_text, link_line};
 
 use std::alloc::AllocError;
-use trace_lines::append_decimal;
+use line_text::append_decimal;
 use xs_base::{Entry, Text, What};
 
 // How many tokens, and how many credits.

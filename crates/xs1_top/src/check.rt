@@ -5,7 +5,7 @@ ghost use Rattle.answer_model.specs.Check.{check_text, source_section};
 
 use std::alloc::{AllocError, Global};
 use sys_plan::{NodePlan, Plan};
-use trace_lines::append_decimal;
+use line_text::append_decimal;
 use xs_base::Text;
 use xs_printer::print_image;
 

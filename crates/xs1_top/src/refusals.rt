@@ -5,7 +5,7 @@ ghost use Rattle.answer_model.specs.Top.{frame_text, source_text, text_of_asm_ki
 use source_model::AsmKind;
 use std::alloc::{AllocError, Global};
 use system_model::SysKind;
-use trace_lines::append_decimal;
+use line_text::append_decimal;
 use xs_base::Text;
 
 /// The usage line. It takes no memory.

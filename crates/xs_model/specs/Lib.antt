@@ -6,3 +6,4 @@ pub mod Picks
 pub mod Entry
 pub mod Outside
 pub mod Events
+pub mod FirstEvents

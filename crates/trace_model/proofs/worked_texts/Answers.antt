@@ -8,10 +8,14 @@ use Rattle.net_model.specs.Links.{links_after_arrivals}
 use Rattle.net_model.specs.Switch.{moves_from, free_end}
 use Rattle.step_model.specs.Step.{node_step}
 use Rattle.serial_model.specs.Serial.{serial}
-use Rattle.trace_lines.specs.Lines.{hex_word}
+use Rattle.trace_model.specs.EventLines.{hex_word}
 use Rattle.trace_model.specs.EventOrder.{merged}
 use Rattle.trace_model.specs.Trace.{halted_lines, memory_lines, by_position, events_in_order, trace_text}
 use Rattle.trace_model.proofs.worked_texts.Goals as goal
+
+pub returns-clause-lines : goal.returns-clause-lines
+unfolding digits hex_word
+returns-clause-lines c = record { trap = refl; halt = refl; drive = refl; float = refl; control = refl; byte = refl; lost = refl }
 
 pub returns-clause-order : goal.returns-clause-order
 unfolding digits merged

@@ -1,6 +1,6 @@
 use Rattle.std.proofs.Common.{◌≡◌, ◌+◌, ◌<◌, ◌≤◌, [], ◌∷◌, ◌++◌, length, ap, ◌∙◌, arith}
 use Rattle.std.proofs.lemmas.Grind.{common_steps}
-use Rattle.trace_lines.specs.Kept.{kept_at_most, first_events}
+use Rattle.xs_model.specs.FirstEvents.{kept_at_most, first_events}
 use Rattle.trace_lines.proofs.Keeping.{kept-more, rest-none, kept-same, rest-more}
 use Rattle.trace_lines.proofs.kept.NodeEvents.add.Goals as goal
 

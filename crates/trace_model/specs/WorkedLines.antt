@@ -2,9 +2,9 @@
 use Rattle.std.specs.Prelude.{◌≡◌, codes}
 use Rattle.xs_base.specs.declared.token.Token.TheVariants.{Byte, Ctrl}
 use Rattle.xs_model.specs.declared.event.Happen.TheVariants as happen
-use Rattle.trace_lines.specs.Lines.{event_line}
+use Rattle.trace_model.specs.EventLines.{event_line}
 
-pub record LinesAreAsWorked : Type 0 where
+pub record WorkedLines : Type 0 where
   pub trap : event_line 0 (record { slot = 8; what = happen.Trap 0 7 0x0004_0008 0 }) ≡ codes "8 n0.t0 trap 7 pc 0x00040008 data 0x00000000\n"
   pub halt : event_line 0 (record { slot = 8; what = happen.Halt 0 }) ≡ codes "8 n0.t0 halt\n"
   pub drive : event_line 0 (record { slot = 14; what = happen.Drive 16 10 }) ≡ codes "14 n0 pin 4A 0x0000000a\n"

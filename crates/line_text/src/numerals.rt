@@ -1,6 +1,6 @@
 //! The numbers of the trace's lines.
 ghost use Rattle.std.specs.Prelude.{◌≡◌, ◌<◌, ◌++◌, OnOk, OnErr, decimal};
-ghost use Rattle.trace_lines.specs.Lines.{hex_word, hex_digit_at};
+ghost use Rattle.trace_model.specs.EventLines.{hex_word, hex_digit_at};
 
 use itoa::Buffer;
 use std::alloc::AllocError;

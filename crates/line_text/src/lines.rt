@@ -1,7 +1,7 @@
 //! The lines of events.
 ghost use Rattle.std.specs.Prelude.{◌≡◌, ◌<◌, ◌++◌, OnOk, OnErr};
 ghost use Rattle.xs_model.specs.Events.{IsWithinCounts, NamesWhatIsThere};
-ghost use Rattle.trace_lines.specs.Lines.{event_line, happening_text, token_text, port_name, drive_text, float_text, chan_text, lost_text, trap_text, halt_text};
+ghost use Rattle.trace_model.specs.EventLines.{event_line, happening_text, token_text, port_name, drive_text, float_text, chan_text, lost_text, trap_text, halt_text};
 
 use crate::numerals::{append_decimal, append_hex_word};
 use std::alloc::{AllocError, Global};
