@@ -17,22 +17,22 @@ use Rattle.answer_model.specs.Check.{check_text}
 use Rattle.trace_model.specs.Trace.{trace_text}
 
 -- one to ten decimal digits, of a value of at most a limit
-abbrev pub count_of : ℕ → List ℕ → Option ℕ
-count_of limit word = if nat_le (length word) 10 then at_most limit (value_in 10 is_ascii_digit word) else None
+abbrev pub decimal_up_to : ℕ → List ℕ → Option ℕ
+decimal_up_to limit word = if nat_le (length word) 10 then at_most limit (value_in 10 is_ascii_digit word) else None
 
 abbrev pub most_slots : ℕ
 most_slots = 1000000
 
 -- the run of so many slots as the word says
 abbrev pub run_of : List ℕ → Option Form
-run_of word = option_and_then (λ slots. Some (Run slots)) (count_of most_slots word)
+run_of word = option_and_then (λ slots. Some (Run slots)) (decimal_up_to most_slots word)
 
 -- the form of the words, if they have one: `check`, `run SLOTS` or `run SLOTS serial`, the last two the same
-unfoldable pub form_of : List (List ℕ) → Option Form
-form_of (a ∷ []) = if same_name (codes "check") a then Some Check else None
-form_of (a ∷ n ∷ []) = if same_name (codes "run") a then run_of n else None
-form_of (a ∷ n ∷ mode ∷ []) = if same_name (codes "run") a && same_name (codes "serial") mode then run_of n else None
-form_of _ = None
+unfoldable pub form_of_words : List (List ℕ) → Option Form
+form_of_words (a ∷ []) = if same_name (codes "check") a then Some Check else None
+form_of_words (a ∷ n ∷ []) = if same_name (codes "run") a then run_of n else None
+form_of_words (a ∷ n ∷ mode ∷ []) = if same_name (codes "run") a && same_name (codes "serial") mode then run_of n else None
+form_of_words _ = None
 
 abbrev pub usage_text : List ℕ
 usage_text = codes "usage: xs1 run SLOTS [serial|free|rounds] | play SLOTS | make NUMBER | check\n"
@@ -91,7 +91,7 @@ answer_of_form (Some form) bytes = answer_to form (system_of bytes)
 
 -- what the program answers to its words and the bytes of its input
 unfoldable pub answer : List (List ℕ) → List ℕ → Answer
-answer words bytes = answer_of_form (form_of words) bytes
+answer words bytes = answer_of_form (form_of_words words) bytes
 
 -- how many bytes of the input a form takes: all, or one past the longest input
 abbrev pub taken_by : Option Form → List ℕ → ℕ
@@ -100,4 +100,4 @@ taken_by (Some form) bytes = min (length bytes) (longest_input + 1)
 
 -- how many bytes of the input are taken
 abbrev pub taken : List (List ℕ) → List ℕ → ℕ
-taken words bytes = taken_by (form_of words) bytes
+taken words bytes = taken_by (form_of_words words) bytes

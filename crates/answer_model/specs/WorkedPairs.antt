@@ -4,30 +4,30 @@ use Rattle.answer_model.specs.Top.{answer}
 use Rattle.answer_model.specs.Worked.{run_for, done}
 
 -- two nodes that no link joins, with these sources
-abbrev pub apart : List ℕ → List ℕ → List ℕ
-apart first second =
+abbrev pub unjoined_pair : List ℕ → List ℕ → List ℕ
+unjoined_pair first second =
     codes "xs1 1\nnode 0 id 0\nnode 1 id 1\nsource 0\n" ++ (first ++ (codes "end\nsource 1\n" ++ (second ++ codes "end\n")))
 
 -- two nodes that a link joins, with these sources
-abbrev pub joined : List ℕ → List ℕ → List ℕ
-joined first second =
+abbrev pub joined_pair : List ℕ → List ℕ → List ℕ
+joined_pair first second =
     codes "xs1 1\nnode 0 id 0\nnode 1 id 1\nlink 0:0 1:0 delay 5 gap 4\nbit 0 0 0\nbit 1 0 0\nsource 0\n"
     ++ (first ++ (codes "end\nsource 1\n" ++ (second ++ codes "end\n")))
 
 -- an END to channel end 0 of the node with id 1
-abbrev pub sender : List ℕ
-sender = codes "getr r0, 2\nldw r1, dp[0]\nsetd res[r0], r1\noutct res[r0], 1\nfreet\n.data\n.word 0x00010002\n"
+abbrev pub sender_source : List ℕ
+sender_source = codes "getr r0, 2\nldw r1, dp[0]\nsetd res[r0], r1\noutct res[r0], 1\nfreet\n.data\n.word 0x00010002\n"
 
-abbrev pub receiver : List ℕ
-receiver = codes "getr r0, 2\nchkct res[r0], 1\nfreet\n"
+abbrev pub receiver_source : List ℕ
+receiver_source = codes "getr r0, 2\nchkct res[r0], 1\nfreet\n"
 
 pub record WorkedPairs : Type 0 where
   -- node 0 is told before node 1
-  pub both_in_one_slot : answer (run_for (codes "1")) (apart (codes "") (codes "")) ≡ done (codes "0 n0.t0 trap 2 pc 0x00040000 data 0x00040000\n0 n0.t0 halt\n0 n1.t0 trap 2 pc 0x00040000 data 0x00040000\n0 n1.t0 halt\nn0.t0 halted\nn1.t0 halted\nend 1\n")
+  pub both_in_one_slot : answer (run_for (codes "1")) (unjoined_pair (codes "") (codes "")) ≡ done (codes "0 n0.t0 trap 2 pc 0x00040000 data 0x00040000\n0 n0.t0 halt\n0 n1.t0 trap 2 pc 0x00040000 data 0x00040000\n0 n1.t0 halt\nn0.t0 halted\nn1.t0 halted\nend 1\n")
   -- node 1 is told first, since its slot is earlier
-  pub in_turn : answer (run_for (codes "5")) (apart (codes "nop\n") (codes "")) ≡ done (codes "0 n1.t0 trap 2 pc 0x00040000 data 0x00040000\n0 n1.t0 halt\n4 n0.t0 trap 2 pc 0x00040004 data 0x00040004\n4 n0.t0 halt\nn0.t0 halted\nn1.t0 halted\nend 5\n")
+  pub in_turn : answer (run_for (codes "5")) (unjoined_pair (codes "nop\n") (codes "")) ≡ done (codes "0 n1.t0 trap 2 pc 0x00040000 data 0x00040000\n0 n1.t0 halt\n4 n0.t0 trap 2 pc 0x00040004 data 0x00040004\n4 n0.t0 halt\nn0.t0 halted\nn1.t0 halted\nend 5\n")
   -- header bytes at 13, 17, 21 and END at 25; it arrives at 30, and the last credit leaves then
-  pub pair : answer (run_for (codes "40")) (joined sender receiver) ≡ done (codes "30 n1 chan 0 ct 1\nlink 0:0>1:0 tokens 4 credits 0\nlink 1:0>0:0 tokens 0 credits 4\nn0 mem 0x00010000 0x00010002\nend 40\n")
-  pub pair_cut : answer (run_for (codes "30")) (joined sender receiver) ≡ done (codes "link 0:0>1:0 tokens 4 credits 0\nlink 1:0>0:0 tokens 0 credits 3\nn0 mem 0x00010000 0x00010002\nend 30\n")
+  pub pair : answer (run_for (codes "40")) (joined_pair sender_source receiver_source) ≡ done (codes "30 n1 chan 0 ct 1\nlink 0:0>1:0 tokens 4 credits 0\nlink 1:0>0:0 tokens 0 credits 4\nn0 mem 0x00010000 0x00010002\nend 40\n")
+  pub pair_cut : answer (run_for (codes "30")) (joined_pair sender_source receiver_source) ≡ done (codes "link 0:0>1:0 tokens 4 credits 0\nlink 1:0>0:0 tokens 0 credits 3\nn0 mem 0x00010000 0x00010002\nend 30\n")
   -- no channel end of node 1 is in use
-  pub lost : answer (run_for (codes "40")) (joined sender (codes "freet\n")) ≡ done (codes "27 n1 lost 0x00010002\nlink 0:0>1:0 tokens 4 credits 0\nlink 1:0>0:0 tokens 0 credits 4\nn0 mem 0x00010000 0x00010002\nend 40\n")
+  pub lost : answer (run_for (codes "40")) (joined_pair sender_source (codes "freet\n")) ≡ done (codes "27 n1 lost 0x00010002\nlink 0:0>1:0 tokens 4 credits 0\nlink 1:0>0:0 tokens 0 credits 4\nn0 mem 0x00010000 0x00010002\nend 40\n")

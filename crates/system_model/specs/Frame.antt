@@ -11,7 +11,7 @@ use Rattle.system_model.specs.declared.frame_line.FrameLine.{FrameLine}
 use Rattle.system_model.specs.declared.frame_line.FrameLine.TheVariants.{Node, Link, Bit, Source}
 use Rattle.system_model.specs.declared.frame_line.GivenNode.{GivenNode}
 use Rattle.system_model.specs.declared.frame_line.LinkLine.{LinkLine}
-use Rattle.system_model.specs.FrameLines.{is_header, is_end, frame_line, is_in_range}
+use Rattle.system_model.specs.FrameLines.{is_header, is_end, frame_line, are_numbers_in_range}
 
 -- a source: the number of its node, the line that begins it, and its own lines
 pub record SourceText : Type 0 where
@@ -34,38 +34,38 @@ nothing_given = record { begun = false; nodes = []; links = []; bits = []; sourc
 
 -- What a line says
 
-pub data Says : Type 0 where
+pub data FrameSays : Type 0 where
   -- it is a source's own
-  Own : Says
+  Own : FrameSays
   -- it ends a source
-  End : Says
+  End : FrameSays
   -- it has no words
-  Blank : Says
+  Blank : FrameSays
   -- it is the first with words, and is `xs1 1`
-  Header : Says
+  Header : FrameSays
   -- it is the first with words, and is something else
-  NoHeader : Says
+  NoHeader : FrameSays
   -- it is a later one, and has no form
-  NoForm : Says
+  NoForm : FrameSays
   -- it is a later one of a form
-  Form : (form : FrameLine) → Says
+  Form : (form : FrameLine) → FrameSays
 
-abbrev pub says_form : Option FrameLine → Says
+abbrev pub says_form : Option FrameLine → FrameSays
 says_form None = NoForm
 says_form (Some form) = Form form
 
 -- outside of the sources, by whether a line before it had words, and by its own words
-abbrev pub says_in_frame : Bool → List (List ℕ) → Says
+abbrev pub says_in_frame : Bool → List (List ℕ) → FrameSays
 says_in_frame begun [] = Blank
 says_in_frame false (w ∷ ws) = if is_header (w ∷ ws) then Header else NoHeader
 says_in_frame true (w ∷ ws) = says_form (frame_line (w ∷ ws))
 
-abbrev pub says_by : Bool → Option SourceText → List ℕ → Says
+abbrev pub says_by : Bool → Option SourceText → List ℕ → FrameSays
 says_by begun None l = says_in_frame begun (words_of_line l)
 says_by begun (Some source) l = if is_end l then End else Own
 
 -- what a line says after what is given
-abbrev pub says : Given → List ℕ → Says
+abbrev pub says : Given → List ℕ → FrameSays
 says given l = says_by given.begun given.reading l
 
 -- The tests of a line
@@ -81,69 +81,69 @@ abbrev pub has_source : List SourceText → ℕ → Bool
 has_source sources number = list_any (λ (source : SourceText). source.number == number) sources
 
 -- it is the first line with words, and is not `xs1 1`
-abbrev pub is_other_first_line : Says → Bool
+abbrev pub is_other_first_line : FrameSays → Bool
 is_other_first_line NoHeader = true
 is_other_first_line _ = false
 
 -- the frame looks at each line but a source's own
-abbrev pub is_of_the_frame : Says → Bool
+abbrev pub is_of_the_frame : FrameSays → Bool
 is_of_the_frame Own = false
 is_of_the_frame _ = true
 
 -- there are at most two nodes and one link so far
-abbrev pub is_built : Given → FrameLine → Bool
-is_built given (Node node) = nat_lt (length given.nodes) 2
-is_built given (Link link) = nat_lt (length given.links) 1
-is_built given _ = true
+abbrev pub is_line_built : Given → FrameLine → Bool
+is_line_built given (Node node) = nat_lt (length given.nodes) 2
+is_line_built given (Link link) = nat_lt (length given.links) 1
+is_line_built given _ = true
 
 -- it has no form that is built
-abbrev pub is_unknown : Given → Says → Bool
-is_unknown given NoForm = true
-is_unknown given (Form form) = not (is_built given form)
-is_unknown given _ = false
+abbrev pub has_no_form : Given → FrameSays → Bool
+has_no_form given NoForm = true
+has_no_form given (Form form) = not (is_line_built given form)
+has_no_form given _ = false
 
-abbrev pub is_out_of_range : Says → Bool
-is_out_of_range (Form form) = not (is_in_range form)
-is_out_of_range _ = false
+abbrev pub has_number_out_of_range : FrameSays → Bool
+has_number_out_of_range (Form form) = not (are_numbers_in_range form)
+has_number_out_of_range _ = false
 
 -- it names a node that is not given, or a link end that no link has given
-abbrev pub names_none : Given → Says → Bool
+abbrev pub names_none : Given → FrameSays → Bool
 names_none given (Form (Link link)) = not (has_node given.nodes link.a && has_node given.nodes link.b)
 names_none given (Form (Bit bit)) = not (has_node given.nodes bit.node && has_link_end given.links bit.node)
 names_none given (Form (Source n)) = not (has_node given.nodes n)
 names_none given _ = false
 
 -- it gives the number of a node, or the source of a node, once more
-abbrev pub is_given_twice : Given → Says → Bool
+abbrev pub is_given_twice : Given → FrameSays → Bool
 is_given_twice given (Form (Node node)) = has_node given.nodes node.number
 is_given_twice given (Form (Source n)) = has_source given.sources n
 is_given_twice given _ = false
 
-abbrev pub is_id_twice : Given → Says → Bool
+abbrev pub is_id_twice : Given → FrameSays → Bool
 is_id_twice given (Form (Node node)) = list_any (λ (other : GivenNode). other.id == node.id) given.nodes
 is_id_twice given _ = false
 
-abbrev pub is_link_to_itself : Says → Bool
+abbrev pub is_link_to_itself : FrameSays → Bool
 is_link_to_itself (Form (Link link)) = link.a == link.b
 is_link_to_itself _ = false
 
 -- it gives a link end twice, or one that a link has
-abbrev pub is_link_end_twice : Given → Says → Bool
+abbrev pub is_link_end_twice : Given → FrameSays → Bool
 is_link_end_twice given (Form (Link link)) =
     (link.a == link.b) || (has_link_end given.links link.a || has_link_end given.links link.b)
 is_link_end_twice given _ = false
 
-abbrev pub is_bit_twice : Given → Says → Bool
+abbrev pub is_bit_twice : Given → FrameSays → Bool
 is_bit_twice given (Form (Bit bit)) =
     list_any (λ (other : BitLine). (other.node == bit.node) && (other.bit == bit.bit)) given.bits
 is_bit_twice given _ = false
 
 -- the tests of a line by what it says, in the order in which they refuse
-abbrev pub tests : Given → List ℕ → Says → List (SysKind × Bool)
+abbrev pub tests : Given → List ℕ → FrameSays → List (SysKind × Bool)
 tests given l said =
     (FirstLine, is_other_first_line said)
-    ∷ (BadLine, (is_of_the_frame said && not (all_allowed l)) || is_unknown given said)
-    ∷ (NumberOutOfRange, is_out_of_range said)
+    ∷ (BadLine, (is_of_the_frame said && not (all_allowed l)) || has_no_form given said)
+    ∷ (NumberOutOfRange, has_number_out_of_range said)
     ∷ (NoSuchNode, names_none given said)
     ∷ (GivenTwice, is_given_twice given said)
     ∷ (IdTwice, is_id_twice given said)
@@ -172,7 +172,7 @@ abbrev pub with_own_line : List ℕ → SourceText → SourceText
 with_own_line l source = record source { lines = source.lines ++ l ∷ [] }
 
 -- what is given after line n
-abbrev pub given_with : ℕ → List ℕ → Says → Given → Given
+abbrev pub given_with : ℕ → List ℕ → FrameSays → Given → Given
 given_with n l Own given = record given { reading = option_map (with_own_line l) given.reading }
 given_with n l End given = record given { sources = given.sources ++ option_to_list given.reading; reading = None }
 given_with n l Header given = record given { begun = true }

@@ -87,9 +87,9 @@ abbrev pub is_node_number : ℕ → Bool
 is_node_number n = nat_le n 99
 
 -- whether each number of a line is within its range
-abbrev pub is_in_range : FrameLine → Bool
-is_in_range (Node node) = is_node_number node.number && nat_le node.id 65535
-is_in_range (Link link) =
+abbrev pub are_numbers_in_range : FrameLine → Bool
+are_numbers_in_range (Node node) = is_node_number node.number && nat_le node.id 65535
+are_numbers_in_range (Link link) =
     is_node_number link.a && (is_node_number link.b && (is_between 1 1000 link.delay && is_between 4 1000 link.gap))
-is_in_range (Bit bit) = is_node_number bit.node && nat_le bit.bit 15
-is_in_range (Source n) = is_node_number n
+are_numbers_in_range (Bit bit) = is_node_number bit.node && nat_le bit.bit 15
+are_numbers_in_range (Source n) = is_node_number n

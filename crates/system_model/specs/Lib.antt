@@ -2,4 +2,4 @@ pub mod FrameLines
 pub mod Frame
 pub mod FirstFault
 pub mod System
-pub mod WorkedSystems
+pub mod WorkedPlans

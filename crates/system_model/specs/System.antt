@@ -62,12 +62,12 @@ node_plans bits sources (node ∷ nodes) =
     plan_before (planned bits node (assembled_lines (source_of sources node.number))) (node_plans bits sources nodes)
 
 -- where a node stands among nodes by ascending number: so many have a lesser one
-abbrev pub place_of : List GivenNode → ℕ → ℕ
-place_of nodes number = length (filter (λ (node : GivenNode). nat_lt node.number number) nodes)
+abbrev pub position_by_number : List GivenNode → ℕ → ℕ
+position_by_number nodes number = length (filter (λ (node : GivenNode). nat_lt node.number number) nodes)
 
 abbrev pub link_plan : List GivenNode → LinkLine → LinkPlan
 link_plan nodes link =
-    record { a = place_of nodes link.a; a_end = 0; b = place_of nodes link.b; b_end = 0; delay = link.delay; gap = link.gap }
+    record { a = position_by_number nodes link.a; a_end = 0; b = position_by_number nodes link.b; b_end = 0; delay = link.delay; gap = link.gap }
 
 abbrev pub plan_with : List LinkPlan → Result (List NodePlan) SourceFault → System
 plan_with links (Err fault) = Source fault.node fault.line fault.kind

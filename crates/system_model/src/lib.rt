@@ -2,7 +2,7 @@
 //! docs/SYSTEM_TEXT.md.
 #![tactic(auto)]
 
-ghost use Rattle.system_model.specs.WorkedSystems.{WorkedRefusals, WorkedSystems};
+ghost use Rattle.system_model.specs.WorkedPlans.{WorkedRefusals, WorkedPlans};
 
 mod first_fault;
 mod frame_line;
@@ -42,5 +42,5 @@ pub enum SysKind {
 /// The definitions give what was worked out by hand: the refusals of frames, and the plans of those that are accepted.
 pub fn worked_systems_read()
     ensures refusals { WorkedRefusals }
-    ensures systems { WorkedSystems }
+    ensures systems { WorkedPlans }
 {}

@@ -11,8 +11,8 @@ use Rattle.system_model.specs.declared.SysKind.TheVariants.{FirstLine, BadLine, 
 use Rattle.system_model.specs.declared.frame_line.FrameLine.{FrameLine}
 use Rattle.system_model.specs.declared.frame_line.FrameLine.TheVariants.{Node, Link, Bit, Source}
 use Rattle.system_model.specs.declared.frame_line.GivenNode.{GivenNode}
-use Rattle.system_model.specs.FrameLines.{is_header, frame_line, is_in_range}
-use Rattle.system_model.specs.Frame.{SourceText, Given, Says, Blank, Header, NoHeader, Form, says_in_frame, says_by, says_form, says, is_empty, is_other_first_line, is_of_the_frame, is_unknown, is_out_of_range, names_none, is_given_twice, is_id_twice, is_link_to_itself, is_link_end_twice, is_bit_twice, fault_of, first_that_holds, put_by_number}
+use Rattle.system_model.specs.FrameLines.{is_header, frame_line, are_numbers_in_range}
+use Rattle.system_model.specs.Frame.{SourceText, Given, FrameSays, Blank, Header, NoHeader, Form, says_in_frame, says_by, says_form, says, is_empty, is_other_first_line, is_of_the_frame, has_no_form, has_number_out_of_range, names_none, is_given_twice, is_id_twice, is_link_to_itself, is_link_end_twice, is_bit_twice, fault_of, first_that_holds, put_by_number}
 use Rattle.system_model.specs.System.{source_of}
 use Rattle.system_text.specs.Forms.{when, in_range, in_room, formed}
 use Rattle.system_text.specs.Judged.{later_fault}
@@ -40,11 +40,11 @@ node_added given now node nodes place e p h =
 
 -- The fault of a line by whether its bytes are allowed, and by what it says
 
-abbrev pub fault_by : Given → Bool → Says → Option SysKind
+abbrev pub fault_by : Given → Bool → FrameSays → Option SysKind
 fault_by given allowed said = first_that_holds (
     (FirstLine, is_other_first_line said)
-    ∷ (BadLine, (is_of_the_frame said && not allowed) || is_unknown given said)
-    ∷ (NumberOutOfRange, is_out_of_range said)
+    ∷ (BadLine, (is_of_the_frame said && not allowed) || has_no_form given said)
+    ∷ (NumberOutOfRange, has_number_out_of_range said)
     ∷ (NoSuchNode, names_none given said)
     ∷ (GivenTwice, is_given_twice given said)
     ∷ (IdTwice, is_id_twice given said)
@@ -54,7 +54,7 @@ fault_by given allowed said = first_that_holds (
     ∷ []
     )
 
-pub fault_is : (given : Given) (l : List ℕ) (allowed : Bool) (said : Says) → all_allowed l ≡ allowed → says given l ≡ said → fault_of given l ≡ fault_by given allowed said
+pub fault_is : (given : Given) (l : List ℕ) (allowed : Bool) (said : FrameSays) → all_allowed l ≡ allowed → says given l ≡ said → fault_of given l ≡ fault_by given allowed said
 fault_is given l allowed said a s = ap (λ b. fault_by given b (says given l)) a ∙ ap (λ x. fault_by given allowed x) s
 
 says_outside : (given : Given) (l : List ℕ) → given.reading ≡ None → says given l ≡ says_in_frame given.begun (words_of_line l)
@@ -132,19 +132,19 @@ room_one n = grind (arith, nat_tests)
 
 refused_by : (given : Given) (o : Option FrameLine) (kind : SysKind) → Err kind ≡ formed (node_room given) (link_room given) o → fault_by given true (says_form o) ≡ Some kind
 refused_by given None kind e = cc
-refused_by given (Some (Node node)) kind e = checked_refused (node_room given) (is_in_range (Node node)) (Node node) (later_fault given (Node node)) kind e
-refused_by given (Some (Link link)) kind e = checked_refused (link_room given) (is_in_range (Link link)) (Link link) (later_fault given (Link link)) kind e
-refused_by given (Some (Bit bit)) kind e = checked_refused true (is_in_range (Bit bit)) (Bit bit) (later_fault given (Bit bit)) kind e
-refused_by given (Some (Source n)) kind e = checked_refused true (is_in_range (Source n)) (Source n) (later_fault given (Source n)) kind e
+refused_by given (Some (Node node)) kind e = checked_refused (node_room given) (are_numbers_in_range (Node node)) (Node node) (later_fault given (Node node)) kind e
+refused_by given (Some (Link link)) kind e = checked_refused (link_room given) (are_numbers_in_range (Link link)) (Link link) (later_fault given (Link link)) kind e
+refused_by given (Some (Bit bit)) kind e = checked_refused true (are_numbers_in_range (Bit bit)) (Bit bit) (later_fault given (Bit bit)) kind e
+refused_by given (Some (Source n)) kind e = checked_refused true (are_numbers_in_range (Source n)) (Source n) (later_fault given (Source n)) kind e
 
 -- the fault of a line whose form and numbers are good
 record IsGood (given : Given) (o : Option FrameLine) (form : FrameLine) : Type 0 where
   pub fault : fault_by given true (says_form o) ≡ later_fault given form
   pub said : says_form o ≡ Form form
 
-good_by : (given : Given) (f form : FrameLine) (room : Bool) → Ok form ≡ in_room room (in_range f) → fault_by given true (Form f) ≡ checked room (is_in_range f) (later_fault given f) → IsGood given (Some f) form
+good_by : (given : Given) (f form : FrameLine) (room : Bool) → Ok form ≡ in_room room (in_range f) → fault_by given true (Form f) ≡ checked room (are_numbers_in_range f) (later_fault given f) → IsGood given (Some f) form
 good_by given f form room e is =
-    let both = checked_good room (is_in_range f) f form (later_fault given f) e in
+    let both = checked_good room (are_numbers_in_range f) f form (later_fault given f) e in
     record { fault = is ∙ (both.0 ∙ ap (λ x. later_fault given x) both.1); said = ap (λ x. Form x) both.1 }
 
 good : (given : Given) (o : Option FrameLine) (form : FrameLine) → Ok form ≡ formed (node_room given) (link_room given) o → IsGood given o form

@@ -4,5 +4,5 @@ pub mod Sections
 pub mod Walk
 pub mod Outcomes
 pub mod Plans
-pub mod Kept
+pub mod Accepted
 pub mod Planned

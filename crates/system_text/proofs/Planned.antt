@@ -14,9 +14,9 @@ use Rattle.system_model.specs.declared.frame_line.BitLine.{BitLine}
 use Rattle.system_model.specs.declared.frame_line.GivenNode.{GivenNode}
 use Rattle.system_model.specs.declared.frame_line.LinkLine.{LinkLine}
 use Rattle.system_model.specs.Frame.{SourceText, Given}
-use Rattle.system_model.specs.System.{planned, plan_before, source_of, node_plans, link_plan, place_of, ways_of, way, id_bits}
-use Rattle.system_text.specs.Kept.{IsLinkOf, AreKept, IsFrame}
-use Rattle.system_text.proofs.Kept.{no_bits}
+use Rattle.system_model.specs.System.{planned, plan_before, source_of, node_plans, link_plan, position_by_number, ways_of, way, id_bits}
+use Rattle.system_text.specs.Accepted.{IsLinkOf, AreAccepted, IsAccepted}
+use Rattle.system_text.proofs.Accepted.{no_bits}
 use Rattle.system_text.proofs.Plans.{node_plans-cons, node_plans-none}
 
 -- Ways: 1 or 0, so they name link end 0 at most
@@ -101,13 +101,13 @@ counted true false m n = refl
 counted false true m n = refl
 counted false false m n = refl
 
-place_is : (m n : GivenNode) (k : ℕ) → place_of (m ∷ n ∷ []) k ≡ over k m.number + over k n.number
+place_is : (m n : GivenNode) (k : ℕ) → position_by_number (m ∷ n ∷ []) k ≡ over k m.number + over k n.number
 place_is m n k = counted (nat_lt m.number k) (nat_lt n.number k) m n
 
 record Joins (nodes : List GivenNode) (link : LinkLine) : Type 0 where
-  pub a : place_of nodes link.a < 2
-  pub b : place_of nodes link.b < 2
-  pub apart : place_of nodes link.a ≢ place_of nodes link.b
+  pub a : position_by_number nodes link.a < 2
+  pub b : position_by_number nodes link.b < 2
+  pub apart : position_by_number nodes link.a ≢ position_by_number nodes link.b
 
 one_of : (x y k : ℕ) → ((x == k) || ((y == k) || false)) ≡ true → (x ≡ k) ⊎ (y ≡ k)
 one_of x y k e = grind (arith, nat_tests)
@@ -142,7 +142,7 @@ one_is_plan m i h = record {
   ways = (no_ways_lead (record { nodes = with_image [] m i ∷ []; links = [] }) 0 m.number, tt);
 }
 
-apart_is_plan : (m n : GivenNode) (i j : ImageRec) (bits : List BitLine) → AreKept (m ∷ n ∷ []) [] bits → IsPlan (record { nodes = pair [] m n i j; links = [] })
+apart_is_plan : (m n : GivenNode) (i j : ImageRec) (bits : List BitLine) → AreAccepted (m ∷ n ∷ []) [] bits → IsPlan (record { nodes = pair [] m n i j; links = [] })
 apart_is_plan m n i j bits k = record {
   few_nodes = omega arith;
   few_links = omega arith;
@@ -165,10 +165,10 @@ some_of false false m n h = cc (h refl)
 leaves : (nodes : List NodePlan) (node a b delay gap : ℕ) → node < 2 → a < 2 → b < 2 → a ≢ b → IsSome (outgoing (record { nodes = nodes; links = between a b delay gap ∷ [] }) node 0)
 leaves nodes node a b delay gap h k l ne = some_of (a == node) (b == node) 0 1 (λ e. grind (arith, nat_tests))
 
-joined_is_plan : (bits : List BitLine) (m n : GivenNode) (i j : ImageRec) (link : LinkLine) → AreKept (m ∷ n ∷ []) (link ∷ []) bits → Joins (m ∷ n ∷ []) link → IsPlan (record { nodes = pair bits m n i j; links = link_plan (m ∷ n ∷ []) link ∷ [] })
+joined_is_plan : (bits : List BitLine) (m n : GivenNode) (i j : ImageRec) (link : LinkLine) → AreAccepted (m ∷ n ∷ []) (link ∷ []) bits → Joins (m ∷ n ∷ []) link → IsPlan (record { nodes = pair bits m n i j; links = link_plan (m ∷ n ∷ []) link ∷ [] })
 joined_is_plan bits m n i j link k ends =
-    let a = place_of (m ∷ n ∷ []) link.a in
-    let b = place_of (m ∷ n ∷ []) link.b in
+    let a = position_by_number (m ∷ n ∷ []) link.a in
+    let b = position_by_number (m ∷ n ∷ []) link.b in
     let plan : PlanRec = record { nodes = pair bits m n i j; links = between a b link.delay link.gap ∷ [] } in
     let good = k.links.0 in
     record {
@@ -186,13 +186,13 @@ alone : (x a b : ℕ) → ((x == a) || false) ≡ true → ((x == b) || false) �
 alone x a b p q r = grind (arith, nat_tests)
 
 -- without links there are no bits
-without_bits : (nodes : List GivenNode) (bits : List BitLine) (P : List BitLine → Type 0) → AreKept nodes [] bits → P [] → P bits
+without_bits : (nodes : List GivenNode) (bits : List BitLine) (P : List BitLine → Type 0) → AreAccepted nodes [] bits → P [] → P bits
 without_bits nodes bits P k p = subst P (sym (no_bits bits k.bits)) p
 
 below : (m n : ℕ) → m < n → m ≢ n
 below m n h e = omega (arith, h, e)
 
-kept_plan : (nodes : List GivenNode) (links : List LinkLine) (bits : List BitLine) (sources : List SourceText) (plans : List NodePlan) → AreKept nodes links bits → node_plans bits sources nodes ≡ Ok plans → IsPlan (record { nodes = plans; links = map (link_plan nodes) links })
+kept_plan : (nodes : List GivenNode) (links : List LinkLine) (bits : List BitLine) (sources : List SourceText) (plans : List NodePlan) → AreAccepted nodes links bits → node_plans bits sources nodes ≡ Ok plans → IsPlan (record { nodes = plans; links = map (link_plan nodes) links })
 kept_plan [] [] bits sources plans k e = none_is_plan plans (let is : Ok [] ≡ Ok plans = sym (node_plans-none bits sources) ∙ e in cc)
 kept_plan [] (link ∷ links) bits sources plans k e = absurd (let none = k.links.0.a in cc)
 kept_plan (m ∷ []) [] bits sources plans k e =
@@ -209,7 +209,7 @@ kept_plan (m ∷ n ∷ []) (link ∷ more ∷ links) bits sources plans k e = ab
 kept_plan (m ∷ n ∷ o ∷ nodes) links bits sources plans k e = absurd (let few = k.few_nodes in omega (arith, few))
 
 -- the plans of the nodes and the links of a frame that is accepted
-pub frame_plan : (given : Given) (nodes : List GivenNode) (links : List LinkLine) (plans : List NodePlan) (joined : List LinkPlan) → IsFrame given → nodes ≡ given.nodes → links ≡ given.links → node_plans given.bits given.sources given.nodes ≡ Ok plans → joined ≡ map (link_plan nodes) links → IsPlan (record { nodes = plans; links = joined })
+pub frame_plan : (given : Given) (nodes : List GivenNode) (links : List LinkLine) (plans : List NodePlan) (joined : List LinkPlan) → IsAccepted given → nodes ≡ given.nodes → links ≡ given.links → node_plans given.bits given.sources given.nodes ≡ Ok plans → joined ≡ map (link_plan nodes) links → IsPlan (record { nodes = plans; links = joined })
 frame_plan given nodes links plans joined k n l e j =
     let same : map (link_plan given.nodes) given.links ≡ joined = sym (j ∙ (ap (λ ns. map (link_plan ns) links) n ∙ ap (map (link_plan given.nodes)) l)) in
     subst (λ ls. IsPlan (record { nodes = plans; links = ls })) same (kept_plan given.nodes given.links given.bits given.sources plans k e)

@@ -8,7 +8,7 @@ use Rattle.system_model.specs.declared.SysKind.{SysKind}
 use Rattle.system_model.specs.declared.SysKind.TheVariants.{BadLine, SectionNotEnded, FirstLine}
 use Rattle.system_model.specs.declared.frame_line.FrameLine.TheVariants.{Node, Link, Bit, Source}
 use Rattle.system_model.specs.FrameLines.{is_end}
-use Rattle.system_model.specs.Frame.{SourceText, Given, Says, Own, End, says, fault_of, given_with, given_after, with_own_line, unless_faulty, at_the_end, Framed, Refused, frame_from, framed, nothing_given, have_no_words, is_empty}
+use Rattle.system_model.specs.Frame.{SourceText, Given, FrameSays, Own, End, says, fault_of, given_with, given_after, with_own_line, unless_faulty, at_the_end, Framed, Refused, frame_from, framed, nothing_given, have_no_words, is_empty}
 use Rattle.system_text.specs.declared.frame.Said.{Said}
 use Rattle.system_text.specs.declared.frame.Said.TheVariants as said
 use Rattle.system_text.specs.declared.system_error.SystemError.{SystemError}
@@ -33,7 +33,7 @@ pub line_refused : (n : ℕ) (given : Given) (l : List ℕ) (ls : List (List ℕ
 line_refused n given l ls kind e = from-cons n given l ls ∙ ap (λ f. unless_faulty f n (frame_from (n + 1) (given_after n l given) ls)) e
 
 -- a line without one
-pub line_taken : (n : ℕ) (given : Given) (l : List ℕ) (ls : List (List ℕ)) (what : Says) → fault_of given l ≡ None → says given l ≡ what → frame_from n given (l ∷ ls) ≡ frame_from (n + 1) (given_with n l what given) ls
+pub line_taken : (n : ℕ) (given : Given) (l : List ℕ) (ls : List (List ℕ)) (what : FrameSays) → fault_of given l ≡ None → says given l ≡ what → frame_from n given (l ∷ ls) ≡ frame_from (n + 1) (given_with n l what given) ls
 line_taken n given l ls what e s =
     from-cons n given l ls
     ∙ (ap (λ f. unless_faulty f n (frame_from (n + 1) (given_after n l given) ls)) e ∙ ap (λ w. frame_from (n + 1) (given_with n l w given) ls) s)
@@ -114,18 +114,18 @@ source_taken ls n at given new source section e a k is =
 
 -- A line as the reader takes it
 
-given_by : (n : ℕ) (l : List ℕ) (what : Said) (given : Given) → given_with n l (said_by what) given ≡ given_with n [] (said_by what) given
-given_by n l said.Blank given = refl
-given_by n l said.Header given = refl
-given_by n l (said.Form (Node node)) given = refl
-given_by n l (said.Form (Link link)) given = refl
-given_by n l (said.Form (Bit bit)) given = refl
-given_by n l (said.Form (Source number)) given = refl
+given_without_line : (n : ℕ) (l : List ℕ) (what : Said) (given : Given) → given_with n l (said_by what) given ≡ given_with n [] (said_by what) given
+given_without_line n l said.Blank given = refl
+given_without_line n l said.Header given = refl
+given_without_line n l (said.Form (Node node)) given = refl
+given_without_line n l (said.Form (Link link)) given = refl
+given_without_line n l (said.Form (Bit bit)) given = refl
+given_without_line n l (said.Form (Source number)) given = refl
 
 pub line_read : (n at : ℕ) (given : Given) (l : List ℕ) (ls : List (List ℕ)) (what : Said) → fault_of given l ≡ None → says given l ≡ said_by what → at ≡ n → frame_from n given (l ∷ ls) ≡ frame_from (at + 1) (given_with n [] (said_by what) given) ls
 line_read n at given l ls what f s k =
     line_taken n given l ls (said_by what) f s
-    ∙ (ap (λ (g : Given). frame_from (n + 1) g ls) (given_by n l what given) ∙ ap (λ m. frame_from (m + 1) (given_with n [] (said_by what) given) ls) (sym k))
+    ∙ (ap (λ (g : Given). frame_from (n + 1) g ls) (given_without_line n l what given) ∙ ap (λ m. frame_from (m + 1) (given_with n [] (said_by what) given) ls) (sym k))
 
 -- no line is left
 pub frame_ends : (n : ℕ) (given : Given) (ls : List (List ℕ)) → ls ≡ [] → frame_from n given ls ≡ at_the_end given given.reading

@@ -4,14 +4,14 @@ use Rattle.system_model.specs.declared.SysKind.{SysKind}
 use Rattle.system_model.specs.declared.SysKind.TheVariants.{BadLine, NumberOutOfRange}
 use Rattle.system_model.specs.declared.frame_line.FrameLine.{FrameLine}
 use Rattle.system_model.specs.declared.frame_line.FrameLine.TheVariants.{Node, Link}
-use Rattle.system_model.specs.FrameLines.{is_in_range}
+use Rattle.system_model.specs.FrameLines.{are_numbers_in_range}
 
 abbrev pub when : {A : Type 0} → Bool → A → Option A
 when b x = if b then Some x else None
 
 -- a line whose numbers are within their ranges
 abbrev pub in_range : FrameLine → Option FrameLine
-in_range l = when (is_in_range l) l
+in_range l = when (are_numbers_in_range l) l
 
 -- the same, if there is room for it
 abbrev pub in_room : Bool → Option FrameLine → Result FrameLine SysKind

@@ -3,11 +3,11 @@ use Rattle.std.specs.Prelude.{ℕ, ◌≡◌, Option, Some, None, List, [], ◌�
 use Rattle.system_model.specs.declared.SysKind.{SysKind}
 use Rattle.system_model.specs.declared.SysKind.TheVariants.{GivenTwice, IdTwice, LinkEndTwice, LinkToItself, BitTwice, NoSuchNode}
 use Rattle.system_model.specs.declared.frame_line.FrameLine.{FrameLine}
-use Rattle.system_model.specs.Frame.{SourceText, Given, Says, Blank, Header, Form, says, fault_of, first_that_holds, names_none, is_given_twice, is_id_twice, is_link_to_itself, is_link_end_twice, is_bit_twice}
+use Rattle.system_model.specs.Frame.{SourceText, Given, FrameSays, Blank, Header, Form, says, fault_of, first_that_holds, names_none, is_given_twice, is_id_twice, is_link_to_itself, is_link_end_twice, is_bit_twice}
 use Rattle.system_text.specs.declared.frame.Said.{Said}
 use Rattle.system_text.specs.declared.frame.Said.TheVariants as said
 
-abbrev pub said_by : Said → Says
+abbrev pub said_by : Said → FrameSays
 said_by said.Blank = Blank
 said_by said.Header = Header
 said_by (said.Form form) = Form form

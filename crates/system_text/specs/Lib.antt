@@ -3,5 +3,5 @@ pub mod Ranges
 pub mod Judged
 pub mod Sections
 pub mod Reads
-pub mod Kept
+pub mod Accepted
 pub mod Plans

@@ -2,5 +2,5 @@
 use Rattle.std.specs.Prelude.{ℕ, ◌<◌, ◌^◌, List, length}
 
 -- the assembler takes a source of so many bytes
-abbrev pub IsShort : List ℕ → Type 0
-IsShort bytes = length bytes < 2 ^ 32
+abbrev pub IsShortSource : List ℕ → Type 0
+IsShortSource bytes = length bytes < 2 ^ 32

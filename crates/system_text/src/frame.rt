@@ -5,7 +5,7 @@ ghost use Rattle.xs_text.specs.Words.{words_of_line};
 ghost use Rattle.system_model.specs.Frame.{Given, Form, nothing_given, is_empty, has_node, has_link_end, has_source, given_with, without_source};
 ghost use Rattle.system_model.specs.System.{source_of};
 ghost use Rattle.system_text.specs.Judged.{Judges, said_by, later_fault, with_source};
-ghost use Rattle.system_text.specs.Ranges.{IsShort};
+ghost use Rattle.system_text.specs.Ranges.{IsShortSource};
 
 use crate::frame_lines::frame_line;
 use crate::words::{is_empty, is_header};
@@ -48,13 +48,13 @@ impl<'a> Model for Frame<'a> {
     ghost use Rattle.std.specs.List.{AllByRecursion};
     ghost use Rattle.xs_text.specs.Lines.{lines_of};
     ghost use Rattle.system_model.specs.Frame.{Given};
-    ghost use Rattle.system_text.specs.Ranges.{IsShort};
+    ghost use Rattle.system_text.specs.Ranges.{IsShortSource};
 
     ghost Value = { Given };
 
     ghost view = { λ f. record { begun = f.begun; nodes = f.nodes.items; links = f.links.items; bits = f.bits.items; sources = map (λ s. record { number = s.number; line = s.line; lines = lines_of s.text.now }) f.sources.items; reading = None } };
 
-    ghost invariant = { λ f. AllByRecursion (λ s. IsShort s.text.now) f.sources.items };
+    ghost invariant = { λ f. AllByRecursion (λ s. IsShortSource s.text.now) f.sources.items };
 }
 
 impl<'a> Frame<'a> {
@@ -234,7 +234,7 @@ impl<'a> Frame<'a> {
 
     // One more source, which has ended.
     pub fn add_source(&mut self, source: Source<'a>) -> Result<(), AllocError>
-        requires { IsShort source.text.now }
+        requires { IsShortSource source.text.now }
         ensures { OnOk result (self.new ≡ with_source (record { number = source.entry.number; line = source.entry.line; lines = lines_of source.entry.text.now }) self.old) }
     {
         self.sources.push(source)?;
@@ -274,7 +274,7 @@ impl<'a> Frame<'a> {
     // The source of the node with this number, no bytes where it has none.
     pub fn source(&self, number: u8) -> &'a [u8]
         ensures lines { lines_of result.now ≡ source_of self.now.sources number }
-        ensures short { IsShort result.now }
+        ensures short { IsShortSource result.now }
     {
         for source in &self.sources {
             if source.number == number {

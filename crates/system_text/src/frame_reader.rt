@@ -2,7 +2,7 @@ ghost use Rattle.std.specs.Prelude.{◌≡◌, ◌≤◌, ◌+◌, ◌∷◌, []
 ghost use Rattle.xs_text.specs.Lines.{lines_of, bytes_left, line_bytes};
 ghost use Rattle.system_model.specs.Frame.{framed, frame_from, nothing_given, have_no_words, at_the_end, given_with};
 ghost use Rattle.system_text.specs.Judged.{said_by};
-ghost use Rattle.system_text.specs.Ranges.{IsShort};
+ghost use Rattle.system_text.specs.Ranges.{IsShortSource};
 ghost use Rattle.system_text.specs.Reads.{ReadsFrame, ReadsLine};
 ghost use Rattle.system_text.specs.Sections.{with_reading};
 
@@ -16,7 +16,7 @@ use xs_text::{Line, Lines, all_allowed};
 
 // The frame of a text.
 pub fn read_frame<'a>(alloc: Global, text: &'a [u8]) -> Result<Frame<'a>, SystemError>
-    requires { IsShort text.now }
+    requires { IsShortSource text.now }
     ensures { ReadsFrame (framed (lines_of text.now)) result }
 {
     if has_words(text) {
@@ -28,7 +28,7 @@ pub fn read_frame<'a>(alloc: Global, text: &'a [u8]) -> Result<Frame<'a>, System
 
 // Whether a line has words.
 fn has_words(text: &[u8]) -> bool
-    requires { IsShort text.now }
+    requires { IsShortSource text.now }
     ensures { result ≡ not (have_no_words (lines_of text.now)) }
 {
     let mut lines = Lines::new(text);
@@ -42,7 +42,7 @@ fn has_words(text: &[u8]) -> bool
 
 // The frame of a text in which a line has words.
 fn read_lines<'a>(alloc: Global, text: &'a [u8]) -> Result<Frame<'a>, SystemError>
-    requires { IsShort text.now }
+    requires { IsShortSource text.now }
     ensures { ReadsFrame (frame_from 1 nothing_given (lines_of text.now)) result }
 {
     let mut lines = Lines::new(text);
@@ -64,7 +64,7 @@ fn read_line<'a>(
     frame: &mut Frame<'a>,
 ) -> Result<(), SystemError>
     requires same_text { lines.old.text ≡ text.now }
-    requires short { IsShort text.now }
+    requires short { IsShortSource text.now }
     requires ordered { line.from ≤ line.to }
     requires in_text { line.to ≤ length text.now }
     requires numbered { lines.old.number ≡ line.number }
@@ -87,7 +87,7 @@ fn read_said<'a>(
     frame: &mut Frame<'a>,
 ) -> Result<(), SystemError>
     requires same_text { lines.old.text ≡ text.now }
-    requires short { IsShort text.now }
+    requires short { IsShortSource text.now }
     ensures read { ReadsLine (frame_from (lines.old.number + 1) (given_with number [] (said_by said) frame.old) (lines_of (bytes_left lines.old))) (frame_from (lines.new.number + 1) frame.new (lines_of (bytes_left lines.new))) result }
     ensures same_text { lines.new.text ≡ lines.old.text }
     ensures onward { lines.old.at ≤ lines.new.at }
@@ -110,7 +110,7 @@ fn read_source<'a>(
     frame: &mut Frame<'a>,
 ) -> Result<(), SystemError>
     requires same_text { lines.old.text ≡ text.now }
-    requires short { IsShort text.now }
+    requires short { IsShortSource text.now }
     ensures read { ReadsLine (frame_from (lines.old.number + 1) (with_reading number first frame.old) (lines_of (bytes_left lines.old))) (frame_from (lines.new.number + 1) frame.new (lines_of (bytes_left lines.new))) result }
     ensures same_text { lines.new.text ≡ lines.old.text }
     ensures onward { lines.old.at ≤ lines.new.at }

@@ -1,5 +1,5 @@
 ghost use Rattle.std.specs.Prelude.{◌≡◌, ◌≤◌, length, map, IfOk};
-ghost use Rattle.system_model.specs.System.{link_plan, place_of};
+ghost use Rattle.system_model.specs.System.{link_plan, position_by_number};
 
 use std::alloc::{AllocError, Global};
 use sys_plan::LinkPlan;
@@ -17,9 +17,9 @@ pub fn link_plans(
     let mut plans = Vec::new(alloc);
     for link in links {
         plans.push(LinkPlan {
-            a: place_of(nodes, link.a),
+            a: position_by_number(nodes, link.a),
             a_end: 0,
-            b: place_of(nodes, link.b),
+            b: position_by_number(nodes, link.b),
             b_end: 0,
             delay: link.delay,
             gap: link.gap,
@@ -29,9 +29,9 @@ pub fn link_plans(
 }
 
 // Where a node stands by ascending number: the count of the nodes of lesser numbers.
-fn place_of(nodes: &[GivenNode], number: u8) -> u8
+fn position_by_number(nodes: &[GivenNode], number: u8) -> u8
     requires few { length nodes.now ≤ 2 }
-    ensures { result ≡ place_of nodes.now number }
+    ensures { result ≡ position_by_number nodes.now number }
 {
     nodes.iter().filter(|node| node.number < number).count() as u8
 }

@@ -6,8 +6,8 @@ ghost use Rattle.system_model.specs.Frame.{framed};
 ghost use Rattle.system_model.specs.System as stands;
 ghost use Rattle.system_model.specs.System.{system_of, plan_of, plan_of_frame};
 ghost use Rattle.xs_text.specs.Lines.{lines_of};
-ghost use Rattle.system_text.specs.Kept.{IsFrame};
-ghost use Rattle.system_text.specs.Ranges.{IsShort};
+ghost use Rattle.system_text.specs.Accepted.{IsAccepted};
+ghost use Rattle.system_text.specs.Ranges.{IsShortSource};
 ghost use Rattle.system_text.specs.Reads.{ReadsSystem, GivesPlan, RefusesFrame, RefusesSource};
 
 use crate::frame::Frame;
@@ -40,7 +40,7 @@ pub fn read_system(alloc: Global, bytes: &[u8]) -> Result<Plan, SystemError>
 
 // The same of bytes that are not too many.
 fn read_plan(alloc: Global, bytes: &[u8]) -> Result<Plan, SystemError>
-    requires { IsShort bytes.now }
+    requires { IsShortSource bytes.now }
     ensures { ReadsSystem (plan_of (framed (lines_of bytes.now))) result }
 {
     match read_frame(alloc, bytes) {
@@ -51,7 +51,7 @@ fn read_plan(alloc: Global, bytes: &[u8]) -> Result<Plan, SystemError>
 
 // The plan of a frame that is accepted.
 fn plan_of_frame(alloc: Global, frame: &Frame) -> Result<Plan, SystemError>
-    requires { IsFrame frame.now }
+    requires { IsAccepted frame.now }
     ensures { ReadsSystem (plan_of_frame frame.now) result }
 {
     let links = link_plans(alloc, frame.nodes(), frame.links())?;

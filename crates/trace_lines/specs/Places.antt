@@ -8,7 +8,7 @@ abbrev pub emitted_in : Inside → Emitted
 emitted_in c = record { events = c.events.items; tokens = c.tokens; credits = c.credits }
 
 -- every event is within its counts, and link ends are marked as used where one is
-pub record IsInOrder (c : Inside) : Type 0 where
+pub record IsWellMarked (c : Inside) : Type 0 where
   pub within : All IsWithinCounts c.events.items
   pub no_token : c.links_used ≡ false → c.tokens ≡ replicate 8 None
   pub no_credit : c.links_used ≡ false → c.credits ≡ replicate 8 false

@@ -25,11 +25,11 @@ impl Model for Emissions {
 
     ghost Value = { Emitted };
 
-    ghost use Rattle.trace_lines.specs.Places.{emitted_in, IsInOrder};
+    ghost use Rattle.trace_lines.specs.Places.{emitted_in, IsWellMarked};
 
     ghost view = { emitted_in };
 
-    ghost invariant = { IsInOrder };
+    ghost invariant = { IsWellMarked };
 }
 
 impl Emissions {

@@ -33,11 +33,11 @@ is_token (Token token) = true
 is_token Credit = false
 
 -- how many tokens a directed link's history has, and how many credits
-abbrev pub tokens_in : List Entry → ℕ
-tokens_in history = length (filter (λ (e : Entry). is_token e.what) history)
+abbrev pub tokens_sent : List Entry → ℕ
+tokens_sent history = length (filter (λ (e : Entry). is_token e.what) history)
 
-abbrev pub credits_in : List Entry → ℕ
-credits_in history = length (filter (λ (e : Entry). is_credit e.what) history)
+abbrev pub credits_sent : List Entry → ℕ
+credits_sent history = length (filter (λ (e : Entry). is_credit e.what) history)
 
 -- `N:E`, a link end of a node
 abbrev pub link_end_text : ℕ → ℕ → List ℕ
@@ -46,11 +46,11 @@ link_end_text node end = decimal node ++ (codes ":" ++ decimal end)
 -- ` tokens A credits B`, and the line's end
 abbrev pub counts_text : List Entry → List ℕ
 counts_text history =
-    codes " tokens " ++ (decimal (tokens_in history) ++ (codes " credits " ++ (decimal (credits_in history) ++ (10 ∷ []))))
+    codes " tokens " ++ (decimal (tokens_sent history) ++ (codes " credits " ++ (decimal (credits_sent history) ++ (10 ∷ []))))
 
 -- `link N:E>M:F tokens A credits B`
-abbrev pub link_line : ℕ → ℕ → ℕ → ℕ → List Entry → List ℕ
-link_line from from_end to to_end history =
+abbrev pub traffic_line : ℕ → ℕ → ℕ → ℕ → List Entry → List ℕ
+traffic_line from from_end to to_end history =
     codes "link " ++ (link_end_text from from_end ++ (codes ">" ++ (link_end_text to to_end ++ counts_text history)))
 
 abbrev pub is_halted : Run → Bool
@@ -113,9 +113,9 @@ abbrev pub number_at : List NodePlan → ℕ → ℕ
 number_at nodes k = slice_index (map (λ (node : NodePlan). node.number) nodes) k
 
 -- the line that tells what was sent on the directed link with number k
-abbrev pub link_at : List NodePlan → SystemRec → ℕ → Direction → List ℕ
-link_at nodes system k d =
-    link_line (number_at nodes d.from) d.from_end (number_at nodes d.to) d.to_end (history_at system k)
+abbrev pub traffic_at : List NodePlan → SystemRec → ℕ → Direction → List ℕ
+traffic_at nodes system k d =
+    traffic_line (number_at nodes d.from) d.from_end (number_at nodes d.to) d.to_end (history_at system k)
 
 -- the lines of the halted threads of the node at position k
 abbrev pub halted_at : SystemRec → ℕ → NodePlan → List ℕ
@@ -127,14 +127,14 @@ memory_at system k node = memory_lines node.number memory_base (words_of (node_a
 
 -- all lines but the last: the events in order, what of them was left out, what was sent on each directed link, the
 -- halted threads, and the words of the memories that aren't 0
-abbrev pub lines_text : PlanRec → SystemRec → List ℕ
-lines_text plan system =
+abbrev pub lines_before_end : PlanRec → SystemRec → List ℕ
+lines_before_end plan system =
     event_lines (events_in_order system 0 plan.nodes)
     ++ (by_position (more_at system) 0 plan.nodes
-    ++ (by_position (link_at plan.nodes system) 0 (directions plan.links)
+    ++ (by_position (traffic_at plan.nodes system) 0 (directions plan.links)
     ++ (by_position (halted_at system) 0 plan.nodes
     ++ by_position (memory_at system) 0 plan.nodes)))
 
 -- the trace of a run of so many slots
 unfoldable pub trace_text : PlanRec → ℕ → List ℕ
-trace_text plan slots = lines_text plan (serial plan slots) ++ end_line slots
+trace_text plan slots = lines_before_end plan (serial plan slots) ++ end_line slots

@@ -34,7 +34,7 @@ halts_in slot = happened slot (happen.Halt 0)
 abbrev pub told : ℕ → ℕ → NodeEvent
 told node slot = record { node = node; event = halts_in slot }
 
-pub record WorkedOrder : Type 0 where
+pub record WorkedEventOrder : Type 0 where
   -- by slot; within slots 5 and 9 the events of node 3 stand first
   pub in_order : merged (told_by 3 (halts_in 5 ∷ halts_in 5 ∷ halts_in 9 ∷ [])) (told_by 7 (halts_in 3 ∷ halts_in 5 ∷ halts_in 9 ∷ halts_in 12 ∷ []))
       ≡ told 7 3 ∷ told 3 5 ∷ told 3 5 ∷ told 7 5 ∷ told 3 9 ∷ told 7 9 ∷ told 7 12 ∷ []

@@ -7,7 +7,7 @@ use Rattle.xs_instructions.specs.declared.instr.Instr.TheVariants.{Words}
 use Rattle.xs_instructions.specs.declared.instr.WordIns.TheVariants as words
 use Rattle.sys_plan.specs.Plan.{PlanRec}
 use Rattle.serial_model.specs.Worked.{plain_node}
-use Rattle.trace_model.specs.Trace.{link_line, trace_text}
+use Rattle.trace_model.specs.Trace.{traffic_line, trace_text}
 
 -- a token and two credits, the last of which is not yet there at the end
 abbrev pub three_entries : List Entry
@@ -22,7 +22,7 @@ three_and_seven = record {
 }
 
 pub record WorkedLinks : Type 0 where
-  pub link : link_line 7 2 3 6 three_entries ≡ codes "link 7:2>3:6 tokens 1 credits 2\n"
+  pub link : traffic_line 7 2 3 6 three_entries ≡ codes "link 7:2>3:6 tokens 1 credits 2\n"
   -- the event of the node that stands second comes first, since its slot is earlier
   pub two_nodes : trace_text three_and_seven 5 ≡ codes "0 n7.t0 trap 2 pc 0x00040000 data 0x00040000\n0 n7.t0 halt\n4 n3.t0 trap 2 pc 0x00040004 data 0x00040004\n4 n3.t0 halt\nlink 7:2>3:6 tokens 0 credits 0\nlink 3:6>7:2 tokens 0 credits 0\nn3.t0 halted\nn7.t0 halted\nn3 mem 0x00010000 0x00000001\nn3 mem 0x00010004 0x00000002\nn7 mem 0x00010000 0x00000003\nend 5\n"
   pub no_slots : trace_text three_and_seven 0 ≡ codes "link 7:2>3:6 tokens 0 credits 0\nlink 3:6>7:2 tokens 0 credits 0\nn3 mem 0x00010000 0x00000001\nn3 mem 0x00010004 0x00000002\nn7 mem 0x00010000 0x00000003\nend 0\n"

@@ -1,7 +1,7 @@
 //! The text that a run writes: definitions alone, with the plain type that they speak of. See docs/OUTPUT.md.
 #![tactic(auto)]
 
-ghost use Rattle.trace_model.specs.Worked.{WorkedOrder, WorkedTraces};
+ghost use Rattle.trace_model.specs.Worked.{WorkedEventOrder, WorkedTraces};
 ghost use Rattle.trace_model.specs.WorkedLines.{WorkedLines};
 ghost use Rattle.trace_model.specs.WorkedLinks.{WorkedLinks};
 
@@ -17,7 +17,7 @@ pub struct NodeEvent {
 /// A law: the definitions give the order and the texts that were worked out by hand. It does nothing.
 pub fn worked_texts()
     ensures lines { WorkedLines }
-    ensures order { WorkedOrder }
+    ensures order { WorkedEventOrder }
     ensures traces { WorkedTraces }
     ensures links { WorkedLinks }
 {}

@@ -2,7 +2,7 @@
 #![tactic(auto)]
 
 mod event_order;
-mod link_lines;
+mod traffic_lines;
 mod node_lines;
 mod whole_trace;
 

@@ -3,10 +3,10 @@ ghost use Rattle.std.specs.Prelude.{◌≡◌, ◌<◌, ◌≤◌, ◌++◌, len
 ghost use Rattle.sys_plan.specs.Plan.{directions, forth, back};
 ghost use Rattle.serial_model.specs.Serial.{serial};
 ghost use Rattle.trace_model.specs.EventOrder.{AreWithinCounts};
-ghost use Rattle.trace_model.specs.Trace.{by_position, events_in_order, halted_at, memory_at, more_at, link_at, lines_text, trace_text};
+ghost use Rattle.trace_model.specs.Trace.{by_position, events_in_order, halted_at, memory_at, more_at, traffic_at, lines_before_end, trace_text};
 
 use crate::event_order::merge;
-use crate::link_lines::append_link_line;
+use crate::traffic_lines::append_traffic_line;
 use crate::node_lines::{
     append_end_line, append_event_lines, append_halted_lines, append_memory_lines, append_more_line,
 };
@@ -36,7 +36,7 @@ fn append_system(
     machine: &SerialMachine,
 ) -> Result<(), AllocError>
     requires plan { machine.now.plan ≡ plan.now }
-    ensures { OnOk result (out.new ≡ out.old ++ lines_text plan.now (serial plan.now machine.now.now)) }
+    ensures { OnOk result (out.new ≡ out.old ++ lines_before_end plan.now (serial plan.now machine.now.now)) }
 {
     let nodes = plan.nodes();
     let events = events_in_order(alloc, nodes, machine)?;
@@ -100,18 +100,18 @@ fn append_more_at(
 // The line of each directed link: of each link forth, and back.
 fn append_links(out: &mut Text, plan: &Plan, machine: &SerialMachine) -> Result<(), AllocError>
     requires plan { machine.now.plan ≡ plan.now }
-    ensures { OnOk result (out.new ≡ out.old ++ by_position (link_at plan.now.nodes (serial machine.now.plan machine.now.now)) 0 (directions plan.now.links)) }
+    ensures { OnOk result (out.new ≡ out.old ++ by_position (traffic_at plan.now.nodes (serial machine.now.plan machine.now.now)) 0 (directions plan.now.links)) }
 {
     let links = plan.links();
     let nodes = plan.nodes();
     for k in 0..links.len() {
-        append_link_at(out, k as u32, &links[k], nodes, machine)?;
+        append_traffic_at(out, k as u32, &links[k], nodes, machine)?;
     }
     Ok(())
 }
 
 // The two lines of link k.
-fn append_link_at(
+fn append_traffic_at(
     out: &mut Text,
     k: u32,
     link: &LinkPlan,
@@ -122,12 +122,12 @@ fn append_link_at(
     requires few { k < 48 }
     requires a { link.now.a < length nodes.now }
     requires b { link.now.b < length nodes.now }
-    ensures { OnOk result (out.new ≡ out.old ++ (link_at nodes.now (serial machine.now.plan machine.now.now) (2 * k) (forth link.now) ++ link_at nodes.now (serial machine.now.plan machine.now.now) (2 * k + 1) (back link.now))) }
+    ensures { OnOk result (out.new ≡ out.old ++ (traffic_at nodes.now (serial machine.now.plan machine.now.now) (2 * k) (forth link.now) ++ traffic_at nodes.now (serial machine.now.plan machine.now.now) (2 * k + 1) (back link.now))) }
 {
     let a = nodes[link.a as usize].number;
     let b = nodes[link.b as usize].number;
-    append_link_line(out, a, link.a_end, b, link.b_end, machine.history(2 * k))?;
-    append_link_line(
+    append_traffic_line(out, a, link.a_end, b, link.b_end, machine.history(2 * k))?;
+    append_traffic_line(
         out,
         b,
         link.b_end,

@@ -8,8 +8,8 @@ use Rattle.answer_model.specs.declared.Answer.{Answer}
 use Rattle.answer_model.specs.declared.Status.{Status}
 use Rattle.answer_model.specs.declared.Status.TheVariants as status
 use Rattle.system_model.specs.System.{System, Plan, Frame, Source, system_of, longest_input}
-use Rattle.answer_model.specs.Top.{answer, answer_to, answer_of_form, usage_answer, form_of, taken_by}
-use Rattle.xs1_top.specs.Call.{IsWhole, IsInput, Answers, AnswersInPart, TookInput, IsFrame, IsSource, IsPlan}
+use Rattle.answer_model.specs.Top.{answer, answer_to, answer_of_form, usage_answer, form_of_words, taken_by}
+use Rattle.xs1_top.specs.Call.{IsWhole, IsInput, Answers, AnswersInPart, TookInput, RefusesFrame, RefusesSource, RefusesNothing}
 use Rattle.xs1_top.proofs.Systems.{system_of-front}
 
 -- the status of an answer, or the text was not written whole
@@ -21,7 +21,7 @@ whole_end wanted ended (inl e) h = e
 whole_end wanted ended (inr e) h = absurd (subst IsWhole e h)
 
 -- words of no form
-answer-usage : (words : List (List ℕ)) (input : List ℕ) → None ≡ form_of words → answer words input ≡ usage_answer
+answer-usage : (words : List (List ℕ)) (input : List ℕ) → None ≡ form_of_words words → answer words input ≡ usage_answer
 unfolding answer
 answer-usage words input e = ap (λ form. answer_of_form form input) (sym e)
 
@@ -30,19 +30,19 @@ some_input : (left : Option (List ℕ)) → (input : List ℕ) × IsInput left i
 some_input None = ([], tt)
 some_input (Some input) = (input, refl)
 
-pub Answers-usage : (words : List (List ℕ)) (left before after : Option (List ℕ)) (text : List ℕ) (ended : Status) → None ≡ form_of words → text ≡ usage_answer.text → Ends status.Usage ended → Wrote before after text → IsWhole ended → Answers words left before after ended
+pub Answers-usage : (words : List (List ℕ)) (left before after : Option (List ℕ)) (text : List ℕ) (ended : Status) → None ≡ form_of_words words → text ≡ usage_answer.text → Ends status.Usage ended → Wrote before after text → IsWhole ended → Answers words left before after ended
 Answers-usage words left before after text ended e t ends wrote whole =
     let (input, is_input) = some_input left in
     let is = sym (answer-usage words input e) in
     (input, is_input, subst (Wrote before after) (t ∙ ap (λ a. a.text) is) wrote, whole_end status.Usage ended ends whole ∙ ap (λ a. a.status) is)
 
-pub AnswersInPart-usage : (words : List (List ℕ)) (left before after : Option (List ℕ)) (text : List ℕ) → None ≡ form_of words → text ≡ usage_answer.text → WrotePart before after text → AnswersInPart words left before after
+pub AnswersInPart-usage : (words : List (List ℕ)) (left before after : Option (List ℕ)) (text : List ℕ) → None ≡ form_of_words words → text ≡ usage_answer.text → WrotePart before after text → AnswersInPart words left before after
 AnswersInPart-usage words left before after text e t wrote =
     let (input, is_input) = some_input left in
     (input, is_input, subst (WrotePart before after) (t ∙ ap (λ a. a.text) (sym (answer-usage words input e))) wrote)
 
 -- words of a form
-answer-form : (words : List (List ℕ)) (input bytes : List ℕ) (form : Form) → Some form ≡ form_of words → system_of input ≡ system_of bytes → answer words input ≡ answer_to form (system_of bytes)
+answer-form : (words : List (List ℕ)) (input bytes : List ℕ) (form : Form) → Some form ≡ form_of_words words → system_of input ≡ system_of bytes → answer words input ≡ answer_to form (system_of bytes)
 unfolding answer
 answer-form words input bytes form e s = ap (λ form. answer_of_form form input) (sym e) ∙ ap (answer_to form) s
 
@@ -52,7 +52,7 @@ known_input None bytes front = (bytes, tt, refl)
 known_input (Some input) bytes front = (input, refl, sym (ap system_of front ∙ system_of-front input))
 
 pub Answers-form : (words : List (List ℕ)) (left before after : Option (List ℕ)) (bytes text : List ℕ) (form : Form) (a : Answer) (ended : Status)
-    → Some form ≡ form_of words → IfSome left (λ input. bytes ≡ take (longest_input + 1) input) → a ≡ answer_to form (system_of bytes) → text ≡ a.text
+    → Some form ≡ form_of_words words → IfSome left (λ input. bytes ≡ take (longest_input + 1) input) → a ≡ answer_to form (system_of bytes) → text ≡ a.text
     → Ends a.status ended → Wrote before after text → IsWhole ended → Answers words left before after ended
 Answers-form words left before after bytes text form a ended e front given t ends wrote whole =
     let (input, is_input, same) = known_input left bytes front in
@@ -60,7 +60,7 @@ Answers-form words left before after bytes text form a ended e front given t end
     (input, is_input, subst (Wrote before after) (t ∙ ap (λ a. a.text) is) wrote, whole_end a.status ended ends whole ∙ ap (λ a. a.status) is)
 
 pub AnswersInPart-form : (words : List (List ℕ)) (left before after : Option (List ℕ)) (bytes text : List ℕ) (form : Form) (a : Answer)
-    → Some form ≡ form_of words → IfSome left (λ input. bytes ≡ take (longest_input + 1) input) → a ≡ answer_to form (system_of bytes) → text ≡ a.text
+    → Some form ≡ form_of_words words → IfSome left (λ input. bytes ≡ take (longest_input + 1) input) → a ≡ answer_to form (system_of bytes) → text ≡ a.text
     → WrotePart before after text → AnswersInPart words left before after
 AnswersInPart-form words left before after bytes text form a e front given t wrote =
     let (input, is_input, same) = known_input left bytes front in
@@ -68,27 +68,27 @@ AnswersInPart-form words left before after bytes text form a e front given t wro
     (input, is_input, subst (WrotePart before after) (t ∙ ap (λ a. a.text) is) wrote)
 
 -- the statuses of answers
-status-frame : (form : Form) (system : System) → (answer_to form system).status ≡ status.SystemFault → IsFrame system
+status-frame : (form : Form) (system : System) → (answer_to form system).status ≡ status.SystemFault → RefusesFrame system
 status-frame form (Plan plan) e = cc
 status-frame form (Frame line kind) e = tt
 status-frame form (Source node line kind) e = cc
 
-frame-status : (form : Form) (system : System) → IsFrame system → (answer_to form system).status ≡ status.SystemFault
+frame-status : (form : Form) (system : System) → RefusesFrame system → (answer_to form system).status ≡ status.SystemFault
 frame-status form (Plan plan) h = absurd h
 frame-status form (Frame line kind) h = refl
 frame-status form (Source node line kind) h = absurd h
 
-status-source : (form : Form) (system : System) → (answer_to form system).status ≡ status.SourceFault → IsSource system
+status-source : (form : Form) (system : System) → (answer_to form system).status ≡ status.SourceFault → RefusesSource system
 status-source form (Plan plan) e = cc
 status-source form (Frame line kind) e = cc
 status-source form (Source node line kind) e = tt
 
-source-status : (form : Form) (system : System) → IsSource system → (answer_to form system).status ≡ status.SourceFault
+source-status : (form : Form) (system : System) → RefusesSource system → (answer_to form system).status ≡ status.SourceFault
 source-status form (Plan plan) h = absurd h
 source-status form (Frame line kind) h = absurd h
 source-status form (Source node line kind) h = refl
 
-status-plan : (form : Form) (system : System) → (answer_to form system).status ≡ status.Done → IsPlan system
+status-plan : (form : Form) (system : System) → (answer_to form system).status ≡ status.Done → RefusesNothing system
 status-plan form (Plan plan) e = tt
 status-plan form (Frame line kind) e = cc
 status-plan form (Source node line kind) e = cc
@@ -101,23 +101,23 @@ ended_by : (form : Form) (system : System) (a : Answer) (ended wanted : Status) 
 ended_by form system a ended wanted given ends whole e =
     whole_end a.status ended ends whole ∙ (ap (λ a. a.status) given ∙ e)
 
-pub frame-ended : (form : Form) (system : System) (a : Answer) (ended : Status) → a ≡ answer_to form system → Ends a.status ended → ended ≡ status.SystemFault → IsFrame system
+pub frame-ended : (form : Form) (system : System) (a : Answer) (ended : Status) → a ≡ answer_to form system → Ends a.status ended → ended ≡ status.SystemFault → RefusesFrame system
 frame-ended form system a ended given ends e = status-frame form system (ended_at form system a ended status.SystemFault given ends tt e)
 
-pub ended-frame : (form : Form) (system : System) (a : Answer) (ended : Status) → a ≡ answer_to form system → Ends a.status ended → IsWhole ended → IsFrame system → ended ≡ status.SystemFault
+pub ended-frame : (form : Form) (system : System) (a : Answer) (ended : Status) → a ≡ answer_to form system → Ends a.status ended → IsWhole ended → RefusesFrame system → ended ≡ status.SystemFault
 ended-frame form system a ended given ends whole h = ended_by form system a ended status.SystemFault given ends whole (frame-status form system h)
 
-pub source-ended : (form : Form) (system : System) (a : Answer) (ended : Status) → a ≡ answer_to form system → Ends a.status ended → ended ≡ status.SourceFault → IsSource system
+pub source-ended : (form : Form) (system : System) (a : Answer) (ended : Status) → a ≡ answer_to form system → Ends a.status ended → ended ≡ status.SourceFault → RefusesSource system
 source-ended form system a ended given ends e = status-source form system (ended_at form system a ended status.SourceFault given ends tt e)
 
-pub ended-source : (form : Form) (system : System) (a : Answer) (ended : Status) → a ≡ answer_to form system → Ends a.status ended → IsWhole ended → IsSource system → ended ≡ status.SourceFault
+pub ended-source : (form : Form) (system : System) (a : Answer) (ended : Status) → a ≡ answer_to form system → Ends a.status ended → IsWhole ended → RefusesSource system → ended ≡ status.SourceFault
 ended-source form system a ended given ends whole h = ended_by form system a ended status.SourceFault given ends whole (source-status form system h)
 
-pub plan-ended : (form : Form) (system : System) (a : Answer) (ended : Status) → a ≡ answer_to form system → Ends a.status ended → ended ≡ status.Done → IsPlan system
+pub plan-ended : (form : Form) (system : System) (a : Answer) (ended : Status) → a ≡ answer_to form system → Ends a.status ended → ended ≡ status.Done → RefusesNothing system
 plan-ended form system a ended given ends e = status-plan form system (ended_at form system a ended status.Done given ends tt e)
 
 -- the input is taken
-pub TookInput-form : (words : List (List ℕ)) (left after : Option (List ℕ)) (bytes : List ℕ) (form : Form) → Some form ≡ form_of words → IfSome left (λ input. bytes ≡ take (longest_input + 1) input) → Took left after bytes → TookInput words left after
+pub TookInput-form : (words : List (List ℕ)) (left after : Option (List ℕ)) (bytes : List ℕ) (form : Form) → Some form ≡ form_of_words words → IfSome left (λ input. bytes ≡ take (longest_input + 1) input) → Took left after bytes → TookInput words left after
 TookInput-form words (Some input) (Some rest) bytes form e front took =
     let count : taken_by (Some form) input ≡ length bytes =
     omega (arith, ap length front, length-take (longest_input + 1) input) in

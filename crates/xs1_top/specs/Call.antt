@@ -69,19 +69,19 @@ TookInput words (Some left) None = ⊥
 TookInput words None (Some after) = ⊥
 
 -- the frame of the system text is refused
-abbrev pub IsFrame : System → Type 0
-IsFrame (Plan plan) = ⊥
-IsFrame (Frame line kind) = Unit {0}
-IsFrame (Source node line kind) = ⊥
+abbrev pub RefusesFrame : System → Type 0
+RefusesFrame (Plan plan) = ⊥
+RefusesFrame (Frame line kind) = Unit {0}
+RefusesFrame (Source node line kind) = ⊥
 
 -- the source of a node is refused
-abbrev pub IsSource : System → Type 0
-IsSource (Plan plan) = ⊥
-IsSource (Frame line kind) = ⊥
-IsSource (Source node line kind) = Unit {0}
+abbrev pub RefusesSource : System → Type 0
+RefusesSource (Plan plan) = ⊥
+RefusesSource (Frame line kind) = ⊥
+RefusesSource (Source node line kind) = Unit {0}
 
 -- nothing is refused
-abbrev pub IsPlan : System → Type 0
-IsPlan (Plan plan) = Unit {0}
-IsPlan (Frame line kind) = ⊥
-IsPlan (Source node line kind) = ⊥
+abbrev pub RefusesNothing : System → Type 0
+RefusesNothing (Plan plan) = Unit {0}
+RefusesNothing (Frame line kind) = ⊥
+RefusesNothing (Source node line kind) = ⊥

@@ -2,15 +2,15 @@
 ghost use Rattle.std.specs.Prelude.{ℕ, ◌≡◌, ◌≢◌, ◌<◌, ◌+◌, ◌⊎◌, Some, None, IfOk, IfSome, IsSome, map, string_bytes};
 ghost use Rattle.xs_edge.specs.Edge.{HasRisen, Wrote, WrotePart};
 ghost use Rattle.system_model.specs.System.{system_of, longest_input};
-ghost use Rattle.answer_model.specs.Top.{answer_to, form_of, text_for};
-ghost use Rattle.xs1_top.specs.Call.{IsWhole, IsRead, IsSilent, Answers, AnswersInPart, TookInput, IsFrame, IsSource, IsPlan};
+ghost use Rattle.answer_model.specs.Top.{answer_to, form_of_words, text_for};
+ghost use Rattle.xs1_top.specs.Call.{IsWhole, IsRead, IsSilent, Answers, AnswersInPart, TookInput, RefusesFrame, RefusesSource, RefusesNothing};
 ghost use Rattle.xs1_top.specs.Reads.{ReadsAtMost};
 
 use crate::check::check_text;
 use crate::input::{ReadError, read_all};
 use crate::output::write_all;
 use crate::refusals::{frame_line, source_line, usage_line};
-use crate::words::form_of;
+use crate::words::form_of_words;
 use std::alloc::{AllocError, Global};
 use sys_plan::Plan;
 pub use answer_model::Status;
@@ -59,17 +59,17 @@ pub fn top<S: Source, K: Sink, G: Gate>(
     ensures write_fault_shown { K.faults sink.old < K.faults sink.new → result ≡ Status.WriteFault }
 
     // When each of the other statuses comes.
-    ensures usage { result ≡ Status.Usage → form_of (map string_bytes words.now) ≡ None }
-    ensures usage_given { form_of (map string_bytes words.now) ≡ None → (result ≡ Status.Usage) ⊎ (result ≡ Status.WriteFault) }
-    ensures usage_reads_nothing { form_of (map string_bytes words.now) ≡ None → source.new ≡ source.old }
-    ensures system_fault { result ≡ Status.SystemFault → IfSome (S.left source.old) (λ input. IsFrame (system_of input)) }
-    ensures system_fault_given { IsSome (form_of (map string_bytes words.now)) → IsWhole result → IfSome (S.left source.old) (λ input. IsFrame (system_of input) → result ≡ Status.SystemFault) }
-    ensures source_fault { result ≡ Status.SourceFault → IfSome (S.left source.old) (λ input. IsSource (system_of input)) }
-    ensures source_fault_given { IsSome (form_of (map string_bytes words.now)) → IsWhole result → IfSome (S.left source.old) (λ input. IsSource (system_of input) → result ≡ Status.SourceFault) }
-    ensures done { result ≡ Status.Done → IfSome (S.left source.old) (λ input. IsPlan (system_of input)) }
+    ensures usage { result ≡ Status.Usage → form_of_words (map string_bytes words.now) ≡ None }
+    ensures usage_given { form_of_words (map string_bytes words.now) ≡ None → (result ≡ Status.Usage) ⊎ (result ≡ Status.WriteFault) }
+    ensures usage_reads_nothing { form_of_words (map string_bytes words.now) ≡ None → source.new ≡ source.old }
+    ensures system_fault { result ≡ Status.SystemFault → IfSome (S.left source.old) (λ input. RefusesFrame (system_of input)) }
+    ensures system_fault_given { IsSome (form_of_words (map string_bytes words.now)) → IsWhole result → IfSome (S.left source.old) (λ input. RefusesFrame (system_of input) → result ≡ Status.SystemFault) }
+    ensures source_fault { result ≡ Status.SourceFault → IfSome (S.left source.old) (λ input. RefusesSource (system_of input)) }
+    ensures source_fault_given { IsSome (form_of_words (map string_bytes words.now)) → IsWhole result → IfSome (S.left source.old) (λ input. RefusesSource (system_of input) → result ≡ Status.SourceFault) }
+    ensures done { result ≡ Status.Done → IfSome (S.left source.old) (λ input. RefusesNothing (system_of input)) }
     ensures script_fault { result ≢ Status.ScriptFault }
 {
-    let Some(form) = form_of(words) else {
+    let Some(form) = form_of_words(words) else {
         return finish(sink, usage_line(), Status::Usage);
     };
     let input = match read_all(alloc, source) {

@@ -3,7 +3,7 @@ ghost use Rattle.std.specs.Prelude.{◌≡◌, ◌≤◌, [], ◌∷◌, map, st
 ghost use Rattle.std.specs.List.{list_all};
 ghost use Rattle.std.specs.Char.{is_ascii_digit};
 ghost use Rattle.xs_text.specs.Tokens.{is_run};
-ghost use Rattle.answer_model.specs.Top.{count_of, form_of, run_of};
+ghost use Rattle.answer_model.specs.Top.{decimal_up_to, form_of_words, run_of};
 ghost use Rattle.xs1_top.specs.Call.{HasFewSlots};
 
 use answer_model::Form;
@@ -19,8 +19,8 @@ const MOST_DIGITS: usize = 10;
 /// The form of the program's words, without the program's name: `run SLOTS`, `run SLOTS serial` or `check`. SLOTS is
 /// one to ten decimal digits with a value of at most 1,000,000. None comes exactly where the words are of no form.
 /// See docs/OUTPUT.md.
-pub fn form_of(words: &[String]) -> Option<Form>
-    ensures value { result ≡ form_of (map string_bytes words.now) }
+pub fn form_of_words(words: &[String]) -> Option<Form>
+    ensures value { result ≡ form_of_words (map string_bytes words.now) }
     ensures few { IfSome result HasFewSlots }
 {
     match words {
@@ -32,18 +32,18 @@ pub fn form_of(words: &[String]) -> Option<Form>
 }
 
 // The form of one word: `check`.
-#[tactic(auto, unfolding(answer_model::specs::Top::form_of))]
+#[tactic(auto, unfolding(answer_model::specs::Top::form_of_words))]
 fn form_of_one(command: &str) -> Option<Form>
-    ensures value { result ≡ form_of (command.now ∷ []) }
+    ensures value { result ≡ form_of_words (command.now ∷ []) }
     ensures few { IfSome result HasFewSlots }
 {
     same_name(b"check", command.as_bytes()).then_some(Form::Check)
 }
 
 // The form of two words: `run SLOTS`.
-#[tactic(auto, unfolding(answer_model::specs::Top::form_of))]
+#[tactic(auto, unfolding(answer_model::specs::Top::form_of_words))]
 fn form_of_two(command: &str, slots: &str) -> Option<Form>
-    ensures value { result ≡ form_of (command.now ∷ slots.now ∷ []) }
+    ensures value { result ≡ form_of_words (command.now ∷ slots.now ∷ []) }
     ensures few { IfSome result HasFewSlots }
 {
     if !same_name(b"run", command.as_bytes()) {
@@ -53,9 +53,9 @@ fn form_of_two(command: &str, slots: &str) -> Option<Form>
 }
 
 // The form of three words: `run SLOTS serial`.
-#[tactic(auto, unfolding(answer_model::specs::Top::form_of))]
+#[tactic(auto, unfolding(answer_model::specs::Top::form_of_words))]
 fn form_of_three(command: &str, slots: &str, mode: &str) -> Option<Form>
-    ensures value { result ≡ form_of (command.now ∷ slots.now ∷ mode.now ∷ []) }
+    ensures value { result ≡ form_of_words (command.now ∷ slots.now ∷ mode.now ∷ []) }
     ensures few { IfSome result HasFewSlots }
 {
     if !same_name(b"run", command.as_bytes()) || !same_name(b"serial", mode.as_bytes()) {
@@ -75,7 +75,7 @@ fn run_of(word: &str) -> Option<Form>
 
 // The value of one to ten decimal digits, if it is at most the limit.
 fn count(word: &[u8], limit: u32) -> Option<u32>
-    ensures value { result ≡ count_of limit word.now }
+    ensures value { result ≡ decimal_up_to limit word.now }
     ensures limit { IfSome result (λ n. n ≤ limit) }
 {
     if word.len() > MOST_DIGITS || !is_decimal(word) {

@@ -3,12 +3,12 @@ use Rattle.sys_plan.specs.declared.LinkPlan.{LinkPlan}
 use Rattle.sys_plan.specs.declared.NodePlan.{NodePlan}
 use Rattle.sys_plan.specs.Plan.{PlanRec, directions}
 use Rattle.serial_model.specs.Serial.{serial}
-use Rattle.trace_model.specs.Trace.{by_position, link_at}
+use Rattle.trace_model.specs.Trace.{by_position, traffic_at}
 use Rattle.trace_text.proofs.ByPosition.{directions-length, link_more, link_done}
 use Rattle.trace_text.proofs.whole_trace.append_links.Goals as goal
 
-pub append_link_at-requires-clause-number : goal.append_link_at-requires-clause-number
-append_link_at-requires-clause-number c =
+pub append_traffic_at-requires-clause-number : goal.append_traffic_at-requires-clause-number
+append_traffic_at-requires-clause-number c =
     let links = c.links-links.result.now in
     let count : length (directions c.args.machine.now.plan.links) ≡ 2 * length links =
     directions-length _ ∙ ap (λ (ls : List LinkPlan). 2 * length ls) (ap (λ (p : PlanRec). p.links) c.requires.plan ∙ sym c.links-links.ensures.value) in
@@ -17,7 +17,7 @@ append_link_at-requires-clause-number c =
 pub loop-k-preserved : goal.loop-k-preserved
 loop-k-preserved c =
     let machine = c.args.machine.now in
-    link_more (link_at c.nodes-nodes.result.now (serial machine.plan machine.now)) c.loop-k.k c.links-links.result.now _ _ _ _ _ (omega arith) refl c.in_ok-append_link_at.ensures c.loop-k.invariant
+    link_more (traffic_at c.nodes-nodes.result.now (serial machine.plan machine.now)) c.loop-k.k c.links-links.result.now _ _ _ _ _ (omega arith) refl c.in_ok-append_traffic_at.ensures c.loop-k.invariant
 
 pub returns : goal.returns
 returns c =
@@ -25,6 +25,6 @@ returns c =
     let system = serial machine.plan machine.now in
     let out = c.args.out.now in
     let links = c.links-links.result.now in
-    link_done (link_at c.nodes-nodes.result.now system) c.loop-k.k links _ _ (omega arith) c.loop-k.invariant
-    ∙ (ap (λ (ns : List NodePlan). out ++ by_position (link_at ns system) 0 (directions links)) c.nodes-nodes.ensures.value
-    ∙ ap (λ (ls : List LinkPlan). out ++ by_position (link_at c.args.plan.now.nodes system) 0 (directions ls)) c.links-links.ensures.value)
+    link_done (traffic_at c.nodes-nodes.result.now system) c.loop-k.k links _ _ (omega arith) c.loop-k.invariant
+    ∙ (ap (λ (ns : List NodePlan). out ++ by_position (traffic_at ns system) 0 (directions links)) c.nodes-nodes.ensures.value
+    ∙ ap (λ (ls : List LinkPlan). out ++ by_position (traffic_at c.args.plan.now.nodes system) 0 (directions ls)) c.links-links.ensures.value)

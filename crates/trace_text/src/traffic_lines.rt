@@ -1,6 +1,6 @@
 //! The line of a directed link: how many tokens and credits were sent on it.
 ghost use Rattle.std.specs.Prelude.{◌≡◌, ◌++◌, OnOk};
-ghost use Rattle.trace_model.specs.Trace.{tokens_in, credits_in, link_end_text, counts_text, link_line};
+ghost use Rattle.trace_model.specs.Trace.{tokens_sent, credits_sent, link_end_text, counts_text, traffic_line};
 
 use std::alloc::AllocError;
 use line_text::append_decimal;
@@ -15,8 +15,8 @@ struct Totals {
 
 // What a history has of each.
 fn count_sent(history: &[Entry]) -> Totals
-    ensures tokens { result.tokens ≡ tokens_in history.now }
-    ensures credits { result.credits ≡ credits_in history.now }
+    ensures tokens { result.tokens ≡ tokens_sent history.now }
+    ensures credits { result.credits ≡ credits_sent history.now }
 {
     let mut tokens = 0;
     let mut credits = 0;
@@ -51,7 +51,7 @@ fn append_counts(out: &mut Text, history: &[Entry]) -> Result<(), AllocError>
 }
 
 // `link N:E>M:F tokens A credits B`, with what the history has of each.
-pub(crate) fn append_link_line(
+pub(crate) fn append_traffic_line(
     out: &mut Text,
     from: u8,
     from_end: u8,
@@ -59,7 +59,7 @@ pub(crate) fn append_link_line(
     to_end: u8,
     history: &[Entry],
 ) -> Result<(), AllocError>
-    ensures { OnOk result (out.new ≡ out.old ++ link_line from from_end to to_end history.now) }
+    ensures { OnOk result (out.new ≡ out.old ++ traffic_line from from_end to to_end history.now) }
 {
     out.append(b"link ")?;
     append_link_end(out, from, from_end)?;

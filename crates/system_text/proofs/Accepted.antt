@@ -11,9 +11,9 @@ use Rattle.system_model.specs.declared.frame_line.FrameLine.{FrameLine}
 use Rattle.system_model.specs.declared.frame_line.FrameLine.TheVariants.{Node, Link, Bit, Source}
 use Rattle.system_model.specs.declared.frame_line.GivenNode.{GivenNode}
 use Rattle.system_model.specs.declared.frame_line.LinkLine.{LinkLine}
-use Rattle.system_model.specs.FrameLines.{is_in_range, is_node_number, is_between}
-use Rattle.system_model.specs.Frame.{SourceText, Given, Says, Own, End, Blank, Header, NoHeader, NoForm, Form, says, is_built, names_none, is_given_twice, is_id_twice, is_link_to_itself, is_link_end_twice, is_bit_twice, fault_of, first_that_holds, given_with, given_after, put_by_number, has_node, has_link_end, unless_faulty, at_the_end, whole_but_for, without_source, Framed, Whole, Refused, frame_from, framed, nothing_given, have_no_words}
-use Rattle.system_text.specs.Kept.{IsLinkOf, AreKept, IsFrame}
+use Rattle.system_model.specs.FrameLines.{are_numbers_in_range, is_node_number, is_between}
+use Rattle.system_model.specs.Frame.{SourceText, Given, FrameSays, Own, End, Blank, Header, NoHeader, NoForm, Form, says, is_line_built, names_none, is_given_twice, is_id_twice, is_link_to_itself, is_link_end_twice, is_bit_twice, fault_of, first_that_holds, given_with, given_after, put_by_number, has_node, has_link_end, unless_faulty, at_the_end, whole_but_for, without_source, Framed, Whole, Refused, frame_from, framed, nothing_given, have_no_words}
+use Rattle.system_text.specs.Accepted.{IsLinkOf, AreAccepted, IsAccepted}
 use Rattle.system_text.proofs.Judged.{fault_by}
 use Rattle.system_text.proofs.Walk.{from-cons, from-end, framed_is}
 
@@ -31,8 +31,8 @@ either false b e = (refl, e)
 
 -- what a good line of a form has passed
 record Passes (given : Given) (form : FrameLine) : Type 0 where
-  pub built : is_built given form ≡ true
-  pub ranged : is_in_range form ≡ true
+  pub built : is_line_built given form ≡ true
+  pub ranged : are_numbers_in_range form ≡ true
   pub known : names_none given (Form form) ≡ false
   pub new : is_given_twice given (Form form) ≡ false
   pub new_id : is_id_twice given (Form form) ≡ false
@@ -62,9 +62,9 @@ none_of_eight false false false false false false g h i = (refl, refl, refl, ref
 
 passed : (given : Given) (allowed : Bool) (form : FrameLine) → fault_by given allowed (Form form) ≡ None → Passes given form
 passed given allowed form e =
-    let none = none_of_eight (not allowed || not (is_built given form)) (not (is_in_range form)) (names_none given (Form form)) (is_given_twice given (Form form)) (is_id_twice given (Form form)) (is_link_to_itself (Form form)) (is_link_end_twice given (Form form)) (is_bit_twice given (Form form)) e in
+    let none = none_of_eight (not allowed || not (is_line_built given form)) (not (are_numbers_in_range form)) (names_none given (Form form)) (is_given_twice given (Form form)) (is_id_twice given (Form form)) (is_link_to_itself (Form form)) (is_link_end_twice given (Form form)) (is_bit_twice given (Form form)) e in
     record {
-      built = not_false _ (either (not allowed) (not (is_built given form)) none.0).1;
+      built = not_false _ (either (not allowed) (not (is_line_built given form)) none.0).1;
       ranged = not_false _ none.1;
       known = none.2;
       new = none.3;
@@ -105,7 +105,7 @@ front_or : (a b : Bool) → (a || false) ≡ true → (a || (b || false)) ≡ tr
 front_or true b e = refl
 front_or false b e = cc
 
-node_put : (first : Bool) (m node : GivenNode) (links : List LinkLine) (bits : List BitLine) → nat_lt m.number node.number ≡ first → node.number ≤ 99 → m.number ≢ node.number → m.id ≢ node.id → AreKept (m ∷ []) links bits → AreKept (cond first (m ∷ (node ∷ [])) (node ∷ (m ∷ []))) links bits
+node_put : (first : Bool) (m node : GivenNode) (links : List LinkLine) (bits : List BitLine) → nat_lt m.number node.number ≡ first → node.number ≤ 99 → m.number ≢ node.number → m.id ≢ node.id → AreAccepted (m ∷ []) links bits → AreAccepted (cond first (m ∷ (node ∷ [])) (node ∷ (m ∷ []))) links bits
 node_put true m node links bits e h ne nid k = record {
   few_nodes = omega arith;
   few_links = k.few_links;
@@ -125,7 +125,7 @@ node_put false m node links bits e h ne nid k = record {
   bits = k.bits;
 }
 
-with_node : (nodes : List GivenNode) (node : GivenNode) (links : List LinkLine) (bits : List BitLine) → nat_lt (length nodes) 2 ≡ true → node.number ≤ 99 → has_node nodes node.number ≡ false → list_any (λ (other : GivenNode). other.id == node.id) nodes ≡ false → AreKept nodes links bits → AreKept (put_by_number node nodes) links bits
+with_node : (nodes : List GivenNode) (node : GivenNode) (links : List LinkLine) (bits : List BitLine) → nat_lt (length nodes) 2 ≡ true → node.number ≤ 99 → has_node nodes node.number ≡ false → list_any (λ (other : GivenNode). other.id == node.id) nodes ≡ false → AreAccepted nodes links bits → AreAccepted (put_by_number node nodes) links bits
 with_node [] node links bits few h new new_id k = record {
   few_nodes = omega arith;
   few_links = k.few_links;
@@ -147,7 +147,7 @@ no_bits (bit ∷ bits) h = absurd cc
 ranges : (least most n : ℕ) → is_between least most n ≡ true → (least ≤ n) × (n ≤ most)
 ranges least most n e = let b = both (nat_le least n) (nat_le n most) e in (grind (arith, nat_tests), grind (arith, nat_tests))
 
-link_of : (nodes : List GivenNode) (link : LinkLine) → is_in_range (Link link) ≡ true → not (has_node nodes link.a && has_node nodes link.b) ≡ false → (link.a == link.b) ≡ false → IsLinkOf nodes link
+link_of : (nodes : List GivenNode) (link : LinkLine) → are_numbers_in_range (Link link) ≡ true → not (has_node nodes link.a && has_node nodes link.b) ≡ false → (link.a == link.b) ≡ false → IsLinkOf nodes link
 link_of nodes link range known apart =
     let ends = both (has_node nodes link.a) (has_node nodes link.b) (not_false _ known) in
     let times = both (is_between 1 1000 link.delay) (is_between 4 1000 link.gap) (both (is_node_number link.b) _ (both (is_node_number link.a) _ range).1).1 in
@@ -155,7 +155,7 @@ link_of nodes link range known apart =
     let gap = ranges 4 1000 link.gap times.1 in
     record { a = ends.0; b = ends.1; apart = λ e. grind (arith, nat_tests); least_delay = delay.0; most_delay = delay.1; least_gap = gap.0; most_gap = gap.1 }
 
-with_link : (nodes : List GivenNode) (links : List LinkLine) (link : LinkLine) (bits : List BitLine) → nat_lt (length links) 1 ≡ true → IsLinkOf nodes link → AreKept nodes links bits → AreKept nodes (links ++ link ∷ []) bits
+with_link : (nodes : List GivenNode) (links : List LinkLine) (link : LinkLine) (bits : List BitLine) → nat_lt (length links) 1 ≡ true → IsLinkOf nodes link → AreAccepted nodes links bits → AreAccepted nodes (links ++ link ∷ []) bits
 with_link nodes [] link bits few h k = record {
   few_nodes = k.few_nodes;
   few_links = omega arith;
@@ -169,7 +169,7 @@ with_link nodes (l ∷ links) link bits few h k = absurd (grind (arith, nat_test
 
 -- One more bit
 
-with_bit : (nodes : List GivenNode) (links : List LinkLine) (bits : List BitLine) (bit : BitLine) → not (has_node nodes bit.node && has_link_end links bit.node) ≡ false → AreKept nodes links bits → AreKept nodes links (bits ++ bit ∷ [])
+with_bit : (nodes : List GivenNode) (links : List LinkLine) (bits : List BitLine) (bit : BitLine) → not (has_node nodes bit.node && has_link_end links bit.node) ≡ false → AreAccepted nodes links bits → AreAccepted nodes links (bits ++ bit ∷ [])
 with_bit nodes links bits bit known k = record {
   few_nodes = k.few_nodes;
   few_links = k.few_links;
@@ -182,7 +182,7 @@ with_bit nodes links bits bit known k = record {
 
 -- A line without a fault keeps it all.
 
-form_keeps : (n : ℕ) (l : List ℕ) (form : FrameLine) (given : Given) → Passes given form → IsFrame given → IsFrame (given_with n l (Form form) given)
+form_keeps : (n : ℕ) (l : List ℕ) (form : FrameLine) (given : Given) → Passes given form → IsAccepted given → IsAccepted (given_with n l (Form form) given)
 form_keeps n l (Node node) given p k =
     let number : node.number ≤ 99 = let is = (both (is_node_number node.number) (nat_le node.id 65535) p.ranged).0 in grind (arith, nat_tests) in
     with_node given.nodes (record { line = n; number = node.number; id = node.id }) given.links given.bits p.built number p.new p.new_id k
@@ -190,7 +190,7 @@ form_keeps n l (Link link) given p k = with_link given.nodes given.links link gi
 form_keeps n l (Bit bit) given p k = with_bit given.nodes given.links given.bits bit p.known k
 form_keeps n l (Source number) given p k = k
 
-line_keeps : (n : ℕ) (l : List ℕ) (what : Says) (given : Given) (allowed : Bool) → fault_by given allowed what ≡ None → IsFrame given → IsFrame (given_with n l what given)
+line_keeps : (n : ℕ) (l : List ℕ) (what : FrameSays) (given : Given) (allowed : Bool) → fault_by given allowed what ≡ None → IsAccepted given → IsAccepted (given_with n l what given)
 line_keeps n l Own given allowed e k = k
 line_keeps n l End given allowed e k = k
 line_keeps n l Blank given allowed e k = k
@@ -211,21 +211,21 @@ unless_whole : (fault : Option SysKind) (n : ℕ) (rest : Framed) (whole : Given
 unless_whole None n rest whole e = (refl, e)
 unless_whole (Some kind) n rest whole e = absurd cc
 
-from_keeps : (ls : List (List ℕ)) (n : ℕ) (given whole : Given) → frame_from n given ls ≡ Whole whole → IsFrame given → IsFrame whole
+from_keeps : (ls : List (List ℕ)) (n : ℕ) (given whole : Given) → frame_from n given ls ≡ Whole whole → IsAccepted given → IsAccepted whole
 from_keeps [] n given whole e k =
     let same : given ≡ whole = end_whole given.reading given whole (sym (from-end n given) ∙ e) in
-    subst (λ (g : Given). IsFrame g) same k
+    subst (λ (g : Given). IsAccepted g) same k
 from_keeps (l ∷ ls) n given whole e k =
     let good = unless_whole (fault_of given l) n (frame_from (n + 1) (given_after n l given) ls) whole (sym (from-cons n given l ls) ∙ e) in
     from_keeps ls (n + 1) (given_after n l given) whole good.1 (line_keeps n l (says given l) given (all_allowed l) good.0 k)
 
-nothing_kept : IsFrame nothing_given
+nothing_kept : IsAccepted nothing_given
 nothing_kept = record { few_nodes = omega arith; few_links = omega arith; numbers = tt; order = tt; ids = tt; links = tt; bits = tt }
 
-framed_by : (wordless : Bool) (ls : List (List ℕ)) (whole : Given) → cond wordless (Refused 1 FirstLine) (frame_from 1 nothing_given ls) ≡ Whole whole → IsFrame whole
+framed_by : (wordless : Bool) (ls : List (List ℕ)) (whole : Given) → cond wordless (Refused 1 FirstLine) (frame_from 1 nothing_given ls) ≡ Whole whole → IsAccepted whole
 framed_by true ls whole e = absurd cc
 framed_by false ls whole e = from_keeps ls 1 nothing_given whole e nothing_kept
 
 -- a frame that is accepted
-pub framed_keeps : (ls : List (List ℕ)) (whole : Given) → framed ls ≡ Whole whole → IsFrame whole
+pub framed_keeps : (ls : List (List ℕ)) (whole : Given) → framed ls ≡ Whole whole → IsAccepted whole
 framed_keeps ls whole e = framed_by (have_no_words ls) ls whole (sym (framed_is ls) ∙ e)

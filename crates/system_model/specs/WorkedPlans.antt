@@ -20,12 +20,12 @@ AreRefused rows =
     map (λ (row : List ℕ × ℕ × SysKind). system_of row.0) rows ≡ map (λ (row : List ℕ × ℕ × SysKind). Frame row.1 row.2) rows
 
 -- the header and two nodes in falling order, and then these lines, from line 4 on
-abbrev pub pair : List ℕ → List ℕ
-pair lines = codes "xs1 1\nnode 7 id 1\nnode 3 id 0\n" ++ lines
+abbrev pub two_nodes : List ℕ → List ℕ
+two_nodes lines = codes "xs1 1\nnode 7 id 1\nnode 3 id 0\n" ++ lines
 
 -- the same with a link, and then these lines, from line 5 on
 abbrev pub linked : List ℕ → List ℕ
-linked lines = pair (codes "link 7:0 3:0 delay 5 gap 4\n" ++ lines)
+linked lines = two_nodes (codes "link 7:0 3:0 delay 5 gap 4\n" ++ lines)
 
 -- the first line with words
 abbrev pub first_lines : Refusals
@@ -90,23 +90,23 @@ bad_lines =
 -- lines of no form, by what the lines before them gave, and forms that are not built
 abbrev pub bad_pair_lines : Refusals
 bad_pair_lines =
-    (pair (codes "node 4 id 4\n"), 4, BadLine)
-    ∷ (pair (codes "node 7 id 1\n"), 4, BadLine)
-    ∷ (pair (codes "node 100 id 65536\n"), 4, BadLine)
+    (two_nodes (codes "node 4 id 4\n"), 4, BadLine)
+    ∷ (two_nodes (codes "node 7 id 1\n"), 4, BadLine)
+    ∷ (two_nodes (codes "node 100 id 65536\n"), 4, BadLine)
     ∷ (linked (codes "link 7:0 3:0 delay 5 gap 4\n"), 5, BadLine)
     ∷ (linked (codes "link 100:0 3:0 delay 0 gap 0\n"), 5, BadLine)
-    ∷ (pair (codes "link 7:1 3:0 delay 5 gap 4\n"), 4, BadLine)
-    ∷ (pair (codes "link 7:0 3:8 delay 5 gap 4\n"), 4, BadLine)
-    ∷ (pair (codes "link 100:8 3:0 delay 5 gap 4\n"), 4, BadLine)
-    ∷ (pair (codes "link 7 :0 3:0 delay 5 gap 4\n"), 4, BadLine)
-    ∷ (pair (codes "link 7: 3:0 delay 5 gap 4\n"), 4, BadLine)
-    ∷ (pair (codes "link :0 3:0 delay 5 gap 4\n"), 4, BadLine)
-    ∷ (pair (codes "link 7:0:0 3:0 delay 5 gap 4\n"), 4, BadLine)
-    ∷ (pair (codes "link 7 3 delay 5 gap 4\n"), 4, BadLine)
-    ∷ (pair (codes "link 7:0 3:0 gap 4 delay 5\n"), 4, BadLine)
-    ∷ (pair (codes "link 7:0 3:0 delay 5\n"), 4, BadLine)
-    ∷ (pair (codes "link 7:0 3:0 delay 5 gap 4 net 0\n"), 4, BadLine)
-    ∷ (pair (codes "link 100:0 3:0 delay 0 gap x\n"), 4, BadLine)
+    ∷ (two_nodes (codes "link 7:1 3:0 delay 5 gap 4\n"), 4, BadLine)
+    ∷ (two_nodes (codes "link 7:0 3:8 delay 5 gap 4\n"), 4, BadLine)
+    ∷ (two_nodes (codes "link 100:8 3:0 delay 5 gap 4\n"), 4, BadLine)
+    ∷ (two_nodes (codes "link 7 :0 3:0 delay 5 gap 4\n"), 4, BadLine)
+    ∷ (two_nodes (codes "link 7: 3:0 delay 5 gap 4\n"), 4, BadLine)
+    ∷ (two_nodes (codes "link :0 3:0 delay 5 gap 4\n"), 4, BadLine)
+    ∷ (two_nodes (codes "link 7:0:0 3:0 delay 5 gap 4\n"), 4, BadLine)
+    ∷ (two_nodes (codes "link 7 3 delay 5 gap 4\n"), 4, BadLine)
+    ∷ (two_nodes (codes "link 7:0 3:0 gap 4 delay 5\n"), 4, BadLine)
+    ∷ (two_nodes (codes "link 7:0 3:0 delay 5\n"), 4, BadLine)
+    ∷ (two_nodes (codes "link 7:0 3:0 delay 5 gap 4 net 0\n"), 4, BadLine)
+    ∷ (two_nodes (codes "link 100:0 3:0 delay 0 gap x\n"), 4, BadLine)
     ∷ (linked (codes "bit 7 0\n"), 5, BadLine)
     ∷ (linked (codes "bit 7 0 1\n"), 5, BadLine)
     ∷ (linked (codes "bit 7 0 8\n"), 5, BadLine)
@@ -125,32 +125,32 @@ wide_numbers =
     ∷ (codes "xs1 1\nnode 99999999999999999999999999999999999999999999 id 0\n", 2, NumberOutOfRange)
     ∷ (codes "xs1 1\nnode 0 id 0x100000000000000000000000000000000000000000000\n", 2, NumberOutOfRange)
     ∷ (codes "xs1 1\nsource 100\n", 2, NumberOutOfRange)
-    ∷ (pair (codes "link 100:0 3:0 delay 5 gap 4\n"), 4, NumberOutOfRange)
-    ∷ (pair (codes "link 7:0 256:0 delay 5 gap 4\n"), 4, NumberOutOfRange)
-    ∷ (pair (codes "link 7:0 3:0 delay 0 gap 4\n"), 4, NumberOutOfRange)
-    ∷ (pair (codes "link 7:0 3:0 delay 1001 gap 4\n"), 4, NumberOutOfRange)
-    ∷ (pair (codes "link 7:0 3:0 delay 5 gap 3\n"), 4, NumberOutOfRange)
-    ∷ (pair (codes "link 7:0 3:0 delay 5 gap 1001\n"), 4, NumberOutOfRange)
+    ∷ (two_nodes (codes "link 100:0 3:0 delay 5 gap 4\n"), 4, NumberOutOfRange)
+    ∷ (two_nodes (codes "link 7:0 256:0 delay 5 gap 4\n"), 4, NumberOutOfRange)
+    ∷ (two_nodes (codes "link 7:0 3:0 delay 0 gap 4\n"), 4, NumberOutOfRange)
+    ∷ (two_nodes (codes "link 7:0 3:0 delay 1001 gap 4\n"), 4, NumberOutOfRange)
+    ∷ (two_nodes (codes "link 7:0 3:0 delay 5 gap 3\n"), 4, NumberOutOfRange)
+    ∷ (two_nodes (codes "link 7:0 3:0 delay 5 gap 1001\n"), 4, NumberOutOfRange)
     ∷ (linked (codes "bit 100 0 0\n"), 5, NumberOutOfRange)
     ∷ (linked (codes "bit 7 16 0\n"), 5, NumberOutOfRange)
     -- they come before a node that is not given, a number given twice, and a link to itself
-    ∷ (pair (codes "link 4:0 3:0 delay 0 gap 4\n"), 4, NumberOutOfRange)
-    ∷ (pair (codes "link 7:0 7:0 delay 5 gap 0\n"), 4, NumberOutOfRange)
+    ∷ (two_nodes (codes "link 4:0 3:0 delay 0 gap 4\n"), 4, NumberOutOfRange)
+    ∷ (two_nodes (codes "link 7:0 7:0 delay 5 gap 0\n"), 4, NumberOutOfRange)
     ∷ (codes "xs1 1\nnode 7 id 1\nnode 7 id 65536\n", 3, NumberOutOfRange)
     ∷ []
 
 -- nodes and link ends that no earlier line gives
 abbrev pub missing : Refusals
 missing =
-    (pair (codes "link 4:0 3:0 delay 5 gap 4\n"), 4, NoSuchNode)
-    ∷ (pair (codes "link 7:0 4:0 delay 5 gap 4\n"), 4, NoSuchNode)
+    (two_nodes (codes "link 4:0 3:0 delay 5 gap 4\n"), 4, NoSuchNode)
+    ∷ (two_nodes (codes "link 7:0 4:0 delay 5 gap 4\n"), 4, NoSuchNode)
     -- before a link to itself
-    ∷ (pair (codes "link 4:0 4:0 delay 5 gap 4\n"), 4, NoSuchNode)
+    ∷ (two_nodes (codes "link 4:0 4:0 delay 5 gap 4\n"), 4, NoSuchNode)
     ∷ (codes "xs1 1\nnode 7 id 1\nlink 7:0 3:0 delay 5 gap 4\nnode 3 id 0\n", 3, NoSuchNode)
-    ∷ (pair (codes "bit 7 0 0\nlink 7:0 3:0 delay 5 gap 4\n"), 4, NoSuchNode)
+    ∷ (two_nodes (codes "bit 7 0 0\nlink 7:0 3:0 delay 5 gap 4\n"), 4, NoSuchNode)
     ∷ (linked (codes "bit 4 0 0\n"), 5, NoSuchNode)
     ∷ (codes "xs1 1\nsource 0\nend\nnode 0 id 0\n", 2, NoSuchNode)
-    ∷ (pair (codes "source 99\nend\n"), 4, NoSuchNode)
+    ∷ (two_nodes (codes "source 99\nend\n"), 4, NoSuchNode)
     ∷ []
 
 -- what is given twice
@@ -158,9 +158,9 @@ abbrev pub twice : Refusals
 twice =
     (codes "xs1 1\nnode 7 id 1\nnode 7 id 0\n", 3, GivenTwice)
     ∷ (codes "xs1 1\nnode 7 id 1\nnode 0x07 id 1\n", 3, GivenTwice)
-    ∷ (pair (codes "source 7\nend\nsource 7\nend\n"), 6, GivenTwice)
+    ∷ (two_nodes (codes "source 7\nend\nsource 7\nend\n"), 6, GivenTwice)
     ∷ (codes "xs1 1\nnode 7 id 1\nnode 3 id 0x1\n", 3, IdTwice)
-    ∷ (pair (codes "link 7:0 7:0 delay 5 gap 4\n"), 4, LinkToItself)
+    ∷ (two_nodes (codes "link 7:0 7:0 delay 5 gap 4\n"), 4, LinkToItself)
     ∷ (codes "xs1 1\nnode 0 id 0\nlink 0:0 0:0 delay 5 gap 4\n", 3, LinkToItself)
     ∷ (linked (codes "bit 7 0 0\nbit 3 0 0\nbit 0x7 0x0 0\n"), 7, BitTwice)
     ∷ []
@@ -171,14 +171,14 @@ ends =
     (codes "xs1 1\nnode 0 id 0\nsource 0\n", 3, SectionNotEnded)
     ∷ (codes "xs1 1\nnode 0 id 0\nsource 0\nend:\nend nop\n" ++ 1 ∷ [], 3, SectionNotEnded)
     ∷ (codes "xs1 1\nnode 0 id 0\nsource 0\nend\r", 3, SectionNotEnded)
-    ∷ (pair (codes "source 7\nnop\n"), 4, SectionNotEnded)
+    ∷ (two_nodes (codes "source 7\nnop\n"), 4, SectionNotEnded)
     ∷ (codes "xs1 1\nnode 0 id 0\n", 2, NodeWithoutSource)
     ∷ (codes "\nxs1 1\n\nnode 5 id 0\nnode 3 id 1\n", 5, NodeWithoutSource)
-    ∷ (pair (codes "source 3\nend\n"), 2, NodeWithoutSource)
-    ∷ (pair (codes "source 7\nend\n"), 3, NodeWithoutSource)
+    ∷ (two_nodes (codes "source 3\nend\n"), 2, NodeWithoutSource)
+    ∷ (two_nodes (codes "source 7\nend\n"), 3, NodeWithoutSource)
     -- the least faulty line comes before all of these
-    ∷ (pair (codes "source 7\nend\nfoo\nsource 3\n"), 6, BadLine)
-    ∷ (pair (codes "bit 7 0 0\nfoo\n"), 4, NoSuchNode)
+    ∷ (two_nodes (codes "source 7\nend\nfoo\nsource 3\n"), 6, BadLine)
+    ∷ (two_nodes (codes "bit 7 0 0\nfoo\n"), 4, NoSuchNode)
     ∷ []
 
 pub record WorkedRefusals : Type 0 where
@@ -242,7 +242,7 @@ plan_of_0_and_99 = record {
   links = [];
 }
 
-pub record WorkedSystems : Type 0 where
+pub record WorkedPlans : Type 0 where
   pub any_order : frame mixed ≡ mixed_frame
   -- nodes by number, and the link and the bits by their places
   pub plan : system_of linked_7_and_3 ≡ Plan plan_of_3_and_7

@@ -18,7 +18,7 @@ pub record IsLinkOf (nodes : List GivenNode) (link : LinkLine) : Type 0 where
   pub most_gap : link.gap ≤ 1000
 
 -- the nodes, the links and the bits of a frame
-pub record AreKept (ns : List GivenNode) (ls : List LinkLine) (bs : List BitLine) : Type 0 where
+pub record AreAccepted (ns : List GivenNode) (ls : List LinkLine) (bs : List BitLine) : Type 0 where
   pub few_nodes : length ns ≤ 2
   pub few_links : length ls ≤ 1
   pub numbers : AllByRecursion (λ (node : GivenNode). node.number ≤ 99) ns
@@ -28,5 +28,5 @@ pub record AreKept (ns : List GivenNode) (ls : List LinkLine) (bs : List BitLine
   -- a bit is of a node whose link end is in a link
   pub bits : AllByRecursion (λ (bit : BitLine). has_link_end ls bit.node ≡ true) bs
 
-abbrev pub IsFrame : Given → Type 0
-IsFrame given = AreKept given.nodes given.links given.bits
+abbrev pub IsAccepted : Given → Type 0
+IsAccepted given = AreAccepted given.nodes given.links given.bits
