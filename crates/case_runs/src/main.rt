@@ -1,7 +1,7 @@
 //! Gives each case of data/cases.jsonl to the program's call, and says which of them it answers otherwise than the case
 //! says and how many it answers so. The texts that the cases expect were written by hand, from docs/ASSEMBLY.md,
 //! docs/SYSTEM_TEXT.md and docs/OUTPUT.md. Sources and systems that reach the limits of a memory or of the whole input
-//! are too long for that file: the tests of xs_assembler and of system_text try those.
+//! are too long for that file: the tests of xs_assembler and of xs1_top try those.
 #![tactic(auto)]
 
 mod case;

@@ -3,9 +3,9 @@ ghost use Rattle.std.specs.Prelude.{◌≡◌, ◌++◌, IfOk, OnOk};
 ghost use Rattle.std.specs.List.{flat_map};
 ghost use Rattle.answer_model.specs.Check.{check_text, source_section};
 
+use line_text::append_decimal;
 use std::alloc::{AllocError, Global};
 use sys_plan::{NodePlan, Plan};
-use line_text::append_decimal;
 use xs_base::Text;
 use xs_printer::print_image;
 

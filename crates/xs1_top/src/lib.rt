@@ -11,5 +11,5 @@ mod refusals;
 mod tests;
 mod words;
 
-pub use call::top;
 pub use answer_model::Status;
+pub use call::top;

@@ -2,10 +2,10 @@
 ghost use Rattle.std.specs.Prelude.{◌≡◌, ◌++◌, IfOk, OnOk};
 ghost use Rattle.answer_model.specs.Top.{frame_text, source_text, text_of_asm_kind, text_of_sys_kind, usage_text};
 
+use line_text::append_decimal;
 use source_model::AsmKind;
 use std::alloc::{AllocError, Global};
 use system_model::SysKind;
-use line_text::append_decimal;
 use xs_base::Text;
 
 /// The usage line. It takes no memory.
