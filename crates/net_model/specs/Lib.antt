@@ -1,4 +1,4 @@
-pub mod Ids
+pub mod Ways
 pub mod Chans
 pub mod Links
 pub mod Switch

@@ -5,11 +5,13 @@ use Rattle.xs_base.specs.declared.token.Token.{Token}
 use Rattle.xs_base.specs.declared.token.Token.TheVariants.{Byte, Ctrl}
 use Rattle.xs_model.specs.declared.event.Happen.{Happen}
 use Rattle.xs_model.specs.declared.event.Happen.TheVariants as happen
-use Rattle.xs_model.specs.Record.{NodeRec, LinkRec, ChanRec, core_with, unused_chan, chan_of}
+use Rattle.xs_model.specs.Record.{NodeRec, LinkRec, ChanRec, core_with, node_with, unused_chan, chan_of}
 use Rattle.xs_base.specs.Ids.{chan_id}
-use Rattle.net_model.specs.Chans.{got_chan, has_room}
+use Rattle.xs_model.specs.Waits.{has_room}
+use Rattle.xs_model.specs.AtWork.{AtWork, slot_begins}
+use Rattle.net_model.specs.Chans.{got_chan}
 use Rattle.net_model.specs.Links.{fresh_link, links_after_arrivals}
-use Rattle.net_model.specs.Switch.{Routes, Moving, moves, with_chan}
+use Rattle.net_model.specs.Switch.{Routes, moves, node_with_chan}
 
 -- what travelled on one direction of the link, by the slots of its sending
 pub record Sent : Type 0 where
@@ -26,19 +28,23 @@ pub record Pair : Type 0 where
 abbrev pub nothing_sent : Sent
 nothing_sent = record { tokens = []; credits = [] }
 
-abbrev pub node_with : List ChanRec → List (Option LinkRec) → NodeRec
-node_with chans links = record { core = record (core_with [] [] []) { chans = chans }; links = links }
+abbrev pub node_of_parts : List ChanRec → List (Option LinkRec) → NodeRec
+node_of_parts chans links = node_with (record (core_with [] [] []) { chans = chans }) links
+
+-- what the switch makes of a node in a slot
+abbrev pub switched : Routes → ℕ → NodeRec → AtWork
+switched routes slot rec = moves routes slot (slot_begins rec)
 
 -- a node with channel end 0 in use and link end 0
 abbrev pub with_link : NodeRec
-with_link = node_with (got_chan ∷ replicate 31 unused_chan) (Some fresh_link ∷ replicate 7 None)
+with_link = node_of_parts (got_chan ∷ replicate 31 unused_chan) (Some fresh_link ∷ replicate 7 None)
 
 -- a node with link end 0 and no channel end in use
 abbrev pub without_chan : NodeRec
-without_chan = node_with (replicate 32 unused_chan) (Some fresh_link ∷ replicate 7 None)
+without_chan = node_of_parts (replicate 32 unused_chan) (Some fresh_link ∷ replicate 7 None)
 
-abbrev pub routes_of : ℕ → Routes
-routes_of id = record { id = id; ways = 1 ∷ replicate 15 0; gaps = 4 ∷ replicate 7 0 }
+abbrev pub routes_at : ℕ → Routes
+routes_at id = record { id = id; ways = 1 ∷ replicate 15 0; gaps = 4 ∷ replicate 7 0 }
 
 -- the token that was sent in a slot, if one was
 abbrev pub token_of_slot : ℕ → List (ℕ × Token) → Option Token
@@ -62,19 +68,19 @@ token_entry slot None = []
 token_entry slot (Some t) = (slot, t) ∷ []
 
 -- what was sent by a link end, and what leaves by it in a slot
-abbrev pub and_sent : ℕ → ℕ → Sent → Moving → Sent
+abbrev pub and_sent : ℕ → ℕ → Sent → AtWork → Sent
 and_sent end slot sent m = record {
   tokens = sent.tokens ++ token_entry slot (slice_index_or m.tokens end None);
   credits = sent.credits ++ (if slice_index_or m.credits end false then slot ∷ [] else []);
 }
 
-abbrev pub in_slot : ℕ → List Happen → List (ℕ × Happen)
-in_slot slot [] = []
-in_slot slot (h ∷ hs) = (slot, h) ∷ in_slot slot hs
+abbrev pub all_in : ℕ → List Happen → List (ℕ × Happen)
+all_in slot [] = []
+all_in slot (h ∷ hs) = (slot, h) ∷ all_in slot hs
 
 -- a token is put into channel end 0, which gets a destination
 abbrev pub put_out : ℕ → Token → NodeRec → NodeRec
-put_out dest t rec = with_chan rec 0 (record (chan_of rec.core 0) { dest = Some dest; output = (chan_of rec.core 0).output ++ t ∷ [] })
+put_out dest t rec = node_with_chan rec 0 (record (chan_of rec.core 0) { dest = Some dest; output = (chan_of rec.core 0).output ++ t ∷ [] })
 
 -- a program that puts one token into its channel end 0 in a slot
 abbrev pub puts_in : ℕ → ℕ → Token → ℕ → NodeRec → NodeRec
@@ -85,20 +91,20 @@ abbrev pub floods : ℕ → NodeRec → NodeRec
 floods slot rec =
     if (nat_le 16 slot && (slot % 8 == 0)) && has_room 1 (chan_of rec.core 0).output then put_out (chan_id 1 0) (Byte 7) rec else rec
 
-abbrev pub pair_after : (ℕ → NodeRec → NodeRec) → ℕ → Pair → Moving → Moving → Pair
+abbrev pub pair_after : (ℕ → NodeRec → NodeRec) → ℕ → Pair → AtWork → AtWork → Pair
 pair_after program slot pair one two = record {
   first = program slot one.rec;
   second = two.rec;
   forth = and_sent 0 slot pair.forth one;
   back = and_sent 0 slot pair.back two;
-  happened = pair.happened ++ (in_slot slot one.happened ++ in_slot slot two.happened);
+  happened = pair.happened ++ (all_in slot one.happened ++ all_in slot two.happened);
 }
 
 abbrev pub pair_step : (ℕ → NodeRec → NodeRec) → ℕ → Pair → Pair
 pair_step program slot pair =
     pair_after program slot pair
-    (moves (routes_of 0) slot (arrives slot pair.back pair.first))
-    (moves (routes_of 1) slot (arrives slot pair.forth pair.second))
+    (switched (routes_at 0) slot (arrives slot pair.back pair.first))
+    (switched (routes_at 1) slot (arrives slot pair.forth pair.second))
 
 -- two nodes with one link, of which the second is given
 abbrev pub pair_start : NodeRec → Pair

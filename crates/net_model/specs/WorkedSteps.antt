@@ -7,8 +7,9 @@ use Rattle.xs_model.specs.Record.{NodeRec, LinkRec, ChanRec, InputRec, Idle, Hea
 use Rattle.xs_base.specs.Ids.{chan_id}
 use Rattle.net_model.specs.Chans.{got_chan}
 use Rattle.net_model.specs.Links.{fresh_link, links_after_arrivals, may_send}
-use Rattle.net_model.specs.Switch.{Moving, moves, with_state, state_at, free_end}
-use Rattle.net_model.specs.Worked.{node_with, with_link, routes_of}
+use Rattle.xs_model.specs.AtWork.{AtWork}
+use Rattle.net_model.specs.Switch.{with_state, state_at, free_end}
+use Rattle.net_model.specs.Worked.{node_of_parts, switched, with_link, routes_at}
 
 -- a link end with an empty buffer that sent in some slots, and counted credits in some
 abbrev pub counted : List ℕ → List ℕ → LinkRec
@@ -51,29 +52,29 @@ sends output dest = record got_chan { output = output; dest = Some dest }
 -- a node with a link end, in whose buffer some tokens wait; some lie in the input buffer of channel end 0
 abbrev pub link_node : List Token → List Token → NodeRec
 link_node buffer input =
-    node_with (record got_chan { input = input } ∷ replicate 31 unused_chan) (Some (record fresh_link { buffer = buffer }) ∷ replicate 7 None)
+    node_of_parts (record got_chan { input = input } ∷ replicate 31 unused_chan) (Some (record fresh_link { buffer = buffer }) ∷ replicate 7 None)
 
 -- slot 100 at node 1 as such a node, where link end 0's input is in a state
-abbrev pub from_link : InputRec → List Token → List Token → Moving
-from_link state buffer input = moves (routes_of 1) 100 (with_state (link_node buffer input) 0 state)
+abbrev pub from_link : InputRec → List Token → List Token → AtWork
+from_link state buffer input = switched (routes_at 1) 100 (with_state (link_node buffer input) 0 state)
 
 -- slot 100 at node 0, which has no link end, where channel end 0's input is in a state
-abbrev pub from_chan : InputRec → ChanRec → Moving
-from_chan state chan = moves (routes_of 0) 100 (with_state (node_with (chan ∷ replicate 31 unused_chan) (replicate 8 None)) 8 state)
+abbrev pub from_chan : InputRec → ChanRec → AtWork
+from_chan state chan = switched (routes_at 0) 100 (with_state (node_of_parts (chan ∷ replicate 31 unused_chan) (replicate 8 None)) 8 state)
 
 -- slot 100 at node 1, where tokens wait at channel ends 0 and 1, with their destinations
-abbrev pub from_two : List Token → ℕ → List Token → ℕ → Moving
+abbrev pub from_two : List Token → ℕ → List Token → ℕ → AtWork
 from_two zeroth dest other other_dest =
-    moves (routes_of 1) 100 (node_with (sends zeroth dest ∷ sends other other_dest ∷ replicate 30 unused_chan) (Some fresh_link ∷ replicate 7 None))
+    switched (routes_at 1) 100 (node_of_parts (sends zeroth dest ∷ sends other other_dest ∷ replicate 30 unused_chan) (Some fresh_link ∷ replicate 7 None))
 
 -- a node with a link end that sent last in a slot; END waits at channel end 0, and a data byte at channel end 1
 abbrev pub holder_node : ℕ → NodeRec
 holder_node last =
-    node_with (sends (Ctrl 1 ∷ []) (chan_id 1 0) ∷ sends (Byte 1 ∷ []) (chan_id 1 5) ∷ replicate 30 unused_chan) (Some (counted (last ∷ []) (last ∷ [])) ∷ replicate 7 None)
+    node_of_parts (sends (Ctrl 1 ∷ []) (chan_id 1 0) ∷ sends (Byte 1 ∷ []) (chan_id 1 5) ∷ replicate 30 unused_chan) (Some (counted (last ∷ []) (last ∷ [])) ∷ replicate 7 None)
 
 -- slot 100 at node 0 as such a node, where channel end 0 holds the link end, and the header is out
-abbrev pub from_holder : ℕ → Moving
-from_holder last = moves (routes_of 0) 100 (with_state (holder_node last) 8 (Out 0 3 (chan_id 1 0)))
+abbrev pub from_holder : ℕ → AtWork
+from_holder last = switched (routes_at 0) 100 (with_state (holder_node last) 8 (Out 0 3 (chan_id 1 0)))
 
 abbrev pub no_credits : List Bool
 no_credits = replicate 8 false

@@ -9,12 +9,13 @@ use Rattle.xs_model.specs.Record.{NodeRec, unused_chan}
 use Rattle.xs_base.specs.Ids.{chan_id}
 use Rattle.net_model.specs.Chans.{got_chan}
 use Rattle.net_model.specs.Links.{fresh_link, links_after_arrivals}
-use Rattle.net_model.specs.Switch.{Routes, Moving, moves}
-use Rattle.net_model.specs.Worked.{Sent, nothing_sent, node_with, with_link, token_of_slot, credit_of_slot, arrives, and_sent, in_slot, puts_in}
+use Rattle.xs_model.specs.AtWork.{AtWork}
+use Rattle.net_model.specs.Switch.{Routes}
+use Rattle.net_model.specs.Worked.{Sent, nothing_sent, node_of_parts, switched, with_link, token_of_slot, credit_of_slot, arrives, and_sent, all_in, puts_in}
 
 -- the nodes, what travelled on each direction of the links between the first and the middle node and between the middle
 -- and the last one, and what happened at each node
-pub record Line : Type 0 where
+pub record LineOfNodes : Type 0 where
   pub first : NodeRec
   pub middle : NodeRec
   pub last : NodeRec
@@ -28,11 +29,11 @@ pub record Line : Type 0 where
 
 -- the middle node: channel end 0 in use, link ends 0 and 1
 abbrev pub middle_node : NodeRec
-middle_node = node_with (got_chan ∷ replicate 31 unused_chan) (Some fresh_link ∷ Some fresh_link ∷ replicate 6 None)
+middle_node = node_of_parts (got_chan ∷ replicate 31 unused_chan) (Some fresh_link ∷ Some fresh_link ∷ replicate 6 None)
 
 -- the last node: channel ends 0 and 1 in use, link end 0
 abbrev pub last_node : NodeRec
-last_node = node_with (got_chan ∷ got_chan ∷ replicate 30 unused_chan) (Some fresh_link ∷ replicate 7 None)
+last_node = node_of_parts (got_chan ∷ got_chan ∷ replicate 30 unused_chan) (Some fresh_link ∷ replicate 7 None)
 
 -- ids 0 and 1 differ from 3 in bit 1 as the highest: link end 0 of the first node leads there, and link end 1 of the
 -- middle one
@@ -61,7 +62,7 @@ both_arrive slot zeroth other rec =
 
 -- in slot 12 the first node puts END to channel end 0 of the last one, and in slot 28 the middle node PAUSE to its
 -- channel end 1
-abbrev pub line_after : ℕ → Line → Moving → Moving → Moving → Line
+abbrev pub line_after : ℕ → LineOfNodes → AtWork → AtWork → AtWork → LineOfNodes
 line_after slot line one two three = record {
   first = puts_in 12 (chan_id 3 0) (Ctrl 1) slot one.rec;
   middle = puts_in 28 (chan_id 3 1) (Ctrl 2) slot two.rec;
@@ -70,19 +71,19 @@ line_after slot line one two three = record {
   back = and_sent 0 slot line.back two;
   on_forth = and_sent 1 slot line.on_forth two;
   on_back = and_sent 0 slot line.on_back three;
-  at_first = line.at_first ++ in_slot slot one.happened;
-  at_middle = line.at_middle ++ in_slot slot two.happened;
-  at_last = line.at_last ++ in_slot slot three.happened;
+  at_first = line.at_first ++ all_in slot one.happened;
+  at_middle = line.at_middle ++ all_in slot two.happened;
+  at_last = line.at_last ++ all_in slot three.happened;
 }
 
-abbrev pub line_step : ℕ → Line → Line
+abbrev pub line_step : ℕ → LineOfNodes → LineOfNodes
 line_step slot line =
     line_after slot line
-    (moves first_routes slot (arrives slot line.back line.first))
-    (moves middle_routes slot (both_arrive slot line.forth line.on_back line.middle))
-    (moves last_routes slot (arrives slot line.on_forth line.last))
+    (switched first_routes slot (arrives slot line.back line.first))
+    (switched middle_routes slot (both_arrive slot line.forth line.on_back line.middle))
+    (switched last_routes slot (arrives slot line.on_forth line.last))
 
-abbrev pub line_start : Line
+abbrev pub line_start : LineOfNodes
 line_start = record {
   first = with_link;
   middle = middle_node;
@@ -97,7 +98,7 @@ line_start = record {
 }
 
 -- the line before a slot
-unfoldable pub line_at : ℕ → Line
+unfoldable pub line_at : ℕ → LineOfNodes
 line_at zero = line_start
 line_at (suc slot) = line_step slot (line_at slot)
 

@@ -1,6 +1,7 @@
 -- The serial machine: all nodes of a system stepped together, slot by slot.
-use Rattle.std.specs.Prelude.{ℕ, zero, suc, ◌+◌, Bool, true, false, ◌==◌, Option, Some, None, List, [], ◌∷◌, ◌++◌, map, filter, replicate, slice_index_or}
+use Rattle.std.specs.Prelude.{ℕ, zero, suc, ◌+◌, Bool, true, false, ◌&&◌, ◌==◌, nat_le, nat_lt, Option, Some, None, List, [], ◌∷◌, ◌++◌, map, filter, slice_index_or}
 use Rattle.std.specs.List.{list_any}
+use Rattle.xs_base.specs.Numbers.{Slot, Position, LinkNumber, EndNumber}
 use Rattle.xs_base.specs.declared.token.Token.{Token}
 use Rattle.xs_base.specs.declared.entry.Entry.{Entry}
 use Rattle.xs_base.specs.declared.entry.What.{What}
@@ -9,7 +10,7 @@ use Rattle.xs_model.specs.declared.event.Event.{Event}
 use Rattle.xs_model.specs.declared.outside.Arrivals.{Arrivals}
 use Rattle.xs_model.specs.declared.outside.PinView.{PinView}
 use Rattle.xs_model.specs.Record.{NodeRec}
-use Rattle.xs_model.specs.Outside.{Emitted, emitted_events}
+use Rattle.xs_model.specs.Outside.{Emitted, emitted_events, low_pins}
 use Rattle.sys_plan.specs.declared.NodePlan.{NodePlan}
 use Rattle.sys_plan.specs.Plan.{PlanRec, Direction, directions, incoming, delay_of, gaps_of, link_ends}
 use Rattle.step_model.specs.Start.{fixed_of, node_of}
@@ -22,7 +23,7 @@ pub record SystemRec : Type 0 where
   pub events : List (List Event)
 
 -- the nodes as they start, the first of which stands at position n
-abbrev pub nodes_at_start : PlanRec → ℕ → List NodePlan → List NodeRec
+abbrev pub nodes_at_start : PlanRec → Position → List NodePlan → List NodeRec
 nodes_at_start plan n [] = []
 nodes_at_start plan n (node ∷ nodes) = node_of node (gaps_of plan n) ∷ nodes_at_start plan (n + 1) nodes
 
@@ -35,11 +36,11 @@ system_at_start plan = record {
 }
 
 -- the entries of a directed link that arrive in a slot: those that were sent a delay before
-abbrev pub arriving : ℕ → ℕ → List Entry → List Entry
+abbrev pub arriving : Slot → ℕ → List Entry → List Entry
 arriving slot delay history = filter (λ (e : Entry). (e.slot + delay) == slot) history
 
 -- what arrives in a slot by the directed link with a number, where there is one
-abbrev pub arriving_by : PlanRec → List (List Entry) → ℕ → Option ℕ → List Entry
+abbrev pub arriving_by : PlanRec → List (List Entry) → Slot → Option LinkNumber → List Entry
 arriving_by plan histories slot None = []
 arriving_by plan histories slot (Some link) = arriving slot (delay_of plan link) (slice_index_or histories link [])
 
@@ -65,43 +66,43 @@ abbrev pub arrivals_of : List (List Entry) → Arrivals
 arrivals_of by_end = record { tokens = map token_among by_end; credits = map credit_among by_end }
 
 -- what arrives at a node in a slot
-abbrev pub arrivals_at : PlanRec → List (List Entry) → ℕ → ℕ → Arrivals
+abbrev pub arrivals_at : PlanRec → List (List Entry) → Slot → Position → Arrivals
 arrivals_at plan histories slot node = arrivals_of (map (λ end. arriving_by plan histories slot (incoming plan node end)) link_ends)
 
--- each pin shows 0
-abbrev pub low_pins : PinView
-low_pins = record { level = replicate 29 0 }
+-- what the pins of the node at a position show in a slot, where its ports do not drive them: no pin script is built yet
+abbrev pub pins_at : PlanRec → Position → Slot → PinView
+pins_at plan node slot = low_pins
 
 -- the step of each node in a slot, the first of which stands at position n
-abbrev pub steps_from : PlanRec → List (List Entry) → ℕ → ℕ → List NodePlan → List NodeRec → List Stepped
+abbrev pub steps_from : PlanRec → List (List Entry) → Slot → Position → List NodePlan → List NodeRec → List Stepped
 steps_from plan histories slot n (node ∷ nodes) (rec ∷ recs) =
-    node_step (fixed_of node (gaps_of plan n)) rec slot (arrivals_at plan histories slot n) low_pins
+    node_step (fixed_of node (gaps_of plan n)) rec slot (arrivals_at plan histories slot n) (pins_at plan n slot)
     ∷ steps_from plan histories slot (n + 1) nodes recs
 steps_from plan histories slot n _ _ = []
 
 -- the steps of all nodes in a slot
-abbrev pub steps_of : PlanRec → ℕ → SystemRec → List Stepped
+abbrev pub steps_of : PlanRec → Slot → SystemRec → List Stepped
 steps_of plan slot system = steps_from plan system.histories slot 0 plan.nodes system.nodes
 
-abbrev pub token_entries : ℕ → Option Token → List Entry
+abbrev pub token_entries : Slot → Option Token → List Entry
 token_entries slot None = []
 token_entries slot (Some t) = record { slot = slot; what = what.Token t } ∷ []
 
-abbrev pub credit_entries : ℕ → Bool → List Entry
+abbrev pub credit_entries : Slot → Bool → List Entry
 credit_entries slot false = []
 credit_entries slot true = record { slot = slot; what = what.Credit } ∷ []
 
 -- what a node's slot sends by a link end: the token, then the credit
-abbrev pub sent_by : ℕ → Emitted → ℕ → List Entry
+abbrev pub sent_by : Slot → Emitted → EndNumber → List Entry
 sent_by slot emitted end =
     token_entries slot (slice_index_or emitted.tokens end None) ++ credit_entries slot (slice_index_or emitted.credits end false)
 
 -- what the node at a position emitted
-abbrev pub emitted_by : List Stepped → ℕ → Emitted
+abbrev pub emitted_by : List Stepped → Position → Emitted
 emitted_by steps node = slice_index_or (map (λ (s : Stepped). s.emitted) steps) node (emitted_events [])
 
 -- each history goes on with what its sender's link end sent
-abbrev pub longer_histories : ℕ → List Stepped → List Direction → List (List Entry) → List (List Entry)
+abbrev pub longer_histories : Slot → List Stepped → List Direction → List (List Entry) → List (List Entry)
 longer_histories slot steps (d ∷ ds) (history ∷ histories) =
     (history ++ sent_by slot (emitted_by steps d.from) d.from_end) ∷ longer_histories slot steps ds histories
 longer_histories slot steps _ _ = []
@@ -112,7 +113,7 @@ longer_events (s ∷ steps) (events ∷ all) = (events ++ s.emitted.events) ∷ 
 longer_events _ _ = []
 
 -- the system after the steps of a slot
-abbrev pub system_after : PlanRec → ℕ → SystemRec → List Stepped → SystemRec
+abbrev pub system_after : PlanRec → Slot → SystemRec → List Stepped → SystemRec
 system_after plan slot system steps = record {
   nodes = map (λ (s : Stepped). s.rec) steps;
   histories = longer_histories slot steps (directions plan.links) system.histories;
@@ -120,10 +121,18 @@ system_after plan slot system steps = record {
 }
 
 -- one slot of the whole system
-abbrev pub system_step : PlanRec → ℕ → SystemRec → SystemRec
+abbrev pub system_step : PlanRec → Slot → SystemRec → SystemRec
 system_step plan slot system = system_after plan slot system (steps_of plan slot system)
 
 -- the system after so many slots
-unfoldable pub serial : PlanRec → ℕ → SystemRec
+unfoldable pub serial : PlanRec → Slot → SystemRec
 serial plan zero = system_at_start plan
 serial plan (suc slot) = system_step plan slot (serial plan slot)
+
+-- whether an entry was sent in a slot from one on and before another
+abbrev pub is_sent_within : Slot → Slot → Entry → Bool
+is_sent_within from to e = nat_le from e.slot && nat_lt e.slot to
+
+-- what a directed link carried in the slots from one on and before another
+abbrev pub history : PlanRec → LinkNumber → Slot → Slot → List Entry
+history plan link from to = filter (is_sent_within from to) (slice_index_or (serial plan to).histories link [])

@@ -4,11 +4,9 @@ use Rattle.xs_base.specs.declared.token.Token.{Token}
 use Rattle.xs_base.specs.declared.token.Token.TheVariants.{Byte, Ctrl}
 use Rattle.xs_base.specs.declared.entry.Entry.{Entry}
 use Rattle.xs_base.specs.declared.entry.What.TheVariants as what
-use Rattle.xs_model.specs.declared.event.Event.{Event}
-use Rattle.xs_model.specs.declared.event.Happen.{Happen}
 use Rattle.xs_model.specs.declared.event.Happen.TheVariants as happen
 use Rattle.xs_model.specs.Record.{NodeRec, thread_of}
-use Rattle.xs_model.specs.Outside.{Emitted}
+use Rattle.xs_model.specs.Outside.{Emitted, in_slot}
 use Rattle.xs_instructions.specs.declared.instr.Instr.{Instr}
 use Rattle.xs_instructions.specs.declared.instr.Instr.TheVariants.{Words, Memory, Threads, Resources}
 use Rattle.xs_instructions.specs.declared.instr.WordIns.TheVariants as words
@@ -17,7 +15,7 @@ use Rattle.xs_instructions.specs.declared.instr.ThreadIns.TheVariants as threads
 use Rattle.xs_instructions.specs.declared.instr.ResIns.TheVariants as resources
 use Rattle.sys_plan.specs.declared.NodePlan.{NodePlan}
 use Rattle.sys_plan.specs.Plan.{PlanRec}
-use Rattle.serial_model.specs.Serial.{SystemRec, sent_by, serial}
+use Rattle.serial_model.specs.Serial.{SystemRec, sent_by, serial, history}
 
 -- a node whose number is its id, with this code and these bytes of data, that knows no way
 abbrev pub plain_node : ℕ → List Instr → List ℕ → NodePlan
@@ -28,81 +26,82 @@ plain_node id code bytes = record {
   ways = replicate 16 0;
 }
 
-abbrev pub happened : ℕ → Happen → Event
-happened slot what = record { slot = slot; what = what }
-
 -- the pc of each node's thread 0
 abbrev pub pcs : SystemRec → List ℕ
 pcs system = map (λ (rec : NodeRec). (thread_of rec.core 0).pc) system.nodes
 
 -- two nodes: one executes two instructions, and one has no code
-abbrev pub apart : PlanRec
-apart = record {
+abbrev pub two_alone : PlanRec
+two_alone = record {
   nodes = plain_node 0 (Words (words.Ldc 3 5) ∷ Threads threads.Freet ∷ []) [] ∷ plain_node 1 [] [] ∷ [];
   links = [];
 }
 
 -- the same two with a link, by which nothing is sent
-abbrev pub joined : PlanRec
-joined = record {
-  nodes = apart.nodes;
+abbrev pub two_joined : PlanRec
+two_joined = record {
+  nodes = two_alone.nodes;
   links = record { a = 1; a_end = 2; b = 0; b_end = 7; delay = 5; gap = 4 } ∷ [];
 }
 
 -- Node 0 issues in slots 0 and 4 and is done; node 1 traps in slot 0, and its thread halts where its trap led.
-pub record WorkedSystems : Type 0 where
-  pub apart_events : (serial apart 6).events ≡ [] ∷ (happened 0 (happen.Trap 0 2 0x00040000 0x00040000) ∷ happened 0 (happen.Halt 0) ∷ []) ∷ []
-  pub apart_histories : (serial apart 6).histories ≡ []
-  pub apart_after_4 : pcs (serial apart 4) ≡ 0x00040004 ∷ 0 ∷ []
-  pub apart_after_5 : pcs (serial apart 5) ≡ 0x00040008 ∷ 0 ∷ []
-  pub joined_histories : (serial joined 6).histories ≡ [] ∷ [] ∷ []
+pub record SmallSystems : Type 0 where
+  pub apart_events : (serial two_alone 6).events ≡ [] ∷ (in_slot 0 (happen.Trap 0 2 0x00040000 0x00040000) ∷ in_slot 0 (happen.Halt 0) ∷ []) ∷ []
+  pub apart_histories : (serial two_alone 6).histories ≡ []
+  pub apart_after_4 : pcs (serial two_alone 4) ≡ 0x00040004 ∷ 0 ∷ []
+  pub apart_after_5 : pcs (serial two_alone 5) ≡ 0x00040008 ∷ 0 ∷ []
+  pub joined_histories : (serial two_joined 6).histories ≡ [] ∷ [] ∷ []
 
 -- Node 0 sends END to channel end 0 of node 1 by a link with a delay of 5 and a gap of 4, and node 1 waits for it.
-abbrev pub sender : NodePlan
-sender = record (plain_node 0 (
+abbrev pub sending_node : NodePlan
+sending_node = record (plain_node 0 (
     Resources (resources.Getr 0 2) ∷ Memory (memory.LdwDp 1 0) ∷ Resources (resources.Setd 0 1) ∷ Resources (resources.OutctImm 0 1)
     ∷ Threads threads.Freet ∷ []
     ) (2 ∷ 0 ∷ 1 ∷ 0 ∷ [])) { ways = 1 ∷ replicate 15 0 }
 
-abbrev pub receiver : NodePlan
-receiver = record (plain_node 1 (
+abbrev pub receiving_node : NodePlan
+receiving_node = record (plain_node 1 (
     Resources (resources.Getr 0 2) ∷ Resources (resources.ChkctImm 0 1) ∷ Threads threads.Freet ∷ []
     ) []) { ways = 1 ∷ replicate 15 0 }
 
-abbrev pub pair : PlanRec
-pair = record {
-  nodes = sender ∷ receiver ∷ [];
+abbrev pub talking_pair : PlanRec
+talking_pair = record {
+  nodes = sending_node ∷ receiving_node ∷ [];
   links = record { a = 0; a_end = 0; b = 1; b_end = 0; delay = 5; gap = 4 } ∷ [];
 }
 
-abbrev pub token_in : ℕ → Token → Entry
-token_in slot t = record { slot = slot; what = what.Token t }
+abbrev pub token_sent : ℕ → Token → Entry
+token_sent slot t = record { slot = slot; what = what.Token t }
 
-abbrev pub credit_in : ℕ → Entry
-credit_in slot = record { slot = slot; what = what.Credit }
+abbrev pub credit_sent : ℕ → Entry
+credit_sent slot = record { slot = slot; what = what.Credit }
 
 -- The output happens in slot 12. The header bytes leave a gap apart and then END; each is taken on arrival, for which
 -- a credit goes back, and END is delivered in slot 30. The thread that waited issues in that slot.
-pub record WorkedPair : Type 0 where
-  pub nothing_sent : (serial pair 13).histories ≡ [] ∷ [] ∷ []
-  pub before_arrival : (serial pair 18).histories ≡ (token_in 13 (Byte 0) ∷ token_in 17 (Byte 1) ∷ []) ∷ [] ∷ []
-  pub first_credit : (serial pair 19).histories ≡ (token_in 13 (Byte 0) ∷ token_in 17 (Byte 1) ∷ []) ∷ (credit_in 18 ∷ []) ∷ []
-  pub histories : (serial pair 60).histories
-      ≡ (token_in 13 (Byte 0) ∷ token_in 17 (Byte 1) ∷ token_in 21 (Byte 0) ∷ token_in 25 (Ctrl 1) ∷ [])
-      ∷ (credit_in 18 ∷ credit_in 22 ∷ credit_in 26 ∷ credit_in 30 ∷ [])
+pub record PairAtWork : Type 0 where
+  pub nothing_sent : (serial talking_pair 13).histories ≡ [] ∷ [] ∷ []
+  pub before_arrival : (serial talking_pair 18).histories ≡ (token_sent 13 (Byte 0) ∷ token_sent 17 (Byte 1) ∷ []) ∷ [] ∷ []
+  pub first_credit : (serial talking_pair 19).histories ≡ (token_sent 13 (Byte 0) ∷ token_sent 17 (Byte 1) ∷ []) ∷ (credit_sent 18 ∷ []) ∷ []
+  pub histories : (serial talking_pair 60).histories
+      ≡ (token_sent 13 (Byte 0) ∷ token_sent 17 (Byte 1) ∷ token_sent 21 (Byte 0) ∷ token_sent 25 (Ctrl 1) ∷ [])
+      ∷ (credit_sent 18 ∷ credit_sent 22 ∷ credit_sent 26 ∷ credit_sent 30 ∷ [])
       ∷ []
-  pub not_delivered : (serial pair 30).events ≡ [] ∷ [] ∷ []
-  pub events : (serial pair 60).events ≡ [] ∷ (happened 30 (happen.Chan 0 (Ctrl 1)) ∷ []) ∷ []
-  pub waits : pcs (serial pair 30) ≡ 0x00040014 ∷ 0x00040004 ∷ []
-  pub goes_on : pcs (serial pair 31) ≡ 0x00040014 ∷ 0x00040008 ∷ []
+  -- slot 13 is the first of these, and slot 25 is none of them
+  pub first_slots : history talking_pair 0 13 25 ≡ token_sent 13 (Byte 0) ∷ token_sent 17 (Byte 1) ∷ token_sent 21 (Byte 0) ∷ []
+  pub later_slots : history talking_pair 0 14 26 ≡ token_sent 17 (Byte 1) ∷ token_sent 21 (Byte 0) ∷ token_sent 25 (Ctrl 1) ∷ []
+  pub way_back : history talking_pair 1 0 19 ≡ credit_sent 18 ∷ []
+  pub not_delivered : (serial talking_pair 30).events ≡ [] ∷ [] ∷ []
+  pub events : (serial talking_pair 60).events ≡ [] ∷ (in_slot 30 (happen.Chan 0 (Ctrl 1)) ∷ []) ∷ []
+  pub waits : pcs (serial talking_pair 30) ≡ 0x00040014 ∷ 0x00040004 ∷ []
+  pub goes_on : pcs (serial talking_pair 31) ≡ 0x00040014 ∷ 0x00040008 ∷ []
 
 -- the byte 1 and a credit leave by link end 0
 abbrev pub both_sent : Emitted
 both_sent = record { events = []; tokens = Some (Byte 1) ∷ replicate 7 None; credits = true ∷ replicate 7 false }
 
-pub record WorkedOrder : Type 0 where
+pub record SentInOrder : Type 0 where
   -- the token stands before the credit of its slot, and nothing leaves by the next link end
-  pub token_first : sent_by 5 both_sent 0 ≡ token_in 5 (Byte 1) ∷ credit_in 5 ∷ []
+  pub token_first : sent_by 5 both_sent 0 ≡ token_sent 5 (Byte 1) ∷ credit_sent 5 ∷ []
   pub other_end : sent_by 5 both_sent 1 ≡ []
 
 -- the pair where node 1 has no channel end in use
@@ -110,14 +109,14 @@ abbrev pub lone_receiver : NodePlan
 lone_receiver = record (plain_node 1 (Threads threads.Freet ∷ []) []) { ways = 1 ∷ replicate 15 0 }
 
 abbrev pub lost_pair : PlanRec
-lost_pair = record pair { nodes = sender ∷ lone_receiver ∷ [] }
+lost_pair = record talking_pair { nodes = sending_node ∷ lone_receiver ∷ [] }
 
 -- The destination is whole in slot 26. The packet is lost in the slot after it, and its END is dropped on arrival, with
 -- its credit.
-pub record WorkedLost : Type 0 where
-  pub events : (serial lost_pair 40).events ≡ [] ∷ (happened 27 (happen.Lost 0x00010002) ∷ []) ∷ []
+pub record LostPacket : Type 0 where
+  pub events : (serial lost_pair 40).events ≡ [] ∷ (in_slot 27 (happen.Lost 0x00010002) ∷ []) ∷ []
   pub not_yet : (serial lost_pair 27).events ≡ [] ∷ [] ∷ []
   pub histories : (serial lost_pair 40).histories
-      ≡ (token_in 13 (Byte 0) ∷ token_in 17 (Byte 1) ∷ token_in 21 (Byte 0) ∷ token_in 25 (Ctrl 1) ∷ [])
-      ∷ (credit_in 18 ∷ credit_in 22 ∷ credit_in 26 ∷ credit_in 30 ∷ [])
+      ≡ (token_sent 13 (Byte 0) ∷ token_sent 17 (Byte 1) ∷ token_sent 21 (Byte 0) ∷ token_sent 25 (Ctrl 1) ∷ [])
+      ∷ (credit_sent 18 ∷ credit_sent 22 ∷ credit_sent 26 ∷ credit_sent 30 ∷ [])
       ∷ []

@@ -2,12 +2,12 @@
 //! slots. See docs/DEFINITIONS.md.
 #![tactic(auto)]
 
-ghost use Rattle.serial_model.specs.Worked.{WorkedSystems, WorkedPair, WorkedOrder, WorkedLost};
+ghost use Rattle.serial_model.specs.Worked.{SmallSystems, PairAtWork, SentInOrder, LostPacket};
 
 /// The definitions give what was worked out by hand for systems of two nodes.
 pub fn worked_systems()
-    ensures small { WorkedSystems }
-    ensures pair { WorkedPair }
-    ensures order { WorkedOrder }
-    ensures lost { WorkedLost }
+    ensures small { SmallSystems }
+    ensures pair { PairAtWork }
+    ensures order { SentInOrder }
+    ensures lost { LostPacket }
 {}

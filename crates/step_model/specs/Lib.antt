@@ -1,5 +1,12 @@
 pub mod Fixed
 pub mod Effect
+pub mod WordRows
+pub mod MemoryRows
+pub mod FlowRows
+pub mod KernelRows
+pub mod ThreadRows
+pub mod ResourceRows
+pub mod Rows
 pub mod Start
 pub mod Step
 pub mod Worked

@@ -1,6 +1,7 @@
 -- A node as its plan starts it.
 use Rattle.std.specs.Prelude.{ℕ, ◌≡◌, ◌<◌, ◌==◌, if◌then◌else◌, Option, Some, None, List, map, slice_index}
 use Rattle.std.specs.Int.{bit_at}
+use Rattle.xs_base.specs.declared.numbers.TheConstants.{LINK_ENDS}
 use Rattle.xs_model.specs.Record.{NodeRec, LinkRec, first_node}
 use Rattle.xs_instructions.specs.Image.{entry_of}
 use Rattle.net_model.specs.Links.{fresh_link}
@@ -21,4 +22,4 @@ node_of plan gaps = record (first_node (entry_of plan.image) plan.image.cp_at pl
 
 -- each link end that some bit of an id leads to is there: it has a gap
 abbrev pub WaysHaveGaps : List ℕ → List ℕ → Type 0
-WaysHaveGaps ways gaps = (bit end : ℕ) → bit < 16 → end < 8 → bit_at (slice_index ways bit) end ≡ 1 → 0 < slice_index gaps end
+WaysHaveGaps ways gaps = (bit end : ℕ) → bit < 16 → end < LINK_ENDS → bit_at (slice_index ways bit) end ≡ 1 → 0 < slice_index gaps end

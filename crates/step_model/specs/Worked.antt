@@ -4,13 +4,12 @@ use Rattle.xs_model.specs.declared.thread.Thread.{Thread}
 use Rattle.xs_model.specs.declared.thread.Run.TheVariants.{Free, Paused, Halted}
 use Rattle.xs_model.specs.declared.thread.Wait.TheVariants.{Tokens, Choice}
 use Rattle.xs_model.specs.declared.event.Event.{Event}
-use Rattle.xs_model.specs.declared.event.Happen.{Happen}
 use Rattle.xs_model.specs.declared.event.Happen.TheVariants as happen
 use Rattle.xs_model.specs.declared.outside.Arrivals.{Arrivals}
 use Rattle.xs_model.specs.declared.outside.PinView.{PinView}
 use Rattle.xs_model.specs.Threads.{first_thread}
-use Rattle.xs_model.specs.Record.{NodeRec, first_node, free_thread, thread_of, with_thread}
-use Rattle.xs_model.specs.Outside.{emitted_events}
+use Rattle.xs_model.specs.Record.{NodeRec, first_node, free_thread, thread_of, with_thread, with_slave}
+use Rattle.xs_model.specs.Outside.{emitted_events, in_slot, low_pins}
 use Rattle.xs_instructions.specs.declared.instr.Instr.{Instr}
 use Rattle.xs_instructions.specs.declared.instr.Instr.TheVariants.{Words, Memory, Flow, Threads}
 use Rattle.xs_instructions.specs.declared.instr.WordIns.TheVariants as words
@@ -19,7 +18,7 @@ use Rattle.xs_instructions.specs.declared.instr.FlowIns.{FlowIns}
 use Rattle.xs_instructions.specs.declared.instr.FlowIns.TheVariants as flow
 use Rattle.xs_instructions.specs.declared.instr.ThreadIns.TheVariants as threads
 use Rattle.step_model.specs.Fixed.{Fixed}
-use Rattle.step_model.specs.Step.{Stepped, node_step}
+use Rattle.step_model.specs.Step.{Stepped, Issued, trap, node_step}
 
 -- a node of this code, with no network
 abbrev pub node_of_code : List Instr → Fixed
@@ -28,10 +27,6 @@ node_of_code code = record { id = 0; code = code; ways = replicate 16 0; gaps = 
 -- nothing comes from outside
 abbrev pub no_arrivals : Arrivals
 no_arrivals = record { tokens = replicate 8 None; credits = replicate 8 false }
-
--- each pin shows 0
-abbrev pub low_pins : PinView
-low_pins = record { level = replicate 29 0 }
 
 -- what one slot leaves and gives
 abbrev pub slot_of : List Instr → NodeRec → ℕ → Stepped
@@ -66,9 +61,6 @@ thread_after code rec slots = thread_of (after_slots code rec slots).core 0
 
 abbrev pub events_of : List Instr → NodeRec → ℕ → List Event
 events_of code rec slot = (slot_of code (after_slots code rec slot) slot).emitted.events
-
-abbrev pub happened : ℕ → Happen → Event
-happened slot what = record { slot = slot; what = what }
 
 -- r0 to r11: these three and zeros
 abbrev pub three_and_zeros : ℕ → ℕ → ℕ → List ℕ
@@ -166,11 +158,11 @@ halted th number value = record th {
 }
 
 abbrev pub trap_and_halt : ℕ → ℕ → List Event
-trap_and_halt number value = happened 0 (happen.Trap 0 number 0x00040000 value) ∷ happened 0 (happen.Halt 0) ∷ []
+trap_and_halt number value = in_slot 0 (happen.Trap 0 number 0x00040000 value) ∷ in_slot 0 (happen.Halt 0) ∷ []
 
--- thread 0 past the code's end, with a handler at the first instruction
+-- thread 0 past the code's end, with a handler at the first instruction; all bits of its status are set
 abbrev pub handled : Thread
-handled = record first { pc = 0x00040004; kep = 0x00040000; ksp = 8; sr = record { bits = 0xc7 }; ed = 6; et = 7; spc = 4 }
+handled = record first { pc = 0x00040004; kep = 0x00040000; ksp = 8; sr = record { bits = 0xdf }; ed = 6; et = 7; spc = 4 }
 
 abbrev pub one_nop : List Instr
 one_nop = Words words.Nop ∷ []
@@ -184,6 +176,10 @@ store_at_1 = Memory (memory.StwDp 3 1) ∷ []
 abbrev pub dp_at : ℕ → Thread
 dp_at at = record first { dp = at }
 
+-- thread 0 traps with a kernel call at the first of so many instructions; its handlers begin at the first one
+abbrev pub kernel_call_of : ℕ → Issued
+kernel_call_of count = trap (replicate count (Words words.Nop)) (start_as (record first { kep = 0x00040000 })).core 0 15 3
+
 pub record WorkedTraps : Type 0 where
   pub no_code : after_slots [] start 1 ≡ record (start_as (halted first 2 0x00040000)) { core = record (start_as (halted first 2 0x00040000)).core { last = Some 0 ∷ replicate 7 None } }
   pub no_code_events : (slot_of [] start 0).emitted ≡ emitted_events (trap_and_halt 2 0x00040000)
@@ -195,19 +191,33 @@ pub record WorkedTraps : Type 0 where
   pub bad_store_events : events_of store_at_1 (start_as (dp_at 0x0001fffc)) 0 ≡ trap_and_halt 5 0x00020000
   pub unaligned : events_of load_at_1 (start_as (dp_at 0x00010002)) 0 ≡ trap_and_halt 5 0x00010006
   pub below : events_of store_at_1 (start_as (dp_at 0x0000fff8)) 0 ≡ trap_and_halt 5 0x0000fffc
-  -- eeble, ieble and waiting are cleared, ink is set; the handler goes on
-  pub handler : thread_after one_nop (start_as handled) 1 ≡ record handled { spc = 0x00040004; ssr = record { bits = 0xc7 }; sed = 6; et = 2; ed = 0x00040004; sr = record { bits = 0x94 }; pc = 0x00040000 }
-  pub handler_event : events_of one_nop (start_as handled) 0 ≡ happened 0 (happen.Trap 0 2 0x00040004 0x00040004) ∷ []
+  -- eeble, ieble and waiting are cleared, the other bits stay; the handler goes on
+  pub handler : thread_after one_nop (start_as handled) 1 ≡ record handled { spc = 0x00040004; ssr = record { bits = 0xdf }; sed = 6; et = 2; ed = 0x00040004; sr = record { bits = 0x9c }; pc = 0x00040000 }
+  pub handler_event : events_of one_nop (start_as handled) 0 ≡ in_slot 0 (happen.Trap 0 2 0x00040004 0x00040004) ∷ []
   pub handler_goes_on : (thread_after one_nop (start_as handled) 5).pc ≡ 0x00040004
   -- an address between two instructions is no place of one
-  pub between : events_of (Words words.Nop ∷ one_nop) (start_as (record first { pc = 0x00040002 })) 0 ≡ happened 0 (happen.Trap 0 2 0x00040002 0x00040002) ∷ happened 0 (happen.Halt 0) ∷ []
+  pub between : events_of (Words words.Nop ∷ one_nop) (start_as (record first { pc = 0x00040002 })) 0 ≡ in_slot 0 (happen.Trap 0 2 0x00040002 0x00040002) ∷ in_slot 0 (happen.Halt 0) ∷ []
+  -- a kernel call returns to the next instruction, and its handler stands 64 bytes after the others: the seventeenth
+  -- instruction. With sixteen the thread halts.
+  pub kernel_call : thread_of (kernel_call_of 17).core 0 ≡ record first { kep = 0x00040000; spc = 0x00040004; et = 15; ed = 3; sr = record { bits = 0x10 }; pc = 0x00040040 }
+  pub kernel_call_told : (kernel_call_of 17).happened ≡ happen.Trap 0 15 0x00040004 3 ∷ []
+  pub kernel_call_halts : (kernel_call_of 16).happened ≡ happen.Trap 0 15 0x00040004 3 ∷ happen.Halt 0 ∷ []
   -- in the slot in which it happens
-  pub in_slot_4 : events_of one_nop start 4 ≡ happened 4 (happen.Trap 0 2 0x00040004 0x00040004) ∷ happened 4 (happen.Halt 0) ∷ []
+  pub in_slot_4 : events_of one_nop start 4 ≡ in_slot 4 (happen.Trap 0 2 0x00040004 0x00040004) ∷ in_slot 4 (happen.Halt 0) ∷ []
 
 abbrev pub free_at_once : List Instr
 free_at_once = Threads threads.Freet ∷ []
+
+-- the pins of port 2 show 1, the others 0
+abbrev pub one_high : PinView
+one_high = record { level = 0 ∷ 0 ∷ 1 ∷ replicate 26 0 }
 
 pub record WorkedEnd : Type 0 where
   pub free : thread_after free_at_once start 1 ≡ record first { pc = 0x00040004; run = Free }
   pub no_event : events_of free_at_once start 0 ≡ []
   pub stays : slot_of free_at_once (after_slots free_at_once start 4) 4 ≡ idle (after_slots free_at_once start 1)
+  -- what the pins show is noted at the end of the slot
+  pub levels : (node_step (node_of_code free_at_once) start 0 no_arrivals one_high).rec.levels ≡ one_high.level
+  -- slaves stay in ascending order
+  pub slaves : with_slave 3 (1 ∷ 5 ∷ []) ≡ 1 ∷ 3 ∷ 5 ∷ []
+  pub first_slave : with_slave 3 [] ≡ 3 ∷ []

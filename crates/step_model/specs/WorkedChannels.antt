@@ -11,7 +11,7 @@ use Rattle.xs_model.specs.declared.event.Event.{Event}
 use Rattle.xs_model.specs.declared.event.Happen.TheVariants as happen
 use Rattle.xs_model.specs.declared.outside.Arrivals.{Arrivals}
 use Rattle.xs_model.specs.Record.{NodeRec, ChanRec, LinkRec, InputRec, Idle, Head1, Local, Out, first_node, unused_chan, thread_of, chan_of}
-use Rattle.xs_model.specs.Outside.{emitted_events}
+use Rattle.xs_model.specs.Outside.{emitted_events, in_slot, low_pins}
 use Rattle.xs_instructions.specs.declared.instr.Instr.{Instr}
 use Rattle.xs_instructions.specs.declared.instr.Instr.TheVariants.{Words, Memory, Resources}
 use Rattle.xs_instructions.specs.declared.instr.WordIns.TheVariants as words
@@ -20,9 +20,10 @@ use Rattle.xs_instructions.specs.declared.instr.ResIns.TheVariants as resources
 use Rattle.net_model.specs.Chans.{got_chan}
 use Rattle.net_model.specs.Links.{fresh_link}
 use Rattle.net_model.specs.Switch.{state_at, with_state, link_at}
+use Rattle.net_model.specs.WorkedSteps.{eight_bytes}
 use Rattle.step_model.specs.Fixed.{Fixed}
 use Rattle.step_model.specs.Step.{Stepped, node_step}
-use Rattle.step_model.specs.Worked.{no_arrivals, low_pins, idle, start, first, start_as, with_three, three_and_zeros, happened}
+use Rattle.step_model.specs.Worked.{no_arrivals, idle, start, first, start_as, with_three, three_and_zeros, one_nop}
 
 -- node 3, with this code
 abbrev pub node_3 : List Instr → Fixed
@@ -58,9 +59,6 @@ own_id = 0x00030002
 abbrev pub far_id : ℕ
 far_id = 0x00050002
 
-abbrev pub eight_bytes : List Token
-eight_bytes = replicate 8 (Byte 9)
-
 -- a channel end that sends to node 5, with these tokens in its two buffers
 abbrev pub far_chan : List Token → List Token → ChanRec
 far_chan output input = record { used = true; dest = Some far_id; output = output; input = input }
@@ -77,7 +75,7 @@ events_in_1 ins rec = (quiet_slot (ins ∷ []) rec 1).emitted.events
 
 -- the instruction traps in slot 1, and no handler is there
 abbrev pub traps_in_1 : ℕ → ℕ → List Event
-traps_in_1 number value = happened 1 (happen.Trap 0 number 0x00040000 value) ∷ happened 1 (happen.Halt 0) ∷ []
+traps_in_1 number value = in_slot 1 (happen.Trap 0 number 0x00040000 value) ∷ in_slot 1 (happen.Halt 0) ∷ []
 
 abbrev pub getr_twice : List Instr
 getr_twice = Resources (resources.Getr 0 2) ∷ Resources (resources.Getr 1 2) ∷ []
@@ -206,9 +204,6 @@ pub record WorkedDependency : Type 0 where
 abbrev pub come : Option Token → List Bool → Arrivals
 come token credits = record { tokens = token ∷ replicate 7 None; credits = credits }
 
-abbrev pub one_nop : List Instr
-one_nop = Words words.Nop ∷ []
-
 -- a byte and a credit come in slot 3
 abbrev pub both_come : Stepped
 both_come = node_step (node_3 one_nop) (with_network start got_chan sent_in_0 Idle) 3 (come (Some (Byte 5)) (true ∷ replicate 7 false)) low_pins
@@ -243,8 +238,8 @@ abbrev pub sender_node : NodeRec
 sender_node = record (first_node 0x00040000 0x00010000 (0x02 ∷ 0x01 ∷ 0x05 ∷ 0x00 ∷ [])) { links = Some fresh_link ∷ replicate 7 None }
 
 -- what leaves by link end 0 in a slot
-abbrev pub sent_in : ℕ → Option Token
-sent_in slot = slice_index_or (quiet_slot sender (after_from sender sender_node 0 slot) slot).emitted.tokens 0 None
+abbrev pub leaves_in : ℕ → Option Token
+leaves_in slot = slice_index_or (quiet_slot sender (after_from sender sender_node 0 slot) slot).emitted.tokens 0 None
 
 pub record WorkedNetwork : Type 0 where
   -- the switch takes the byte in the slot in which it comes, as the first of a header, and its credit goes back
@@ -252,15 +247,15 @@ pub record WorkedNetwork : Type 0 where
   pub credit_back : both_come.emitted ≡ record (emitted_events []) { credits = true ∷ replicate 7 false }
   pub credit_counted : link_at both_come.rec 0 ≡ Some (record { buffer = []; sent = 0 ∷ []; credited = 3 ∷ [] })
   -- END is put into the channel end and wakes the thread, all in one slot
-  pub end_told : end_comes.emitted.events ≡ happened 3 (happen.Chan 0 (Ctrl 1)) ∷ []
+  pub end_told : end_comes.emitted.events ≡ in_slot 3 (happen.Chan 0 (Ctrl 1)) ∷ []
   pub end_taken : chan_of end_comes.rec.core 0 ≡ got_chan
   pub woken : thread_of end_comes.rec.core 0 ≡ record own_word { pc = 0x00040004 }
   pub packet_over : state_at end_comes.rec 0 ≡ Idle
   -- a byte wakes it too. It issues `chkct` again, which traps and leaves the byte: the byte is told before the trap.
-  pub byte_told : byte_comes.emitted.events ≡ happened 3 (happen.Chan 0 (Byte 5)) ∷ happened 3 (happen.Trap 0 4 0x00040000 own_id) ∷ happened 3 (happen.Halt 0) ∷ []
+  pub byte_told : byte_comes.emitted.events ≡ in_slot 3 (happen.Chan 0 (Byte 5)) ∷ in_slot 3 (happen.Trap 0 4 0x00040000 own_id) ∷ in_slot 3 (happen.Halt 0) ∷ []
   pub byte_stays : (chan_of byte_comes.rec.core 0).input ≡ Byte 5 ∷ []
   -- END from channel end 0 to itself is put, told and taken by `chkct` in one slot, and no packet is left
-  pub own_end_told : to_itself.emitted.events ≡ happened 1 (happen.Chan 0 (Ctrl 1)) ∷ []
+  pub own_end_told : to_itself.emitted.events ≡ in_slot 1 (happen.Chan 0 (Ctrl 1)) ∷ []
   pub own_end_taken : chan_of to_itself.rec.core 0 ≡ record got_chan { dest = Some own_id }
   pub own_end_wakes : thread_of to_itself.rec.core 0 ≡ record own_word { pc = 0x00040004 }
   pub own_packet_over : state_at to_itself.rec 8 ≡ Idle
@@ -270,13 +265,13 @@ pub record WorkedNetwork : Type 0 where
   pub given_up : state_at end_leaves.rec 8 ≡ Idle
   pub noted : link_at end_leaves.rec 0 ≡ Some (record { buffer = []; sent = 0 ∷ 4 ∷ []; credited = [] })
   -- `outct` is issued in slot 12: the header goes out from the slot after it on, a byte each 4 slots, and then END
-  pub not_yet : sent_in 12 ≡ None
-  pub high_byte : sent_in 13 ≡ Some (Byte 0)
-  pub in_gap : sent_in 14 ≡ None
-  pub low_byte : sent_in 17 ≡ Some (Byte 5)
-  pub chan_byte : sent_in 21 ≡ Some (Byte 1)
-  pub end_sent : sent_in 25 ≡ Some (Ctrl 1)
-  pub all_sent : sent_in 29 ≡ None
+  pub not_yet : leaves_in 12 ≡ None
+  pub high_byte : leaves_in 13 ≡ Some (Byte 0)
+  pub in_gap : leaves_in 14 ≡ None
+  pub low_byte : leaves_in 17 ≡ Some (Byte 5)
+  pub chan_byte : leaves_in 21 ≡ Some (Byte 1)
+  pub end_sent : leaves_in 25 ≡ Some (Ctrl 1)
+  pub all_sent : leaves_in 29 ≡ None
 
 -- slots of channel ends and links
 pub record WorkedChannels : Type 0 where

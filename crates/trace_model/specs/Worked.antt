@@ -3,7 +3,7 @@ use Rattle.std.specs.Prelude.{ℕ, ◌≡◌, List, [], ◌∷◌, ◌++◌, cod
 use Rattle.xs_model.specs.declared.event.Event.{Event}
 use Rattle.xs_model.specs.declared.event.Happen.TheVariants as happen
 use Rattle.sys_plan.specs.Plan.{PlanRec}
-use Rattle.serial_model.specs.Worked.{pair, lost_pair, plain_node, happened}
+use Rattle.serial_model.specs.Worked.{talking_pair, lost_pair, plain_node}
 use Rattle.trace_model.specs.declared.NodeEvent.{NodeEvent}
 use Rattle.trace_model.specs.EventOrder.{told_by, merged}
 use Rattle.trace_model.specs.Trace.{more_line, trace_text}
@@ -17,9 +17,9 @@ abbrev pub both_halt : PlanRec
 both_halt = record { nodes = plain_node 3 [] (1 ∷ []) ∷ plain_node 7 [] (2 ∷ []) ∷ []; links = [] }
 
 pub record WorkedTraces : Type 0 where
-  pub delivered : trace_text pair 40 ≡ codes "30 n1 chan 0 ct 1\n" ++ pair_counts
+  pub delivered : trace_text talking_pair 40 ≡ codes "30 n1 chan 0 ct 1\n" ++ pair_counts
   -- 30 slots end before END is delivered, and before the last credit
-  pub cut : trace_text pair 30
+  pub cut : trace_text talking_pair 30
       ≡ codes "link 0:0>1:0 tokens 4 credits 0\nlink 1:0>0:0 tokens 0 credits 3\nn0 mem 0x00010000 0x00010002\nend 30\n"
   pub lost : trace_text lost_pair 40 ≡ codes "27 n1 lost 0x00010002\n" ++ pair_counts
   -- the events and the halted threads of both nodes stand before the memories of both
@@ -29,7 +29,7 @@ pub record WorkedTraces : Type 0 where
 
 -- a thread of a node halts in a slot
 abbrev pub halts_in : ℕ → Event
-halts_in slot = happened slot (happen.Halt 0)
+halts_in slot = in_slot slot (happen.Halt 0)
 
 abbrev pub told : ℕ → ℕ → NodeEvent
 told node slot = record { node = node; event = halts_in slot }

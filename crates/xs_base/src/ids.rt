@@ -2,14 +2,13 @@
 ghost use Rattle.std.specs.Prelude.{ℕ, ◌≡◌, ◌≢◌, ◌<◌, ◌+◌, None, IfSome};
 ghost use Rattle.xs_base.specs.Ids.{chan_id, res_id, port_id, port_width, port_index, port_letter};
 
-/// The number of ports of a node.
-const PORTS: u8 = 29;
+use crate::numbers::{CHAN_END_KIND, PORTS};
 
 /// The identifier of channel end `number` of the node with the id `node`.
 pub fn chan_id(node: u16, number: u8) -> u32
     ensures value { result ≡ chan_id node number }
 {
-    u32::from(node) * 65_536 + u32::from(number) * 256 + 2
+    u32::from(node) * 65_536 + u32::from(number) * 256 + u32::from(CHAN_END_KIND)
 }
 
 /// The identifier of the resource of a kind with a number: timers are of kind 1, synchronisers 3, threads 4, locks 5

@@ -5,6 +5,7 @@
 mod batch;
 mod entry;
 mod ids;
+pub mod numbers;
 #[cfg(test)]
 mod tests;
 mod text;

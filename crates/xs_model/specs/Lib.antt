@@ -2,8 +2,10 @@ pub mod Words
 pub mod Threads
 pub mod Memory
 pub mod Record
+pub mod Outside
+pub mod AtWork
+pub mod Waits
 pub mod Picks
 pub mod Entry
-pub mod Outside
 pub mod Events
 pub mod FirstEvents

@@ -1,5 +1,6 @@
 -- The node record: all that a node keeps from slot to slot, as plain data.
-use Rattle.std.specs.Prelude.{ℕ, Bool, false, List, [], ◌∷◌, Option, None, replicate, slice_index_or, slice_set}
+use Rattle.std.specs.Prelude.{ℕ, Bool, false, nat_lt, if◌then◌else◌, List, [], ◌∷◌, Option, None, replicate, slice_index_or, slice_set}
+use Rattle.xs_base.specs.Numbers.{Slot, Word, ThreadNumber, ChanNumber, EndNumber, PortNumber, Identifier}
 use Rattle.xs_base.specs.declared.token.Token.{Token}
 use Rattle.xs_model.specs.declared.thread.Thread.{Thread}
 use Rattle.xs_model.specs.declared.thread.Run.TheVariants.{Free}
@@ -9,7 +10,7 @@ use Rattle.xs_model.specs.Memory.{first_memory}
 -- a channel end: whether it is in use, where it sends to, and the tokens that wait in its two buffers
 pub record ChanRec : Type 0 where
   pub used : Bool
-  pub dest : Option ℕ
+  pub dest : Option Identifier
   pub output : List Token
   pub input : List Token
 
@@ -19,7 +20,7 @@ unused_chan = record { used = false; dest = None; output = []; input = [] }
 -- a timer: the value of its condition, and whether it has the condition
 pub record TimerRec : Type 0 where
   pub used : Bool
-  pub value : ℕ
+  pub value : Word
   pub after : Bool
 
 abbrev pub unused_timer : TimerRec
@@ -33,17 +34,22 @@ pub record ClockRec : Type 0 where
 abbrev pub off_clock : ClockRec
 off_clock = record { on = false; divider = 0; running = false }
 
--- a synchroniser: the thread that got it, and the threads bound to it
+-- a synchroniser: the thread that got it, and the threads bound to it, in ascending order
 pub record SyncRec : Type 0 where
-  pub master : Option ℕ
-  pub slaves : List ℕ
+  pub master : Option ThreadNumber
+  pub slaves : List ThreadNumber
 
 abbrev pub unused_sync : SyncRec
 unused_sync = record { master = None; slaves = [] }
 
+-- slaves with one that is bound to their synchroniser as well
+unfoldable pub with_slave : ThreadNumber → List ThreadNumber → List ThreadNumber
+with_slave k [] = k ∷ []
+with_slave k (slave ∷ slaves) = if nat_lt k slave then k ∷ slave ∷ slaves else slave ∷ with_slave k slaves
+
 pub record LockRec : Type 0 where
   pub used : Bool
-  pub owner : Option ℕ
+  pub owner : Option ThreadNumber
 
 abbrev pub unused_lock : LockRec
 unused_lock = record { used = false; owner = None }
@@ -54,7 +60,13 @@ pub data Condition : Type 0 where
   Equal : Condition
   NotEqual : Condition
 
--- a port that is on: `shift` has its bits in the order in which they leave, `transfer` a value and its bits
+-- what a port's transfer register holds: a value of so many bits, and for an output the time that it waits for
+pub record TransferRec : Type 0 where
+  pub value : Word
+  pub bits : ℕ
+  pub time : Option ℕ
+
+-- a port that is on: `shift` has its bits in the order in which they leave
 pub record PortRec : Type 0 where
   pub on : Bool
   pub output : Bool
@@ -63,16 +75,16 @@ pub record PortRec : Type 0 where
   pub buffered : Bool
   pub transfer_width : ℕ
   pub wanted : ℕ
-  pub value : ℕ
+  pub value : Word
   pub condition : Condition
   pub time : Option ℕ
   pub shift : List ℕ
-  pub transfer : Option (ℕ × ℕ)
+  pub transfer : Option TransferRec
   pub held : Bool
   pub sample_stamp : ℕ
   pub stamp : ℕ
-  pub strobe : Option ℕ
-  pub driven : Option ℕ
+  pub strobe : Option PortNumber
+  pub driven : Option Word
 
 abbrev pub off_port : PortRec
 off_port = record {
@@ -97,10 +109,10 @@ off_port = record {
 
 -- what events of a channel end, a timer or a port do, and which thread enabled them
 pub record EnablingRec : Type 0 where
-  pub vector : ℕ
-  pub environment : ℕ
+  pub vector : Word
+  pub environment : Word
   pub interrupt : Bool
-  pub thread : Option ℕ
+  pub thread : Option ThreadNumber
 
 abbrev pub not_enabled : EnablingRec
 not_enabled = record { vector = 0; environment = 0; interrupt = false; thread = None }
@@ -110,22 +122,22 @@ pub data InputRec : Type 0 where
   Idle : InputRec
   Head1 : (high : ℕ) → InputRec
   Head2 : (high low : ℕ) → InputRec
-  Want : (dest : ℕ) → InputRec
-  Local : (chan : ℕ) → InputRec
-  Out : (end headers dest : ℕ) → InputRec
+  Want : (dest : Identifier) → InputRec
+  Local : (chan : ChanNumber) → InputRec
+  Out : (end : EndNumber) (headers : ℕ) (dest : Identifier) → InputRec
   Lost : InputRec
 
 -- a link end: the tokens that wait in its buffer, the slots in which it sent a token, and those in which a
 -- credit was counted
 pub record LinkRec : Type 0 where
   pub buffer : List Token
-  pub sent : List ℕ
-  pub credited : List ℕ
+  pub sent : List Slot
+  pub credited : List Slot
 
 -- what the core itself keeps, by unit: lists of fixed length
 pub record CoreRec : Type 0 where
   pub threads : List Thread  -- 8
-  pub last : List (Option ℕ)  -- 8: the slot of the thread's last issue, or never
+  pub last : List (Option Slot)  -- 8: the slot of the thread's last issue, or never
   pub memory : List ℕ  -- 65,536 bytes
   pub chans : List ChanRec  -- 32
   pub timers : List TimerRec  -- 10
@@ -133,22 +145,22 @@ pub record CoreRec : Type 0 where
   pub syncs : List SyncRec  -- 7
   pub locks : List LockRec  -- 4
   pub ports : List PortRec  -- 29
-  pub levels : List ℕ  -- 29: the pins at the end of the slot before
   pub chan_events : List EnablingRec  -- 32
   pub timer_events : List EnablingRec  -- 10
   pub port_events : List EnablingRec  -- 29
-  pub inputs : List InputRec  -- 40: link ends 0 to 7, then channel ends 0 to 31
 
--- a node: its core, and its link ends 0 to 7, where they are there
+-- a node: its core, its switch, and what is at its edges
 pub record NodeRec : Type 0 where
   pub core : CoreRec
-  pub links : List (Option LinkRec)
+  pub inputs : List InputRec  -- 40: those of link ends 0 to 7, then those of channel ends 0 to 31
+  pub links : List (Option LinkRec)  -- 8: the link ends, where they are there
+  pub levels : List Word  -- 29: what the pins showed at the end of the slot before
 
 abbrev pub free_thread : Thread
 free_thread = record fresh_thread { run = Free }
 
 -- a core with these threads, last issues and memory, and all else as at the start
-abbrev pub core_with : List Thread → List (Option ℕ) → List ℕ → CoreRec
+abbrev pub core_with : List Thread → List (Option Slot) → List ℕ → CoreRec
 core_with threads last memory = record {
   threads = threads;
   last = last;
@@ -159,24 +171,28 @@ core_with threads last memory = record {
   syncs = replicate 7 unused_sync;
   locks = replicate 4 unused_lock;
   ports = replicate 29 off_port;
-  levels = replicate 29 0;
   chan_events = replicate 32 not_enabled;
   timer_events = replicate 10 not_enabled;
   port_events = replicate 29 not_enabled;
-  inputs = replicate 40 Idle;
 }
+
+-- a node with this core and these link ends: every input of its switch is idle, and its pins showed 0
+abbrev pub node_with : CoreRec → List (Option LinkRec) → NodeRec
+node_with core links = record { core = core; inputs = replicate 40 Idle; links = links; levels = replicate 29 0 }
 
 -- a node as it starts: thread 0 goes at the entry, no other thread is there, nothing was ever issued
-abbrev pub first_node : ℕ → ℕ → List ℕ → NodeRec
-first_node entry cp_at bytes = record {
-  core = core_with (first_thread entry cp_at ∷ replicate 7 free_thread) (replicate 8 None) (first_memory bytes);
-  links = replicate 8 None;
-}
+abbrev pub first_node : Word → Word → List ℕ → NodeRec
+first_node entry cp_at bytes =
+    node_with (core_with (first_thread entry cp_at ∷ replicate 7 free_thread) (replicate 8 None) (first_memory bytes)) (replicate 8 None)
 
-abbrev pub thread_of : CoreRec → ℕ → Thread
+abbrev pub thread_of : CoreRec → ThreadNumber → Thread
 thread_of core k = slice_index_or core.threads k fresh_thread
 
-abbrev pub chan_of : CoreRec → ℕ → ChanRec
+-- the slot of a thread's last issue, or never
+abbrev pub last_of : CoreRec → ThreadNumber → Option Slot
+last_of core k = slice_index_or core.last k None
+
+abbrev pub chan_of : CoreRec → ChanNumber → ChanRec
 chan_of core n = slice_index_or core.chans n unused_chan
 
 abbrev pub timer_of : CoreRec → ℕ → TimerRec
@@ -188,8 +204,11 @@ sync_of core n = slice_index_or core.syncs n unused_sync
 abbrev pub lock_of : CoreRec → ℕ → LockRec
 lock_of core n = slice_index_or core.locks n unused_lock
 
-abbrev pub port_of : CoreRec → ℕ → PortRec
+abbrev pub port_of : CoreRec → PortNumber → PortRec
 port_of core n = slice_index_or core.ports n off_port
 
-abbrev pub with_thread : CoreRec → ℕ → Thread → CoreRec
+abbrev pub with_thread : CoreRec → ThreadNumber → Thread → CoreRec
 with_thread core k th = record core { threads = slice_set core.threads k th }
+
+abbrev pub with_chan : CoreRec → ChanNumber → ChanRec → CoreRec
+with_chan core c chan = record core { chans = slice_set core.chans c chan }

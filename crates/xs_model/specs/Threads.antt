@@ -1,11 +1,13 @@
 -- A thread's registers by their numbers, and how threads begin.
-use Rattle.std.specs.Prelude.{ℕ, if◌then◌else◌, ◌==◌, slice_index, slice_set, replicate}
+use Rattle.std.specs.Prelude.{if◌then◌else◌, ◌==◌, slice_index, slice_set, replicate}
+use Rattle.xs_base.specs.Numbers.{Register, Word}
+use Rattle.xs_base.specs.declared.numbers.TheConstants.{MEMORY_START}
 use Rattle.xs_model.specs.declared.thread.Thread.{Thread}
 use Rattle.xs_model.specs.declared.thread.Status.{Status}
 use Rattle.xs_model.specs.declared.thread.Run.TheVariants.{Unstarted, Going}
 
 -- 0 to 11 are r0 to r11, then cp, dp, sp and lr
-abbrev pub register : Thread → ℕ → ℕ
+abbrev pub register : Thread → Register → Word
 register th g =
     if g == 12 then th.cp
     else (if g == 13 then th.dp
@@ -13,7 +15,7 @@ register th g =
     else (if g == 15 then th.lr
     else slice_index th.r g)))
 
-abbrev pub with_register : Thread → ℕ → ℕ → Thread
+abbrev pub with_register : Thread → Register → Word → Thread
 with_register th g v =
     if g == 12 then record th { cp = v }
     else (if g == 13 then record th { dp = v }
@@ -45,5 +47,5 @@ fresh_thread = record {
 }
 
 -- thread 0 as its node starts: going at the entry, dp at the memory's beginning, sp at its last word
-abbrev pub first_thread : ℕ → ℕ → Thread
-first_thread entry cp_at = record fresh_thread { pc = entry; cp = cp_at; dp = 0x00010000; sp = 0x0001fffc; run = Going }
+abbrev pub first_thread : Word → Word → Thread
+first_thread entry cp_at = record fresh_thread { pc = entry; cp = cp_at; dp = MEMORY_START; sp = 0x0001fffc; run = Going }

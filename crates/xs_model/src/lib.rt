@@ -5,6 +5,7 @@
 mod event;
 mod outside;
 mod thread;
+pub mod traps;
 
 pub use event::{Event, Happen};
 pub use outside::{Arrivals, PinView};

@@ -1,6 +1,8 @@
 ghost use Rattle.std.specs.Prelude.{◌≡◌, ◌<◌, ◌≤◌};
 ghost use Rattle.xs_model.specs.Threads.{register, with_register, first_thread, fresh_thread};
 
+use xs_base::numbers::MEMORY_START;
+
 /// Events may be taken.
 pub const EEBLE: u8 = 0x01;
 
@@ -125,7 +127,7 @@ impl Thread {
         let mut thread = Thread::fresh();
         thread.pc = pc;
         thread.cp = cp;
-        thread.dp = 0x0001_0000;
+        thread.dp = MEMORY_START;
         thread.sp = 0x0001_FFFC;
         thread.run = Run::Going;
         thread

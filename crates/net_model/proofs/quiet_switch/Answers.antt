@@ -1,6 +1,6 @@
 use Rattle.std.proofs.Common.{refl}
 use Rattle.net_model.specs.Switch.{moves_from, free_end}
-use Rattle.net_model.specs.Ids.{first_difference}
+use Rattle.net_model.specs.Ways.{first_difference}
 use Rattle.net_model.proofs.quiet_switch.Goals as goal
 
 pub returns : goal.returns

@@ -1,6 +1,6 @@
 use Rattle.std.proofs.Common.{refl}
-use Rattle.xs_model.specs.Picks.{pick_from}
-use Rattle.net_model.specs.Ids.{first_difference}
+use Rattle.xs_model.specs.Picks.{best_from}
+use Rattle.net_model.specs.Ways.{first_difference}
 use Rattle.net_model.specs.Chans.{free_chan}
 use Rattle.net_model.specs.Links.{links_after_arrivals}
 use Rattle.net_model.specs.Switch.{moves_from, free_end}
@@ -9,7 +9,7 @@ use Rattle.serial_model.specs.Serial.{serial}
 use Rattle.serial_model.proofs.worked_systems.Goals as goal
 
 pub returns-clause-small : goal.returns-clause-small
-unfolding pick_from links_after_arrivals moves_from node_step serial
+unfolding best_from links_after_arrivals moves_from node_step serial
 returns-clause-small c = record {
   apart_events = refl;
   apart_histories = refl;
@@ -19,12 +19,15 @@ returns-clause-small c = record {
 }
 
 pub returns-clause-pair : goal.returns-clause-pair
-unfolding pick_from first_difference free_chan links_after_arrivals moves_from free_end node_step serial
+unfolding best_from first_difference free_chan links_after_arrivals moves_from free_end node_step serial
 returns-clause-pair c = record {
   nothing_sent = refl;
   before_arrival = refl;
   first_credit = refl;
   histories = refl;
+  first_slots = refl;
+  later_slots = refl;
+  way_back = refl;
   not_delivered = refl;
   events = refl;
   waits = refl;
@@ -35,5 +38,5 @@ pub returns-clause-order : goal.returns-clause-order
 returns-clause-order c = record { token_first = refl; other_end = refl }
 
 pub returns-clause-lost : goal.returns-clause-lost
-unfolding pick_from first_difference free_chan links_after_arrivals moves_from free_end node_step serial
+unfolding best_from first_difference free_chan links_after_arrivals moves_from free_end node_step serial
 returns-clause-lost c = record { events = refl; not_yet = refl; histories = refl }

@@ -1,14 +1,15 @@
 use Rattle.std.proofs.Common.{refl}
-use Rattle.xs_model.specs.Picks.{pick_from}
+use Rattle.xs_model.specs.Picks.{best_from}
+use Rattle.xs_model.specs.Record.{with_slave}
 use Rattle.net_model.specs.Chans.{free_chan}
-use Rattle.net_model.specs.Ids.{first_difference}
+use Rattle.net_model.specs.Ways.{first_difference}
 use Rattle.net_model.specs.Links.{links_after_arrivals}
 use Rattle.net_model.specs.Switch.{moves_from, free_end}
 use Rattle.step_model.specs.Step.{node_step}
 use Rattle.step_model.proofs.worked_slots.Goals as goal
 
 pub returns-clause-issues : goal.returns-clause-issues
-unfolding moves_from links_after_arrivals node_step pick_from
+unfolding moves_from links_after_arrivals node_step best_from
 returns-clause-issues c = record {
   threads = refl;
   last = refl;
@@ -28,7 +29,7 @@ returns-clause-issues c = record {
 }
 
 pub returns-clause-words : goal.returns-clause-words
-unfolding moves_from links_after_arrivals node_step pick_from
+unfolding moves_from links_after_arrivals node_step best_from
 returns-clause-words c = record {
   add = refl;
   add_wraps = refl;
@@ -42,7 +43,7 @@ returns-clause-words c = record {
 }
 
 pub returns-clause-branches : goal.returns-clause-branches
-unfolding moves_from links_after_arrivals node_step pick_from
+unfolding moves_from links_after_arrivals node_step best_from
 returns-clause-branches c = record {
   bt_taken = refl;
   bt_not_taken = refl;
@@ -54,7 +55,7 @@ returns-clause-branches c = record {
 }
 
 pub returns-clause-memory : goal.returns-clause-memory
-unfolding moves_from links_after_arrivals node_step pick_from
+unfolding moves_from links_after_arrivals node_step best_from
 returns-clause-memory c = record {
   stored = refl;
   store_goes_on = refl;
@@ -66,7 +67,7 @@ returns-clause-memory c = record {
 }
 
 pub returns-clause-traps : goal.returns-clause-traps
-unfolding moves_from links_after_arrivals node_step pick_from
+unfolding moves_from links_after_arrivals node_step best_from
 returns-clause-traps c = record {
   no_code = refl;
   no_code_events = refl;
@@ -81,19 +82,25 @@ returns-clause-traps c = record {
   handler_event = refl;
   handler_goes_on = refl;
   between = refl;
+  kernel_call = refl;
+  kernel_call_told = refl;
+  kernel_call_halts = refl;
   in_slot_4 = refl;
 }
 
 pub returns-clause-end : goal.returns-clause-end
-unfolding moves_from links_after_arrivals node_step pick_from
+unfolding moves_from links_after_arrivals node_step best_from with_slave
 returns-clause-end c = record {
   free = refl;
   no_event = refl;
   stays = refl;
+  levels = refl;
+  slaves = refl;
+  first_slave = refl;
 }
 
 pub returns-clause-channels : goal.returns-clause-channels
-unfolding moves_from links_after_arrivals node_step pick_from free_chan free_end first_difference
+unfolding moves_from links_after_arrivals node_step best_from free_chan free_end first_difference
 returns-clause-channels c = record {
   getr = record {
     first_got = refl;

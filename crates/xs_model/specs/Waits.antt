@@ -1,0 +1,90 @@
+-- What a paused thread waits for, and whether it holds.
+use Rattle.std.specs.Prelude.{ℕ, ◌+◌, ◌-◌, ◌/◌, ◌%◌, ◌^◌, Bool, true, false, ◌&&◌, ◌||◌, not, ◌==◌, nat_le, nat_lt, Option, Some, None, is_some, is_none, List, length, take}
+use Rattle.std.specs.List.{list_any, list_all}
+use Rattle.xs_base.specs.Numbers.{Slot, Word, ChanNumber, PortNumber}
+use Rattle.xs_base.specs.declared.numbers.TheConstants.{BUFFER_TOKENS}
+use Rattle.xs_base.specs.declared.token.Token.{Token}
+use Rattle.xs_base.specs.declared.token.Token.TheVariants.{Byte, Ctrl}
+use Rattle.xs_model.specs.declared.thread.Run.{Run}
+use Rattle.xs_model.specs.declared.thread.Run.TheVariants.{Unstarted, AtSync, Paused}
+use Rattle.xs_model.specs.declared.thread.Wait.{Wait}
+use Rattle.xs_model.specs.declared.thread.Wait.TheVariants.{Room, Tokens, PortFull, PortEmpty, PortIdle, Timer, Lock, Slaves, Choice}
+use Rattle.xs_model.specs.Record.{CoreRec, thread_of, chan_of, timer_of, sync_of, lock_of, port_of}
+
+-- whether so many tokens more fit into a buffer
+abbrev pub has_room : ℕ → List Token → Bool
+has_room count tokens = nat_le (length tokens + count) BUFFER_TOKENS
+
+abbrev pub is_control : Token → Bool
+is_control (Byte b) = false
+is_control (Ctrl c) = true
+
+-- whether there are so many tokens, or a control token among the first of them
+abbrev pub has_tokens : ℕ → List Token → Bool
+has_tokens count tokens = nat_le count (length tokens) || list_any is_control (take count tokens)
+
+-- what timers show: a step every four slots
+abbrev pub time_at : Slot → Word
+time_at slot = slot / 4 % 2 ^ 32
+
+-- whether a time is after another, by less than half of all times
+abbrev pub is_after : Word → Word → Bool
+is_after x time = let passed = (time + (2 ^ 32 - x)) % 2 ^ 32 in nat_lt 0 passed && nat_lt passed (2 ^ 31)
+
+-- whether a slave is where its synchroniser waits for it
+abbrev pub is_in : Run → Bool
+is_in Unstarted = true
+is_in AtSync = true
+is_in _ = false
+
+-- whether what pauses a thread holds
+abbrev pub holds : CoreRec → Slot → Wait → Bool
+holds core slot (Room chan count) = has_room count (chan_of core chan).output
+holds core slot (Tokens chan count) = has_tokens count (chan_of core chan).input
+holds core slot (PortFull port) = is_some (port_of core port).transfer
+holds core slot (PortEmpty port) = is_none (port_of core port).transfer
+holds core slot (PortIdle port) =
+    not ((port_of core port).output && (is_some (port_of core port).transfer || nat_lt 0 (length (port_of core port).shift)))
+holds core slot (Timer timer) = not (timer_of core timer).after || is_after (timer_of core timer).value (time_at slot)
+holds core slot (Lock lock) = is_none (lock_of core lock).owner
+holds core slot (Slaves sync) = list_all (λ k. is_in (thread_of core k).run) (sync_of core sync).slaves
+holds core slot Choice = false
+
+-- what at most one thread may wait at: each side of a channel end, a port, a timer
+pub data Thing : Type 0 where
+  Output : (chan : ChanNumber) → Thing
+  Input : (chan : ChanNumber) → Thing
+  Port : (port : PortNumber) → Thing
+  TimerThing : (timer : ℕ) → Thing
+
+-- what a thread that waits for this waits at, where it waits there alone
+abbrev pub thing_of : Wait → Option Thing
+thing_of (Room chan count) = Some (Output chan)
+thing_of (Tokens chan count) = Some (Input chan)
+thing_of (PortFull port) = Some (Port port)
+thing_of (PortEmpty port) = Some (Port port)
+thing_of (PortIdle port) = Some (Port port)
+thing_of (Timer timer) = Some (TimerThing timer)
+thing_of (Lock lock) = None
+thing_of (Slaves sync) = None
+thing_of Choice = None
+
+abbrev pub is_same_thing : Thing → Thing → Bool
+is_same_thing (Output a) (Output b) = a == b
+is_same_thing (Input a) (Input b) = a == b
+is_same_thing (Port a) (Port b) = a == b
+is_same_thing (TimerThing a) (TimerThing b) = a == b
+is_same_thing _ _ = false
+
+abbrev pub are_same : Option Thing → Option Thing → Bool
+are_same (Some a) (Some b) = is_same_thing a b
+are_same _ _ = false
+
+abbrev pub waits_at : Option Thing → Run → Bool
+waits_at thing (Paused wait) = are_same thing (thing_of wait)
+waits_at thing _ = false
+
+-- Whether a thread is paused where one would be with this wait. The thread that issues is no such one: its pause is
+-- over.
+abbrev pub is_waited_at : CoreRec → Wait → Bool
+is_waited_at core wait = list_any (λ th. waits_at (thing_of wait) th.run) core.threads
