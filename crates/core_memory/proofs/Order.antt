@@ -3,7 +3,8 @@ use Rattle.std.proofs.Common.{ℕ, suc, zero, ◌≡◌, ◌+◌, ◌-◌, ◌*�
 use Rattle.std.proofs.lemmas.List.{drop-drop, length-drop, drop_all}
 use Rattle.std.proofs.lemmas.Bool.{cond-true, and_from, and_parts, ltb-true, le-leb, lt-ltb, eq-eqb}
 use Rattle.std.proofs.lemmas.Option.{cond_some}
-use Rattle.xs_model.specs.Memory.{memory_base, memory_size, is_word_address, word_here, load_word, words_of}
+use Rattle.xs_base.specs.declared.numbers.TheConstants.{MEMORY_START, MEMORY_BYTES}
+use Rattle.xs_model.specs.Memory.{is_word_address, word_here, load_word, words_of}
 use Rattle.core_memory.specs.Order.{WordsInOrder, NextWord, NoWordsLeft}
 
 -- the words of four bytes and more
@@ -22,26 +23,26 @@ words_of-drop bytes k h =
     let next : 4 * k + 4 ≡ 4 * (k + 1) = omega arith in
     words_of_more (drop (4 * k) bytes) enough ∙ ap (λ rest. word_here (drop (4 * k) bytes) ∷ words_of rest) (drop-drop 4 (4 * k) bytes ∙ ap (λ i. drop i bytes) next)
 
-is_address : (k : ℕ) → k < 16384 → is_word_address (memory_base + 4 * k) ≡ true
+is_address : (k : ℕ) → k < 16384 → is_word_address (MEMORY_START + 4 * k) ≡ true
 is_address k h =
-    and_from _ _ (and_from _ _ (le-leb memory_base (memory_base + 4 * k) (omega arith)) (lt-ltb (memory_base + 4 * k) (memory_base + memory_size) (omega arith))) (eq-eqb ((memory_base + 4 * k) % 4) 0 (omega arith))
+    and_from _ _ (and_from _ _ (le-leb MEMORY_START (MEMORY_START + 4 * k) (omega arith)) (lt-ltb (MEMORY_START + 4 * k) (MEMORY_START + MEMORY_BYTES) (omega arith))) (eq-eqb ((MEMORY_START + 4 * k) % 4) 0 (omega arith))
 
 -- the word at the address of word k
-load_word-is : (bytes : List ℕ) (k : ℕ) → k < 16384 → load_word bytes (memory_base + 4 * k) ≡ Some (word_here (drop (4 * k) bytes))
+load_word-is : (bytes : List ℕ) (k : ℕ) → k < 16384 → load_word bytes (MEMORY_START + 4 * k) ≡ Some (word_here (drop (4 * k) bytes))
 load_word-is bytes k h =
-    let offset : (memory_base + 4 * k) - memory_base ≡ 4 * k = omega arith in
-    cond-true (is_word_address (memory_base + 4 * k)) _ _ (is_address k h) ∙ ap (λ i. Some (word_here (drop i bytes))) offset
+    let offset : (MEMORY_START + 4 * k) - MEMORY_START ≡ 4 * k = omega arith in
+    cond-true (is_word_address (MEMORY_START + 4 * k)) _ _ (is_address k h) ∙ ap (λ i. Some (word_here (drop i bytes))) offset
 
 pub next_word : NextWord
 next_word bytes k w n e =
-    let is : (is_word_address (memory_base + 4 * k) ≡ true) × (word_here (drop ((memory_base + 4 * k) - memory_base) bytes) ≡ w) =
+    let is : (is_word_address (MEMORY_START + 4 * k) ≡ true) × (word_here (drop ((MEMORY_START + 4 * k) - MEMORY_START) bytes) ≡ w) =
     cond_some _ _ _ e
     in
-    let inside : memory_base + 4 * k < memory_base + memory_size =
-    ltb-true (memory_base + 4 * k) (memory_base + memory_size) (and_parts (leb memory_base (memory_base + 4 * k)) _ (and_parts _ (eqb ((memory_base + 4 * k) % 4) 0) is.0).0).1
+    let inside : MEMORY_START + 4 * k < MEMORY_START + MEMORY_BYTES =
+    ltb-true (MEMORY_START + 4 * k) (MEMORY_START + MEMORY_BYTES) (and_parts (leb MEMORY_START (MEMORY_START + 4 * k)) _ (and_parts _ (eqb ((MEMORY_START + 4 * k) % 4) 0) is.0).0).1
     in
     let below : k < 16384 = omega arith in
-    let offset : (memory_base + 4 * k) - memory_base ≡ 4 * k = omega arith in
+    let offset : (MEMORY_START + 4 * k) - MEMORY_START ≡ 4 * k = omega arith in
     let word : word_here (drop (4 * k) bytes) ≡ w = ap (λ i. word_here (drop i bytes)) (sym offset) ∙ is.1 in
     words_of-drop bytes k (omega arith) ∙ ap (λ v. v ∷ words_of (drop (4 * (k + 1)) bytes)) word
 

@@ -5,7 +5,8 @@ use Rattle.std.proofs.lemmas.Bool.{cond-true, cases_lt}
 use Rattle.std.proofs.Math.ListN.{replicate}
 use Rattle.std.proofs.Math.Seq.{get_or-append_right}
 use Rattle.std.proofs.Math.Nat.{div-div-eq-div-mul}
-use Rattle.xs_model.specs.Memory.{memory_base, memory_size, is_word_address, word_here, bytes_of_word, load_word, store_word, first_memory}
+use Rattle.xs_base.specs.declared.numbers.TheConstants.{MEMORY_START, MEMORY_BYTES}
+use Rattle.xs_model.specs.Memory.{is_word_address, word_here, bytes_of_word, load_word, store_word, first_memory}
 use Rattle.core_memory.specs.Bytes.{bytes_of_words}
 use Rattle.core_memory.specs.Places.{IsPlaceOf, four_bytes}
 
@@ -56,7 +57,7 @@ word_here_at ws k w h e r =
     let le : k ≤ length ws = omega arith in
     ap word_here (drop-bytes_of_words ws k le ∙ ap bytes_of_words (drop_more ws k 0 h ∙ ap (λ v. v ∷ drop (k + 1) ws) e)) ∙ word_here_first w (drop (k + 1) ws) r
 
-offset_of : (at k : ℕ) → IsPlaceOf at k → at - memory_base ≡ 4 * k
+offset_of : (at k : ℕ) → IsPlaceOf at k → at - MEMORY_START ≡ 4 * k
 offset_of at k p = omega (arith, p.address)
 
 -- the memory's word at an address is the word at its place
@@ -109,11 +110,11 @@ zero_in_zeros (suc n) (suc i) = zero_in_zeros n i
 -- the memory's byte at a place is the image's, or 0 past its end
 first_byte : (image : List ℕ) (i : ℕ) → get_or (first_memory image) i 0 ≡ get_or image i 0
 first_byte image i =
-    ⊎_elim (λ lt. get_or_append_left image _ 0 i lt) (λ ge. get_or-append_right image _ i 0 ge ∙ zero_in_zeros (memory_size - length image) (i - length image) ∙ sym (get_or_past image i 0 ge)) (cases_lt i (length image))
+    ⊎_elim (λ lt. get_or_append_left image _ 0 i lt) (λ ge. get_or-append_right image _ i 0 ge ∙ zero_in_zeros (MEMORY_BYTES - length image) (i - length image) ∙ sym (get_or_past image i 0 ge)) (cases_lt i (length image))
 
-pub length-first_memory : (image : List ℕ) → length image ≤ 65536 → length (first_memory image) ≡ memory_size
+pub length-first_memory : (image : List ℕ) → length image ≤ 65536 → length (first_memory image) ≡ MEMORY_BYTES
 length-first_memory image h =
-    omega (arith, length-append image (replicate (memory_size - length image) 0), length-replicate {A = ℕ} (memory_size - length image) 0)
+    omega (arith, length-append image (replicate (MEMORY_BYTES - length image) 0), length-replicate {A = ℕ} (MEMORY_BYTES - length image) 0)
 
 -- one word more of the memory as it starts
 pub image_more : (image ws : List ℕ) (k w : ℕ) → length image ≤ 65536 → k < 16384 → bytes_of_words ws ≡ take (4 * k) (first_memory image) → bytes_of_word w ≡ four_bytes image (4 * k) → bytes_of_words (ws ++ w ∷ []) ≡ take (4 * (k + 1)) (first_memory image)

@@ -3,7 +3,8 @@
 
 ghost use Rattle.std.specs.Prelude.{◌≡◌, ◌^◌, ◌<◌, ◌≤◌, ◌↔◌, false, Some, None, length, slice_index, IfOk, OnOk, OnErr, IsErr, MatchOption, MatchResult};
 ghost use Rattle.std.specs.Result.{result_ok};
-ghost use Rattle.xs_model.specs.Memory.{memory_size, is_word_address, load_word, store_word, bytes_of_word, first_memory};
+ghost use Rattle.xs_base.specs.declared.numbers.TheConstants.{MEMORY_BYTES};
+ghost use Rattle.xs_model.specs.Memory.{is_word_address, load_word, store_word, bytes_of_word, first_memory};
 ghost use Rattle.core_memory.specs.Bytes.{bytes_of_words};
 ghost use Rattle.core_memory.specs.Places.{IsPlaceOf, four_bytes};
 ghost use Rattle.core_memory.specs.Order.{WordsInOrder, NextWord, NoWordsLeft};
@@ -47,7 +48,7 @@ impl Ram {
     pub fn new(alloc: Global, bytes: &[u8]) -> Result<Ram, AllocError>
         requires { length bytes.now ≤ 65536 }
         ensures image { IfOk result (λ ram. ram ≡ first_memory bytes.now) }
-        ensures size { IfOk result (λ ram. length ram ≡ memory_size) }
+        ensures size { IfOk result (λ ram. length ram ≡ MEMORY_BYTES) }
     {
         let words = words_of_image(alloc, bytes)?;
         Ok(Ram { words })
@@ -59,7 +60,7 @@ impl Ram {
         ensures value { result_ok result ≡ load_word self.now at }
         ensures cases { MatchResult result (λ w. load_word self.now at ≡ Some w) (λ _. load_word self.now at ≡ None) }
         ensures err { IsErr result ↔ is_word_address at ≡ false }
-        ensures size { length self.now ≡ memory_size }
+        ensures size { length self.now ≡ MEMORY_BYTES }
     {
         let words = self.words.as_slice();
         let Some(place) = word_place(at) else {
@@ -75,7 +76,7 @@ impl Ram {
         ensures refused { OnErr result (store_word self.old at v ≡ None) }
         ensures unchanged { OnErr result (self.new ≡ self.old) }
         ensures err { IsErr result ↔ is_word_address at ≡ false }
-        ensures size { length self.new ≡ memory_size }
+        ensures size { length self.new ≡ MEMORY_BYTES }
     {
         match word_place(at) {
             Some(place) => {

@@ -1,8 +1,9 @@
 //! `Core`, one node's core.
 ghost use Rattle.std.specs.Prelude.{◌≡◌, ◌<◌, ◌≤◌, ◌+◌, ◌↔◌, ℕ, Some, false, List, [], length, map, IfOk, IsErr, IsTrue};
 ghost use Rattle.std.specs.Result.{result_ok};
+ghost use Rattle.xs_base.specs.declared.numbers.TheConstants.{MEMORY_BYTES};
 ghost use Rattle.xs_model.specs.Record.{NodeRec, thread_of, free_thread};
-ghost use Rattle.xs_model.specs.Memory.{load_word, is_word_address, memory_size};
+ghost use Rattle.xs_model.specs.Memory.{load_word, is_word_address};
 ghost use Rattle.xs_model.specs.Picks.{may_issue};
 ghost use Rattle.xs_model.specs.Outside.{LevelsFit, emitted_events};
 ghost use Rattle.xs_instructions.specs.Rows.{is_built};
@@ -102,7 +103,7 @@ impl Core {
     /// 0x0001_0000 to 0x0001_ffff, or no multiple of 4.
     pub fn word(&self, at: u32) -> Result<u32, BadAddress>
         ensures value { result_ok result ≡ load_word self.now.core.memory at }
-        ensures size { length self.now.core.memory ≡ memory_size }
+        ensures size { length self.now.core.memory ≡ MEMORY_BYTES }
         ensures err { IsErr result ↔ is_word_address at ≡ false }
     {
         self.ram.load32(at)

@@ -1,7 +1,7 @@
 -- The highest bit in which two ids differ, bit by bit from above.
 use Rattle.std.proofs.Common.{ℕ, suc, ◌≡◌, Bool, true, false, cond, eqb, Some, None, ap}
 use Rattle.std.specs.Int.{bit_at}
-use Rattle.net_model.specs.Ids.{first_difference}
+use Rattle.net_model.specs.Ways.{first_difference}
 
 module _ (n k a b : ℕ) (is : n ≡ suc k) where
   pub difference_here : eqb (bit_at a k) (bit_at b k) ≡ false → first_difference n a b ≡ Some k

@@ -3,36 +3,36 @@ use Rattle.std.proofs.Common.{ℕ, zero, suc, ◌≡◌, ◌+◌, ◌<◌, ◌�
 use Rattle.std.proofs.lemmas.List.{drop_more, drop_all}
 use Rattle.std.proofs.lemmas.Bool.{and_parts, and_from, ltb-true, ltb-false, lt-ltb, le-ltb, both_ways}
 use Rattle.std.proofs.lemmas.Nat.Bits.{bit_at-zero}
-use Rattle.xs_model.specs.Picks.{is_rested, is_earlier, earliest, pick_from, number_of_pick, pick}
+use Rattle.xs_model.specs.Picks.{is_rested, is_earlier, earliest, best_from, number_of_pick, pick}
 use Rattle.thread_slots.specs.Able.{is_able, may_issue, with_thread}
 
-pub pick_from_none : (able : ℕ → Bool) (slot k : ℕ) (lasts : List (Option ℕ)) → length lasts ≤ k → pick_from able slot k (drop k lasts) ≡ None
-unfolding pick_from
-pick_from_none able slot k lasts h = ap (λ l. pick_from able slot k l) (drop_all k lasts h)
+pub pick_from_none : (able : ℕ → Bool) (slot k : ℕ) (lasts : List (Option ℕ)) → length lasts ≤ k → best_from able slot k (drop k lasts) ≡ None
+unfolding best_from
+pick_from_none able slot k lasts h = ap (λ l. best_from able slot k l) (drop_all k lasts h)
 
-pub pick_from_more : (able : ℕ → Bool) (slot k : ℕ) (lasts : List (Option ℕ)) → k < length lasts → pick_from able slot k (drop k lasts) ≡ with_thread able slot k (get_or lasts k None) (pick_from able slot (k + 1) (drop (k + 1) lasts))
-unfolding pick_from
+pub pick_from_more : (able : ℕ → Bool) (slot k : ℕ) (lasts : List (Option ℕ)) → k < length lasts → best_from able slot k (drop k lasts) ≡ with_thread able slot k (get_or lasts k None) (best_from able slot (k + 1) (drop (k + 1) lasts))
+unfolding best_from
 pick_from_more able slot k lasts h =
-    ap (λ l. pick_from able slot k l) (drop_more lasts k None h) ∙ ap (λ n. with_thread able slot k (get_or lasts k None) (pick_from able slot n (drop (k + 1) lasts))) (sym (add-one k))
+    ap (λ l. best_from able slot k l) (drop_more lasts k None h) ∙ ap (λ n. with_thread able slot k (get_or lasts k None) (best_from able slot n (drop (k + 1) lasts))) (sym (add-one k))
 
 -- where two tests agree on the threads from k on, they pick the same
-pub same_pick_from : (able other : ℕ → Bool) (slot k : ℕ) (lasts : List (Option ℕ)) → ((j : ℕ) → k ≤ j → j < k + length lasts → able j ≡ other j) → pick_from able slot k lasts ≡ pick_from other slot k lasts
-unfolding pick_from
+pub same_pick_from : (able other : ℕ → Bool) (slot k : ℕ) (lasts : List (Option ℕ)) → ((j : ℕ) → k ≤ j → j < k + length lasts → able j ≡ other j) → best_from able slot k lasts ≡ best_from other slot k lasts
+unfolding best_from
 same_pick_from able other slot k [] h = refl
 same_pick_from able other slot k (last ∷ rest) h =
     let here : able k ≡ other k = h k (omega arith) (omega arith) in
-    let others : pick_from able slot (suc k) rest ≡ pick_from other slot (suc k) rest =
+    let others : best_from able slot (suc k) rest ≡ best_from other slot (suc k) rest =
     same_pick_from able other slot (suc k) rest (λ j low high. h j (omega arith) (omega arith))
     in
-    ap (λ a. with_thread (λ _. a) slot k last (pick_from able slot (suc k) rest)) here ∙ ap (λ o. with_thread other slot k last o) others
+    ap (λ a. with_thread (λ _. a) slot k last (best_from able slot (suc k) rest)) here ∙ ap (λ o. with_thread other slot k last o) others
 
 -- where no thread from k on is able, none is picked
-pub no_pick_from : (able : ℕ → Bool) (slot k : ℕ) (lasts : List (Option ℕ)) → ((j : ℕ) → able j ≡ false) → pick_from able slot k lasts ≡ None
-unfolding pick_from
+pub no_pick_from : (able : ℕ → Bool) (slot k : ℕ) (lasts : List (Option ℕ)) → ((j : ℕ) → able j ≡ false) → best_from able slot k lasts ≡ None
+unfolding best_from
 no_pick_from able slot k [] h = refl
 no_pick_from able slot k (last ∷ rest) h =
-    let others : pick_from able slot (suc k) rest ≡ None = no_pick_from able slot (suc k) rest h in
-    ap (λ a. with_thread (λ _. a) slot k last (pick_from able slot (suc k) rest)) (h k) ∙ others
+    let others : best_from able slot (suc k) rest ≡ None = no_pick_from able slot (suc k) rest h in
+    ap (λ a. with_thread (λ _. a) slot k last (best_from able slot (suc k) rest)) (h k) ∙ others
 
 pub none_able : (able : ℕ) → able ≡ 0 → (k : ℕ) → is_able able k ≡ false
 none_able able e k = ap (λ a. is_able a k) e ∙ ap (λ b. eqb b 1) (bit_at-zero k)
@@ -153,15 +153,15 @@ step able slot k last rest others b true is = step_with able slot k last rest ot
 step able slot k last rest others b false is = step_without able slot k last rest others is b
 
 -- what is picked is the best, and where nothing is, no thread may issue
-pick_is_best : (able : ℕ → Bool) (slot k : ℕ) (lasts : List (Option ℕ)) → IsBest able slot k lasts (pick_from able slot k lasts)
-unfolding pick_from
+pick_is_best : (able : ℕ → Bool) (slot k : ℕ) (lasts : List (Option ℕ)) → IsBest able slot k lasts (best_from able slot k lasts)
+unfolding best_from
 pick_is_best able slot k [] = λ j h. absurd (omega arith)
 pick_is_best able slot k (last ∷ rest) =
-    step able slot k last rest (pick_from able slot (suc k) rest) (pick_is_best able slot (suc k) rest) (able k && is_rested last slot) refl
+    step able slot k last rest (best_from able slot (suc k) rest) (pick_is_best able slot (suc k) rest) (able k && is_rested last slot) refl
 
 -- ---- the clauses of `pick`
 
-pub no_thread : (able slot : ℕ) (lasts : List (Option ℕ)) → length lasts ≡ 8 → None ≡ pick_from (is_able able) slot 0 lasts → (k : ℕ) → k < 8 → may_issue able lasts slot k ≡ false
+pub no_thread : (able slot : ℕ) (lasts : List (Option ℕ)) → length lasts ≡ 8 → None ≡ best_from (is_able able) slot 0 lasts → (k : ℕ) → k < 8 → may_issue able lasts slot k ≡ false
 no_thread able slot lasts n e k h =
     let none : IsBest (is_able able) slot 0 lasts None = subst (IsBest (is_able able) slot 0 lasts) (sym e) (pick_is_best (is_able able) slot 0 lasts) in
     let p : 0 + k ≡ k = omega arith in
@@ -192,14 +192,14 @@ picked_at able slot lasts i last n b =
       lowest = λ j h m. earlier_from (get_or lasts i None) (get_or lasts j None) (omega (arith, rank_is, b.lowest j h (at_zero (is_able able) slot lasts j ∙ m)));
     }
 
-pub picked : (able slot : ℕ) (lasts : List (Option ℕ)) (best : ℕ × Option ℕ) → length lasts ≡ 8 → Some best ≡ pick_from (is_able able) slot 0 lasts → IsPicked able slot lasts best.0
+pub picked : (able slot : ℕ) (lasts : List (Option ℕ)) (best : ℕ × Option ℕ) → length lasts ≡ 8 → Some best ≡ best_from (is_able able) slot 0 lasts → IsPicked able slot lasts best.0
 picked able slot lasts best n e =
     let is : IsBest (is_able able) slot 0 lasts (Some best) = subst (IsBest (is_able able) slot 0 lasts) (sym e) (pick_is_best (is_able able) slot 0 lasts) in
     let place : best.0 ≡ is.0 = omega (arith, is.1) in
     subst (IsPicked able slot lasts) (sym place) (picked_at able slot lasts is.0 best.1 n is.2)
 
 -- the pick by any test that agrees with the bits
-pub pick_by : (able slot : ℕ) (lasts : List (Option ℕ)) (result : Option (ℕ × Option ℕ)) → length lasts ≡ 8 → result ≡ pick_from (is_able able) slot 0 lasts → (able_by : ℕ → Bool) → ((k : ℕ) → k < 8 → able_by k ≡ is_able able k) → number_of_pick result ≡ pick able_by lasts slot
+pub pick_by : (able slot : ℕ) (lasts : List (Option ℕ)) (result : Option (ℕ × Option ℕ)) → length lasts ≡ 8 → result ≡ best_from (is_able able) slot 0 lasts → (able_by : ℕ → Bool) → ((k : ℕ) → k < 8 → able_by k ≡ is_able able k) → number_of_pick result ≡ pick able_by lasts slot
 pick_by able slot lasts result n e able_by agree =
     ap number_of_pick (e ∙ sym (same_pick_from able_by (is_able able) slot 0 lasts (λ j low high. agree j (omega arith))))
 

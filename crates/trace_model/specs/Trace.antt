@@ -1,6 +1,7 @@
 -- The text that a run writes.
 use Rattle.std.specs.Prelude.{ℕ, ◌+◌, Bool, true, false, ◌==◌, if◌then◌else◌, List, [], ◌∷◌, ◌++◌, length, map, filter, slice_index, slice_index_or, codes, decimal}
 use Rattle.std.specs.List.{flat_map}
+use Rattle.xs_base.specs.declared.numbers.TheConstants.{MEMORY_START}
 use Rattle.xs_base.specs.declared.entry.Entry.{Entry}
 use Rattle.xs_base.specs.declared.entry.What.{What}
 use Rattle.xs_base.specs.declared.entry.What.TheVariants.{Token, Credit}
@@ -8,7 +9,7 @@ use Rattle.xs_model.specs.declared.thread.Run.{Run}
 use Rattle.xs_model.specs.declared.thread.Run.TheVariants.{Halted}
 use Rattle.xs_model.specs.declared.thread.Thread.{Thread}
 use Rattle.xs_model.specs.declared.event.Event.{Event}
-use Rattle.xs_model.specs.Memory.{memory_base, words_of}
+use Rattle.xs_model.specs.Memory.{words_of}
 use Rattle.xs_model.specs.Record.{NodeRec, first_node}
 use Rattle.trace_model.specs.EventLines.{event_line, hex_word}
 use Rattle.xs_model.specs.FirstEvents.{first_events, left_out}
@@ -123,7 +124,7 @@ halted_at system k node = halted_lines node.number 0 (node_at system k).core.thr
 
 -- the lines of the words of its memory that aren't 0
 abbrev pub memory_at : SystemRec → ℕ → NodePlan → List ℕ
-memory_at system k node = memory_lines node.number memory_base (words_of (node_at system k).core.memory)
+memory_at system k node = memory_lines node.number MEMORY_START (words_of (node_at system k).core.memory)
 
 -- all lines but the last: the events in order, what of them was left out, what was sent on each directed link, the
 -- halted threads, and the words of the memories that aren't 0

@@ -2,6 +2,7 @@
 use Rattle.std.specs.Prelude.{ℕ, ◌≡◌, List, [], ◌∷◌, ◌++◌, codes}
 use Rattle.xs_model.specs.declared.event.Event.{Event}
 use Rattle.xs_model.specs.declared.event.Happen.TheVariants as happen
+use Rattle.xs_model.specs.Outside.{in_slot}
 use Rattle.sys_plan.specs.Plan.{PlanRec}
 use Rattle.serial_model.specs.Worked.{talking_pair, lost_pair, plain_node}
 use Rattle.trace_model.specs.declared.NodeEvent.{NodeEvent}

@@ -1,6 +1,7 @@
 //! The lines of a node: what of its events was left out, its halted threads, and the words of its memory.
 ghost use Rattle.std.specs.Prelude.{◌≡◌, ◌++◌, OnOk};
-ghost use Rattle.xs_model.specs.Memory.{memory_base, words_of};
+ghost use Rattle.xs_base.specs.declared.numbers.TheConstants.{MEMORY_START};
+ghost use Rattle.xs_model.specs.Memory.{words_of};
 ghost use Rattle.trace_model.specs.EventOrder.{AreWithinCounts};
 ghost use Rattle.trace_model.specs.Trace.{event_lines, more_line, halted_line, halted_lines, memory_line, memory_lines, end_line};
 
@@ -73,7 +74,7 @@ fn append_halted_line(out: &mut Text, node: u8, k: u8, run: Run) -> Result<(), A
 
 // The line of each word of the memory that isn't 0.
 pub(crate) fn append_memory_lines(out: &mut Text, node: u8, core: &Core) -> Result<(), AllocError>
-    ensures { OnOk result (out.new ≡ out.old ++ memory_lines node memory_base (words_of core.now.core.memory)) }
+    ensures { OnOk result (out.new ≡ out.old ++ memory_lines node MEMORY_START (words_of core.now.core.memory)) }
 {
     words_in_order();
     for k in 0..MEMORY_WORDS {

@@ -1,5 +1,5 @@
 use Rattle.std.proofs.Common.{◌≡◌}
-use Rattle.net_model.specs.Ids.{first_difference}
+use Rattle.net_model.specs.Ways.{first_difference}
 use Rattle.switch_routes.proofs.ways.first_difference.Given as goal
 
 -- the ids agree in the bits from here on
