@@ -2,11 +2,13 @@
 //! See docs/MACHINE.md.
 #![tactic(auto)]
 
-ghost use Rattle.std.specs.Prelude.{◌≡◌, ◌≢◌, ◌<◌, ◌↔◌, ℕ, Bool, true, false, List, Option, Some, None, length, replicate, slice_index_or, slice_set, IfSome};
-ghost use Rattle.xs_model.specs.Picks.{is_rested, is_earlier, pick, pick_from};
-ghost use Rattle.thread_slots.specs.Able.{is_able, may_issue, with_thread};
+ghost use Rattle.std.specs.Prelude.{◌≡◌, ◌≢◌, ◌<◌, ◌↔◌, ◌&&◌, ℕ, Bool, true, false, List, Option, Some, None, length, replicate, slice_index_or, slice_set, IfSome};
+ghost use Rattle.xs_base.specs.declared.numbers.TheConstants.{THREADS};
+ghost use Rattle.xs_model.specs.Picks.{is_rested, is_earlier, pick, best_from};
+ghost use Rattle.thread_slots.specs.Able.{in_mask, may_pick, best_with};
 
 use std::marker::Model;
+use xs_base::numbers::THREADS;
 
 /// In which slot each of a core's eight threads issued last, or that it never did. Contracts see the list of the
 /// eight last issues, by thread number. See docs/MACHINE.md.
@@ -37,18 +39,18 @@ impl Slots {
 
     /// Notes that a thread, 0 to 7, issues in a slot.
     pub fn mark_issue(&mut self, th: u8, slot: u32)
-        requires { th < 8 }
+        requires { th < THREADS }
         ensures marked { self.new ≡ slice_set self.old th (Some slot) }
-        ensures threads { length self.new ≡ 8 }
+        ensures threads { length self.new ≡ THREADS }
     {
         self.issues[th as usize] = Some(slot);
     }
 
     /// The slot in which a thread, 0 to 7, issued last: `None` exactly where it never did.
     pub fn last(&self, th: u8) -> Option<u32>
-        requires { th < 8 }
+        requires { th < THREADS }
         ensures value { result ≡ slice_index_or self.now th None }
-        ensures threads { length self.now ≡ 8 }
+        ensures threads { length self.now ≡ THREADS }
     {
         self.issues[th as usize]
     }
@@ -58,14 +60,14 @@ impl Slots {
     /// with the earliest last issue is picked, never being before every slot, and among equals the one with the
     /// lowest number; `None` comes exactly where no thread is able and rested. See docs/MACHINE.md.
     pub fn pick(&self, able: u8, slot: u32) -> Option<u8>
-        ensures value { (able_by : ℕ → Bool) → ((k : ℕ) → k < 8 → able_by k ≡ is_able able k) → result ≡ pick able_by self.now slot }
-        ensures none { result ≡ None ↔ ((k : ℕ) → k < 8 → may_issue able self.now slot k ≡ false) }
-        ensures within { IfSome result (λ k. k < 8) }
-        ensures able { IfSome result (λ k. is_able able k ≡ true) }
+        ensures value { (may : ℕ → Bool) → ((k : ℕ) → k < THREADS → may k ≡ may_pick able self.now slot k) → result ≡ pick may self.now }
+        ensures none { result ≡ None ↔ ((k : ℕ) → k < THREADS → may_pick able self.now slot k ≡ false) }
+        ensures within { IfSome result (λ k. k < THREADS) }
+        ensures able { IfSome result (λ k. in_mask able k ≡ true) }
         ensures rested { IfSome result (λ k. is_rested (slice_index_or self.now k None) slot ≡ true) }
-        ensures least { IfSome result (λ k. (j : ℕ) → j < 8 → may_issue able self.now slot j ≡ true → is_earlier (slice_index_or self.now j None) (slice_index_or self.now k None) ≡ false) }
-        ensures lowest { IfSome result (λ k. (j : ℕ) → j < k → may_issue able self.now slot j ≡ true → is_earlier (slice_index_or self.now k None) (slice_index_or self.now j None) ≡ true) }
-        ensures threads { length self.now ≡ 8 }
+        ensures least { IfSome result (λ k. (j : ℕ) → j < THREADS → may_pick able self.now slot j ≡ true → is_earlier (slice_index_or self.now j None) (slice_index_or self.now k None) ≡ false) }
+        ensures lowest { IfSome result (λ k. (j : ℕ) → j < k → may_pick able self.now slot j ≡ true → is_earlier (slice_index_or self.now k None) (slice_index_or self.now j None) ≡ true) }
+        ensures threads { length self.now ≡ THREADS }
     {
         match best_of(&self.issues, able, slot) {
             Some((thread, _)) => Some(thread),
@@ -74,19 +76,19 @@ impl Slots {
     }
 }
 
-/// The set of threads with no thread in it, for `Slots::pick`.
+/// The mask with no thread in it, for `Slots::pick`.
 pub fn no_threads() -> u8
-    ensures { (k : ℕ) → is_able result k ≡ false }
+    ensures { (k : ℕ) → in_mask result k ≡ false }
 {
     0
 }
 
-/// A set of threads with thread `th`, 0 to 7, in it as well, for `Slots::pick`.
+/// A mask with thread `th`, 0 to 7, in it as well, for `Slots::pick`.
 #[inline]
 pub fn with_able(able: u8, th: u8) -> u8
-    requires { th < 8 }
-    ensures added { is_able result th ≡ true }
-    ensures others { (k : ℕ) → k ≢ th → is_able result k ≡ is_able able k }
+    requires { th < THREADS }
+    ensures added { in_mask result th ≡ true }
+    ensures others { (k : ℕ) → k ≢ th → in_mask result k ≡ in_mask able k }
 {
     able | (1 << th)
 }
@@ -94,7 +96,7 @@ pub fn with_able(able: u8, th: u8) -> u8
 /// The best of the threads that are able and rested, with its last issue.
 #[inline]
 fn best_of(issues: &[Option<u32>; 8], able: u8, slot: u32) -> Option<(u8, Option<u32>)>
-    ensures { result ≡ pick_from (is_able able) slot 0 issues.now }
+    ensures { result ≡ best_from (may_pick able issues.now slot) 0 issues.now }
 {
     if able == 0 {
         None
@@ -105,10 +107,10 @@ fn best_of(issues: &[Option<u32>; 8], able: u8, slot: u32) -> Option<(u8, Option
 
 /// The same, by a look at each of the eight.
 fn best_of_eight(issues: &[Option<u32>; 8], able: u8, slot: u32) -> Option<(u8, Option<u32>)>
-    ensures { result ≡ pick_from (is_able able) slot 0 issues.now }
+    ensures { result ≡ best_from (may_pick able issues.now slot) 0 issues.now }
 {
     let mut best = None;
-    for k in (0..8u8).rev() {
+    for k in (0..THREADS).rev() {
         best = best_with(k, issues[k as usize], able, slot, best);
     }
     best
@@ -123,8 +125,8 @@ fn best_with(
     slot: u32,
     others: Option<(u8, Option<u32>)>,
 ) -> Option<(u8, Option<u32>)>
-    requires { k < 8 }
-    ensures { result ≡ with_thread (is_able able) slot k last others }
+    requires { k < THREADS }
+    ensures { result ≡ best_with (in_mask able k && is_rested last slot) k last others }
 {
     if (able >> k) & 1 == 0 || !is_rested(last, slot) {
         return others;

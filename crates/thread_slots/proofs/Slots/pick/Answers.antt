@@ -1,6 +1,6 @@
 use Rattle.std.proofs.Common.{Some, None, subst, sym, refl}
 use Rattle.std.proofs.lemmas.Option.{none-some}
-use Rattle.thread_slots.proofs.Best.{pick_by, picked, no_thread, IsPicked, some_issues}
+use Rattle.thread_slots.proofs.Best.{pick_by, picked, no_thread, IsPicked, some_may}
 use Rattle.thread_slots.proofs.Slots.pick.Goals as goal
 use Rattle.thread_slots.proofs.Slots.pick.Goals.{In-Some}
 
@@ -14,7 +14,7 @@ returns-in-Some-clause-value c =
 
 pub returns-in-Some-clause-none : goal.returns-in-Some-clause-none
 returns-in-Some-clause-none c =
-    (λ e. absurd (none-some _ (sym e)), λ none. absurd (some_issues c.args.able c.args.slot c.args.self.now c.in-Some.thread (its c) none))
+    (λ e. absurd (none-some _ (sym e)), λ none. absurd (some_may c.args.able c.args.slot c.args.self.now c.in-Some.thread (its c) none))
 
 pub returns-in-Some-clause-within : goal.returns-in-Some-clause-within
 returns-in-Some-clause-within c = (its c).within
