@@ -1,15 +1,16 @@
 //! `ChanEnd`, one channel end.
-ghost use Rattle.std.specs.Prelude.{◌≡◌, ◌↔◌, ◌&&◌, false, Some, None, [], ◌∷◌, ◌++◌, ◌-◌, nat_le, length, drop, slice_get, OnOk, OnErr, IsErr, IsTrue, IsFalse};
+ghost use Rattle.std.specs.Prelude.{◌≡◌, Some, None, [], ◌∷◌, ◌++◌, drop, slice_get, OnOk, OnErr, IsTrue, IsFalse};
 ghost use Rattle.std.specs.List.{list_any};
 ghost use Rattle.xs_model.specs.Record.{unused_chan};
-ghost use Rattle.xs_model.specs.Picks.{has_tokens, is_control};
-ghost use Rattle.net_model.specs.Chans.{got_chan, has_room, is_chan_id, chan_after};
-ghost use Rattle.chan_ends.specs.Answers.{found_at_put, put_answer, found_at_check, check_answer};
+ghost use Rattle.xs_model.specs.Waits.{has_room, has_tokens, is_control};
+ghost use Rattle.net_model.specs.Chans.{Got, Refused, got_chan, found_at, put_token, check_token, take_dest, chan_after};
+ghost use Rattle.chan_ends.specs.Answers.{put_answer, take_answer};
 
 use crate::answers::{Bad, Put, Take};
 use arrayvec::ArrayVec;
 use std::marker::Model;
 use xs_base::Token;
+use xs_base::numbers::{BUFFER_TOKENS, CHAN_END_KIND};
 
 /// A channel end. Contracts see it as a `ChanRec` of `Rattle.xs_model.specs.Record`.
 #[derive(Drop)]
@@ -83,11 +84,11 @@ impl ChanEnd {
 
     /// Gives it a destination: refused exactly where it is not in use or the identifier is no channel end's.
     pub(crate) fn set_dest(&mut self, id: u32) -> Result<(), Bad>
-        ensures err { IsErr result ↔ (self.old.used && is_chan_id id) ≡ false }
-        ensures ok { OnOk result (self.new ≡ record self.old { dest = Some id }) }
-        ensures unchanged { OnErr result (self.new ≡ self.old) }
+        ensures ok { OnOk result (found_at (take_dest id) self.old ≡ Got (record self.old { dest = Some id }) 0) }
+        ensures err { OnErr result (found_at (take_dest id) self.old ≡ Refused) }
+        ensures after { self.new ≡ chan_after self.old (found_at (take_dest id) self.old) }
     {
-        if !self.used || id % 256 != 2 {
+        if !self.used || id % 256 != u32::from(CHAN_END_KIND) {
             return Err(Bad);
         }
         self.dest = Some(id);
@@ -96,8 +97,8 @@ impl ChanEnd {
 
     /// Puts a token at the end of the output buffer.
     pub(crate) fn put(&mut self, t: Token) -> Put
-        ensures answer { result ≡ put_answer (found_at_put t self.old) }
-        ensures after { self.new ≡ chan_after self.old (found_at_put t self.old) }
+        ensures answer { result ≡ put_answer (found_at (put_token t) self.old) }
+        ensures after { self.new ≡ chan_after self.old (found_at (put_token t) self.old) }
     {
         if !self.used || self.dest.is_none() {
             return Put::Bad;
@@ -111,8 +112,8 @@ impl ChanEnd {
 
     /// Takes the control token of a value from the front of the input buffer.
     pub(crate) fn check(&mut self, v: u32) -> Take
-        ensures answer { result ≡ check_answer v (found_at_check v self.old) }
-        ensures after { self.new ≡ chan_after self.old (found_at_check v self.old) }
+        ensures answer { result ≡ take_answer (found_at (check_token v) self.old) }
+        ensures after { self.new ≡ chan_after self.old (found_at (check_token v) self.old) }
     {
         if !self.used {
             return Take::Bad;
@@ -129,9 +130,9 @@ impl ChanEnd {
 
     /// Whether so many tokens still fit into the output buffer.
     pub(crate) fn has_room(&self, count: u8) -> bool
-        ensures { result ≡ nat_le (length self.now.output) (8 - count) }
+        ensures { result ≡ has_room count self.now.output }
     {
-        self.output.len() <= usize::from(8u8.saturating_sub(count))
+        self.output.len() + usize::from(count) <= usize::from(BUFFER_TOKENS)
     }
 
     /// Whether so many tokens are in the input buffer, or a control token is among the first so many.

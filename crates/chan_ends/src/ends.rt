@@ -1,46 +1,43 @@
 //! `ChanEnds`, the channel ends of a core.
-ghost use Rattle.std.specs.Prelude.{ℕ, ◌≡◌, ◌<◌, ◌↔◌, ◌&&◌, ◌-◌, nat_le, true, false, Some, None, [], ◌∷◌, ◌++◌, drop, length, slice_get, OnOk, OnErr, IfSome, IsErr, IsTrue, IsFalse};
-ghost use Rattle.net_model.specs.Chans.{free_chan, got_chan, has_room, is_chan_id};
-ghost use Rattle.xs_model.specs.Picks.{has_tokens};
-ghost use Rattle.chan_ends.specs.Ends.{chan_at, with_chan_at, with_got, unused_ends, ends_after};
-ghost use Rattle.chan_ends.specs.Answers.{found_at_put, put_answer, found_at_check, check_answer};
+ghost use Rattle.std.specs.Prelude.{ℕ, ◌≡◌, ◌<◌, ◌↔◌, true, Some, None, [], ◌∷◌, ◌++◌, drop, length, replicate, slice_get, slice_set, OnOk, OnErr, IfSome, IsTrue, IsFalse};
+ghost use Rattle.xs_base.specs.declared.numbers.TheConstants.{CHAN_ENDS};
+ghost use Rattle.xs_model.specs.Record.{unused_chan};
+ghost use Rattle.xs_model.specs.Waits.{has_room, has_tokens};
+ghost use Rattle.net_model.specs.Chans.{Got, Refused, free_chan, found_at, put_token, check_token, take_dest};
+ghost use Rattle.chan_ends.specs.Ends.{chan_at, with_got, chans_after};
+ghost use Rattle.chan_ends.specs.Answers.{put_answer, take_answer};
 
 use crate::answers::{Bad, Put, Take};
 use crate::chan_end::ChanEnd;
 use std::marker::Model;
 use xs_base::Token;
-
-/// How many channel ends a core has.
-const CHANS: u8 = 32;
+use xs_base::numbers::{BUFFER_TOKENS, CHAN_ENDS};
 
 /// A core's 32 channel ends, numbered from 0: each is in use or not, may have a destination, and has an output and
-/// an input buffer of 8 tokens. Contracts see them as `Ends` of `Rattle.chan_ends.specs.Ends`, beside the id of the
-/// core's node. See docs/LINKS.md.
+/// an input buffer of 8 tokens. Contracts see them as the list of their `ChanRec`s. See docs/LINKS.md.
 #[derive(Drop)]
 pub struct ChanEnds {
-    node: u16,
     ends: [ChanEnd; 32],
 }
 
 impl Model for ChanEnds {
-    ghost use Rattle.std.specs.Prelude.{◌≡◌, length};
-    ghost use Rattle.chan_ends.specs.Ends.{Ends};
+    ghost use Rattle.std.specs.Prelude.{◌≡◌, List, length};
+    ghost use Rattle.xs_model.specs.Record.{ChanRec};
 
-    ghost Value = { Ends };
+    ghost Value = { List ChanRec };
 
-    ghost view = { λ core. record { node = core.node; chans = core.ends } };
+    ghost view = { λ core. core.ends };
 
     ghost invariant = { λ core. length core.ends ≡ 32 };
 }
 
 impl ChanEnds {
-    /// The channel ends at the start, on the node with this id: none is in use.
-    pub fn new(node: u16) -> ChanEnds
-        ensures unused { result ≡ unused_ends node }
-        ensures count { length result.chans ≡ 32 }
+    /// The channel ends at the start: on every node none is in use.
+    pub fn new(_node: u16) -> ChanEnds
+        ensures unused { result ≡ replicate 32 unused_chan }
+        ensures count { length result ≡ CHAN_ENDS }
     {
         ChanEnds {
-            node,
             ends: Default::default(),
         }
     }
@@ -48,11 +45,11 @@ impl ChanEnds {
     /// Gets the channel end with the lowest number that is not in use: it is in use then, with no destination and
     /// empty buffers. `None` comes exactly where all 32 are in use. See docs/LINKS.md.
     pub fn alloc(&mut self) -> Option<u8>
-        ensures lowest { result ≡ free_chan self.old.chans 0 }
-        ensures got { self.new ≡ with_got self.old (free_chan self.old.chans 0) }
-        ensures within { IfSome result (λ c. c < 32) }
-        ensures none { result ≡ None ↔ ((c : ℕ) → c < 32 → (chan_at self.old c).used ≡ true) }
-        ensures count { length self.new.chans ≡ 32 }
+        ensures lowest { result ≡ free_chan self.old 0 }
+        ensures got { self.new ≡ with_got self.old (free_chan self.old 0) }
+        ensures within { IfSome result (λ c. c < CHAN_ENDS) }
+        ensures none { result ≡ None ↔ ((c : ℕ) → c < CHAN_ENDS → (chan_at self.old c).used ≡ true) }
+        ensures count { length self.new ≡ CHAN_ENDS }
     {
         let free = first_free(&self.ends);
         if let Some(c) = free {
@@ -63,18 +60,18 @@ impl ChanEnds {
 
     /// Whether channel end `c`, 0 to 31, is in use.
     pub fn used(&self, c: u8) -> bool
-        requires { c < 32 }
+        requires { c < CHAN_ENDS }
         ensures value { result ≡ (chan_at self.now c).used }
-        ensures count { length self.now.chans ≡ 32 }
+        ensures count { length self.now ≡ CHAN_ENDS }
     {
         self.ends[c as usize].used()
     }
 
     /// The destination of channel end `c`, 0 to 31: `None` exactly where it has none.
     pub fn dest(&self, c: u8) -> Option<u32>
-        requires { c < 32 }
+        requires { c < CHAN_ENDS }
         ensures value { result ≡ (chan_at self.now c).dest }
-        ensures count { length self.now.chans ≡ 32 }
+        ensures count { length self.now ≡ CHAN_ENDS }
     {
         self.ends[c as usize].dest()
     }
@@ -82,11 +79,11 @@ impl ChanEnds {
     /// Gives channel end `c`, 0 to 31, the identifier of a channel end as its destination. `Bad` comes exactly where
     /// it is not in use or the identifier's low byte is not 2, and then nothing changes. See docs/LINKS.md.
     pub fn set_dest(&mut self, c: u8, id: u32) -> Result<(), Bad>
-        requires { c < 32 }
-        ensures err { IsErr result ↔ ((chan_at self.old c).used && is_chan_id id) ≡ false }
-        ensures ok { OnOk result (self.new ≡ with_chan_at self.old c (record (chan_at self.old c) { dest = Some id })) }
-        ensures unchanged { OnErr result (self.new ≡ self.old) }
-        ensures count { length self.new.chans ≡ 32 }
+        requires { c < CHAN_ENDS }
+        ensures ok { OnOk result (found_at (take_dest id) (chan_at self.old c) ≡ Got (record (chan_at self.old c) { dest = Some id }) 0) }
+        ensures err { OnErr result (found_at (take_dest id) (chan_at self.old c) ≡ Refused) }
+        ensures after { self.new ≡ chans_after self.old c (found_at (take_dest id) (chan_at self.old c)) }
+        ensures count { length self.new ≡ CHAN_ENDS }
     {
         self.ends[c as usize].set_dest(id)
     }
@@ -95,10 +92,10 @@ impl ChanEnds {
     /// in use or has no destination, and `Full` exactly where it has one and 8 tokens are there; then nothing
     /// changes. See docs/LINKS.md.
     pub fn put(&mut self, c: u8, t: Token) -> Put
-        requires { c < 32 }
-        ensures answer { result ≡ put_answer (found_at_put t (chan_at self.old c)) }
-        ensures after { self.new ≡ ends_after self.old c (found_at_put t (chan_at self.old c)) }
-        ensures count { length self.new.chans ≡ 32 }
+        requires { c < CHAN_ENDS }
+        ensures answer { result ≡ put_answer (found_at (put_token t) (chan_at self.old c)) }
+        ensures after { self.new ≡ chans_after self.old c (found_at (put_token t) (chan_at self.old c)) }
+        ensures count { length self.new ≡ CHAN_ENDS }
     {
         self.ends[c as usize].put(t)
     }
@@ -107,30 +104,34 @@ impl ChanEnds {
     /// answers `Got(v)`. `Wait` comes exactly where it is in use and no token is there, and `Bad` exactly where it
     /// is not in use or another token is first; then nothing changes. See docs/LINKS.md.
     pub fn check(&mut self, c: u8, v: u32) -> Take
-        requires { c < 32 }
-        ensures answer { result ≡ check_answer v (found_at_check v (chan_at self.old c)) }
-        ensures after { self.new ≡ ends_after self.old c (found_at_check v (chan_at self.old c)) }
-        ensures count { length self.new.chans ≡ 32 }
+        requires { c < CHAN_ENDS }
+        ensures answer { result ≡ take_answer (found_at (check_token v) (chan_at self.old c)) }
+        ensures after { self.new ≡ chans_after self.old c (found_at (check_token v) (chan_at self.old c)) }
+        ensures count { length self.new ≡ CHAN_ENDS }
     {
         self.ends[c as usize].check(v)
     }
 
-    /// Whether `count` tokens, 0 to 8, still fit into the output buffer of channel end `c`, which holds 8. With a `c` of
-    /// 32 or more it speaks of an empty buffer. See docs/LINKS.md.
+    /// Whether `count` tokens still fit into the output buffer of channel end `c`, which holds 8. With a `c` of 32 or
+    /// more it speaks of an empty buffer. See docs/LINKS.md.
     pub fn has_room(&self, c: u8, count: u8) -> bool
-        ensures value { result ≡ nat_le (length (chan_at self.now c).output) (8 - count) }
-        ensures count { length self.now.chans ≡ 32 }
+        ensures value { result ≡ has_room count (chan_at self.now c).output }
+        ensures count { length self.now ≡ CHAN_ENDS }
     {
-        c >= CHANS || self.ends[c as usize].has_room(count)
+        if c < CHAN_ENDS {
+            self.ends[c as usize].has_room(count)
+        } else {
+            count <= BUFFER_TOKENS
+        }
     }
 
     /// Whether `count` tokens are in the input buffer of channel end `c`, or a control token is among the first
     /// `count`. With a `c` of 32 or more it speaks of an empty buffer. See docs/LINKS.md.
     pub fn has_tokens(&self, c: u8, count: u8) -> bool
         ensures value { result ≡ has_tokens count (chan_at self.now c).input }
-        ensures count { length self.now.chans ≡ 32 }
+        ensures count { length self.now ≡ CHAN_ENDS }
     {
-        if c < CHANS {
+        if c < CHAN_ENDS {
             self.ends[c as usize].has_tokens(count)
         } else {
             count == 0
@@ -140,9 +141,9 @@ impl ChanEnds {
     /// The token that waits longest in the output buffer of channel end `c`, 0 to 31: `None` exactly where none is
     /// there.
     pub fn first_out(&self, c: u8) -> Option<Token>
-        requires { c < 32 }
+        requires { c < CHAN_ENDS }
         ensures value { result ≡ slice_get (chan_at self.now c).output 0 }
-        ensures count { length self.now.chans ≡ 32 }
+        ensures count { length self.now ≡ CHAN_ENDS }
     {
         self.ends[c as usize].first_out()
     }
@@ -150,10 +151,10 @@ impl ChanEnds {
     /// Takes the token that waits longest from the output buffer of channel end `c`, 0 to 31: `None` exactly where
     /// none is there.
     pub fn pop_out(&mut self, c: u8) -> Option<Token>
-        requires { c < 32 }
+        requires { c < CHAN_ENDS }
         ensures token { result ≡ slice_get (chan_at self.old c).output 0 }
-        ensures rest { self.new ≡ with_chan_at self.old c (record (chan_at self.old c) { output = drop 1 (chan_at self.old c).output }) }
-        ensures count { length self.new.chans ≡ 32 }
+        ensures rest { self.new ≡ slice_set self.old c (record (chan_at self.old c) { output = drop 1 (chan_at self.old c).output }) }
+        ensures count { length self.new ≡ CHAN_ENDS }
     {
         self.ends[c as usize].pop_out()
     }
@@ -161,9 +162,9 @@ impl ChanEnds {
     /// The token that waits longest in the input buffer of channel end `c`, 0 to 31: `None` exactly where none is
     /// there.
     pub fn first_in(&self, c: u8) -> Option<Token>
-        requires { c < 32 }
+        requires { c < CHAN_ENDS }
         ensures value { result ≡ slice_get (chan_at self.now c).input 0 }
-        ensures count { length self.now.chans ≡ 32 }
+        ensures count { length self.now ≡ CHAN_ENDS }
     {
         self.ends[c as usize].first_in()
     }
@@ -171,11 +172,11 @@ impl ChanEnds {
     /// Puts a token at the end of the input buffer of channel end `c`, 0 to 31: `false` exactly where 8 tokens are
     /// there, and then nothing changes. See docs/LINKS.md.
     pub fn push_in(&mut self, c: u8, t: Token) -> bool
-        requires { c < 32 }
+        requires { c < CHAN_ENDS }
         ensures room { result ≡ has_room 1 (chan_at self.old c).input }
-        ensures pushed { IsTrue result → self.new ≡ with_chan_at self.old c (record (chan_at self.old c) { input = (chan_at self.old c).input ++ t ∷ [] }) }
+        ensures pushed { IsTrue result → self.new ≡ slice_set self.old c (record (chan_at self.old c) { input = (chan_at self.old c).input ++ t ∷ [] }) }
         ensures unchanged { IsFalse result → self.new ≡ self.old }
-        ensures count { length self.new.chans ≡ 32 }
+        ensures count { length self.new ≡ CHAN_ENDS }
     {
         self.ends[c as usize].push_in(t)
     }
@@ -184,9 +185,9 @@ impl ChanEnds {
 /// The lowest channel end that is not in use.
 fn first_free(ends: &[ChanEnd; 32]) -> Option<u8>
     ensures lowest { result ≡ free_chan ends.now 0 }
-    ensures within { IfSome result (λ c. c < 32) }
+    ensures within { IfSome result (λ c. c < CHAN_ENDS) }
 {
-    for c in 0..32u8 {
+    for c in 0..CHAN_ENDS {
         if !ends[c as usize].used() {
             return Some(c);
         }

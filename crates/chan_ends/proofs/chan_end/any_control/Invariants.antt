@@ -1,6 +1,6 @@
 use Rattle.std.proofs.Common.{◌≡◌, drop}
 use Rattle.std.specs.List.{list_any}
-use Rattle.xs_model.specs.Picks.{is_control}
+use Rattle.xs_model.specs.Waits.{is_control}
 use Rattle.chan_ends.proofs.chan_end.any_control.Given as goal
 
 -- none of those before is a control token

@@ -3,7 +3,7 @@ use Rattle.std.specs.List.{list_any}
 use Rattle.std.proofs.lemmas.List.{take_all}
 use Rattle.std.proofs.lemmas.Bool.{lt-leb}
 use Rattle.xs_base.specs.declared.token.Token.{Token}
-use Rattle.xs_model.specs.Picks.{has_tokens, is_control}
+use Rattle.xs_model.specs.Waits.{has_tokens, is_control}
 use Rattle.chan_ends.proofs.chan_end.has_tokens.Goals as goal
 
 -- where fewer are there, they are the first so many
