@@ -6,7 +6,7 @@ use Rattle.std.proofs.lemmas.List.Elements.{All-head, All-tail}
 use Rattle.std.proofs.Math.Bool.{and-false}
 use Rattle.xs_model.specs.Record.{LinkRec}
 use Rattle.net_model.specs.Links.{latest, gap_is_over, may_send}
-use Rattle.link_ends.specs.Window.{Window, WindowOf, NeverFall, can_send}
+use Rattle.link_ends.specs.Counts.{EndCounts, CountsOf, NeverFall, can_send}
 
 latest-push : (slots : List ℕ) (slot : ℕ) → latest (slots ++ slot ∷ []) ≡ Some slot
 latest-push [] slot = refl
@@ -40,23 +40,23 @@ fewer : (outstanding credited sent : ℕ) → outstanding + credited ≡ sent �
 fewer outstanding credited sent e = grind arith
 
 -- the counts allow a token where the lists do
-same_room : (w : Window) (slot : ℕ) (link : LinkRec) → 1 ≤ w.gap → WindowOf w link → All (λ s. s ≤ slot) link.credited → (over : Bool) → gap_is_over w.gap slot (latest link.sent) ≡ over → (ltb w.outstanding 8 && over) ≡ (ltb (length (filter (λ s. ltb s slot) link.sent)) (8 + length (filter (λ s. leb s slot) link.credited)) && over)
-same_room w slot link some of credited false is = and-false _ ∙ sym (and-false _)
-same_room w slot link some of credited true is =
-    rw (sent_before w.gap slot link.sent some is of.rises, credited_so_far slot link.credited credited) (ap (λ b. b && true) (fewer w.outstanding (length link.credited) (length link.sent) of.open_tokens))
+same_room : (counts : EndCounts) (slot : ℕ) (link : LinkRec) → 1 ≤ counts.gap → CountsOf counts link → All (λ s. s ≤ slot) link.credited → (over : Bool) → gap_is_over counts.gap slot (latest link.sent) ≡ over → (ltb counts.outstanding 8 && over) ≡ (ltb (length (filter (λ s. ltb s slot) link.sent)) (8 + length (filter (λ s. leb s slot) link.credited)) && over)
+same_room counts slot link some of credited false is = and-false _ ∙ sym (and-false _)
+same_room counts slot link some of credited true is =
+    rw (sent_before counts.gap slot link.sent some is of.rises, credited_so_far slot link.credited credited) (ap (λ b. b && true) (fewer counts.outstanding (length link.credited) (length link.sent) of.open_tokens))
 
-pub sends_as_counted : (w : Window) (slot : ℕ) (link : LinkRec) → 1 ≤ w.gap → WindowOf w link → All (λ s. s ≤ slot) link.credited → can_send w slot ≡ may_send w.gap slot link
-sends_as_counted w slot link some of credited =
-    rw of.last_sent (same_room w slot link some of credited (gap_is_over w.gap slot (latest link.sent)) refl)
+pub sends_as_counted : (counts : EndCounts) (slot : ℕ) (link : LinkRec) → 1 ≤ counts.gap → CountsOf counts link → All (λ s. s ≤ slot) link.credited → can_send counts slot ≡ may_send counts.gap slot link
+sends_as_counted counts slot link some of credited =
+    rw of.last_sent (same_room counts slot link some of credited (gap_is_over counts.gap slot (latest link.sent)) refl)
 
--- a window with one more token sent
-pub stands_after_sent : (w : Window) (slot : ℕ) (link : LinkRec) → can_send w slot ≡ true → WindowOf w link → WindowOf (record w { outstanding = w.outstanding + 1; last_sent = Some slot }) (record link { sent = link.sent ++ slot ∷ [] })
-stands_after_sent w slot link room of =
-    let its : gap_is_over w.gap slot w.last_sent ≡ true = (and_parts (ltb w.outstanding 8) (gap_is_over w.gap slot w.last_sent) room).1 in
-    let over : gap_is_over w.gap slot (latest link.sent) ≡ true = ap (gap_is_over w.gap slot) (sym of.last_sent) ∙ its in
+-- the counts with one more token sent
+pub stands_after_sent : (counts : EndCounts) (slot : ℕ) (link : LinkRec) → can_send counts slot ≡ true → CountsOf counts link → CountsOf (record counts { outstanding = counts.outstanding + 1; last_sent = Some slot }) (record link { sent = link.sent ++ slot ∷ [] })
+stands_after_sent counts slot link room of =
+    let its : gap_is_over counts.gap slot counts.last_sent ≡ true = (and_parts (ltb counts.outstanding 8) (gap_is_over counts.gap slot counts.last_sent) room).1 in
+    let over : gap_is_over counts.gap slot (latest link.sent) ≡ true = ap (gap_is_over counts.gap slot) (sym of.last_sent) ∙ its in
     record {
       buffer = of.buffer;
       open_tokens = omega (arith, of.open_tokens, length-append link.sent (slot ∷ []));
       last_sent = sym (latest-push link.sent slot);
-      rises = NeverFall-push w.gap slot link.sent over of.rises;
+      rises = NeverFall-push counts.gap slot link.sent over of.rises;
     }

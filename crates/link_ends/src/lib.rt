@@ -3,19 +3,18 @@
 #![tactic(auto)]
 
 ghost use Rattle.std.specs.Prelude.{◌≡◌, ◌-◌, ◌+◌, ◌<◌, ◌≤◌, ◌↔◌, ℕ, true, Some, None, [], ◌∷◌, ◌++◌, length, drop, All, MatchOption};
+ghost use Rattle.xs_base.specs.declared.numbers.TheConstants.{BUFFER_TOKENS};
 ghost use Rattle.xs_model.specs.Record.{LinkRec};
-ghost use Rattle.net_model.specs.Links.{window, token_arrives, credit_arrives, may_send, gap_is_over};
-ghost use Rattle.link_ends.specs.Window.{WindowOf, empty_window, can_send};
+ghost use Rattle.net_model.specs.Links.{fresh_link, token_arrives, credit_arrives, may_send, gap_is_over};
+ghost use Rattle.link_ends.specs.Counts.{CountsOf, fresh_counts, can_send};
 
 use arrayvec::ArrayVec;
 use std::marker::Model;
 use xs_base::Token;
-
-/// How many tokens fit into the buffer, and how many may be on their way to the other end.
-const WINDOW: u32 = 8;
+use xs_base::numbers::WINDOW_TOKENS;
 
 /// One of a node's link ends: the tokens that wait in its buffer, at most 8, and what it needs to know of those that
-/// it sent. Contracts see it as a `Window`, and say which link records it stands for. See docs/LINKS.md.
+/// it sent. Contracts see it as an `EndCounts`, and say which link records it stands for. See docs/LINKS.md.
 #[derive(Drop)]
 pub struct LinkEnd {
     // In slots, from one token sent to the next.
@@ -28,14 +27,15 @@ pub struct LinkEnd {
 
 impl Model for LinkEnd {
     ghost use Rattle.std.specs.Prelude.{◌≤◌};
+    ghost use Rattle.xs_base.specs.declared.numbers.TheConstants.{BUFFER_TOKENS, WINDOW_TOKENS};
     ghost use Rattle.arrayvec.specs.ArrayVec.{array_vec_len};
-    ghost use Rattle.link_ends.specs.Window.{Window};
+    ghost use Rattle.link_ends.specs.Counts.{EndCounts};
 
-    ghost Value = { Window };
+    ghost Value = { EndCounts };
 
     ghost view = { λ end. record { gap = end.gap; buffer = end.buffer.items; outstanding = end.outstanding; last_sent = end.last_sent } };
 
-    ghost invariant = { λ end. (array_vec_len end.buffer ≤ 8) × (end.outstanding ≤ 8) × (1 ≤ end.gap) };
+    ghost invariant = { λ end. (array_vec_len end.buffer ≤ BUFFER_TOKENS) × (end.outstanding ≤ WINDOW_TOKENS) × (1 ≤ end.gap) };
 }
 
 impl LinkEnd {
@@ -43,8 +43,8 @@ impl LinkEnd {
     /// next one may be sent. See docs/LINKS.md.
     pub fn new(gap: u32) -> LinkEnd
         requires { 1 ≤ gap }
-        ensures empty { result ≡ empty_window gap }
-        ensures stands { WindowOf result (record { buffer = []; sent = []; credited = [] }) }
+        ensures empty { result ≡ fresh_counts gap }
+        ensures stands { CountsOf result fresh_link }
     {
         LinkEnd {
             gap,
@@ -56,12 +56,12 @@ impl LinkEnd {
 
     /// A token arrives: it is put into the buffer, and dropped where 8 wait there. See docs/LINKS.md.
     pub fn arrive(&mut self, t: Token)
-        ensures kept { length self.old.buffer < window → self.new ≡ record self.old { buffer = self.old.buffer ++ t ∷ [] } }
-        ensures dropped { length self.old.buffer ≡ window → self.new ≡ self.old }
-        ensures fits { length self.new.buffer ≤ window }
+        ensures kept { length self.old.buffer < BUFFER_TOKENS → self.new ≡ record self.old { buffer = self.old.buffer ++ t ∷ [] } }
+        ensures dropped { length self.old.buffer ≡ BUFFER_TOKENS → self.new ≡ self.old }
+        ensures fits { length self.new.buffer ≤ BUFFER_TOKENS }
         ensures gap { self.new.gap ≡ self.old.gap }
         ensures last_sent { self.new.last_sent ≡ self.old.last_sent }
-        ensures stands { (link : LinkRec) → WindowOf self.old link → WindowOf self.new (token_arrives (Some t) link) }
+        ensures stands { (link : LinkRec) → CountsOf self.old link → CountsOf self.new (token_arrives (Some t) link) }
     {
         if !self.buffer.is_full() {
             self.buffer.push(t);
@@ -71,7 +71,7 @@ impl LinkEnd {
     /// A credit arrives: it is counted, and dropped where each token sent has its credit. See docs/LINKS.md.
     pub fn credit(&mut self)
         ensures counted { self.new ≡ record self.old { outstanding = self.old.outstanding - 1 } }
-        ensures stands { (link : LinkRec) (slot : ℕ) → WindowOf self.old link → WindowOf self.new (credit_arrives slot true link) }
+        ensures stands { (link : LinkRec) (slot : ℕ) → CountsOf self.old link → CountsOf self.new (credit_arrives slot true link) }
     {
         if self.outstanding > 0 {
             self.outstanding -= 1;
@@ -83,16 +83,16 @@ impl LinkEnd {
     /// docs/LINKS.md.
     pub fn can_send(&self, slot: u32) -> bool
         ensures value { result ≡ can_send self.now slot }
-        ensures stands { (link : LinkRec) → WindowOf self.now link → All (λ s. s ≤ slot) link.credited → result ≡ may_send self.now.gap slot link }
+        ensures stands { (link : LinkRec) → CountsOf self.now link → All (λ s. s ≤ slot) link.credited → result ≡ may_send self.now.gap slot link }
     {
-        self.outstanding < WINDOW && gap_is_over(self.gap, slot, self.last_sent)
+        self.outstanding < WINDOW_TOKENS && gap_is_over(self.gap, slot, self.last_sent)
     }
 
     /// Notes that a token is sent in a slot in which it may be, as `can_send` says. See docs/LINKS.md.
     pub fn sent(&mut self, slot: u32)
         requires { can_send self.old slot ≡ true }
         ensures noted { self.new ≡ record self.old { outstanding = self.old.outstanding + 1; last_sent = Some slot } }
-        ensures stands { (link : LinkRec) → WindowOf self.old link → WindowOf self.new (record link { sent = link.sent ++ slot ∷ [] }) }
+        ensures stands { (link : LinkRec) → CountsOf self.old link → CountsOf self.new (record link { sent = link.sent ++ slot ∷ [] }) }
     {
         self.outstanding += 1;
         self.last_sent = Some(slot);
@@ -114,7 +114,7 @@ impl LinkEnd {
         ensures none { result ≡ None ↔ self.old.buffer ≡ [] }
         ensures cases { MatchOption result (self.old.buffer ≡ []) (λ t. self.old.buffer ≡ t ∷ self.new.buffer) }
         ensures rest { self.new ≡ record self.old { buffer = drop 1 self.old.buffer } }
-        ensures stands { (link : LinkRec) → WindowOf self.old link → WindowOf self.new (record link { buffer = drop 1 link.buffer }) }
+        ensures stands { (link : LinkRec) → CountsOf self.old link → CountsOf self.new (record link { buffer = drop 1 link.buffer }) }
     {
         if self.buffer.is_empty() {
             None
@@ -125,7 +125,7 @@ impl LinkEnd {
 }
 
 impl Default for LinkEnd {
-    ghost is_default = { λ end. end ≡ empty_window 1 };
+    ghost is_default = { λ end. end ≡ fresh_counts 1 };
 
     fn default() -> LinkEnd {
         LinkEnd::new(1)
