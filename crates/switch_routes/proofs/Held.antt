@@ -1,7 +1,7 @@
 -- Whether some input is in a state that passes a test.
 use Rattle.std.proofs.Common.{ℕ, ◌≡◌, ◌+◌, ◌<◌, ◌≤◌, ◌||◌, ◌&&◌, Bool, true, false, List, length, get_or, drop, ap, ◌∙◌}
 use Rattle.std.specs.List.{list_any, list_all}
-use Rattle.switch_routes.specs.Switch.{is_idle}
+use Rattle.net_model.specs.Switch.{is_idle}
 use Rattle.std.proofs.lemmas.List.{drop_more, drop_all}
 use Rattle.xs_model.specs.Record.{InputRec}
 use Rattle.switch_routes.specs.declared.inputs.Input.{Input}

@@ -3,74 +3,68 @@ use Rattle.std.proofs.Common.{ℕ, zero, suc, ◌≡◌, ◌+◌, List, [], ◌�
 use Rattle.std.proofs.lemmas.List.{append-nil}
 use Rattle.std.specs.List.{AllByRecursion}
 use Rattle.std.specs.Prelude.{IfSome}
-use Rattle.xs_model.specs.Record.{NodeRec, LinkRec, InputRec, ChanRec}
+use Rattle.xs_model.specs.declared.event.Event.{Event}
+use Rattle.xs_model.specs.Record.{InputRec, ChanRec}
 use Rattle.xs_model.specs.Outside.{Emitted}
-use Rattle.net_model.specs.Switch.{Routes, Moving, moves_from, input_step, begun}
-use Rattle.link_ends.specs.Window.{Window}
-use Rattle.chan_ends.specs.Ends.{Ends}
-use Rattle.switch_routes.specs.Rows.{CreditedBy, gaps_of}
-use Rattle.switch_routes.specs.Switch.{SwitchRec, StandsIn}
-use Rattle.switch_routes.specs.Work.{Stands, with_parts}
+use Rattle.xs_model.specs.AtWork.{AtWork, slot_begins}
+use Rattle.net_model.specs.Switch.{Routes, moves_from, input_step}
+use Rattle.link_ends.specs.Counts.{EndCounts}
+use Rattle.switch_routes.specs.Rows.{CreditedBy, end_gaps}
+use Rattle.switch_routes.specs.Switch.{SwitchRec, StandsIn, known_routes, with_parts, emitted_after}
+use Rattle.switch_routes.specs.Work.{Begun, Stands}
 
 -- the steps of the first inputs
-unfoldable pub first_steps : Routes → ℕ → ℕ → Moving → Moving
+unfoldable pub first_steps : Routes → ℕ → ℕ → AtWork → AtWork
 first_steps routes slot zero m = m
 first_steps routes slot (suc count) m = input_step routes slot count (first_steps routes slot count m)
 
-pub no_steps : (routes : Routes) (slot : ℕ) (m : Moving) → first_steps routes slot 0 m ≡ m
+pub no_steps : (routes : Routes) (slot : ℕ) (m : AtWork) → first_steps routes slot 0 m ≡ m
 unfolding first_steps
 no_steps routes slot m = refl
 
-pub next_step : (routes : Routes) (slot count : ℕ) (m : Moving) → first_steps routes slot (count + 1) m ≡ input_step routes slot count (first_steps routes slot count m)
+pub next_step : (routes : Routes) (slot count : ℕ) (m : AtWork) → first_steps routes slot (count + 1) m ≡ input_step routes slot count (first_steps routes slot count m)
 unfolding first_steps
 next_step routes slot count m = rw add-one refl
 
-steps_from : (routes : Routes) (slot : ℕ) (i count all : ℕ) (m : Moving) → all ≡ i + count → moves_from routes slot i count (first_steps routes slot i m) ≡ first_steps routes slot all m
+steps_from : (routes : Routes) (slot : ℕ) (i count all : ℕ) (m : AtWork) → all ≡ i + count → moves_from routes slot i count (first_steps routes slot i m) ≡ first_steps routes slot all m
 unfolding moves_from
 steps_from routes slot i zero all m is =
     let same : all ≡ i = omega arith in
     ap (λ (k : ℕ). first_steps routes slot k m) (sym same)
 steps_from routes slot i (suc count) all m is =
-    ap (λ (x : Moving). moves_from routes slot (i + 1) count x) (sym (next_step routes slot i m))
+    ap (λ (x : AtWork). moves_from routes slot (i + 1) count x) (sym (next_step routes slot i m))
     ∙ steps_from routes slot (i + 1) count all m (omega arith)
 
-pub all_steps : (routes : Routes) (slot all : ℕ) (m : Moving) → first_steps routes slot all m ≡ moves_from routes slot 0 all m
+pub all_steps : (routes : Routes) (slot all : ℕ) (m : AtWork) → first_steps routes slot all m ≡ moves_from routes slot 0 all m
 all_steps routes slot all m =
-    sym (steps_from routes slot 0 all all m (omega arith)) ∙ ap (λ (x : Moving). moves_from routes slot 0 all x) (no_steps routes slot m)
+    sym (steps_from routes slot 0 all all m (omega arith)) ∙ ap (λ (x : AtWork). moves_from routes slot 0 all x) (no_steps routes slot m)
 
 -- where the work begins
-pub stands-first : (slot : ℕ) (switch : SwitchRec) (ends : Ends) (row : List (Option Window)) (out : Emitted) (rec : NodeRec) → StandsIn slot switch ends row rec → out.tokens ≡ replicate 8 None → out.credits ≡ replicate 8 false → Stands (record { start = rec; before = out.events; gaps = gaps_of row }) slot switch.inputs ends row out (begun rec)
-stands-first slot switch ends row out rec s tokens credits = record {
+abbrev pub begun_at : AtWork → List Event → List (Option EndCounts) → Begun
+begun_at m before row = record { start = m.rec; before = before; gaps = end_gaps row }
+
+pub stands-first : (slot : ℕ) (switch : SwitchRec) (ends : List ChanRec) (row : List (Option EndCounts)) (out : Emitted) (before : List Event) (m : AtWork) → StandsIn slot switch ends row m.rec → out ≡ emitted_after before slot m → Stands (begun_at m before row) slot switch.inputs ends row out m
+stands-first slot switch ends row out before m s emitted = record {
   inputs = s.inputs;
   chans = s.chans;
-  links = s.windows;
+  links = s.links;
   credited = s.credited;
   gaps = refl;
-  events = sym (append-nil out.events);
-  tokens = tokens;
-  credits = credits;
+  events = ap (λ (e : Emitted). e.events) emitted;
+  tokens = ap (λ (e : Emitted). e.tokens) emitted;
+  credits = ap (λ (e : Emitted). e.credits) emitted;
   rest = refl;
 }
 
--- a credit that was counted by a slot was counted by the next one
-earlier : (slot : ℕ) (slots : List ℕ) → AllByRecursion (λ s. s ≤ slot) slots → AllByRecursion (λ s. s ≤ slot + 1) slots
-earlier slot [] all = tt
-earlier slot (s ∷ slots) all = (omega (arith, all.0), earlier slot slots all.1)
+-- where it ends
+pub stands-last : (begun : Begun) (slot : ℕ) (switch : SwitchRec) (ends : List ChanRec) (row : List (Option EndCounts)) (out : Emitted) (m : AtWork) → Stands begun slot switch.inputs ends row out m → StandsIn slot switch ends row m.rec
+stands-last begun slot switch ends row out m s = record { inputs = s.inputs; chans = s.chans; links = s.links; credited = s.credited }
 
-earlier-link : (slot : ℕ) (l : Option LinkRec) → IfSome l (λ link. AllByRecursion (λ s. s ≤ slot) link.credited) → IfSome l (λ link. AllByRecursion (λ s. s ≤ slot + 1) link.credited)
-earlier-link slot None by = tt
-earlier-link slot (Some link) by = earlier slot link.credited by
+pub emitted-last : (begun : Begun) (slot : ℕ) (states : List InputRec) (ends : List ChanRec) (row : List (Option EndCounts)) (out : Emitted) (m : AtWork) → Stands begun slot states ends row out m → out ≡ emitted_after begun.before slot m
+emitted-last begun slot states ends row out m s = λ i. record { events = s.events i; tokens = s.tokens i; credits = s.credits i }
 
-pub credited-later : (slot : ℕ) (links : List (Option LinkRec)) → CreditedBy slot links → CreditedBy (slot + 1) links
-credited-later slot [] by = tt
-credited-later slot (l ∷ links) by = (earlier-link slot l by.0, credited-later slot links by.1)
-
--- a node's record by its parts, and what was emitted by its parts
-pub same_parts : (start : NodeRec) (inputs : List InputRec) (ends : Ends) (rec : NodeRec) → inputs ≡ rec.core.inputs → ends.chans ≡ rec.core.chans → rec ≡ with_parts start rec.core.inputs rec.core.chans rec.links → rec ≡ with_parts start inputs ends.chans rec.links
-same_parts start inputs ends rec is are rest =
-    rest
-    ∙ ap (λ (xs : List InputRec). with_parts start xs rec.core.chans rec.links) (sym is)
-    ∙ ap (λ (cs : List ChanRec). with_parts start inputs cs rec.links) (sym are)
-
-pub same_emitted : (a b : Emitted) → a.events ≡ b.events → a.tokens ≡ b.tokens → a.credits ≡ b.credits → a ≡ b
-same_emitted a b events tokens credits = λ i. record { events = events i; tokens = tokens i; credits = credits i }
+pub rest-last : (begun : Begun) (slot : ℕ) (states : List InputRec) (ends : List ChanRec) (row : List (Option EndCounts)) (out : Emitted) (m : AtWork) → Stands begun slot states ends row out m → m.rec ≡ with_parts begun.start states ends m.rec.links
+rest-last begun slot states ends row out m s =
+    s.rest
+    ∙ ap (λ (xs : List InputRec). with_parts begun.start xs m.rec.core.chans m.rec.links) (sym s.inputs)
+    ∙ ap (λ (cs : List ChanRec). with_parts begun.start states cs m.rec.links) (sym s.chans)

@@ -6,18 +6,18 @@ use Rattle.std.proofs.lemmas.Bool.{and_parts, false≢true, true≢false}
 use Rattle.std.proofs.lemmas.List.{drop_more, drop_all}
 use Rattle.xs_base.specs.declared.token.Token.{Token}
 use Rattle.xs_model.specs.Record.{NodeRec, ChanRec, InputRec, Idle, Head1, Head2, Want, Local, Out, Lost, unused_chan}
-use Rattle.net_model.specs.Switch.{Routes, Moving, begun, input_step, step_at, head_step, packet_step, state_at, waiting_at, moves_from}
-use Rattle.xs_model.specs.Outside.{emitted_events}
-use Rattle.link_ends.specs.Window.{Window}
-use Rattle.chan_ends.specs.Ends.{Ends, chan_at}
-use Rattle.switch_routes.specs.Rows.{buffer_of, window_at, gaps_of}
-use Rattle.switch_routes.specs.Switch.{SwitchRec, StandsIn, is_idle, switched, routes_of}
+use Rattle.xs_model.specs.AtWork.{AtWork}
+use Rattle.net_model.specs.Switch.{Routes, is_idle, moves, want_step, input_step, step_at, head_step, packet_step, state_at, waiting_at, moves_from}
+use Rattle.link_ends.specs.Counts.{EndCounts}
+use Rattle.chan_ends.specs.Ends.{chan_at}
+use Rattle.switch_routes.specs.Rows.{buffer_of, counts_at}
+use Rattle.switch_routes.specs.Switch.{SwitchRec, StandsIn, known_routes, emitted_after}
 use Rattle.switch_routes.specs.Rest.{at_rest, none_waits, sends_nothing, holds_nothing}
 use Rattle.switch_routes.specs.Work.{Stands, waiting_in}
 use Rattle.switch_routes.specs.declared.inputs.Input.{Input}
 use Rattle.switch_routes.specs.Inputs.{state_of, states_in}
 use Rattle.switch_routes.proofs.Work.{waits}
-use Rattle.switch_routes.proofs.Moves.{first_steps, no_steps, next_step, all_steps, stands-first}
+use Rattle.switch_routes.proofs.Moves.{first_steps, no_steps, next_step, all_steps, begun_at, stands-first}
 
 -- a test of all, one by one
 module _ {X : Type 0} (p : X → Bool) (xs : List X) (i : ℕ) (d : X) where
@@ -68,39 +68,39 @@ pub nothing_is : (ts : List Token) → none_waits ts ≡ true → ts ≡ []
 nothing_is [] is = refl
 nothing_is (t ∷ ts) is = absurd (false≢true is)
 
-same-both : (b : Bool) (m : Moving) → cond b m m ≡ m
+same-both : (b : Bool) (m : AtWork) → cond b m m ≡ m
 same-both true m = refl
 same-both false m = refl
 
 -- an idle input at which nothing waits does nothing
-step-rests : (routes : Routes) (slot i : ℕ) (m : Moving) → state_at m.rec i ≡ Idle → waiting_at m.rec i ≡ [] → input_step routes slot i m ≡ m
+step-rests : (routes : Routes) (slot i : ℕ) (m : AtWork) → state_at m.rec i ≡ Idle → waiting_at m.rec i ≡ [] → input_step routes slot i m ≡ m
 step-rests routes slot i m idle none =
     ap (λ (state : InputRec). step_at routes slot i state m) idle
-    ∙ ap (λ (ts : List Token). cond (ltb i 8) (head_step i Idle ts m) (packet_step routes slot i ts m)) none
+    ∙ ap (λ (ts : List Token). cond (ltb i 8) (head_step i Idle ts m) (packet_step (want_step routes slot i) i ts m)) none
     ∙ same-both (ltb i 8) m
 
-steps-rest : (routes : Routes) (slot count : ℕ) (m : Moving) → ((i : ℕ) → state_at m.rec i ≡ Idle) → ((i : ℕ) → waiting_at m.rec i ≡ []) → first_steps routes slot count m ≡ m
+steps-rest : (routes : Routes) (slot count : ℕ) (m : AtWork) → ((i : ℕ) → state_at m.rec i ≡ Idle) → ((i : ℕ) → waiting_at m.rec i ≡ []) → first_steps routes slot count m ≡ m
 unfolding first_steps
 steps-rest routes slot zero m idle none = refl
 steps-rest routes slot (suc count) m idle none =
-    ap (λ (x : Moving). input_step routes slot count x) (steps-rest routes slot count m idle none) ∙ step-rests routes slot count m (idle count) (none count)
+    ap (λ (x : AtWork). input_step routes slot count x) (steps-rest routes slot count m idle none) ∙ step-rests routes slot count m (idle count) (none count)
 
 -- nothing waits at an input, of a link end or of a channel end
 none-in : (b : Bool) (ts us : List Token) → none_waits ts ≡ true → none_waits us ≡ true → cond b ts us ≡ []
 none-in true ts us t u = nothing_is ts t
 none-in false ts us t u = nothing_is us u
 
-waits-in : (slot : ℕ) (switch : SwitchRec) (ends : Ends) (row : List (Option Window)) (rec : NodeRec) → StandsIn slot switch ends row rec → (i : ℕ) → waiting_in ends row i ≡ waiting_at rec i
-waits-in slot switch ends row rec s i =
-    waits (record { start = rec; before = []; gaps = gaps_of row }) slot switch.inputs ends row (emitted_events []) (begun rec)
-    (stands-first slot switch ends row (emitted_events []) rec s refl refl) i
+waits-in : (slot : ℕ) (switch : SwitchRec) (ends : List ChanRec) (row : List (Option EndCounts)) (m : AtWork) → StandsIn slot switch ends row m.rec → (i : ℕ) → waiting_in ends row i ≡ waiting_at m.rec i
+waits-in slot switch ends row m s i =
+    waits (begun_at m [] row) slot switch.inputs ends row (emitted_after [] slot m) m
+    (stands-first slot switch ends row (emitted_after [] slot m) [] m s refl) i
 
-pub switch-rests : (slot : ℕ) (switch : SwitchRec) (ends : Ends) (row : List (Option Window)) (rec : NodeRec) → at_rest switch ends row ≡ true → StandsIn slot switch ends row rec → switched switch row slot rec ≡ begun rec
-switch-rests slot switch ends row rec rests s =
-    let parts = and_parts (list_all is_idle switch.inputs) (list_all sends_nothing ends.chans && list_all holds_nothing row) rests in
-    let buffers = and_parts (list_all sends_nothing ends.chans) (list_all holds_nothing row) parts.1 in
-    sym (all_steps (routes_of switch row) slot 40 (begun rec))
-    ∙ steps-rest (routes_of switch row) slot 40 (begun rec)
+pub switch-rests : (slot : ℕ) (switch : SwitchRec) (ends : List ChanRec) (row : List (Option EndCounts)) (m : AtWork) → at_rest switch ends row ≡ true → StandsIn slot switch ends row m.rec → moves (known_routes switch row) slot m ≡ m
+switch-rests slot switch ends row m rests s =
+    let parts = and_parts (list_all is_idle switch.inputs) (list_all sends_nothing ends && list_all holds_nothing row) rests in
+    let buffers = and_parts (list_all sends_nothing ends) (list_all holds_nothing row) parts.1 in
+    sym (all_steps (known_routes switch row) slot 40 m)
+    ∙ steps-rest (known_routes switch row) slot 40 m
     (λ i. ap (λ (xs : List InputRec). get_or xs i Idle) (sym s.inputs) ∙ idle_is (get_or switch.inputs i Idle) (passes-at is_idle switch.inputs i Idle parts.0 refl))
-    (λ i. sym (waits-in slot switch ends row rec s i)
-    ∙ none-in (ltb i 8) (buffer_of (window_at row i)) (chan_at ends (i - 8)).output (passes-at holds_nothing row i None buffers.1 refl) (passes-at sends_nothing ends.chans (i - 8) unused_chan buffers.0 refl))
+    (λ i. sym (waits-in slot switch ends row m s i)
+    ∙ none-in (ltb i 8) (buffer_of (counts_at row i)) (chan_at ends (i - 8)).output (passes-at holds_nothing row i None buffers.1 refl) (passes-at sends_nothing ends (i - 8) unused_chan buffers.0 refl))

@@ -1,6 +1,7 @@
 -- What an input of the switch is at, in code and in the node record.
 use Rattle.std.specs.Prelude.{◌≡◌, ◌<◌, ◌≤◌, List, length, map, replicate}
 use Rattle.std.specs.List.{AllByRecursion}
+use Rattle.xs_base.specs.declared.numbers.TheConstants.{LINK_ENDS, CHAN_ENDS, INPUTS, HEADER_BYTES}
 use Rattle.xs_model.specs.Record.{InputRec, Idle, Head1, Head2, Want, Local, Out, Lost}
 use Rattle.switch_routes.specs.declared.inputs.Input.{Input}
 use Rattle.switch_routes.specs.declared.inputs.Input.TheVariants as input
@@ -17,8 +18,8 @@ state_of input.Lost = Lost
 
 -- a channel end that is held is one of 32, a link end one of 8, and three header bytes go out
 abbrev pub InputFits : Input → Type 0
-InputFits (input.Local chan) = chan < 32
-InputFits (input.Out end headers dest) = (end < 8) × (headers ≤ 3)
+InputFits (input.Local chan) = chan < CHAN_ENDS
+InputFits (input.Out end headers dest) = (end < LINK_ENDS) × (headers ≤ HEADER_BYTES)
 InputFits _ = Unit {0}
 
 -- the states of all inputs
@@ -27,7 +28,7 @@ states_in states = map state_of states
 
 -- there are 40 inputs, and each state fits
 pub record AreInputs (states : List Input) : Type 0 where
-  pub count : length states ≡ 40
+  pub count : length states ≡ INPUTS
   pub fit : AllByRecursion InputFits states
 
 -- every input is idle

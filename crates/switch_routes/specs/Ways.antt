@@ -1,6 +1,6 @@
 -- Where a destination lies, in code and in the definitions.
 use Rattle.std.specs.Prelude.{ℕ, List}
-use Rattle.net_model.specs.Ids.{Way, Here, Behind}
+use Rattle.net_model.specs.Ways.{Way, Here, Behind}
 use Rattle.net_model.specs.Switch.{Routes}
 use Rattle.switch_routes.specs.declared.ways.Way.{Way as WayFound}
 use Rattle.switch_routes.specs.declared.ways.Way.TheVariants as way

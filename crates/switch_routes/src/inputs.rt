@@ -1,9 +1,9 @@
 //! What the switch's inputs are at.
 ghost use Rattle.std.specs.Prelude.{ℕ, ◌≡◌, ◌<◌, Bool, length, slice_set, slice_index_or};
 ghost use Rattle.std.specs.List.{list_all, list_any};
-ghost use Rattle.switch_routes.specs.Switch.{is_idle};
+ghost use Rattle.xs_base.specs.declared.numbers.TheConstants.{INPUTS};
 ghost use Rattle.xs_model.specs.Record.{Idle};
-ghost use Rattle.net_model.specs.Switch.{is_local_to, is_out_by};
+ghost use Rattle.net_model.specs.Switch.{is_idle, is_local_to, is_out_by};
 ghost use Rattle.switch_routes.specs.Inputs.{state_of, InputFits, idle_inputs};
 
 use std::marker::Model;
@@ -58,7 +58,7 @@ impl Inputs {
 
     /// What an input, 0 to 39, is at.
     pub(crate) fn state(&self, input: u8) -> Input
-        requires within { input < 40 }
+        requires within { input < INPUTS }
         ensures value { state_of result ≡ slice_index_or self.now input Idle }
         ensures fits { InputFits result }
     {
@@ -67,7 +67,7 @@ impl Inputs {
 
     /// Puts an input, 0 to 39, into a state.
     pub(crate) fn set(&mut self, input: u8, state: Input)
-        requires within { input < 40 }
+        requires within { input < INPUTS }
         requires fits { InputFits state }
         ensures value { self.new ≡ slice_set self.old input (state_of state) }
     {

@@ -1,23 +1,25 @@
 //! `Links`, the row of a node's link ends.
-ghost use Rattle.std.specs.Prelude.{ℕ, ◌≡◌, ◌<◌, true, Some, None, Option, List, [], ◌∷◌, drop, length, slice_set, slice_index, slice_index_or, MatchOption};
+ghost use Rattle.std.specs.Prelude.{ℕ, ◌≡◌, ◌<◌, true, Some, None, Option, List, [], ◌∷◌, drop, length, slice_set, slice_index_or, MatchOption};
 ghost use Rattle.std.specs.Borrow.{sem};
 ghost use Rattle.std.specs.List.{list_all};
-ghost use Rattle.switch_routes.specs.Rest.{holds_nothing};
+ghost use Rattle.xs_base.specs.declared.numbers.TheConstants.{LINK_ENDS};
 ghost use Rattle.xs_model.specs.Record.{LinkRec};
 ghost use Rattle.net_model.specs.Links.{links_after_arrivals, link_after_arrivals, token_arrives, credit_arrives};
-ghost use Rattle.net_model.specs.Switch.{sent_in};
-ghost use Rattle.link_ends.specs.Window.{WindowOf};
-ghost use Rattle.switch_routes.specs.Rows.{no_windows, window_at, WindowsOf, gaps_of, CreditedBy, SentBy, buffer_of, may_send_by, link_may_send, without_first};
+ghost use Rattle.net_model.specs.Switch.{Routes, sent_in, end_may_send};
+ghost use Rattle.link_ends.specs.Counts.{CountsOf};
+ghost use Rattle.switch_routes.specs.Rows.{no_ends, counts_at, AllCountsOf, end_gaps, CreditedBy, SentBy, buffer_of, may_send_by, without_first};
+ghost use Rattle.switch_routes.specs.Rest.{holds_nothing};
 ghost use Rattle.switch_routes.specs.Lends.{LendsEnd};
 
 use arrayvec::ArrayVec;
 use link_ends::LinkEnd;
 use std::marker::Model;
 use xs_base::Token;
+use xs_base::numbers::LINK_ENDS;
 use xs_model::Arrivals;
 
 /// A node's link ends, numbered 0 to 7, each of which is there or not. Contracts see it as a list of 8 optional
-/// `Window`s. See docs/LINKS.md.
+/// `EndCounts`. See docs/LINKS.md.
 #[derive(Drop)]
 pub struct Links {
     // Where a link end is not there, some other one stands in its place.
@@ -27,13 +29,13 @@ pub struct Links {
 
 impl Model for Links {
     ghost use Rattle.std.specs.Prelude.{Option, List};
-    ghost use Rattle.link_ends.specs.Window.{Window};
+    ghost use Rattle.link_ends.specs.Counts.{EndCounts};
 
-    ghost Value = { List (Option Window) };
+    ghost Value = { List (Option EndCounts) };
 
-    ghost use Rattle.switch_routes.specs.Inside.{windows_in, AreEnds};
+    ghost use Rattle.switch_routes.specs.Inside.{ends_in, AreEnds};
 
-    ghost view = { λ row. windows_in row.present row.ends.items };
+    ghost view = { λ row. ends_in row.present row.ends.items };
 
     ghost invariant = { λ row. AreEnds row.present row.ends.items };
 }
@@ -41,7 +43,7 @@ impl Model for Links {
 impl Links {
     /// No link end is there.
     pub fn new() -> Links
-        ensures value { result ≡ no_windows }
+        ensures value { result ≡ no_ends }
     {
         let ends: [LinkEnd; 8] = Default::default();
         Links {
@@ -52,9 +54,9 @@ impl Links {
 
     /// Puts a link end in its place, 0 to 7, instead of one that was there.
     pub fn set(&mut self, end: u8, link: LinkEnd)
-        requires within { end < 8 }
+        requires within { end < LINK_ENDS }
         ensures value { self.new ≡ slice_set self.old end (Some link) }
-        ensures count { length self.new ≡ 8 }
+        ensures count { length self.new ≡ LINK_ENDS }
     {
         self.ends.as_mut_slice()[end as usize] = link;
         self.present[end as usize] = true;
@@ -62,10 +64,10 @@ impl Links {
 
     /// The link end with a number, 0 to 7: `None` exactly where the node has no such link end.
     pub fn end(&mut self, end: u8) -> Option<&mut LinkEnd>
-        requires within { end < 8 }
+        requires within { end < LINK_ENDS }
         ensures* writes_back { sem 𝓛 (LendsEnd self.entry end result) }
-        ensures cases { MatchOption result (window_at self.old end ≡ None) (λ link. window_at self.old end ≡ Some link.now) }
-        ensures count { length self.old ≡ 8 }
+        ensures cases { MatchOption result (counts_at self.old end ≡ None) (λ link. counts_at self.old end ≡ Some link.now) }
+        ensures count { length self.old ≡ LINK_ENDS }
     {
         if self.present[end as usize] {
             self.ends.get_mut(end as usize)
@@ -77,14 +79,14 @@ impl Links {
     /// What arrives in a slot at each link end: the token, then the credit. For a link end that is not there it is
     /// dropped. See docs/LINKS.md.
     pub fn arrivals(&mut self, arrivals: &Arrivals)
-        ensures stands { (slot : ℕ) (links : List (Option LinkRec)) → WindowsOf self.old links →
-            WindowsOf self.new (links_after_arrivals slot arrivals.now.tokens arrivals.now.credits 0 links) }
+        ensures stands { (slot : ℕ) (links : List (Option LinkRec)) → AllCountsOf self.old links →
+            AllCountsOf self.new (links_after_arrivals slot arrivals.now.tokens arrivals.now.credits 0 links) }
         ensures credited { (slot : ℕ) (links : List (Option LinkRec)) → CreditedBy slot links →
             CreditedBy slot (links_after_arrivals slot arrivals.now.tokens arrivals.now.credits 0 links) }
-        ensures gaps { gaps_of self.new ≡ gaps_of self.old }
+        ensures gaps { end_gaps self.new ≡ end_gaps self.old }
         ensures sent { (slot : ℕ) → SentBy slot self.old → SentBy slot self.new }
     {
-        for end in 0..8u8 {
+        for end in 0..LINK_ENDS {
             self.arrive(
                 end,
                 arrivals.tokens[end as usize],
@@ -95,12 +97,12 @@ impl Links {
 
     // What arrives in a slot at one link end.
     fn arrive(&mut self, end: u8, token: Option<Token>, credit: bool)
-        requires within { end < 8 }
-        ensures stands { (slot : ℕ) (links : List (Option LinkRec)) → WindowsOf self.old links →
-            WindowsOf self.new (slice_set links end (link_after_arrivals slot token credit (slice_index_or links end None))) }
-        ensures gaps { gaps_of self.new ≡ gaps_of self.old }
+        requires within { end < LINK_ENDS }
+        ensures stands { (slot : ℕ) (links : List (Option LinkRec)) → AllCountsOf self.old links →
+            AllCountsOf self.new (slice_set links end (link_after_arrivals slot token credit (slice_index_or links end None))) }
+        ensures gaps { end_gaps self.new ≡ end_gaps self.old }
         ensures sent { (slot : ℕ) → SentBy slot self.old → SentBy slot self.new }
-        ensures count { length self.new ≡ 8 }
+        ensures count { length self.new ≡ LINK_ENDS }
     {
         if let Some(link) = self.end(end) {
             receive(link, token);
@@ -110,10 +112,10 @@ impl Links {
 
     /// The token that waits longest at a link end, 0 to 7: `None` exactly where none waits.
     pub(crate) fn first(&self, end: u8) -> Option<Token>
-        requires within { end < 8 }
-        ensures cases { MatchOption result (buffer_of (window_at self.now end) ≡ [])
-            (λ t. buffer_of (window_at self.now end) ≡ t ∷ drop 1 (buffer_of (window_at self.now end))) }
-        ensures count { length self.now ≡ 8 }
+        requires within { end < LINK_ENDS }
+        ensures cases { MatchOption result (buffer_of (counts_at self.now end) ≡ [])
+            (λ t. buffer_of (counts_at self.now end) ≡ t ∷ drop 1 (buffer_of (counts_at self.now end))) }
+        ensures count { length self.now ≡ LINK_ENDS }
     {
         let link = &self.ends.as_slice()[end as usize];
         if self.present[end as usize] {
@@ -127,7 +129,7 @@ impl Links {
     pub(crate) fn hold_nothing(&self) -> bool
         ensures value { result ≡ list_all holds_nothing self.now }
     {
-        for end in 0..8u8 {
+        for end in 0..LINK_ENDS {
             if self.first(end).is_some() {
                 return false;
             }
@@ -137,9 +139,9 @@ impl Links {
 
     /// Takes the token that waits longest out of a link end's buffer, where one waits.
     pub(crate) fn pop(&mut self, end: u8)
-        requires within { end < 8 }
-        ensures value { self.new ≡ slice_set self.old end (without_first (window_at self.old end)) }
-        ensures gaps { gaps_of self.new ≡ gaps_of self.old }
+        requires within { end < LINK_ENDS }
+        ensures value { self.new ≡ slice_set self.old end (without_first (counts_at self.old end)) }
+        ensures gaps { end_gaps self.new ≡ end_gaps self.old }
         ensures sent { (slot : ℕ) → SentBy slot self.old → SentBy slot self.new }
     {
         if let Some(link) = self.end(end) {
@@ -149,10 +151,10 @@ impl Links {
 
     /// Whether a link end is there and may send in a slot.
     pub(crate) fn can_send(&self, end: u8, slot: u32) -> bool
-        requires within { end < 8 }
-        ensures value { result ≡ may_send_by slot (window_at self.now end) }
-        ensures stands { (links : List (Option LinkRec)) → WindowsOf self.now links → CreditedBy slot links →
-            result ≡ link_may_send (slice_index (gaps_of self.now) end) slot (slice_index_or links end None) }
+        requires within { end < LINK_ENDS }
+        ensures value { result ≡ may_send_by slot (counts_at self.now end) }
+        ensures stands { (routes : Routes) (links : List (Option LinkRec)) → routes.gaps ≡ end_gaps self.now → AllCountsOf self.now links →
+            CreditedBy slot links → result ≡ end_may_send routes slot end (slice_index_or links end None) }
     {
         let link = &self.ends.as_slice()[end as usize];
         self.present[end as usize] && link.can_send(slot)
@@ -160,11 +162,11 @@ impl Links {
 
     /// Notes that a link end sends a token in a slot in which it may.
     pub(crate) fn sent(&mut self, end: u8, slot: u32)
-        requires within { end < 8 }
-        requires allowed { may_send_by slot (window_at self.old end) ≡ true }
-        ensures stands { (links : List (Option LinkRec)) → WindowsOf self.old links →
-            WindowsOf self.new (slice_set links end (sent_in slot (slice_index_or links end None))) }
-        ensures gaps { gaps_of self.new ≡ gaps_of self.old }
+        requires within { end < LINK_ENDS }
+        requires allowed { may_send_by slot (counts_at self.old end) ≡ true }
+        ensures stands { (links : List (Option LinkRec)) → AllCountsOf self.old links →
+            AllCountsOf self.new (slice_set links end (sent_in slot (slice_index_or links end None))) }
+        ensures gaps { end_gaps self.new ≡ end_gaps self.old }
         ensures sent { SentBy slot self.old → SentBy slot self.new }
     {
         if let Some(link) = self.end(end) {
@@ -175,7 +177,7 @@ impl Links {
 
 // A token arrives at a link end, if one does.
 fn receive(link: &mut LinkEnd, token: Option<Token>)
-    ensures stands { (rec : LinkRec) → WindowOf link.old rec → WindowOf link.new (token_arrives token rec) }
+    ensures stands { (rec : LinkRec) → CountsOf link.old rec → CountsOf link.new (token_arrives token rec) }
     ensures gap { link.new.gap ≡ link.old.gap }
     ensures last_sent { link.new.last_sent ≡ link.old.last_sent }
 {
@@ -186,7 +188,7 @@ fn receive(link: &mut LinkEnd, token: Option<Token>)
 
 // A credit arrives at a link end, if one does.
 fn count(link: &mut LinkEnd, credit: bool)
-    ensures stands { (rec : LinkRec) (slot : ℕ) → WindowOf link.old rec → WindowOf link.new (credit_arrives slot credit rec) }
+    ensures stands { (rec : LinkRec) (slot : ℕ) → CountsOf link.old rec → CountsOf link.new (credit_arrives slot credit rec) }
     ensures gap { link.new.gap ≡ link.old.gap }
     ensures last_sent { link.new.last_sent ≡ link.old.last_sent }
 {

@@ -1,27 +1,23 @@
 //! The rules of the switch: what one input does in a slot.
 ghost use Rattle.std.specs.Prelude.{ℕ, ◌≡◌, ◌<◌, ◌≤◌, ◌+◌, length, List, Option, true};
+ghost use Rattle.xs_base.specs.declared.numbers.TheConstants.{INPUTS, LINK_ENDS, CHAN_ENDS, HEADER_BYTES, EVENT_ROOM};
 ghost use Rattle.xs_base.specs.declared.token.Token.TheVariants.{Byte};
-ghost use Rattle.xs_model.specs.Record.{Out};
-ghost use Rattle.net_model.specs.Switch.{Routes, Moving, local_step, deliver, lost_step, head_step, after_header, loses, out_step, out_token, waiting_at, header_byte, is_pause, to_state, send};
+ghost use Rattle.xs_model.specs.Record.{ChanRec, Out};
+ghost use Rattle.xs_model.specs.AtWork.{AtWork};
+ghost use Rattle.net_model.specs.Switch.{Routes, local_step, deliver, lost_step, head_step, after_header, loses, out_step, out_token, waiting_at, header_byte, is_pause, to_state, send};
 ghost use Rattle.switch_routes.specs.Inputs.{state_of, InputFits};
 ghost use Rattle.switch_routes.specs.Work.{Begun, Stands};
-ghost use Rattle.link_ends.specs.Window.{Window};
-ghost use Rattle.chan_ends.specs.Ends.{Ends};
-ghost use Rattle.switch_routes.specs.Rows.{window_at, may_send_by, gaps_of, SentBy};
+ghost use Rattle.link_ends.specs.Counts.{EndCounts};
+ghost use Rattle.switch_routes.specs.Rows.{counts_at, may_send_by, end_gaps, SentBy};
 
 use crate::inputs::{Input, Inputs};
 use crate::links::Links;
 use crate::parts::{after_token, first_waiting, send, take_first, tell};
 use chan_ends::ChanEnds;
 use trace_lines::Emissions;
+use xs_base::numbers::{HEADER_BYTES, PAUSE};
 use xs_base::{Token, chan_id};
 use xs_model::Happen;
-
-/// The control token that ends a packet and is not delivered.
-const PAUSE: u8 = 2;
-
-/// How many header bytes go out before a packet's tokens.
-const HEADERS: u8 = 3;
 
 /// Whose turn it is in which slot.
 #[derive(Clone, Copy)]
@@ -48,14 +44,13 @@ pub(crate) fn local_step(
     links: &mut Links,
     out: &mut Emissions,
 )
-    requires input { turn.input < 40 }
-    requires chan { chan < 32 }
-    requires room { length out.old.events < 112 }
-    ensures stands { (begun : Begun) (m : Moving) → Stands begun turn.slot inputs.old chans.old links.old out.old m →
+    requires input { turn.input < INPUTS }
+    requires chan { chan < CHAN_ENDS }
+    requires room { length out.old.events < EVENT_ROOM }
+    ensures stands { (begun : Begun) (m : AtWork) → Stands begun turn.slot inputs.old chans.old links.old out.old m →
         Stands begun turn.slot inputs.new chans.new links.new out.new (local_step turn.input chan (waiting_at m.rec turn.input) m) }
     ensures events { length out.new.events ≤ length out.old.events + 1 }
-    ensures node { chans.new.node ≡ chans.old.node }
-    ensures gaps { gaps_of links.new ≡ gaps_of links.old }
+    ensures gaps { end_gaps links.new ≡ end_gaps links.old }
     ensures sent { SentBy turn.slot links.old → SentBy turn.slot links.new }
 {
     if let Some(token) = first_waiting(turn.input, chans, links) {
@@ -73,14 +68,13 @@ fn deliver(
     links: &mut Links,
     out: &mut Emissions,
 )
-    requires input { turn.input < 40 }
-    requires chan { chan < 32 }
-    requires room { length out.old.events < 112 }
-    ensures stands { (begun : Begun) (m : Moving) → Stands begun turn.slot inputs.old chans.old links.old out.old m →
+    requires input { turn.input < INPUTS }
+    requires chan { chan < CHAN_ENDS }
+    requires room { length out.old.events < EVENT_ROOM }
+    ensures stands { (begun : Begun) (m : AtWork) → Stands begun turn.slot inputs.old chans.old links.old out.old m →
         Stands begun turn.slot inputs.new chans.new links.new out.new (deliver turn.input chan token m) }
     ensures events { length out.new.events ≤ length out.old.events + 1 }
-    ensures node { chans.new.node ≡ chans.old.node }
-    ensures gaps { gaps_of links.new ≡ gaps_of links.old }
+    ensures gaps { end_gaps links.new ≡ end_gaps links.old }
     ensures sent { SentBy turn.slot links.old → SentBy turn.slot links.new }
 {
     if is_pause(token) {
@@ -111,12 +105,11 @@ pub(crate) fn lost_step(
     links: &mut Links,
     out: &mut Emissions,
 )
-    requires input { turn.input < 40 }
-    ensures stands { (begun : Begun) (m : Moving) → Stands begun turn.slot inputs.old chans.old links.old out.old m →
+    requires input { turn.input < INPUTS }
+    ensures stands { (begun : Begun) (m : AtWork) → Stands begun turn.slot inputs.old chans.old links.old out.old m →
         Stands begun turn.slot inputs.new chans.new links.new out.new (lost_step turn.input (waiting_at m.rec turn.input) m) }
     ensures events { out.new.events ≡ out.old.events }
-    ensures node { chans.new.node ≡ chans.old.node }
-    ensures gaps { gaps_of links.new ≡ gaps_of links.old }
+    ensures gaps { end_gaps links.new ≡ end_gaps links.old }
     ensures sent { SentBy turn.slot links.old → SentBy turn.slot links.new }
 {
     if let Some(token) = first_waiting(turn.input, chans, links) {
@@ -134,13 +127,12 @@ pub(crate) fn head_step(
     links: &mut Links,
     out: &mut Emissions,
 )
-    requires input { turn.input < 40 }
+    requires input { turn.input < INPUTS }
     requires fits { InputFits state }
-    ensures stands { (begun : Begun) (m : Moving) → Stands begun turn.slot inputs.old chans.old links.old out.old m →
+    ensures stands { (begun : Begun) (m : AtWork) → Stands begun turn.slot inputs.old chans.old links.old out.old m →
         Stands begun turn.slot inputs.new chans.new links.new out.new (head_step turn.input (state_of state) (waiting_at m.rec turn.input) m) }
     ensures events { out.new.events ≡ out.old.events }
-    ensures node { chans.new.node ≡ chans.old.node }
-    ensures gaps { gaps_of links.new ≡ gaps_of links.old }
+    ensures gaps { end_gaps links.new ≡ end_gaps links.old }
     ensures sent { SentBy turn.slot links.old → SentBy turn.slot links.new }
 {
     if let Some(token) = first_waiting(turn.input, chans, links) {
@@ -170,9 +162,9 @@ fn after_header(state: Input, byte: u8) -> Input
 
 /// A packet that has no way is lost.
 pub(crate) fn lose(turn: Turn, dest: u32, inputs: &mut Inputs, out: &mut Emissions)
-    requires input { turn.input < 40 }
-    requires room { length out.old.events < 112 }
-    ensures stands { (begun : Begun) (ends : Ends) (row : List (Option Window)) (m : Moving) →
+    requires input { turn.input < INPUTS }
+    requires room { length out.old.events < EVENT_ROOM }
+    ensures stands { (begun : Begun) (ends : List ChanRec) (row : List (Option EndCounts)) (m : AtWork) →
         Stands begun turn.slot inputs.old ends row out.old m →
         Stands begun turn.slot inputs.new ends row out.new (loses turn.input dest m) }
     ensures events { length out.new.events ≤ length out.old.events + 1 }
@@ -190,21 +182,20 @@ pub(crate) fn out_step(
     links: &mut Links,
     out: &mut Emissions,
 )
-    requires input { turn.input < 40 }
-    requires end { held.end < 8 }
-    requires headers { held.headers ≤ 3 }
-    ensures stands { (begun : Begun) (routes : Routes) (m : Moving) → routes.gaps ≡ begun.gaps →
+    requires input { turn.input < INPUTS }
+    requires end { held.end < LINK_ENDS }
+    requires headers { held.headers ≤ HEADER_BYTES }
+    ensures stands { (begun : Begun) (routes : Routes) (m : AtWork) → routes.gaps ≡ begun.gaps →
         Stands begun turn.slot inputs.old chans.old links.old out.old m →
         Stands begun turn.slot inputs.new chans.new links.new out.new (out_step routes turn.slot turn.input held.end held.headers held.dest m) }
     ensures events { out.new.events ≡ out.old.events }
-    ensures node { chans.new.node ≡ chans.old.node }
-    ensures gaps { gaps_of links.new ≡ gaps_of links.old }
+    ensures gaps { end_gaps links.new ≡ end_gaps links.old }
     ensures sent { SentBy turn.slot links.old → SentBy turn.slot links.new }
 {
     if !links.can_send(held.end, turn.slot) {
         return;
     }
-    if held.headers < HEADERS {
+    if held.headers < HEADER_BYTES {
         out_header(turn, held, inputs, links, out);
     } else {
         out_token(turn, held, inputs, chans, links, out);
@@ -213,15 +204,15 @@ pub(crate) fn out_step(
 
 // The next header byte goes out.
 fn out_header(turn: Turn, held: Held, inputs: &mut Inputs, links: &mut Links, out: &mut Emissions)
-    requires input { turn.input < 40 }
-    requires end { held.end < 8 }
-    requires headers { held.headers < 3 }
-    requires allowed { may_send_by turn.slot (window_at links.old held.end) ≡ true }
-    ensures stands { (begun : Begun) (ends : Ends) (m : Moving) → Stands begun turn.slot inputs.old ends links.old out.old m →
+    requires input { turn.input < INPUTS }
+    requires end { held.end < LINK_ENDS }
+    requires headers { held.headers < HEADER_BYTES }
+    requires allowed { may_send_by turn.slot (counts_at links.old held.end) ≡ true }
+    ensures stands { (begun : Begun) (ends : List ChanRec) (m : AtWork) → Stands begun turn.slot inputs.old ends links.old out.old m →
         Stands begun turn.slot inputs.new ends links.new out.new
         (to_state turn.input (Out held.end (held.headers + 1) held.dest) (send turn.slot held.end (Byte (header_byte held.dest held.headers)) m)) }
     ensures events { out.new.events ≡ out.old.events }
-    ensures gaps { gaps_of links.new ≡ gaps_of links.old }
+    ensures gaps { end_gaps links.new ≡ end_gaps links.old }
     ensures sent { SentBy turn.slot links.old → SentBy turn.slot links.new }
 {
     let byte = header_byte(held.dest, held.headers);
@@ -238,7 +229,7 @@ fn out_header(turn: Turn, held: Held, inputs: &mut Inputs, links: &mut Links, ou
 
 // The byte of a destination that goes out as header: the high and the low byte of the node's id, and the channel end.
 fn header_byte(dest: u32, headers: u8) -> u8
-    requires headers { headers < 3 }
+    requires headers { headers < HEADER_BYTES }
     ensures value { result ≡ header_byte dest headers }
 {
     match headers {
@@ -257,16 +248,15 @@ fn out_token(
     links: &mut Links,
     out: &mut Emissions,
 )
-    requires input { turn.input < 40 }
-    requires end { held.end < 8 }
-    requires headers { held.headers ≤ 3 }
-    requires allowed { may_send_by turn.slot (window_at links.old held.end) ≡ true }
-    ensures stands { (begun : Begun) (m : Moving) → Stands begun turn.slot inputs.old chans.old links.old out.old m →
+    requires input { turn.input < INPUTS }
+    requires end { held.end < LINK_ENDS }
+    requires headers { held.headers ≤ HEADER_BYTES }
+    requires allowed { may_send_by turn.slot (counts_at links.old held.end) ≡ true }
+    ensures stands { (begun : Begun) (m : AtWork) → Stands begun turn.slot inputs.old chans.old links.old out.old m →
         Stands begun turn.slot inputs.new chans.new links.new out.new
         (out_token turn.slot turn.input held.end held.headers held.dest (waiting_at m.rec turn.input) m) }
     ensures events { out.new.events ≡ out.old.events }
-    ensures node { chans.new.node ≡ chans.old.node }
-    ensures gaps { gaps_of links.new ≡ gaps_of links.old }
+    ensures gaps { end_gaps links.new ≡ end_gaps links.old }
     ensures sent { SentBy turn.slot links.old → SentBy turn.slot links.new }
 {
     if let Some(token) = first_waiting(turn.input, chans, links) {

@@ -1,26 +1,27 @@
 //! `Switch`, the switch of a node.
-ghost use Rattle.std.specs.Prelude.{ℕ, ◌≡◌, ◌<◌, ◌≤◌, ◌+◌, false, None, length, replicate, IsTrue};
-ghost use Rattle.xs_model.specs.Record.{NodeRec};
-ghost use Rattle.net_model.specs.Switch.{Moving, moves_from, begun};
-ghost use Rattle.switch_routes.specs.Rows.{WindowsOf, CreditedBy, SentBy, gaps_of};
-ghost use Rattle.switch_routes.specs.Switch.{StandsIn, idle_switch, switched, node_after, emitted_after, chan_is_busy};
+ghost use Rattle.std.specs.Prelude.{◌≡◌, ◌<◌, ◌≤◌, ◌+◌, List, length, IsTrue};
 ghost use Rattle.std.specs.List.{list_all};
+ghost use Rattle.xs_base.specs.Numbers.{Slot};
+ghost use Rattle.xs_base.specs.declared.numbers.TheConstants.{INPUTS, CHAN_ENDS, SWITCH_EVENTS, EVENTS_BEFORE_SWITCH};
+ghost use Rattle.xs_model.specs.declared.event.Event.{Event};
+ghost use Rattle.xs_model.specs.Record.{NodeRec};
+ghost use Rattle.xs_model.specs.AtWork.{AtWork};
+ghost use Rattle.net_model.specs.Switch.{moves, moves_from, chan_is_busy};
+ghost use Rattle.switch_routes.specs.Rows.{SentBy, end_gaps};
+ghost use Rattle.switch_routes.specs.Switch.{StandsIn, idle_switch, known_routes, with_parts, emitted_after};
 ghost use Rattle.switch_routes.specs.Rest.{at_rest, sends_nothing};
 ghost use Rattle.switch_routes.specs.Work.{Begun, Stands};
 ghost use Rattle.switch_routes.specs.Ways.{routes_with};
 
 use crate::inputs::{Input, Inputs};
 use crate::links::Links;
-use crate::parts::LINK_INPUTS;
 use crate::steps::Turn;
 use crate::wants::step;
 use crate::ways::Ways;
 use chan_ends::ChanEnds;
 use std::marker::Model;
 use trace_lines::Emissions;
-
-/// How many inputs a switch has: 8 of link ends, then 32 of channel ends.
-const INPUTS: u8 = 40;
+use xs_base::numbers::{CHAN_ENDS, INPUTS, LINK_ENDS};
 
 /// The switch of a node: it takes tokens from link ends and channel ends, and gives them on to channel ends and link
 /// ends. Contracts see it as a `SwitchRec` of `Rattle.switch_routes.specs.Switch`. See docs/LINKS.md.
@@ -58,23 +59,23 @@ impl Switch {
     /// One step of each of the 40 inputs in a slot, in their order. What happens is put after the events of `out`, and
     /// so are the tokens and the credits that leave by the link ends. See docs/LINKS.md.
     pub fn moves(&mut self, chans: &mut ChanEnds, links: &mut Links, slot: u32, out: &mut Emissions)
-        requires room { length out.old.events ≤ 72 }
-        requires no_tokens { out.old.tokens ≡ replicate 8 None }
-        requires no_credits { out.old.credits ≡ replicate 8 false }
-        ensures rec { (rec : NodeRec) → StandsIn slot self.old chans.old links.old rec →
-            (switched self.old links.old slot rec).rec ≡ node_after rec self.new chans.new (switched self.old links.old slot rec) }
-        ensures windows { (rec : NodeRec) → StandsIn slot self.old chans.old links.old rec →
-            WindowsOf links.new (switched self.old links.old slot rec).rec.links }
-        ensures credited { (rec : NodeRec) → StandsIn slot self.old chans.old links.old rec →
-            CreditedBy slot (switched self.old links.old slot rec).rec.links }
-        ensures emitted { (rec : NodeRec) → StandsIn slot self.old chans.old links.old rec →
-            out.new ≡ emitted_after out.old slot (switched self.old links.old slot rec) }
+        requires room { length out.old.events ≤ EVENTS_BEFORE_SWITCH }
+
+        ensures stands { (before : List Event) (m : AtWork) →
+            StandsIn slot self.old chans.old links.old m.rec → out.old ≡ emitted_after before slot m →
+            StandsIn slot self.new chans.new links.new (moves (known_routes self.old links.old) slot m).rec }
+        ensures emitted { (before : List Event) (m : AtWork) →
+            StandsIn slot self.old chans.old links.old m.rec → out.old ≡ emitted_after before slot m →
+            out.new ≡ emitted_after before slot (moves (known_routes self.old links.old) slot m) }
+        ensures rest { (before : List Event) (m : AtWork) →
+            StandsIn slot self.old chans.old links.old m.rec → out.old ≡ emitted_after before slot m →
+            (moves (known_routes self.old links.old) slot m).rec
+            ≡ with_parts m.rec self.new.inputs chans.new (moves (known_routes self.old links.old) slot m).rec.links }
         ensures id { self.new.id ≡ self.old.id }
         ensures ways { self.new.ways ≡ self.old.ways }
-        ensures node { chans.new.node ≡ chans.old.node }
-        ensures gaps { gaps_of links.new ≡ gaps_of links.old }
+        ensures gaps { end_gaps links.new ≡ end_gaps links.old }
         ensures sent { SentBy slot links.old → SentBy slot links.new }
-        ensures events { length out.new.events ≤ length out.old.events + 40 }
+        ensures events { length out.new.events ≤ length out.old.events + SWITCH_EVENTS }
     {
         let ways = self.ways;
         steps(&ways, slot, &mut self.inputs, chans, links, out);
@@ -84,18 +85,18 @@ impl Switch {
     /// nothing. See docs/LINKS.md.
     pub fn is_at_rest(&self, chans: &ChanEnds, links: &Links) -> bool
         ensures value { result ≡ at_rest self.now chans.now links.now }
-        ensures rests { IsTrue result → (slot : ℕ) (rec : NodeRec) → StandsIn slot self.now chans.now links.now rec →
-            switched self.now links.now slot rec ≡ begun rec }
+        ensures rests { IsTrue result → (slot : Slot) (m : AtWork) → StandsIn slot self.now chans.now links.now m.rec →
+            moves (known_routes self.now links.now) slot m ≡ m }
     {
         self.inputs.are_idle() && send_nothing(chans) && links.hold_nothing()
     }
 
     /// Whether channel end `c`, 0 to 31, is at work: its own input is not idle, or some input holds it.
     pub fn held(&self, c: u8) -> bool
-        requires within { c < 32 }
-        ensures value { result ≡ chan_is_busy self.now c }
+        requires within { c < CHAN_ENDS }
+        ensures value { (rec : NodeRec) → self.now.inputs ≡ rec.inputs → result ≡ chan_is_busy rec c }
     {
-        match self.inputs.state(LINK_INPUTS + c) {
+        match self.inputs.state(LINK_ENDS + c) {
             Input::Idle => self.inputs.chan_is_held(c),
             _ => true,
         }
@@ -111,12 +112,11 @@ fn steps(
     links: &mut Links,
     out: &mut Emissions,
 )
-    requires room { length out.old.events ≤ 72 }
-    ensures stands { (begun : Begun) (m : Moving) → Stands begun slot inputs.old chans.old links.old out.old m →
-        Stands begun slot inputs.new chans.new links.new out.new (moves_from (routes_with ways.now begun.gaps) slot 0 40 m) }
-    ensures events { length out.new.events ≤ length out.old.events + 40 }
-    ensures node { chans.new.node ≡ chans.old.node }
-    ensures gaps { gaps_of links.new ≡ gaps_of links.old }
+    requires room { length out.old.events ≤ EVENTS_BEFORE_SWITCH }
+    ensures stands { (begun : Begun) (m : AtWork) → Stands begun slot inputs.old chans.old links.old out.old m →
+        Stands begun slot inputs.new chans.new links.new out.new (moves_from (routes_with ways.now begun.gaps) slot 0 INPUTS m) }
+    ensures events { length out.new.events ≤ length out.old.events + SWITCH_EVENTS }
+    ensures gaps { end_gaps links.new ≡ end_gaps links.old }
     ensures sent { SentBy slot links.old → SentBy slot links.new }
 {
     for input in 0..INPUTS {
@@ -126,9 +126,9 @@ fn steps(
 
 // Whether no token waits in any channel end's output buffer.
 fn send_nothing(chans: &ChanEnds) -> bool
-    ensures value { result ≡ list_all sends_nothing chans.now.chans }
+    ensures value { result ≡ list_all sends_nothing chans.now }
 {
-    for c in 0..32u8 {
+    for c in 0..CHAN_ENDS {
         if chans.first_out(c).is_some() {
             return false;
         }

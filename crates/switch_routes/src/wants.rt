@@ -1,29 +1,25 @@
 //! The rules of the switch: where a packet goes on, and the step of an input.
-ghost use Rattle.std.specs.Prelude.{ℕ, ◌≡◌, ◌<◌, ◌≤◌, ◌+◌, ◌||◌, ◌&&◌, ◌==◌, not, nat_lt, ◌-◌, length, Option, IfSome, IsTrue};
-ghost use Rattle.std.specs.List.{list_any};
+ghost use Rattle.std.specs.Prelude.{ℕ, ◌≡◌, ◌<◌, ◌≤◌, ◌+◌, ◌||◌, ◌&&◌, ◌==◌, not, nat_lt, length, Option, IfSome, IsTrue};
 ghost use Rattle.std.specs.Int.{bit_at};
+ghost use Rattle.xs_base.specs.declared.numbers.TheConstants.{INPUTS, LINK_ENDS, CHAN_ENDS, EVENT_ROOM};
 ghost use Rattle.xs_model.specs.Record.{NodeRec, Idle};
-ghost use Rattle.net_model.specs.Ids.{chan_of_dest, Behind};
-ghost use Rattle.net_model.specs.Switch.{Routes, Moving, want_step, want_chan, want_way, free_end, is_out_by, packet_step, start_packet, link_head_step, step_at, input_step, waiting_at};
+ghost use Rattle.xs_model.specs.AtWork.{AtWork};
+ghost use Rattle.net_model.specs.Ways.{chan_of_dest, Here, Behind};
+ghost use Rattle.net_model.specs.Switch.{Routes, want_step, want_way, free_end, end_is_held, packet_step, start_packet, link_head_step, step_at, input_step, waiting_at, chan_of_input};
 ghost use Rattle.chan_ends.specs.Ends.{chan_at};
-ghost use Rattle.switch_routes.specs.Rows.{gaps_of, SentBy};
+ghost use Rattle.switch_routes.specs.Rows.{end_gaps, SentBy};
 ghost use Rattle.switch_routes.specs.Inputs.{state_of, InputFits};
 ghost use Rattle.switch_routes.specs.Work.{Begun, Stands};
 ghost use Rattle.switch_routes.specs.Ways.{routes_with};
 
 use crate::inputs::{Input, Inputs};
 use crate::links::Links;
-use crate::parts::{LINK_INPUTS, first_waiting};
+use crate::parts::first_waiting;
 use crate::steps::{Held, Turn, head_step, local_step, lose, lost_step, out_step};
 use crate::ways::{Way, Ways, chan_of_dest, is_in_mask};
 use chan_ends::ChanEnds;
 use trace_lines::Emissions;
-
-/// How many channel ends a node has.
-const CHAN_ENDS: u8 = 32;
-
-/// How many link ends a node may have.
-const LINK_ENDS: u8 = 8;
+use xs_base::numbers::{CHAN_ENDS, LINK_ENDS};
 
 /// The step of an input, by its state.
 pub(crate) fn step(
@@ -34,13 +30,12 @@ pub(crate) fn step(
     links: &mut Links,
     out: &mut Emissions,
 )
-    requires input { turn.input < 40 }
-    requires room { length out.old.events < 112 }
-    ensures stands { (begun : Begun) (m : Moving) → Stands begun turn.slot inputs.old chans.old links.old out.old m →
+    requires input { turn.input < INPUTS }
+    requires room { length out.old.events < EVENT_ROOM }
+    ensures stands { (begun : Begun) (m : AtWork) → Stands begun turn.slot inputs.old chans.old links.old out.old m →
         Stands begun turn.slot inputs.new chans.new links.new out.new (input_step (routes_with ways.now begun.gaps) turn.slot turn.input m) }
     ensures events { length out.new.events ≤ length out.old.events + 1 }
-    ensures node { chans.new.node ≡ chans.old.node }
-    ensures gaps { gaps_of links.new ≡ gaps_of links.old }
+    ensures gaps { end_gaps links.new ≡ end_gaps links.old }
     ensures sent { SentBy turn.slot links.old → SentBy turn.slot links.new }
 {
     let state = inputs.state(turn.input);
@@ -67,16 +62,15 @@ fn idle_step(
     links: &mut Links,
     out: &mut Emissions,
 )
-    requires input { turn.input < 40 }
-    requires room { length out.old.events < 112 }
-    ensures stands { (begun : Begun) (m : Moving) → Stands begun turn.slot inputs.old chans.old links.old out.old m →
+    requires input { turn.input < INPUTS }
+    requires room { length out.old.events < EVENT_ROOM }
+    ensures stands { (begun : Begun) (m : AtWork) → Stands begun turn.slot inputs.old chans.old links.old out.old m →
         Stands begun turn.slot inputs.new chans.new links.new out.new (step_at (routes_with ways.now begun.gaps) turn.slot turn.input Idle m) }
     ensures events { length out.new.events ≤ length out.old.events + 1 }
-    ensures node { chans.new.node ≡ chans.old.node }
-    ensures gaps { gaps_of links.new ≡ gaps_of links.old }
+    ensures gaps { end_gaps links.new ≡ end_gaps links.old }
     ensures sent { SentBy turn.slot links.old → SentBy turn.slot links.new }
 {
-    if turn.input < LINK_INPUTS {
+    if turn.input < LINK_ENDS {
         head_step(turn, Input::Idle, inputs, chans, links, out);
     } else {
         packet_step(turn, ways, inputs, chans, links, out);
@@ -92,16 +86,15 @@ fn link_head_step(
     links: &mut Links,
     out: &mut Emissions,
 )
-    requires input { turn.input < 40 }
+    requires input { turn.input < INPUTS }
     requires fits { InputFits state }
-    ensures stands { (begun : Begun) (m : Moving) → Stands begun turn.slot inputs.old chans.old links.old out.old m →
+    ensures stands { (begun : Begun) (m : AtWork) → Stands begun turn.slot inputs.old chans.old links.old out.old m →
         Stands begun turn.slot inputs.new chans.new links.new out.new (link_head_step turn.input (state_of state) m) }
     ensures events { out.new.events ≡ out.old.events }
-    ensures node { chans.new.node ≡ chans.old.node }
-    ensures gaps { gaps_of links.new ≡ gaps_of links.old }
+    ensures gaps { end_gaps links.new ≡ end_gaps links.old }
     ensures sent { SentBy turn.slot links.old → SentBy turn.slot links.new }
 {
-    if turn.input < LINK_INPUTS {
+    if turn.input < LINK_ENDS {
         head_step(turn, state, inputs, chans, links, out);
     }
 }
@@ -115,15 +108,14 @@ fn packet_step(
     links: &mut Links,
     out: &mut Emissions,
 )
-    requires input { turn.input < 40 }
-    requires chan_end { 8 ≤ turn.input }
-    requires room { length out.old.events < 112 }
-    ensures stands { (begun : Begun) (m : Moving) → Stands begun turn.slot inputs.old chans.old links.old out.old m →
+    requires input { turn.input < INPUTS }
+    requires chan_end { LINK_ENDS ≤ turn.input }
+    requires room { length out.old.events < EVENT_ROOM }
+    ensures stands { (begun : Begun) (m : AtWork) → Stands begun turn.slot inputs.old chans.old links.old out.old m →
         Stands begun turn.slot inputs.new chans.new links.new out.new
-        (packet_step (routes_with ways.now begun.gaps) turn.slot turn.input (waiting_at m.rec turn.input) m) }
+        (packet_step (want_step (routes_with ways.now begun.gaps) turn.slot turn.input) turn.input (waiting_at m.rec turn.input) m) }
     ensures events { length out.new.events ≤ length out.old.events + 1 }
-    ensures node { chans.new.node ≡ chans.old.node }
-    ensures gaps { gaps_of links.new ≡ gaps_of links.old }
+    ensures gaps { end_gaps links.new ≡ end_gaps links.old }
     ensures sent { SentBy turn.slot links.old → SentBy turn.slot links.new }
 {
     if let Some(_) = first_waiting(turn.input, chans, links) {
@@ -140,18 +132,17 @@ fn start_packet(
     links: &mut Links,
     out: &mut Emissions,
 )
-    requires input { turn.input < 40 }
-    requires chan_end { 8 ≤ turn.input }
-    requires room { length out.old.events < 112 }
-    ensures stands { (begun : Begun) (m : Moving) → Stands begun turn.slot inputs.old chans.old links.old out.old m →
+    requires input { turn.input < INPUTS }
+    requires chan_end { LINK_ENDS ≤ turn.input }
+    requires room { length out.old.events < EVENT_ROOM }
+    ensures stands { (begun : Begun) (m : AtWork) → Stands begun turn.slot inputs.old chans.old links.old out.old m →
         Stands begun turn.slot inputs.new chans.new links.new out.new
-        (start_packet (routes_with ways.now begun.gaps) turn.slot turn.input (chan_at chans.old (turn.input - 8)).dest m) }
+        (start_packet (want_step (routes_with ways.now begun.gaps) turn.slot turn.input) turn.input (chan_at chans.old (chan_of_input turn.input)).dest m) }
     ensures events { length out.new.events ≤ length out.old.events + 1 }
-    ensures node { chans.new.node ≡ chans.old.node }
-    ensures gaps { gaps_of links.new ≡ gaps_of links.old }
+    ensures gaps { end_gaps links.new ≡ end_gaps links.old }
     ensures sent { SentBy turn.slot links.old → SentBy turn.slot links.new }
 {
-    if let Some(dest) = chans.dest(turn.input - LINK_INPUTS) {
+    if let Some(dest) = chans.dest(turn.input - LINK_ENDS) {
         inputs.set(turn.input, Input::Want { dest });
         want_step(turn, dest, ways, inputs, chans, links, out);
     }
@@ -167,13 +158,12 @@ fn want_step(
     links: &mut Links,
     out: &mut Emissions,
 )
-    requires input { turn.input < 40 }
-    requires room { length out.old.events < 112 }
-    ensures stands { (begun : Begun) (m : Moving) → Stands begun turn.slot inputs.old chans.old links.old out.old m →
+    requires input { turn.input < INPUTS }
+    requires room { length out.old.events < EVENT_ROOM }
+    ensures stands { (begun : Begun) (m : AtWork) → Stands begun turn.slot inputs.old chans.old links.old out.old m →
         Stands begun turn.slot inputs.new chans.new links.new out.new (want_step (routes_with ways.now begun.gaps) turn.slot turn.input dest m) }
     ensures events { length out.new.events ≤ length out.old.events + 1 }
-    ensures node { chans.new.node ≡ chans.old.node }
-    ensures gaps { gaps_of links.new ≡ gaps_of links.old }
+    ensures gaps { end_gaps links.new ≡ end_gaps links.old }
     ensures sent { SentBy turn.slot links.old → SentBy turn.slot links.new }
 {
     match ways.way_to(dest) {
@@ -191,13 +181,12 @@ fn want_chan(
     links: &mut Links,
     out: &mut Emissions,
 )
-    requires input { turn.input < 40 }
-    requires room { length out.old.events < 112 }
-    ensures stands { (begun : Begun) (m : Moving) → Stands begun turn.slot inputs.old chans.old links.old out.old m →
-        Stands begun turn.slot inputs.new chans.new links.new out.new (want_chan turn.input (chan_of_dest dest) dest m) }
+    requires input { turn.input < INPUTS }
+    requires room { length out.old.events < EVENT_ROOM }
+    ensures stands { (begun : Begun) (routes : Routes) (m : AtWork) → Stands begun turn.slot inputs.old chans.old links.old out.old m →
+        Stands begun turn.slot inputs.new chans.new links.new out.new (want_way routes turn.slot turn.input dest Here m) }
     ensures events { length out.new.events ≤ length out.old.events + 1 }
-    ensures node { chans.new.node ≡ chans.old.node }
-    ensures gaps { gaps_of links.new ≡ gaps_of links.old }
+    ensures gaps { end_gaps links.new ≡ end_gaps links.old }
     ensures sent { SentBy turn.slot links.old → SentBy turn.slot links.new }
 {
     let chan = chan_of_dest(dest);
@@ -211,8 +200,8 @@ fn want_chan(
 
 // Whether a channel end is there and in use.
 fn is_in_use(chan: u8, chans: &ChanEnds) -> bool
-    ensures value { (nat_lt 31 chan || not (chan_at chans.now chan).used) ≡ not result }
-    ensures within { IsTrue result → chan < 32 }
+    ensures value { (not (nat_lt chan CHAN_ENDS) || not (chan_at chans.now chan).used) ≡ not result }
+    ensures within { IsTrue result → chan < CHAN_ENDS }
 {
     chan < CHAN_ENDS && chans.used(chan)
 }
@@ -227,14 +216,13 @@ fn want_end(
     links: &mut Links,
     out: &mut Emissions,
 )
-    requires input { turn.input < 40 }
-    requires room { length out.old.events < 112 }
-    ensures stands { (begun : Begun) (routes : Routes) (m : Moving) → routes.gaps ≡ begun.gaps →
+    requires input { turn.input < INPUTS }
+    requires room { length out.old.events < EVENT_ROOM }
+    ensures stands { (begun : Begun) (routes : Routes) (m : AtWork) → routes.gaps ≡ begun.gaps →
         Stands begun turn.slot inputs.old chans.old links.old out.old m →
         Stands begun turn.slot inputs.new chans.new links.new out.new (want_way routes turn.slot turn.input dest (Behind mask) m) }
     ensures events { length out.new.events ≤ length out.old.events + 1 }
-    ensures node { chans.new.node ≡ chans.old.node }
-    ensures gaps { gaps_of links.new ≡ gaps_of links.old }
+    ensures gaps { end_gaps links.new ≡ end_gaps links.old }
     ensures sent { SentBy turn.slot links.old → SentBy turn.slot links.new }
 {
     if mask == 0 {
@@ -248,8 +236,8 @@ fn want_end(
 
 // The lowest link end in a mask that no input holds.
 fn free_end(mask: u8, inputs: &Inputs) -> Option<u8>
-    ensures value { (rec : NodeRec) → inputs.now ≡ rec.core.inputs → result ≡ free_end rec mask 0 8 }
-    ensures within { IfSome result (λ end. end < 8) }
+    ensures value { (rec : NodeRec) → inputs.now ≡ rec.inputs → result ≡ free_end rec mask 0 LINK_ENDS }
+    ensures within { IfSome result (λ end. end < LINK_ENDS) }
 {
     for end in 0..LINK_ENDS {
         if is_free(mask, end, inputs) {
@@ -261,8 +249,8 @@ fn free_end(mask: u8, inputs: &Inputs) -> Option<u8>
 
 // Whether a link end is in a mask, and no input holds it.
 fn is_free(mask: u8, end: u8, inputs: &Inputs) -> bool
-    requires within { end < 8 }
-    ensures value { result ≡ ((bit_at mask end == 1) && not (list_any (is_out_by end) inputs.now)) }
+    requires within { end < LINK_ENDS }
+    ensures value { (rec : NodeRec) → inputs.now ≡ rec.inputs → result ≡ ((bit_at mask end == 1) && not (end_is_held rec end)) }
 {
     is_in_mask(mask, end) && !inputs.end_is_held(end)
 }

@@ -1,7 +1,8 @@
 //! The way from a node to a destination.
 ghost use Rattle.std.specs.Prelude.{ℕ, ◌≡◌, ◌<◌, ◌==◌, Bool, IfSome};
 ghost use Rattle.std.specs.Int.{bit_at};
-ghost use Rattle.net_model.specs.Ids.{first_difference, way_to, chan_of_dest};
+ghost use Rattle.xs_base.specs.declared.numbers.TheConstants.{LINK_ENDS};
+ghost use Rattle.net_model.specs.Ways.{first_difference, way_to, chan_of_dest};
 ghost use Rattle.switch_routes.specs.Ways.{way_of};
 
 /// For each bit of an id, the link ends that lead on, as a mask. They are the ways from the node with this id.
@@ -64,7 +65,7 @@ fn bit_at(id: u16, bit: u8) -> u16
 
 /// Whether a link end, 0 to 7, is in a mask.
 pub(crate) fn is_in_mask(mask: u8, end: u8) -> bool
-    requires within { end < 8 }
+    requires within { end < LINK_ENDS }
     ensures value { result ≡ (bit_at mask end == 1) }
 {
     (mask >> end) & 1 == 1

@@ -1,8 +1,9 @@
 use Rattle.std.proofs.Common.{◌∙◌, ◌++◌, List, [], ◌∷◌, sym, ap, get_or}
 use Rattle.xs_model.specs.Record.{ChanRec, Local, unused_chan}
 use Rattle.switch_routes.proofs.Work.{along, stands-chan}
-use Rattle.net_model.specs.Chans.{has_room}
-use Rattle.net_model.specs.Switch.{take_first, put_into, it_happens, after_token}
+use Rattle.xs_model.specs.Waits.{has_room}
+use Rattle.xs_model.specs.AtWork.{it_happens}
+use Rattle.net_model.specs.Switch.{take_first, put_into, after_token}
 use Rattle.xs_model.specs.declared.event.Happen.TheVariants as happen
 use Rattle.switch_routes.proofs.Rules.{deliver-pause, deliver-room}
 use Rattle.switch_routes.proofs.steps.deliver.Goals as goal

@@ -2,20 +2,18 @@ use Rattle.std.proofs.Common.{ℕ, ◌+◌, ◌∙◌, true, List, sym, ap}
 use Rattle.xs_model.specs.Record.{Out}
 use Rattle.switch_routes.proofs.Work.{along}
 use Rattle.std.proofs.lemmas.Bool.{lt-ltb}
-use Rattle.std.specs.Prelude.{slice_index}
 use Rattle.xs_base.specs.declared.token.Token.TheVariants.{Byte}
 use Rattle.net_model.specs.Switch.{to_state, send, header_byte, link_at}
-use Rattle.switch_routes.specs.Rows.{link_may_send}
 use Rattle.switch_routes.proofs.Rules.{out-some}
 use Rattle.switch_routes.proofs.steps.out_step.Goals as goal
 
-pub returns-then-held-lt-HEADERS-clause-stands : goal.returns-then-held-lt-HEADERS-clause-stands
-returns-then-held-lt-HEADERS-clause-stands c =
+pub returns-then-held-lt-HEADER_BYTES-clause-stands : goal.returns-then-held-lt-HEADER_BYTES-clause-stands
+returns-then-held-lt-HEADER_BYTES-clause-stands c =
     λ begun routes m same s.
     let i = c.args.turn.input in
     let slot = c.args.turn.slot in
     let held = c.args.held in
-    let may = sym c.if-not-can_send.false ∙ c.can_send.ensures.stands m.rec.links s.links s.credited ∙ ap (λ (gs : List ℕ). link_may_send (slice_index gs held.end) slot (link_at m.rec held.end)) s.gaps in
+    let may = sym c.if-not-can_send.false ∙ c.can_send.ensures.stands routes m.rec.links (same ∙ sym s.gaps) s.links s.credited in
     along _ _ _ _ _ _ (to_state i (Out held.end (held.headers + 1) held.dest) (send slot held.end (Byte (header_byte held.dest held.headers)) m)) _
-    (out-some routes slot i held.end held.headers held.dest m begun.gaps true same may (lt-ltb held.headers 3 c.if-held-lt-HEADERS.true))
+    (out-some routes slot i held.end held.headers held.dest m true may (lt-ltb held.headers 3 c.if-held-lt-HEADER_BYTES.true))
     (c.out_header.ensures.stands begun _ m s)

@@ -12,7 +12,7 @@ pub loop-c-preserved : goal.loop-c-preserved
 loop-c-preserved c = record {
   before =
       c.loop-c.invariant.before
-      ∙ all_next sends_nothing c.args.chans.now.chans c.loop-c.c unused_chan (omega (arith, c.first_out.ensures.count)) (nothing_first ((chan_at c.args.chans.now c.loop-c.c).output) c.first_out.result c.first_out.ensures.value (sym c.is_some.ensures ∙ c.if-is_some.false));
+      ∙ all_next sends_nothing c.args.chans.now c.loop-c.c unused_chan (omega (arith, c.first_out.ensures.count)) (nothing_first ((chan_at c.args.chans.now c.loop-c.c).output) c.first_out.result c.first_out.ensures.value (sym c.is_some.ensures ∙ c.if-is_some.false));
   count = λ h. c.first_out.ensures.count;
 }
 
@@ -20,10 +20,10 @@ pub returns-then-is_some : goal.returns-then-is_some
 returns-then-is_some c = record {
   value =
       sym (c.loop-c.invariant.before
-      ∙ all_fails sends_nothing c.args.chans.now.chans c.loop-c.c unused_chan (omega (arith, c.first_out.ensures.count)) (some_first ((chan_at c.args.chans.now c.loop-c.c).output) c.first_out.result c.first_out.ensures.value (sym c.is_some.ensures ∙ c.if-is_some.true)));
+      ∙ all_fails sends_nothing c.args.chans.now c.loop-c.c unused_chan (omega (arith, c.first_out.ensures.count)) (some_first ((chan_at c.args.chans.now c.loop-c.c).output) c.first_out.result c.first_out.ensures.value (sym c.is_some.ensures ∙ c.if-is_some.true)));
 }
 
 pub returns : goal.returns
 returns c = record {
-  value = sym (c.loop-c.invariant.before ∙ all_end sends_nothing c.args.chans.now.chans c.loop-c.c unused_chan (omega (arith, c.loop-c.invariant.count (omega arith))));
+  value = sym (c.loop-c.invariant.before ∙ all_end sends_nothing c.args.chans.now c.loop-c.c unused_chan (omega (arith, c.loop-c.invariant.count (omega arith))));
 }

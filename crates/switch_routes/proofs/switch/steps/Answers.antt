@@ -9,7 +9,6 @@ pub loop-input-init : goal.loop-input-init
 loop-input-init c = record {
   stands = λ begun m s. along _ _ _ _ _ _ m _ (sym (no_steps (routes_with c.args.ways.now begun.gaps) c.args.slot m)) s;
   events = omega arith;
-  node = refl;
   gaps = refl;
   sent = λ by. by;
 }
@@ -23,7 +22,6 @@ loop-input-preserved c =
           along _ _ _ _ _ _ (input_step routes c.args.slot k (first_steps routes c.args.slot k m)) _ (sym (next_step routes c.args.slot k m))
           (c.step.ensures.stands begun (first_steps routes c.args.slot k m) (c.loop-input.invariant.stands begun m s));
       events = omega (arith, c.step.ensures.events, c.loop-input.invariant.events);
-      node = c.step.ensures.node ∙ c.loop-input.invariant.node;
       gaps = c.step.ensures.gaps ∙ c.loop-input.invariant.gaps;
       sent = λ by. c.step.ensures.sent (c.loop-input.invariant.sent by);
     }

@@ -1,9 +1,4 @@
-use Rattle.std.proofs.Common.{◌∙◌, ◌-◌, ◌+◌, ◌&&◌, eqb, List, sym, refl, ap, arith}
-use Rattle.std.specs.Prelude.{not}
-use Rattle.std.specs.List.{list_any}
-use Rattle.std.specs.Int.{bit_at}
-use Rattle.xs_model.specs.Record.{InputRec}
-use Rattle.net_model.specs.Switch.{is_out_by}
+use Rattle.std.proofs.Common.{◌∙◌, ◌-◌, ◌+◌, sym, refl, arith}
 use Rattle.switch_routes.proofs.Frees.{free_here, free_later, none_free}
 use Rattle.switch_routes.proofs.wants.free_end.Goals as goal
 
@@ -13,13 +8,13 @@ loop-end-init c = λ rec same. refl
 pub loop-end-preserved : goal.loop-end-preserved
 loop-end-preserved c =
     λ rec same.
-    let test = sym (ap (λ (xs : List InputRec). eqb (bit_at c.args.mask c.loop-end.end) 1 && not (list_any (is_out_by c.loop-end.end) xs)) same) ∙ sym c.is_free.ensures.value ∙ c.if-is_free.false in
+    let test = sym (c.is_free.ensures.value rec same) ∙ c.if-is_free.false in
     c.loop-end.invariant rec same ∙ free_later rec c.args.mask c.loop-end.end (8 - c.loop-end.end) (8 - (c.loop-end.end + 1)) (omega arith) test
 
 pub returns-then-is_free-clause-value : goal.returns-then-is_free-clause-value
 returns-then-is_free-clause-value c =
     λ rec same.
-    let test = sym (ap (λ (xs : List InputRec). eqb (bit_at c.args.mask c.loop-end.end) 1 && not (list_any (is_out_by c.loop-end.end) xs)) same) ∙ sym c.is_free.ensures.value ∙ c.if-is_free.true in
+    let test = sym (c.is_free.ensures.value rec same) ∙ c.if-is_free.true in
     sym (c.loop-end.invariant rec same ∙ free_here rec c.args.mask c.loop-end.end (8 - c.loop-end.end) (8 - (c.loop-end.end + 1)) (omega arith) test)
 
 pub returns-clause-value : goal.returns-clause-value

@@ -5,4 +5,4 @@ use Rattle.switch_routes.proofs.wants.free_end.Given as goal
 
 -- no link end below this one is free
 abbrev pub invariant-loop-end : goal.invariant-loop-end
-invariant-loop-end l = (rec : NodeRec) → l.inputs ≡ rec.core.inputs → free_end rec l.mask 0 8 ≡ free_end rec l.mask l.end (8 - l.end)
+invariant-loop-end l = (rec : NodeRec) → l.inputs ≡ rec.inputs → free_end rec l.mask 0 8 ≡ free_end rec l.mask l.end (8 - l.end)

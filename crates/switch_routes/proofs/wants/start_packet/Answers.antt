@@ -13,5 +13,5 @@ returns-in-Some-clause-stands c =
     let routes = routes_with c.args.ways.now begun.gaps in
     let set = stands-state begun c.args.turn.slot c.args.inputs.now c.args.chans.now c.args.links.now c.args.out.now m s i (Want d) in
     along _ _ _ _ _ _ (want_step routes c.args.turn.slot i d (to_state i (Want d) m)) _
-    (ap (λ (o : Option ℕ). start_packet routes c.args.turn.slot i o m) c.in-Some.ensures.value)
+    (ap (λ (o : Option ℕ). start_packet (want_step routes c.args.turn.slot i) i o m) c.in-Some.ensures.value)
     (c.want_step.ensures.stands begun (to_state i (Want d) m) (rw (← c.set.ensures.value) at set))

@@ -1,6 +1,6 @@
 use Rattle.std.proofs.Common.{◌≡◌, drop}
 use Rattle.std.specs.List.{list_all}
-use Rattle.switch_routes.specs.Switch.{is_idle}
+use Rattle.net_model.specs.Switch.{is_idle}
 use Rattle.switch_routes.specs.Inputs.{states_in}
 use Rattle.switch_routes.proofs.inputs.Inputs.are_idle.Given as goal
 

@@ -2,7 +2,7 @@ use Rattle.std.proofs.Common.{ap, sym, ◌∙◌, Some, refl}
 use Rattle.net_model.specs.Links.{link_after_arrivals, token_arrives}
 use Rattle.std.proofs.lemmas.List.{length-set}
 use Rattle.switch_routes.proofs.Rows.{change-there, change-none, gaps-set, sent-kept}
-use Rattle.switch_routes.specs.Rows.{gap_of}
+use Rattle.switch_routes.specs.Rows.{end_gap}
 use Rattle.switch_routes.proofs.links.Links.arrive.Goals as goal
 
 pub returns-in-Some-clause-stands : goal.returns-in-Some-clause-stands
@@ -13,7 +13,7 @@ returns-in-Some-clause-stands c =
 
 pub returns-in-Some-clause-gaps : goal.returns-in-Some-clause-gaps
 returns-in-Some-clause-gaps c =
-    gaps-set c.args.self.now c.args.end (Some c.count.new.link) (c.count.ensures.gap ∙ c.receive.ensures.gap ∙ sym (ap gap_of c.in-Some.ensures.cases))
+    gaps-set c.args.self.now c.args.end (Some c.count.new.link) (c.count.ensures.gap ∙ c.receive.ensures.gap ∙ sym (ap end_gap c.in-Some.ensures.cases))
 
 pub returns-in_default-clause-stands : goal.returns-in_default-clause-stands
 returns-in_default-clause-stands c =

@@ -1,10 +1,9 @@
 use Rattle.std.proofs.Common.{ap, sym, ◌∙◌, arith}
-use Rattle.std.specs.Prelude.{slice_index}
-use Rattle.link_ends.specs.Window.{empty_window}
-use Rattle.switch_routes.specs.Rows.{may_send_by, gaps_of}
+use Rattle.link_ends.specs.Counts.{fresh_counts}
+use Rattle.switch_routes.specs.Rows.{may_send_by}
 use Rattle.switch_routes.proofs.Places.{not_there, there}
 use Rattle.switch_routes.proofs.Rows.{sends-there, sends-none}
-use Rattle.switch_routes.specs.Inside.{windows_in}
+use Rattle.switch_routes.specs.Inside.{ends_in}
 use Rattle.switch_routes.proofs.links.Links.can_send.Goals as goal
 
 pub returns-then-self-end-clause-value : goal.returns-then-self-end-clause-value
@@ -15,15 +14,14 @@ returns-then-self-end-clause-value c =
 pub returns-then-self-end-clause-stands : goal.returns-then-self-end-clause-stands
 returns-then-self-end-clause-stands c =
     let is = there c.self.inside.present c.self.inside.ends.items c.args.end c.index-as_slice-end.result (omega (arith, c.self.invariant)) c.if-self-end.true (rw c.as_slice.ensures.value at c.index-as_slice-end.is) in
-    rw (← c.self.view_is) (λ links of by. sends-there (windows_in c.self.inside.present c.self.inside.ends.items) links c.args.end c.args.slot c.index-as_slice-end.result c.can_send.result is c.can_send.ensures.stands of by)
+    rw (← c.self.view_is) (λ routes links gaps of by. sends-there routes (ends_in c.self.inside.present c.self.inside.ends.items) links c.args.end c.args.slot c.index-as_slice-end.result c.can_send.result gaps is c.can_send.ensures.stands of by)
 
 pub returns-else-self-end-clause-value : goal.returns-else-self-end-clause-value
 returns-else-self-end-clause-value c =
-    let none = not_there c.self.inside.present c.self.inside.ends.items c.args.end (empty_window 0) (omega (arith, c.self.invariant)) c.if-self-end.false in
+    let none = not_there c.self.inside.present c.self.inside.ends.items c.args.end (fresh_counts 0) (omega (arith, c.self.invariant)) c.if-self-end.false in
     rw (← c.self.view_is) (c.if-self-end.false ∙ sym (ap (may_send_by c.args.slot) none))
 
 pub returns-else-self-end-clause-stands : goal.returns-else-self-end-clause-stands
 returns-else-self-end-clause-stands c =
-    let windows = windows_in c.self.inside.present c.self.inside.ends.items in
-    let none = not_there c.self.inside.present c.self.inside.ends.items c.args.end (empty_window 0) (omega (arith, c.self.invariant)) c.if-self-end.false in
-    rw (← c.self.view_is) (λ links of by. c.if-self-end.false ∙ sends-none windows links c.args.end c.args.slot (slice_index (gaps_of windows) c.args.end) none of)
+    let none = not_there c.self.inside.present c.self.inside.ends.items c.args.end (fresh_counts 0) (omega (arith, c.self.invariant)) c.if-self-end.false in
+    rw (← c.self.view_is) (λ routes links gaps of by. c.if-self-end.false ∙ sends-none routes (ends_in c.self.inside.present c.self.inside.ends.items) links c.args.end c.args.slot none of)

@@ -1,8 +1,8 @@
 use Rattle.std.proofs.Common.{ap, sym, ◌∙◌, Some}
 use Rattle.net_model.specs.Switch.{sent_in}
 use Rattle.switch_routes.proofs.Rows.{change-there, gaps-set, sent-now}
-use Rattle.link_ends.specs.Window.{Window}
-use Rattle.switch_routes.specs.Rows.{gap_of}
+use Rattle.link_ends.specs.Counts.{EndCounts}
+use Rattle.switch_routes.specs.Rows.{end_gap}
 use Rattle.switch_routes.proofs.links.Links.sent.Goals as goal
 
 pub returns-in-Some-clause-stands : goal.returns-in-Some-clause-stands
@@ -12,7 +12,7 @@ returns-in-Some-clause-stands c =
 
 pub returns-in-Some-clause-gaps : goal.returns-in-Some-clause-gaps
 returns-in-Some-clause-gaps c =
-    gaps-set c.args.self.now c.args.end (Some c.sent.new.self) (ap (λ (w : Window). w.gap) c.sent.ensures.noted ∙ sym (ap gap_of c.in-Some.ensures.cases))
+    gaps-set c.args.self.now c.args.end (Some c.sent.new.self) (ap (λ (w : EndCounts). w.gap) c.sent.ensures.noted ∙ sym (ap end_gap c.in-Some.ensures.cases))
 
 pub returns-in-Some-clause-sent : goal.returns-in-Some-clause-sent
-returns-in-Some-clause-sent c = λ by. sent-now c.args.self.now c.args.end c.args.slot c.sent.new.self (ap (λ (w : Window). w.last_sent) c.sent.ensures.noted) by
+returns-in-Some-clause-sent c = λ by. sent-now c.args.self.now c.args.end c.args.slot c.sent.new.self (ap (λ (w : EndCounts). w.last_sent) c.sent.ensures.noted) by

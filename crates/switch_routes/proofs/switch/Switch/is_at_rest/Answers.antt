@@ -7,4 +7,4 @@ use Rattle.switch_routes.proofs.switch.Switch.is_at_rest.Goals as goal
 pub returns-then-send_nothing-clause-rests : goal.returns-then-send_nothing-clause-rests
 returns-then-send_nothing-clause-rests c =
     let value : c.hold_nothing.result ≡ at_rest c.args.self.now c.args.chans.now c.args.links.now = first_of (search rules, grind (arith, common_steps)) in
-    λ is slot rec s. switch-rests slot c.args.self.now c.args.chans.now c.args.links.now rec (sym value ∙ is) s
+    λ is slot m s. switch-rests slot c.args.self.now c.args.chans.now c.args.links.now m (sym value ∙ is) s
