@@ -1,16 +1,13 @@
 -- The steps of the inputs, one after the other.
-use Rattle.std.proofs.Common.{ℕ, zero, suc, ◌≡◌, ◌+◌, List, [], ◌∷◌, Option, Some, None, refl, ap, sym, ◌∙◌, ◌≤◌, arith, add-one, replicate, false}
-use Rattle.std.proofs.lemmas.List.{append-nil}
-use Rattle.std.specs.List.{AllByRecursion}
-use Rattle.std.specs.Prelude.{IfSome}
+use Rattle.std.proofs.Common.{ℕ, zero, suc, ◌≡◌, ◌+◌, List, Option, refl, ap, sym, ◌∙◌, arith, add-one}
 use Rattle.xs_model.specs.declared.event.Event.{Event}
 use Rattle.xs_model.specs.Record.{InputRec, ChanRec}
 use Rattle.xs_model.specs.Outside.{Emitted}
-use Rattle.xs_model.specs.AtWork.{AtWork, slot_begins}
+use Rattle.xs_model.specs.AtWork.{AtWork}
 use Rattle.net_model.specs.Switch.{Routes, moves_from, input_step}
 use Rattle.link_ends.specs.Counts.{EndCounts}
-use Rattle.switch_routes.specs.Rows.{CreditedBy, end_gaps}
-use Rattle.switch_routes.specs.Switch.{SwitchRec, StandsIn, known_routes, with_parts, emitted_after}
+use Rattle.switch_routes.specs.Rows.{end_gaps}
+use Rattle.switch_routes.specs.Switch.{SwitchRec, StandsIn, with_parts, emitted_after}
 use Rattle.switch_routes.specs.Work.{Begun, Stands}
 
 -- the steps of the first inputs

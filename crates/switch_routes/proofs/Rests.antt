@@ -5,19 +5,17 @@ use Rattle.std.specs.List.{list_all}
 use Rattle.std.proofs.lemmas.Bool.{and_parts, false≢true, true≢false}
 use Rattle.std.proofs.lemmas.List.{drop_more, drop_all}
 use Rattle.xs_base.specs.declared.token.Token.{Token}
-use Rattle.xs_model.specs.Record.{NodeRec, ChanRec, InputRec, Idle, Head1, Head2, Want, Local, Out, Lost, unused_chan}
+use Rattle.xs_model.specs.Record.{ChanRec, InputRec, Idle, Head1, Head2, Want, Local, Out, Lost, unused_chan}
 use Rattle.xs_model.specs.AtWork.{AtWork}
-use Rattle.net_model.specs.Switch.{Routes, is_idle, moves, want_step, input_step, step_at, head_step, packet_step, state_at, waiting_at, moves_from}
+use Rattle.net_model.specs.Switch.{Routes, is_idle, moves, want_step, input_step, step_at, head_step, packet_step, state_at, waiting_at}
 use Rattle.link_ends.specs.Counts.{EndCounts}
 use Rattle.chan_ends.specs.Ends.{chan_at}
 use Rattle.switch_routes.specs.Rows.{buffer_of, counts_at}
 use Rattle.switch_routes.specs.Switch.{SwitchRec, StandsIn, known_routes, emitted_after}
 use Rattle.switch_routes.specs.Rest.{at_rest, none_waits, sends_nothing, holds_nothing}
-use Rattle.switch_routes.specs.Work.{Stands, waiting_in}
-use Rattle.switch_routes.specs.declared.inputs.Input.{Input}
-use Rattle.switch_routes.specs.Inputs.{state_of, states_in}
+use Rattle.switch_routes.specs.Work.{waiting_in}
 use Rattle.switch_routes.proofs.Work.{waits}
-use Rattle.switch_routes.proofs.Moves.{first_steps, no_steps, next_step, all_steps, begun_at, stands-first}
+use Rattle.switch_routes.proofs.Moves.{first_steps, all_steps, begun_at, stands-first}
 
 -- a test of all, one by one
 module _ {X : Type 0} (p : X → Bool) (xs : List X) (i : ℕ) (d : X) where

@@ -1,9 +1,9 @@
 -- The cases of the switch's rules, over plain values.
-use Rattle.std.proofs.Common.{ℕ, zero, suc, ◌≡◌, ◌+◌, ◌-◌, ◌++◌, ◌||◌, Bool, true, false, cond, ltb, Option, Some, None, List, [], ◌∷◌, get_or, drop, refl, sym, ap, ◌∙◌}
+use Rattle.std.proofs.Common.{ℕ, zero, suc, ◌≡◌, ◌+◌, ◌-◌, ◌++◌, ◌||◌, Bool, true, false, cond, ltb, Option, Some, List, [], ◌∷◌, get_or, drop, refl, sym, ap, ◌∙◌}
 use Rattle.std.specs.Prelude.{slice_set, not}
 use Rattle.xs_base.specs.declared.token.Token.{Token}
 use Rattle.xs_model.specs.declared.event.Happen.TheVariants as happen
-use Rattle.xs_model.specs.Record.{LinkRec, ChanRec, Local, Out, unused_chan, chan_of}
+use Rattle.xs_model.specs.Record.{ChanRec, Local, Out, unused_chan, chan_of}
 use Rattle.xs_model.specs.Waits.{has_room}
 use Rattle.xs_model.specs.AtWork.{AtWork, it_happens}
 use Rattle.net_model.specs.Switch.{Routes, node_with_chan, take_first, after_token, put_into, link_without_first, link_at, is_pause, deliver, end_may_send, out_step, out_token, to_state, send, header_byte, waiting_at, loses, local_step, want_way, hold_end, free_end, chan_is_held}

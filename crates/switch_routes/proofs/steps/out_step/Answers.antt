@@ -1,9 +1,9 @@
-use Rattle.std.proofs.Common.{ℕ, ◌+◌, ◌∙◌, true, List, sym, ap}
+use Rattle.std.proofs.Common.{◌+◌, ◌∙◌, true, sym}
 use Rattle.xs_model.specs.Record.{Out}
 use Rattle.switch_routes.proofs.Work.{along}
 use Rattle.std.proofs.lemmas.Bool.{lt-ltb}
 use Rattle.xs_base.specs.declared.token.Token.TheVariants.{Byte}
-use Rattle.net_model.specs.Switch.{to_state, send, header_byte, link_at}
+use Rattle.net_model.specs.Switch.{to_state, send, header_byte}
 use Rattle.switch_routes.proofs.Rules.{out-some}
 use Rattle.switch_routes.proofs.steps.out_step.Goals as goal
 

@@ -1,4 +1,4 @@
-use Rattle.std.proofs.Common.{◌≡◌, ◌∙◌, sym, ap, refl, arith}
+use Rattle.std.proofs.Common.{◌∙◌, sym, refl, arith}
 use Rattle.xs_model.specs.Record.{unused_chan}
 use Rattle.chan_ends.specs.Ends.{chan_at}
 use Rattle.switch_routes.specs.Rest.{sends_nothing}

@@ -1,4 +1,4 @@
-use Rattle.std.proofs.Common.{ℕ, ◌∙◌, ltb, List, sym, ap}
+use Rattle.std.proofs.Common.{◌∙◌, ltb, List, sym, ap}
 use Rattle.xs_model.specs.Record.{ChanRec, InputRec, Local, unused_chan}
 use Rattle.switch_routes.proofs.Work.{along, stands-state}
 use Rattle.std.specs.Prelude.{not, ◌||◌, get_or}

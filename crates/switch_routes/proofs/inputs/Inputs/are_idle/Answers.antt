@@ -1,5 +1,4 @@
-use Rattle.std.proofs.Common.{◌≡◌, ◌∙◌, sym, refl, arith}
-use Rattle.net_model.specs.Switch.{is_idle}
+use Rattle.std.proofs.Common.{◌∙◌, sym, refl, arith}
 use Rattle.switch_routes.proofs.Held.{idle_next, idle_fails, idle_end}
 use Rattle.switch_routes.proofs.inputs.Inputs.are_idle.Goals as goal
 

@@ -1,4 +1,4 @@
-use Rattle.std.proofs.Common.{◌≡◌, ◌∙◌, sym, ap, refl, arith}
+use Rattle.std.proofs.Common.{◌∙◌, sym, refl, arith}
 use Rattle.std.proofs.Common.{None}
 use Rattle.switch_routes.specs.Rows.{buffer_of, counts_at}
 use Rattle.switch_routes.specs.Rest.{holds_nothing}
