@@ -32,11 +32,6 @@ pub record Issued : Type 0 where
 abbrev pub quietly : CoreRec → Issued
 quietly core = record { core = core; happened = [] }
 
--- a pause ends with the issue
-abbrev pub resumed : Run → Run
-resumed (Paused wait) = Going
-resumed run = run
-
 -- a thread halts where no code stands at its pc
 abbrev pub halt_unless : Bool → ThreadNumber → Thread → List Happen → CoreRec → Issued
 halt_unless code_stands k th happened core =
@@ -51,37 +46,36 @@ trap code core k number value =
     let th = trapped (thread_of core k) number value next in
     halt_unless (is_code_place code th.pc) k th (happen.Trap k number next value ∷ []) core
 
-abbrev pub paused : CoreRec → ThreadNumber → Run → CoreRec
-paused core k run = with_thread core k (record (thread_of core k) { run = run })
+-- what thread k does from now on
+abbrev pub with_run : CoreRec → ThreadNumber → Run → CoreRec
+with_run core k run = with_thread core k (record (thread_of core k) { run = run })
 
 -- what the issue by thread k leaves, from what its instruction does
 abbrev pub settled : List Instr → CoreRec → ThreadNumber → Effect → Issued
 settled code core k (Done after happened) = record { core = after; happened = happened }
-settled code core k (Pause after wait happened) = record { core = paused after k (Paused wait); happened = happened }
+settled code core k (Pause after wait happened) = record { core = with_run after k (Paused wait); happened = happened }
 settled code core k (Trap number value) = trap code core k number value
 settled code core k (Gone after happened) = record { core = after; happened = happened }
 settled code core k Unbuilt = quietly core
 
 -- the instruction at the thread's pc is executed, or none stands there
-abbrev pub executed : Fixed → Setting → CoreRec → ThreadNumber → Option Instr → Issued
-executed fixed at core k None = trap fixed.code core k ILLEGAL_PC (thread_of core k).pc
-executed fixed at core k (Some ins) = settled fixed.code core k (effect at core k ins)
+abbrev pub executed : List Instr → Setting → CoreRec → ThreadNumber → Option Instr → Issued
+executed code at core k None = trap code core k ILLEGAL_PC (thread_of core k).pc
+executed code at core k (Some ins) = settled code core k (effect at core k ins)
 
--- the slot is thread k's last issue now, and its pause is over
+-- the slot is thread k's last issue now, and it goes: its pause, if it was paused, is over
 abbrev pub issue_begins : CoreRec → Slot → ThreadNumber → CoreRec
-issue_begins core slot k =
-    with_thread (record core { last = slice_set core.last k (Some slot) }) k
-    (record (thread_of core k) { run = resumed (thread_of core k).run })
+issue_begins core slot k = with_run (record core { last = slice_set core.last k (Some slot) }) k Going
 
-abbrev pub issued_by : Fixed → Setting → CoreRec → Option ThreadNumber → Issued
-issued_by fixed at core None = quietly core
-issued_by fixed at core (Some k) =
+abbrev pub issued_by : List Instr → Setting → CoreRec → Option ThreadNumber → Issued
+issued_by code at core None = quietly core
+issued_by code at core (Some k) =
     let core' = issue_begins core at.slot k in
-    executed fixed at core' k (code_at fixed.code (thread_of core' k).pc)
+    executed code at core' k (code_at code (thread_of core' k).pc)
 
 -- at most one issue, by the thread that is picked
-abbrev pub issued : Fixed → Setting → CoreRec → Issued
-issued fixed at core = issued_by fixed at core (picked core at.slot)
+abbrev pub issued : List Instr → Setting → CoreRec → Issued
+issued code at core = issued_by code at core (picked core at.slot)
 
 -- ---- The four phases of a slot. Phase 1 is `arrive`, and phase 3 `moves`.
 
@@ -106,7 +100,7 @@ and_issued m i = record m { rec = record m.rec { core = i.core }; happened = m.h
 
 -- Phase 4: at most one issue.
 abbrev pub issue : Fixed → Slot → PinView → AtWork → AtWork
-issue fixed slot pins m = and_issued m (issued fixed (setting_of fixed slot pins m.rec) m.rec.core)
+issue fixed slot pins m = and_issued m (issued fixed.code (setting_of fixed slot pins m.rec) m.rec.core)
 
 -- what a pin shows: what its port drives, else what it shows from outside
 abbrev pub level_of : Option Word → Word → Word

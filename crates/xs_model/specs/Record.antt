@@ -180,10 +180,13 @@ core_with threads last memory = record {
 abbrev pub node_with : CoreRec → List (Option LinkRec) → NodeRec
 node_with core links = record { core = core; inputs = replicate 40 Idle; links = links; levels = replicate 29 0 }
 
--- a node as it starts: thread 0 goes at the entry, no other thread is there, nothing was ever issued
+-- a core with this memory as it starts: thread 0 goes at the entry, no other thread is there, nothing was ever issued
+abbrev pub first_core : Word → Word → List ℕ → CoreRec
+first_core entry cp_at memory = core_with (first_thread entry cp_at ∷ replicate 7 free_thread) (replicate 8 None) memory
+
+-- a node as it starts, with this data
 abbrev pub first_node : Word → Word → List ℕ → NodeRec
-first_node entry cp_at bytes =
-    node_with (core_with (first_thread entry cp_at ∷ replicate 7 free_thread) (replicate 8 None) (first_memory bytes)) (replicate 8 None)
+first_node entry cp_at bytes = node_with (first_core entry cp_at (first_memory bytes)) (replicate 8 None)
 
 abbrev pub thread_of : CoreRec → ThreadNumber → Thread
 thread_of core k = slice_index_or core.threads k fresh_thread

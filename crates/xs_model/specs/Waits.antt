@@ -1,12 +1,14 @@
 -- What a paused thread waits for, and whether it holds.
 use Rattle.std.specs.Prelude.{ℕ, ◌+◌, ◌-◌, ◌/◌, ◌%◌, ◌^◌, Bool, true, false, ◌&&◌, ◌||◌, not, ◌==◌, nat_le, nat_lt, Option, Some, None, is_some, is_none, List, length, take}
 use Rattle.std.specs.List.{list_any, list_all}
-use Rattle.xs_base.specs.Numbers.{Slot, Word, ChanNumber, PortNumber}
+use Rattle.xs_base.specs.Numbers.{Slot, Word}
 use Rattle.xs_base.specs.declared.numbers.TheConstants.{BUFFER_TOKENS}
 use Rattle.xs_base.specs.declared.token.Token.{Token}
 use Rattle.xs_base.specs.declared.token.Token.TheVariants.{Byte, Ctrl}
 use Rattle.xs_model.specs.declared.thread.Run.{Run}
 use Rattle.xs_model.specs.declared.thread.Run.TheVariants.{Unstarted, AtSync, Paused}
+use Rattle.xs_model.specs.declared.thread.Thing.{Thing}
+use Rattle.xs_model.specs.declared.thread.Thing.TheVariants as thing
 use Rattle.xs_model.specs.declared.thread.Wait.{Wait}
 use Rattle.xs_model.specs.declared.thread.Wait.TheVariants.{Room, Tokens, PortFull, PortEmpty, PortIdle, Timer, Lock, Slaves, Choice}
 use Rattle.xs_model.specs.Record.{CoreRec, thread_of, chan_of, timer_of, sync_of, lock_of, port_of}
@@ -50,30 +52,23 @@ holds core slot (Lock lock) = is_none (lock_of core lock).owner
 holds core slot (Slaves sync) = list_all (λ k. is_in (thread_of core k).run) (sync_of core sync).slaves
 holds core slot Choice = false
 
--- what at most one thread may wait at: each side of a channel end, a port, a timer
-pub data Thing : Type 0 where
-  Output : (chan : ChanNumber) → Thing
-  Input : (chan : ChanNumber) → Thing
-  Port : (port : PortNumber) → Thing
-  TimerThing : (timer : ℕ) → Thing
-
--- what a thread that waits for this waits at, where it waits there alone
+-- at which thing a thread waits, where at most one may wait there: the three waits on a port are at one thing
 abbrev pub thing_of : Wait → Option Thing
-thing_of (Room chan count) = Some (Output chan)
-thing_of (Tokens chan count) = Some (Input chan)
-thing_of (PortFull port) = Some (Port port)
-thing_of (PortEmpty port) = Some (Port port)
-thing_of (PortIdle port) = Some (Port port)
-thing_of (Timer timer) = Some (TimerThing timer)
+thing_of (Room chan count) = Some (thing.Output chan)
+thing_of (Tokens chan count) = Some (thing.Input chan)
+thing_of (PortFull port) = Some (thing.Port port)
+thing_of (PortEmpty port) = Some (thing.Port port)
+thing_of (PortIdle port) = Some (thing.Port port)
+thing_of (Timer timer) = Some (thing.Timer timer)
 thing_of (Lock lock) = None
 thing_of (Slaves sync) = None
 thing_of Choice = None
 
 abbrev pub is_same_thing : Thing → Thing → Bool
-is_same_thing (Output a) (Output b) = a == b
-is_same_thing (Input a) (Input b) = a == b
-is_same_thing (Port a) (Port b) = a == b
-is_same_thing (TimerThing a) (TimerThing b) = a == b
+is_same_thing (thing.Output a) (thing.Output b) = a == b
+is_same_thing (thing.Input a) (thing.Input b) = a == b
+is_same_thing (thing.Port a) (thing.Port b) = a == b
+is_same_thing (thing.Timer a) (thing.Timer b) = a == b
 is_same_thing _ _ = false
 
 abbrev pub are_same : Option Thing → Option Thing → Bool

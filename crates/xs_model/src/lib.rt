@@ -10,7 +10,7 @@ pub mod traps;
 pub use event::{Event, Happen};
 pub use outside::{Arrivals, PinView};
 pub use thread::{
-    EEBLE, FAST, IEBLE, INENB, ININT, INK, KEPT_IN_A_TRAP, Outcome, Run, Status, Thread, WAITING,
-    Wait,
+    EEBLE, FAST, IEBLE, INENB, ININT, INK, KEPT_IN_A_TRAP, Outcome, Run, Status, Thing, Thread,
+    WAITING, Wait,
 };
 pub use xs_base::Token;

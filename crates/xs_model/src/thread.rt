@@ -56,6 +56,17 @@ pub enum Wait {
     Choice,
 }
 
+/// What at most one thread of a core may wait at.
+#[derive(Clone, Copy)]
+pub enum Thing {
+    /// The output side of a channel end.
+    Output { chan: u8 },
+    /// The input side of a channel end.
+    Input { chan: u8 },
+    Port { port: u8 },
+    Timer { timer: u8 },
+}
+
 /// What a thread does.
 #[derive(Clone, Copy)]
 pub enum Run {

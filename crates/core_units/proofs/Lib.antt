@@ -1,0 +1,4 @@
+pub mod Still
+pub mod AsBuilt
+pub mod FirstChan
+pub mod Settles

@@ -1,0 +1,27 @@
+use Rattle.std.proofs.Common.{◌≡◌, ℕ, Option, Some, ap, sym, ◌∙◌, subst}
+use Rattle.xs_model.specs.Record.{CoreRec, thread_of}
+use Rattle.xs_instructions.specs.declared.instr.Instr.{Instr}
+use Rattle.xs_instructions.specs.Code.{code_at}
+use Rattle.step_model.specs.Effect.{Setting}
+use Rattle.step_model.specs.Step.{Issued, issue_begins, executed, settled}
+use Rattle.step_model.specs.Rows.{effect}
+use Rattle.core_units.specs.Units.{Ends, and_happened, effect_of}
+use Rattle.core_units.proofs.Settles.{same_settled}
+use Rattle.core_units.proofs.units.Units.issue_by.Goals as goal
+use Rattle.core_units.proofs.units.Units.issue_by.Goals.{After-is_on_resources}
+
+-- what the outcome makes of the thread is what the definition executes
+its_issue : (c : After-is_on_resources) (at : Setting) → at.id ≡ c.args.program.now.id → at.slot ≡ c.args.slot
+    → settled c.args.program.now.code c.execute-outcome.new.self c.args.k (effect_of c.execute-outcome.result c.execute-outcome.new.self)
+    ≡ executed c.args.program.now.code at (issue_begins c.args.self.now at.slot c.args.k) c.args.k (code_at c.args.program.now.code (thread_of (issue_begins c.args.self.now at.slot c.args.k) c.args.k).pc)
+its_issue c at id slot =
+    let code = c.args.program.now.code in
+    let begun : c.begin.new.self ≡ issue_begins c.args.self.now at.slot c.args.k =
+    c.begin.ensures.units ∙ ap (λ t. issue_begins c.args.self.now t c.args.k) (sym slot)
+    in
+    same_settled code c.args.k c.begin.new.self c.execute-outcome.new.self c.execute-outcome.result (effect at c.begin.new.self c.args.k c.in-Some.ins) (c.execute-outcome.ensures.row at (id ∙ sym c.id.ensures))
+    ∙ ap (λ ins. executed code at c.begin.new.self c.args.k ins) (sym c.in-Some.is ∙ c.at.ensures.value ∙ ap (code_at code) c.pc_of-pc.ensures)
+    ∙ ap (λ (core : CoreRec). executed code at core c.args.k (code_at code (thread_of core c.args.k).pc)) begun
+
+pub returns-in-Some-clause-units : goal.returns-in-Some-clause-units
+returns-in-Some-clause-units c = λ at id slot. c.settle.ensures.units ∙ ap (λ (i : Issued). i.core) (its_issue c at id slot)

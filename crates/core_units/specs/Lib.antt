@@ -1,0 +1,4 @@
+pub mod Program
+pub mod Units
+pub mod Waits
+pub mod Found

@@ -1,0 +1,67 @@
+-- The units of a core: what they stand for, and what calls leave of them.
+use Rattle.std.specs.Prelude.{ℕ, ◌≡◌, ◌≤◌, Bool, true, false, List, [], ◌++◌, length, map, slice_index_or}
+use Rattle.xs_base.specs.Numbers.{Slot, ThreadNumber}
+use Rattle.xs_base.specs.declared.numbers.TheConstants.{THREADS}
+use Rattle.xs_model.specs.declared.event.Happen.{Happen}
+use Rattle.xs_model.specs.declared.thread.Thread.{Thread}
+use Rattle.xs_model.specs.declared.thread.Run.{Run}
+use Rattle.xs_model.specs.declared.thread.Run.TheVariants.{Going, Paused}
+use Rattle.xs_model.specs.declared.thread.Outcome.{Outcome}
+use Rattle.xs_model.specs.declared.thread.Outcome.TheVariants as outcome
+use Rattle.xs_model.specs.Threads.{fresh_thread}
+use Rattle.xs_model.specs.Record.{CoreRec, core_with, thread_of}
+use Rattle.xs_model.specs.Outside.{Emitted, in_slot}
+use Rattle.xs_instructions.specs.declared.instr.Instr.{Instr}
+use Rattle.xs_instructions.specs.declared.instr.Instr.TheVariants.{Resources}
+use Rattle.step_model.specs.Effect.{Effect, Done, Pause, Trap, Gone, Unbuilt}
+use Rattle.core_units.specs.declared.units.Units.TheInside.{Inside}
+
+-- a thread that neither goes nor is paused
+abbrev pub IsStill : Run → Type 0
+IsStill Going = ⊥
+IsStill (Paused wait) = ⊥
+IsStill _ = Unit {0}
+
+-- a thread goes
+abbrev pub Goes : CoreRec → ThreadNumber → Type 0
+Goes core k = (thread_of core k).run ≡ Going
+
+-- every thread from a number on is still
+pub record AreStillFrom (from : ThreadNumber) (threads : List Thread) : Type 0 where
+  pub at : (k : ℕ) → from ≤ k → IsStill (slice_index_or threads k fresh_thread).run
+
+abbrev pub units_of : Inside → CoreRec
+units_of u = record (core_with u.threads u.slots u.ram) { chans = u.chans }
+
+-- there are eight threads, and those out of reach are still
+pub record IsUnits (u : Inside) : Type 0 where
+  pub eight : length u.threads ≡ THREADS
+  pub within : u.reach ≤ THREADS
+  pub still : AreStillFrom u.reach u.threads
+
+-- the outcome of an instruction, and the units after it, are what its effect says; nothing happens by it
+abbrev pub Ends : Outcome → CoreRec → CoreRec → Effect → Type 0
+Ends outcome.Done old new (Done after []) = new ≡ after
+Ends outcome.Done old new _ = ⊥
+Ends (outcome.Pause wait) old new (Pause after waited []) = (wait ≡ waited) × (new ≡ after)
+Ends (outcome.Pause wait) old new _ = ⊥
+Ends (outcome.Trap et ed) old new (Trap number value) = (et ≡ number) × (ed ≡ value) × (new ≡ old)
+Ends (outcome.Trap et ed) old new _ = ⊥
+Ends outcome.Gone old new (Gone after []) = new ≡ after
+Ends outcome.Gone old new _ = ⊥
+
+-- the effect of an outcome, when these are the units after it
+abbrev pub effect_of : Outcome → CoreRec → Effect
+effect_of outcome.Done core = Done core []
+effect_of (outcome.Pause wait) core = Pause core wait []
+effect_of (outcome.Trap et ed) core = Trap et ed
+effect_of outcome.Gone core = Gone core []
+
+-- what a slot gave, and then this happens
+abbrev pub and_happened : Emitted → Slot → List Happen → Emitted
+and_happened out slot happened = record out { events = out.events ++ map (in_slot slot) happened }
+
+-- whether an instruction is of the part on resources: no other one changes channel ends
+abbrev pub is_on_resources : Instr → Bool
+is_on_resources (Resources ins) = true
+is_on_resources _ = false

@@ -1,0 +1,192 @@
+//! At most one issue in a slot.
+ghost use Rattle.std.specs.Prelude.{◌≡◌, ◌<◌, ◌≤◌, false, Some, None, length, IsTrue};
+ghost use Rattle.xs_base.specs.declared.numbers.TheConstants.{THREADS};
+ghost use Rattle.xs_model.specs.Record.{thread_of};
+ghost use Rattle.xs_model.specs.Entry.{trapped, return_address, handler_address};
+ghost use Rattle.xs_instructions.specs.Instr.{InRange, built};
+ghost use Rattle.step_model.specs.Effect.{Setting};
+ghost use Rattle.step_model.specs.Rows.{effect};
+ghost use Rattle.step_model.specs.Step.{issue_begins, with_run, settled, trap, issued, issued_by};
+ghost use Rattle.core_units.specs.Units.{Ends, Goes, effect_of, and_happened, is_on_resources};
+
+use crate::program::Program;
+use crate::units::Units;
+use trace_lines::Emissions;
+use xs_instructions::Instr;
+use xs_model::traps::{ILLEGAL_PC, KERNEL_CALL};
+use xs_model::{Event, Happen, INK, KEPT_IN_A_TRAP, Outcome, Run, Status, Thread};
+
+impl Units {
+    /// At most one issue, by the thread that is picked in a slot. What happens is put after the events of `out`.
+    /// It answers whether channel ends may have changed. See docs/MACHINE.md.
+    pub fn issue(&mut self, program: &Program, slot: u32, out: &mut Emissions) -> bool
+        requires room { length out.old.events ≤ 72 }
+        ensures units { (at : Setting) → at.id ≡ program.now.id → at.slot ≡ slot → self.new ≡ (issued program.now.code at self.old).core }
+        ensures events { (at : Setting) → at.id ≡ program.now.id → at.slot ≡ slot → out.new ≡ and_happened out.old slot (issued program.now.code at self.old).happened }
+        ensures chans { result ≡ false → self.new.chans ≡ self.old.chans }
+    {
+        match self.picked(slot) {
+            None => false,
+            Some(k) => self.issue_by(k, program, slot, out),
+        }
+    }
+
+    // Thread k issues.
+    fn issue_by(&mut self, k: u8, program: &Program, slot: u32, out: &mut Emissions) -> bool
+        requires thread { k < THREADS }
+        requires room { length out.old.events ≤ 72 }
+        ensures units { (at : Setting) → at.id ≡ program.now.id → at.slot ≡ slot → self.new ≡ (issued_by program.now.code at self.old (Some k)).core }
+        ensures events { (at : Setting) → at.id ≡ program.now.id → at.slot ≡ slot → out.new ≡ and_happened out.old slot (issued_by program.now.code at self.old (Some k)).happened }
+        ensures chans { result ≡ false → self.new.chans ≡ self.old.chans }
+    {
+        self.begin(k, slot);
+        let pc = self.pc_of(k);
+        match program.at(pc) {
+            None => {
+                self.trap(k, program, ILLEGAL_PC, pc, slot, out);
+                false
+            }
+            Some(ins) => {
+                let outcome = self.execute(k, program.id(), ins);
+                self.settle(k, program, outcome, slot, out);
+                is_on_resources(ins)
+            }
+        }
+    }
+
+    // The slot is thread k's last issue now, and its pause is over.
+    fn begin(&mut self, k: u8, slot: u32)
+        requires thread { k < THREADS }
+        ensures units { self.new ≡ issue_begins self.old slot k }
+        ensures goes { Goes self.new k }
+    {
+        self.slots.mark_issue(k, slot);
+        self.set_run(k, Run::Going);
+    }
+
+    // Where thread k is.
+    fn pc_of(&self, k: u8) -> u32
+        requires { k < THREADS }
+        ensures { result ≡ (thread_of self.now k).pc }
+    {
+        self.threads[k as usize].pc
+    }
+
+    // What thread k does from now on.
+    fn set_run(&mut self, k: u8, run: Run)
+        requires thread { k < THREADS }
+        ensures { self.new ≡ with_run self.old k run }
+    {
+        self.reach = self.reach.max(k + 1);
+        self.threads[k as usize].run = run;
+    }
+
+    // What an instruction does when thread k issues it.
+    fn execute(&mut self, k: u8, id: u16, ins: Instr) -> Outcome
+        requires thread { k < THREADS }
+        requires goes { Goes self.old k }
+        requires range { InRange ins }
+        requires built { IsTrue (built ins) }
+        ensures row { (at : Setting) → at.id ≡ id → Ends result self.old self.new (effect at self.old k ins) }
+        ensures chans { is_on_resources ins ≡ false → self.new.chans ≡ self.old.chans }
+    {
+        match ins {
+            Instr::Words(ins) => self.words(k, ins),
+            Instr::Memory(ins) => self.memory(k, ins),
+            Instr::Flow(ins) => self.flow(k, ins),
+            Instr::Kernel(_) => unreachable!(),
+            Instr::Threads(ins) => self.on_threads(k, ins),
+            Instr::Resources(ins) => self.resources(id, k, ins),
+        }
+    }
+
+    // What the outcome of its instruction makes of thread k.
+    fn settle(&mut self, k: u8, program: &Program, outcome: Outcome, slot: u32, out: &mut Emissions)
+        requires thread { k < THREADS }
+        requires room { length out.old.events ≤ 72 }
+        ensures units { self.new ≡ (settled program.now.code self.old k (effect_of outcome self.old)).core }
+        ensures events { out.new ≡ and_happened out.old slot (settled program.now.code self.old k (effect_of outcome self.old)).happened }
+        ensures chans { self.new.chans ≡ self.old.chans }
+    {
+        match outcome {
+            Outcome::Done | Outcome::Gone => {}
+            Outcome::Pause(wait) => self.set_run(k, Run::Paused(wait)),
+            Outcome::Trap { et, ed } => self.trap(k, program, et, ed, slot, out),
+        }
+    }
+
+    // Thread k traps. It halts where no code stands at its handler's address.
+    fn trap(&mut self, k: u8, program: &Program, et: u32, ed: u32, slot: u32, out: &mut Emissions)
+        requires thread { k < THREADS }
+        requires room { length out.old.events ≤ 72 }
+        ensures units { self.new ≡ (trap program.now.code self.old k et ed).core }
+        ensures events { out.new ≡ and_happened out.old slot (trap program.now.code self.old k et ed).happened }
+        ensures chans { self.new.chans ≡ self.old.chans }
+    {
+        self.reach = self.reach.max(k + 1);
+        let thread = &mut self.threads[k as usize];
+        let next = return_address(thread, et);
+        enter_trap(thread, et, ed, next);
+        out.add_event(Event {
+            slot,
+            what: Happen::Trap {
+                thread: k,
+                et,
+                pc: next,
+                ed,
+            },
+        });
+        if !program.stands_at(thread.pc) {
+            thread.run = Run::Halted;
+            out.add_event(Event {
+                slot,
+                what: Happen::Halt { thread: k },
+            });
+        }
+    }
+}
+
+// Whether an instruction may change channel ends.
+fn is_on_resources(ins: Instr) -> bool
+    ensures { result ≡ is_on_resources ins }
+{
+    matches!(ins, Instr::Resources(_))
+}
+
+// The pc that a trap with this number returns to: a kernel call's is the next one.
+fn return_address(thread: &Thread, et: u32) -> u32
+    ensures { result ≡ return_address et thread.now }
+{
+    if et == KERNEL_CALL {
+        thread.pc.wrapping_add(4)
+    } else {
+        thread.pc
+    }
+}
+
+// Where the handler of a trap with this number stands.
+fn handler_address(thread: &Thread, et: u32) -> u32
+    ensures { result ≡ handler_address et thread.now }
+{
+    if et == KERNEL_CALL {
+        thread.kep.wrapping_add(64)
+    } else {
+        thread.kep
+    }
+}
+
+// The thread enters its handler for a trap, to return to `next`.
+fn enter_trap(thread: &mut Thread, et: u32, ed: u32, next: u32)
+    ensures { thread.new ≡ trapped thread.old et ed next }
+{
+    let handler = handler_address(thread, et);
+    thread.spc = next;
+    thread.ssr = thread.sr;
+    thread.sed = thread.ed;
+    thread.et = et;
+    thread.ed = ed;
+    thread.sr = Status {
+        bits: thread.sr.bits & KEPT_IN_A_TRAP | INK,
+    };
+    thread.pc = handler;
+}

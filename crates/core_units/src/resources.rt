@@ -1,0 +1,191 @@
+//! The rows on resources.
+ghost use Rattle.std.specs.Prelude.{◌≡◌, ◌<◌, if◌then◌else◌, IsTrue, IfSome, take, []};
+ghost use Rattle.xs_base.specs.declared.numbers.TheConstants.{THREADS, CHAN_ENDS, CHAN_END_KIND};
+ghost use Rattle.xs_model.specs.declared.traps.TheConstants.{ILLEGAL_RESOURCE, RESOURCE_DEPENDENCY};
+ghost use Rattle.xs_model.specs.Waits.{is_waited_at};
+ghost use Rattle.xs_instructions.specs.Rows.{is_built};
+ghost use Rattle.xs_instructions.specs.Operands.{row_of_resources};
+ghost use Rattle.xs_instructions.specs.Instr.{ResourcesInRange};
+ghost use Rattle.net_model.specs.Chans.{chan_named, free_chan, put_token, check_token, take_dest};
+ghost use Rattle.chan_ends.specs.Ends.{with_got};
+ghost use Rattle.step_model.specs.Effect.{Setting, Effect, Pause, Trap};
+ghost use Rattle.step_model.specs.Effect.{goes_on};
+ghost use Rattle.step_model.specs.ResourceRows.{resources_row, resource_got, on_named, room, tokens, never, unused, built_of_kind};
+ghost use Rattle.core_units.specs.Units.{Ends, Goes};
+ghost use Rattle.core_units.specs.Found.{name_of_got};
+
+use crate::threads::go_on;
+use crate::units::Units;
+use chan_ends::{ChanEnds, Put, Take};
+use xs_base::numbers::{CHAN_END_KIND, CHAN_ENDS};
+use xs_base::{Token, chan_id};
+use xs_instructions::ResIns;
+use xs_model::traps::{ILLEGAL_RESOURCE, RESOURCE_DEPENDENCY};
+use xs_model::{Outcome, Wait};
+
+impl Units {
+    // On the node with this id.
+    pub(crate) fn resources(&mut self, id: u16, k: u8, ins: ResIns) -> Outcome
+        requires thread { k < THREADS }
+        requires goes { Goes self.old k }
+        requires range { ResourcesInRange ins }
+        requires built { IsTrue (is_built (row_of_resources ins)) }
+        ensures row { (at : Setting) → at.id ≡ id → Ends result self.old self.new (resources_row at self.old k ins) }
+    {
+        let thread = &self.threads[k as usize];
+        match ins {
+            ResIns::Getr(d, kind) => {
+                self.getr(id, k, d, kind);
+                Outcome::Done
+            }
+            ResIns::Setd(s, x) => {
+                let (name, dest) = (thread.reg(s), thread.reg(x));
+                self.set_dest(id, k, name, dest)
+            }
+            ResIns::OutctImm(s, i) => {
+                let name = thread.reg(s);
+                self.put(id, k, name, Token::Ctrl(i))
+            }
+            ResIns::ChkctImm(s, i) => {
+                let name = thread.reg(s);
+                self.check(id, k, name, u32::from(i))
+            }
+            _ => unreachable!(),
+        }
+    }
+
+    // Thread k goes on.
+    #[tactic(auto, using(crate::proofs::Still::still_set))]
+    fn go_on(&mut self, k: u8)
+        requires thread { k < THREADS }
+        requires goes { Goes self.old k }
+        ensures { self.new ≡ goes_on self.old k }
+    {
+        go_on(&mut self.threads[k as usize]);
+    }
+
+    // Gets the lowest free resource of a kind.
+    #[tactic(auto, using(crate::proofs::Still::still_set))]
+    fn getr(&mut self, id: u16, k: u8, d: u8, kind: u8)
+        requires thread { k < THREADS }
+        requires goes { Goes self.old k }
+        requires register { d < 12 }
+        ensures row { self.new ≡ resource_got id self.old k d kind }
+    {
+        let name = if kind == CHAN_END_KIND {
+            got_chan(id, &mut self.chans)
+        } else {
+            0
+        };
+        let thread = &mut self.threads[k as usize];
+        thread.set_reg(d, name);
+        go_on(thread);
+    }
+
+    // The channel end that a word names takes a destination.
+    fn set_dest(&mut self, id: u16, k: u8, name: u32, dest: u32) -> Outcome
+        requires thread { k < THREADS }
+        requires goes { Goes self.old k }
+        ensures row { Ends result self.old self.new (on_named self.old k name never (take_dest dest) unused (chan_named id name)) }
+    {
+        match chan_named(id, name) {
+            None => illegal(name),
+            Some(c) => match self.chans.set_dest(c, dest) {
+                Ok(()) => {
+                    self.go_on(k);
+                    Outcome::Done
+                }
+                Err(_) => illegal(name),
+            },
+        }
+    }
+
+    // A token is put into the channel end that a word names.
+    fn put(&mut self, id: u16, k: u8, name: u32, token: Token) -> Outcome
+        requires thread { k < THREADS }
+        requires goes { Goes self.old k }
+        ensures row { Ends result self.old self.new (on_named self.old k name (room 1) (put_token token) unused (chan_named id name)) }
+    {
+        match chan_named(id, name) {
+            None => illegal(name),
+            Some(c) => match self.chans.put(c, token) {
+                Put::Done => {
+                    self.go_on(k);
+                    Outcome::Done
+                }
+                Put::Full => self.wait(name, Wait::Room { chan: c, count: 1 }),
+                Put::Bad => illegal(name),
+            },
+        }
+    }
+
+    // The control token of a value is taken from the channel end that a word names.
+    fn check(&mut self, id: u16, k: u8, name: u32, value: u32) -> Outcome
+        requires thread { k < THREADS }
+        requires goes { Goes self.old k }
+        ensures row { Ends result self.old self.new (on_named self.old k name (tokens 1) (check_token value) unused (chan_named id name)) }
+    {
+        match chan_named(id, name) {
+            None => illegal(name),
+            Some(c) => match self.chans.check(c, value) {
+                Take::Got(_) => {
+                    self.go_on(k);
+                    Outcome::Done
+                }
+                Take::Wait => self.wait(name, Wait::Tokens { chan: c, count: 1 }),
+                Take::Bad => illegal(name),
+            },
+        }
+    }
+
+    // The thread pauses, and traps where another one is paused there.
+    fn wait(&self, name: u32, wait: Wait) -> Outcome
+        ensures row { Ends result self.now self.now (if is_waited_at self.now wait then Trap RESOURCE_DEPENDENCY name else Pause self.now wait []) }
+    {
+        if self.is_waited_at(wait) {
+            Outcome::Trap {
+                et: RESOURCE_DEPENDENCY,
+                ed: name,
+            }
+        } else {
+            Outcome::Pause(wait)
+        }
+    }
+}
+
+// Gets the one channel end that a program may get so far: its identifier, or 0 where it is in use.
+fn got_chan(id: u16, chans: &mut ChanEnds) -> u32
+    ensures name { result ≡ name_of_got id (free_chan (take (built_of_kind CHAN_END_KIND) chans.old) 0) }
+    ensures got { chans.new ≡ with_got chans.old (free_chan (take (built_of_kind CHAN_END_KIND) chans.old) 0) }
+{
+    if chans.used(0) {
+        return 0;
+    }
+    match chans.alloc() {
+        Some(c) => chan_id(id, c),
+        None => 0,
+    }
+}
+
+// The channel end of this node that a word names, 0 to 31: `None` exactly where it names none.
+fn chan_named(id: u16, name: u32) -> Option<u8>
+    ensures value { result ≡ chan_named id name }
+    ensures within { IfSome result (λ c. c < CHAN_ENDS) }
+{
+    let number = (name / 256 % 256) as u8;
+    if name == chan_id(id, number) && number < CHAN_ENDS {
+        Some(number)
+    } else {
+        None
+    }
+}
+
+// The word names no channel end in use, or the instruction is none for it.
+fn illegal(name: u32) -> Outcome
+    ensures { result ≡ Outcome.Trap ILLEGAL_RESOURCE name }
+{
+    Outcome::Trap {
+        et: ILLEGAL_RESOURCE,
+        ed: name,
+    }
+}

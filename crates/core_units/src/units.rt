@@ -1,0 +1,82 @@
+//! `Units`, what a core keeps from slot to slot but for its network.
+ghost use Rattle.std.specs.Prelude.{◌≡◌, ◌<◌, ◌↔◌, false, length, IfSome, IsErr};
+ghost use Rattle.std.specs.Result.{result_ok};
+ghost use Rattle.xs_base.specs.declared.numbers.TheConstants.{MEMORY_BYTES, CHAN_ENDS, THREADS};
+ghost use Rattle.xs_model.specs.Record.{first_core, free_thread, thread_of};
+ghost use Rattle.xs_model.specs.Memory.{load_word, is_word_address};
+
+use chan_ends::ChanEnds;
+use core_memory::{BadAddress, Ram};
+use std::marker::Model;
+use thread_slots::Slots;
+use xs_model::{Run, Thread};
+
+/// A core's threads with their last issues, its memory and its channel ends. Contracts see the core record. See
+/// docs/MACHINE.md.
+#[derive(Drop)]
+pub struct Units {
+    pub(crate) threads: [Thread; 8],
+    // Every thread from this number on is still: it neither goes nor is paused.
+    pub(crate) reach: u8,
+    pub(crate) slots: Slots,
+    pub(crate) ram: Ram,
+    /// The channel ends, which the switch of the node works with too.
+    pub chans: ChanEnds,
+}
+
+impl Model for Units {
+    ghost use Rattle.xs_model.specs.Record.{CoreRec};
+
+    ghost Value = { CoreRec };
+
+    ghost use Rattle.core_units.specs.Units.{units_of, IsUnits};
+
+    ghost view = { units_of };
+
+    ghost invariant = { IsUnits };
+}
+
+impl Units {
+    /// The units of the node with this id as they start: thread 0 goes at the entry `pc`, with the constant pool at
+    /// `cp`, and no channel end is in use.
+    pub fn first(id: u16, pc: u32, cp: u32, ram: Ram) -> Units
+        ensures value { result ≡ first_core pc cp ram }
+    {
+        let mut threads = [free_thread(); 8];
+        threads[0] = Thread::first(pc, cp);
+        Units {
+            threads,
+            reach: 1,
+            slots: Slots::new(),
+            ram,
+            chans: ChanEnds::new(id),
+        }
+    }
+
+    /// What a thread, 0 to 7, does.
+    pub fn run_of(&self, th: u8) -> Run
+        requires { th < THREADS }
+        ensures value { result ≡ (thread_of self.now th).run }
+    {
+        self.threads[th as usize].run
+    }
+
+    /// The word of the memory at an address. `BadAddress` comes exactly where the address is outside the memory,
+    /// 0x0001_0000 to 0x0001_ffff, or no multiple of 4.
+    pub fn word(&self, at: u32) -> Result<u32, BadAddress>
+        ensures value { result_ok result ≡ load_word self.now.memory at }
+        ensures size { length self.now.memory ≡ MEMORY_BYTES }
+        ensures err { IsErr result ↔ is_word_address at ≡ false }
+    {
+        self.ram.load32(at)
+    }
+}
+
+// A thread that is not there.
+fn free_thread() -> Thread
+    ensures { result ≡ free_thread }
+{
+    let mut thread = Thread::fresh();
+    thread.run = Run::Free;
+    thread
+}

@@ -1,0 +1,132 @@
+//! Which thread issues. No timer, synchroniser, lock or port is built yet: each is as it was at the start, so for those
+//! the wait alone says whether it holds.
+ghost use Rattle.std.specs.Prelude.{◌≡◌, ℕ, ◌<◌, ◌≤◌, slice_index_or, IfSome};
+ghost use Rattle.std.specs.List.{list_any};
+ghost use Rattle.xs_base.specs.declared.numbers.TheConstants.{THREADS};
+ghost use Rattle.xs_model.specs.Threads.{fresh_thread};
+ghost use Rattle.xs_model.specs.Record.{thread_of};
+ghost use Rattle.xs_model.specs.Waits.{thing_of, waits_at, are_same, is_same_thing, is_waited_at};
+ghost use Rattle.xs_model.specs.Picks.{is_able, picked};
+ghost use Rattle.thread_slots.specs.Able.{in_mask};
+ghost use Rattle.core_units.specs.Units.{AreStillFrom};
+ghost use Rattle.core_units.specs.Waits.{holds_by, able_by};
+
+use crate::units::Units;
+use chan_ends::ChanEnds;
+use thread_slots::{no_threads, with_able};
+use xs_model::{Run, Thing, Thread, Wait};
+
+impl Units {
+    /// The thread that issues in a slot, 0 to 7: None exactly where nobody may.
+    pub(crate) fn picked(&self, slot: u32) -> Option<u8>
+        ensures value { result ≡ picked self.now slot }
+        ensures within { IfSome result (λ k. k < THREADS) }
+    {
+        self.slots.pick(self.able(slot), slot)
+    }
+
+    // The threads that may issue but for the four slots of rest: bit k for thread k.
+    fn able(&self, _slot: u32) -> u8
+        ensures { (k : ℕ) → k < THREADS → in_mask result k ≡ is_able self.now _slot (thread_of self.now k).run }
+    {
+        able_of(&self.threads, self.reach, &self.chans)
+    }
+
+    /// Whether a thread is paused where one would be with this wait.
+    pub(crate) fn is_waited_at(&self, wait: Wait) -> bool
+        ensures { result ≡ is_waited_at self.now wait }
+    {
+        let thing = thing_of(wait);
+        for thread in &self.threads {
+            if waits_at(thing, thread.run) {
+                return true;
+            }
+        }
+        false
+    }
+}
+
+// The same by these threads and channel ends, where every thread from `reach` on is still.
+fn able_of(threads: &[Thread; 8], reach: u8, chans: &ChanEnds) -> u8
+    requires within { reach ≤ THREADS }
+    requires still { AreStillFrom reach threads.now }
+    ensures { (k : ℕ) → k < THREADS → in_mask result k ≡ able_by chans.now (slice_index_or threads.now k fresh_thread).run }
+{
+    let mut able = no_threads();
+    for k in 0..reach {
+        let thread = &threads[k as usize];
+        if is_able(thread.run, chans) {
+            able = with_able(able, k);
+        }
+    }
+    able
+}
+
+// Whether a thread would issue if it were rested.
+fn is_able(run: Run, chans: &ChanEnds) -> bool
+    ensures { result ≡ able_by chans.now run }
+{
+    match run {
+        Run::Going => true,
+        Run::Paused(wait) => holds(wait, chans),
+        _ => false,
+    }
+}
+
+// Whether what pauses a thread holds.
+fn holds(wait: Wait, chans: &ChanEnds) -> bool
+    ensures { result ≡ holds_by chans.now wait }
+{
+    match wait {
+        Wait::Room { chan, count } => chans.has_room(chan, count),
+        Wait::Tokens { chan, count } => chans.has_tokens(chan, count),
+        Wait::PortFull { .. } | Wait::Choice => false,
+        _ => true,
+    }
+}
+
+fn waits_at(thing: Option<Thing>, run: Run) -> bool
+    ensures { result ≡ waits_at thing run }
+{
+    match run {
+        Run::Paused(wait) => are_same(thing, thing_of(wait)),
+        _ => false,
+    }
+}
+
+// Whether two threads that wait are at the same thing.
+fn are_same(one: Option<Thing>, other: Option<Thing>) -> bool
+    ensures { result ≡ are_same one other }
+{
+    match (one, other) {
+        (Some(one), Some(other)) => is_same(one, other),
+        _ => false,
+    }
+}
+
+fn is_same(one: Thing, other: Thing) -> bool
+    ensures { result ≡ is_same_thing one other }
+{
+    match (one, other) {
+        (Thing::Output { chan: a }, Thing::Output { chan: b }) => a == b,
+        (Thing::Input { chan: a }, Thing::Input { chan: b }) => a == b,
+        (Thing::Port { port: a }, Thing::Port { port: b }) => a == b,
+        (Thing::Timer { timer: a }, Thing::Timer { timer: b }) => a == b,
+        _ => false,
+    }
+}
+
+// At which thing a thread waits, where at most one may wait there.
+fn thing_of(wait: Wait) -> Option<Thing>
+    ensures { result ≡ thing_of wait }
+{
+    match wait {
+        Wait::Room { chan, .. } => Some(Thing::Output { chan }),
+        Wait::Tokens { chan, .. } => Some(Thing::Input { chan }),
+        Wait::PortFull { port } | Wait::PortEmpty { port } | Wait::PortIdle { port } => {
+            Some(Thing::Port { port })
+        }
+        Wait::Timer { timer } => Some(Thing::Timer { timer }),
+        Wait::Lock { .. } | Wait::Slaves { .. } | Wait::Choice => None,
+    }
+}
