@@ -11,3 +11,4 @@ pub mod Start
 pub mod Step
 pub mod Worked
 pub mod WorkedChannels
+pub mod WorkedWaits

@@ -3,6 +3,7 @@
 
 ghost use Rattle.step_model.specs.Worked.{WorkedIssues, WorkedWords, WorkedBranches, WorkedMemory, WorkedTraps, WorkedEnd};
 ghost use Rattle.step_model.specs.WorkedChannels.{WorkedChannels};
+ghost use Rattle.step_model.specs.WorkedWaits.{WorkedWaits, WorkedThings, WorkedLevels};
 
 /// The definitions give what was worked out by hand: what a node keeps after its first slots, for small code.
 pub fn worked_slots()
@@ -13,4 +14,7 @@ pub fn worked_slots()
     ensures traps { WorkedTraps }
     ensures end { WorkedEnd }
     ensures channels { WorkedChannels }
+    ensures waits { WorkedWaits }
+    ensures things { WorkedThings }
+    ensures levels { WorkedLevels }
 {}

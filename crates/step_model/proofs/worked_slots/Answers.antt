@@ -185,3 +185,61 @@ returns-clause-channels c = record {
     all_sent = refl;
   };
 }
+
+pub returns-clause-waits : goal.returns-clause-waits
+unfolding moves_from links_after_arrivals node_step best_from
+returns-clause-waits c = record {
+  timer_after = refl;
+  timer_equal = refl;
+  timer_before = refl;
+  timer_wrapped = refl;
+  timer_half = refl;
+  timer_less_than_half = refl;
+  timer_next_step = refl;
+  timer_without = refl;
+  full = refl;
+  not_full = refl;
+  empty = refl;
+  not_empty = refl;
+  idle = refl;
+  idle_input = refl;
+  shifts = refl;
+  transfers = refl;
+  free_lock = refl;
+  owned_lock = refl;
+  slaves_in = refl;
+  slave_goes = refl;
+  slave_halted = refl;
+  slave_paused = refl;
+  no_slaves = refl;
+  choice = refl;
+  room = refl;
+  no_room = refl;
+  four = refl;
+  three = refl;
+  control_third = refl;
+}
+
+pub returns-clause-things : goal.returns-clause-things
+unfolding moves_from links_after_arrivals node_step best_from
+returns-clause-things c = record {
+  port = refl;
+  port_empty = refl;
+  other_port = refl;
+  timer = refl;
+  other_timer = refl;
+  timer_and_port = refl;
+  counts = refl;
+  room_counts = refl;
+  sides = refl;
+  locks = refl;
+  slaves = refl;
+  choices = refl;
+}
+
+pub returns-clause-levels : goal.returns-clause-levels
+unfolding moves_from links_after_arrivals node_step best_from
+returns-clause-levels c = record {
+  driven = refl;
+  driven_low = refl;
+}
