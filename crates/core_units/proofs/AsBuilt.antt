@@ -10,7 +10,7 @@ use Rattle.xs_model.specs.declared.thread.Wait.TheVariants.{Room, Tokens, PortFu
 use Rattle.xs_model.specs.Threads.{fresh_thread}
 use Rattle.xs_model.specs.Record.{ChanRec, core_with, unused_timer, unused_sync, unused_lock, off_port, TimerRec, SyncRec, LockRec, PortRec}
 use Rattle.xs_model.specs.Waits.{holds, is_after, time_at, is_in}
-use Rattle.xs_model.specs.Picks.{is_able}
+use Rattle.xs_model.specs.Picks.{goes_or_holds}
 use Rattle.core_units.specs.Units.{IsStill}
 use Rattle.core_units.specs.Waits.{holds_by, able_by}
 
@@ -32,7 +32,7 @@ module _ (threads : List Thread) (last : List (Option ℕ)) (memory : List ℕ) 
   holds-as-built (Slaves sync) = ap (λ (s : SyncRec). list_all (λ k. is_in (get_or threads k fresh_thread).run) s.slaves) (same 7 sync unused_sync)
   holds-as-built Choice = refl
 
-  pub able-as-built : (run : Run) → is_able (record (core_with threads last memory) { chans = chans }) slot run ≡ able_by chans run
+  pub able-as-built : (run : Run) → goes_or_holds (record (core_with threads last memory) { chans = chans }) slot run ≡ able_by chans run
   able-as-built Free = refl
   able-as-built Unstarted = refl
   able-as-built AtSync = refl

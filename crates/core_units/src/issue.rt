@@ -21,8 +21,8 @@ impl Units {
     /// It answers whether channel ends may have changed. See docs/MACHINE.md.
     pub fn issue(&mut self, program: &Program, slot: u32, out: &mut Emissions) -> bool
         requires room { length out.old.events ≤ 72 }
-        ensures units { (at : Setting) → at.id ≡ program.now.id → at.slot ≡ slot → self.new ≡ (issued program.now.code at self.old).core }
-        ensures events { (at : Setting) → at.id ≡ program.now.id → at.slot ≡ slot → out.new ≡ and_happened out.old slot (issued program.now.code at self.old).happened }
+        ensures units { (here : Setting) → here.id ≡ program.now.id → here.slot ≡ slot → self.new ≡ (issued program.now.code here self.old).core }
+        ensures events { (here : Setting) → here.id ≡ program.now.id → here.slot ≡ slot → out.new ≡ and_happened out.old slot (issued program.now.code here self.old).happened }
         ensures chans { result ≡ false → self.new.chans ≡ self.old.chans }
     {
         match self.picked(slot) {
@@ -35,8 +35,8 @@ impl Units {
     fn issue_by(&mut self, k: u8, program: &Program, slot: u32, out: &mut Emissions) -> bool
         requires thread { k < THREADS }
         requires room { length out.old.events ≤ 72 }
-        ensures units { (at : Setting) → at.id ≡ program.now.id → at.slot ≡ slot → self.new ≡ (issued_by program.now.code at self.old (Some k)).core }
-        ensures events { (at : Setting) → at.id ≡ program.now.id → at.slot ≡ slot → out.new ≡ and_happened out.old slot (issued_by program.now.code at self.old (Some k)).happened }
+        ensures units { (here : Setting) → here.id ≡ program.now.id → here.slot ≡ slot → self.new ≡ (issued_by program.now.code here self.old (Some k)).core }
+        ensures events { (here : Setting) → here.id ≡ program.now.id → here.slot ≡ slot → out.new ≡ and_happened out.old slot (issued_by program.now.code here self.old (Some k)).happened }
         ensures chans { result ≡ false → self.new.chans ≡ self.old.chans }
     {
         self.begin(k, slot);
@@ -87,7 +87,7 @@ impl Units {
         requires goes { Goes self.old k }
         requires range { InRange ins }
         requires built { IsTrue (built ins) }
-        ensures row { (at : Setting) → at.id ≡ id → Ends result self.old self.new (effect at self.old k ins) }
+        ensures row { (here : Setting) → here.id ≡ id → Ends result self.old self.new (effect here self.old k ins) }
         ensures chans { is_on_resources ins ≡ false → self.new.chans ≡ self.old.chans }
     {
         match ins {

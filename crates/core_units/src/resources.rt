@@ -10,7 +10,7 @@ ghost use Rattle.net_model.specs.Chans.{chan_named, free_chan, put_token, check_
 ghost use Rattle.chan_ends.specs.Ends.{with_got};
 ghost use Rattle.step_model.specs.Effect.{Setting, Effect, Pause, Trap};
 ghost use Rattle.step_model.specs.Effect.{goes_on};
-ghost use Rattle.step_model.specs.ResourceRows.{resources_row, resource_got, on_named, room, tokens, never, unused, built_of_kind};
+ghost use Rattle.step_model.specs.ResourceRows.{resources_row, resource_got, on_named, room, tokens, no_wait, takes_nothing, built_of_kind};
 ghost use Rattle.core_units.specs.Units.{Ends, Goes};
 ghost use Rattle.core_units.specs.Found.{name_of_got};
 
@@ -30,7 +30,7 @@ impl Units {
         requires goes { Goes self.old k }
         requires range { ResourcesInRange ins }
         requires built { IsTrue (is_built (row_of_resources ins)) }
-        ensures row { (at : Setting) → at.id ≡ id → Ends result self.old self.new (resources_row at self.old k ins) }
+        ensures row { (here : Setting) → here.id ≡ id → Ends result self.old self.new (resources_row here self.old k ins) }
     {
         let thread = &self.threads[k as usize];
         match ins {
@@ -86,7 +86,7 @@ impl Units {
     fn set_dest(&mut self, id: u16, k: u8, name: u32, dest: u32) -> Outcome
         requires thread { k < THREADS }
         requires goes { Goes self.old k }
-        ensures row { Ends result self.old self.new (on_named self.old k name never (take_dest dest) unused (chan_named id name)) }
+        ensures row { Ends result self.old self.new (on_named self.old k name no_wait (take_dest dest) takes_nothing (chan_named id name)) }
     {
         match chan_named(id, name) {
             None => illegal(name),
@@ -104,7 +104,7 @@ impl Units {
     fn put(&mut self, id: u16, k: u8, name: u32, token: Token) -> Outcome
         requires thread { k < THREADS }
         requires goes { Goes self.old k }
-        ensures row { Ends result self.old self.new (on_named self.old k name (room 1) (put_token token) unused (chan_named id name)) }
+        ensures row { Ends result self.old self.new (on_named self.old k name (room 1) (put_token token) takes_nothing (chan_named id name)) }
     {
         match chan_named(id, name) {
             None => illegal(name),
@@ -123,7 +123,7 @@ impl Units {
     fn check(&mut self, id: u16, k: u8, name: u32, value: u32) -> Outcome
         requires thread { k < THREADS }
         requires goes { Goes self.old k }
-        ensures row { Ends result self.old self.new (on_named self.old k name (tokens 1) (check_token value) unused (chan_named id name)) }
+        ensures row { Ends result self.old self.new (on_named self.old k name (tokens 1) (check_token value) takes_nothing (chan_named id name)) }
     {
         match chan_named(id, name) {
             None => illegal(name),

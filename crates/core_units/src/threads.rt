@@ -3,7 +3,7 @@ ghost use Rattle.std.specs.Prelude.{◌≡◌, ◌<◌, IsTrue};
 ghost use Rattle.xs_base.specs.declared.numbers.TheConstants.{THREADS};
 ghost use Rattle.xs_instructions.specs.Rows.{is_built};
 ghost use Rattle.xs_instructions.specs.Operands.{row_of_threads};
-ghost use Rattle.step_model.specs.Effect.{after_it};
+ghost use Rattle.step_model.specs.Effect.{Setting, after_it};
 ghost use Rattle.step_model.specs.ThreadRows.{threads_row};
 ghost use Rattle.core_units.specs.Units.{Ends, Goes};
 
@@ -17,7 +17,7 @@ impl Units {
         requires thread { k < THREADS }
         requires goes { Goes self.old k }
         requires built { IsTrue (is_built (row_of_threads ins)) }
-        ensures row { Ends result self.old self.new (threads_row self.old k ins) }
+        ensures row { (here : Setting) → Ends result self.old self.new (threads_row here self.old k ins) }
         ensures chans { self.new.chans ≡ self.old.chans }
     {
         match ins {

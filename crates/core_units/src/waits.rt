@@ -4,7 +4,6 @@ ghost use Rattle.std.specs.Prelude.{◌≡◌, ℕ, ◌<◌, ◌≤◌, slice_in
 ghost use Rattle.std.specs.List.{list_any};
 ghost use Rattle.xs_base.specs.declared.numbers.TheConstants.{THREADS};
 ghost use Rattle.xs_model.specs.Threads.{fresh_thread};
-ghost use Rattle.xs_model.specs.Record.{thread_of};
 ghost use Rattle.xs_model.specs.Waits.{thing_of, waits_at, are_same, is_same_thing, is_waited_at};
 ghost use Rattle.xs_model.specs.Picks.{is_able, picked};
 ghost use Rattle.thread_slots.specs.Able.{in_mask};
@@ -27,7 +26,7 @@ impl Units {
 
     // The threads that may issue but for the four slots of rest: bit k for thread k.
     fn able(&self, _slot: u32) -> u8
-        ensures { (k : ℕ) → k < THREADS → in_mask result k ≡ is_able self.now _slot (thread_of self.now k).run }
+        ensures { (k : ℕ) → k < THREADS → in_mask result k ≡ is_able self.now k _slot }
     {
         able_of(&self.threads, self.reach, &self.chans)
     }

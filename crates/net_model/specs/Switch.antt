@@ -15,12 +15,11 @@ use Rattle.xs_model.specs.Waits.{has_room}
 use Rattle.net_model.specs.Ways.{Way, Here, Behind, chan_of_dest, way_to}
 use Rattle.net_model.specs.Links.{may_send}
 
--- what the switch knows of its node's plan: the id, for each bit of an id the link ends that lead on, and the gaps
--- of the link ends in slots
+-- what the switch knows of its node's plan
 pub record Routes : Type 0 where
   pub id : NodeId
-  pub ways : List ℕ
-  pub gaps : List ℕ
+  pub ways : List ℕ  -- 16: for each bit of an id, the link ends that lead on, as a mask
+  pub gaps : List ℕ  -- 8: for each link end its gap in slots, 0 where there is no such link end
 
 -- ---- The inputs and what they hold
 

@@ -8,12 +8,12 @@ use Rattle.xs_model.specs.Words.{word_sum}
 use Rattle.xs_model.specs.Threads.{register, with_register}
 use Rattle.xs_model.specs.Record.{CoreRec, thread_of, with_thread}
 
--- where an instruction is issued: the id of the node, the slot, what the pins show by port, and which channel ends the
--- switch is at work with
+-- where an instruction is issued: the id of the node, the slot, what the pins show from outside by port, and which
+-- channel ends the switch is at work with
 pub record Setting : Type 0 where
   pub id : NodeId
   pub slot : Slot
-  pub levels : List Word
+  pub outside : List Word
   pub is_busy : ChanNumber → Bool
 
 -- how an issue ends: the core after it, and what happened

@@ -38,19 +38,19 @@ resource_got id core k d kind =
 -- ---- Rows on a channel end
 
 -- where a thread waits at a channel end that has no room for so many tokens, or that so many have not come to; and
--- where a row never waits
+-- for a row that never waits, where nobody looks
 abbrev pub room : ℕ → ChanNumber → Wait
 room count c = Room c count
 
 abbrev pub tokens : ℕ → ChanNumber → Wait
 tokens count c = Tokens c count
 
-abbrev pub never : ChanNumber → Wait
-never c = Choice
+abbrev pub no_wait : ChanNumber → Wait
+no_wait c = Choice
 
 -- what a thread does with the word that it found: nothing
-abbrev pub unused : Word → Thread → Thread
-unused word th = th
+abbrev pub takes_nothing : Word → Thread → Thread
+takes_nothing word th = th
 
 -- what is found at channel end c, which the word `name` names: the thread takes the word and goes on; or it pauses,
 -- and traps where another one is paused there; or it is refused
@@ -66,11 +66,11 @@ on_named core k name wait does takes (Some c) = found_there core k name c (wait 
 -- A row on the channel end that register s names: where its thread would wait, what it does there, and what the thread
 -- takes of it.
 abbrev pub on_chan : Setting → CoreRec → ThreadNumber → Register → (ChanNumber → Wait) → (ChanRec → Found) → (Word → Thread → Thread) → Effect
-on_chan at core k s wait does takes = on_named core k (reg core k s) wait does takes (chan_named at.id (reg core k s))
+on_chan here core k s wait does takes = on_named core k (reg core k s) wait does takes (chan_named here.id (reg core k s))
 
 abbrev pub resources_row : Setting → CoreRec → ThreadNumber → ResIns → Effect
-resources_row at core k (resources.Getr d i) = Done (resource_got at.id core k d i) []
-resources_row at core k (resources.Setd s x) = on_chan at core k s never (take_dest (reg core k x)) unused
-resources_row at core k (resources.OutctImm s i) = on_chan at core k s (room 1) (put_token (Ctrl i)) unused
-resources_row at core k (resources.ChkctImm s i) = on_chan at core k s (tokens 1) (check_token i) unused
-resources_row at core k _ = Unbuilt
+resources_row here core k (resources.Getr d i) = Done (resource_got here.id core k d i) []
+resources_row here core k (resources.Setd s x) = on_chan here core k s no_wait (take_dest (reg core k x)) takes_nothing
+resources_row here core k (resources.OutctImm s i) = on_chan here core k s (room 1) (put_token (Ctrl i)) takes_nothing
+resources_row here core k (resources.ChkctImm s i) = on_chan here core k s (tokens 1) (check_token i) takes_nothing
+resources_row here core k _ = Unbuilt

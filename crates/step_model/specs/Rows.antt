@@ -13,9 +13,9 @@ use Rattle.step_model.specs.ResourceRows.{resources_row}
 
 -- what an instruction does where thread k issues it
 abbrev pub effect : Setting → CoreRec → ThreadNumber → Instr → Effect
-effect at core k (Words ins) = words_row core k ins
-effect at core k (Memory ins) = memory_row core k ins
-effect at core k (Flow ins) = flow_row core k ins
-effect at core k (Kernel ins) = kernel_row core k ins
-effect at core k (Threads ins) = threads_row core k ins
-effect at core k (Resources ins) = resources_row at core k ins
+effect here core k (Words ins) = words_row core k ins
+effect here core k (Memory ins) = memory_row core k ins
+effect here core k (Flow ins) = flow_row core k ins
+effect here core k (Kernel ins) = kernel_row core k ins
+effect here core k (Threads ins) = threads_row here core k ins
+effect here core k (Resources ins) = resources_row here core k ins

@@ -17,7 +17,7 @@ use Rattle.xs_model.specs.Entry.{trapped, return_address}
 use Rattle.xs_instructions.specs.declared.instr.Instr.{Instr}
 use Rattle.xs_instructions.specs.Code.{is_code_place, code_at}
 use Rattle.net_model.specs.Links.{arrive}
-use Rattle.net_model.specs.Switch.{Routes, moves, chan_is_busy}
+use Rattle.net_model.specs.Switch.{moves, chan_is_busy}
 use Rattle.step_model.specs.Fixed.{Fixed}
 use Rattle.step_model.specs.Effect.{Setting, Effect, Done, Pause, Trap, Gone, Unbuilt}
 use Rattle.step_model.specs.Rows.{effect}
@@ -60,22 +60,22 @@ settled code core k Unbuilt = quietly core
 
 -- the instruction at the thread's pc is executed, or none stands there
 abbrev pub executed : List Instr → Setting → CoreRec → ThreadNumber → Option Instr → Issued
-executed code at core k None = trap code core k ILLEGAL_PC (thread_of core k).pc
-executed code at core k (Some ins) = settled code core k (effect at core k ins)
+executed code here core k None = trap code core k ILLEGAL_PC (thread_of core k).pc
+executed code here core k (Some ins) = settled code core k (effect here core k ins)
 
 -- the slot is thread k's last issue now, and it goes: its pause, if it was paused, is over
 abbrev pub issue_begins : CoreRec → Slot → ThreadNumber → CoreRec
 issue_begins core slot k = with_run (record core { last = slice_set core.last k (Some slot) }) k Going
 
 abbrev pub issued_by : List Instr → Setting → CoreRec → Option ThreadNumber → Issued
-issued_by code at core None = quietly core
-issued_by code at core (Some k) =
-    let core' = issue_begins core at.slot k in
-    executed code at core' k (code_at code (thread_of core' k).pc)
+issued_by code here core None = quietly core
+issued_by code here core (Some k) =
+    let core' = issue_begins core here.slot k in
+    executed code here core' k (code_at code (thread_of core' k).pc)
 
 -- at most one issue, by the thread that is picked
 abbrev pub issued : List Instr → Setting → CoreRec → Issued
-issued code at core = issued_by code at core (picked core at.slot)
+issued code here core = issued_by code here core (picked core here.slot)
 
 -- ---- The four phases of a slot. Phase 1 is `arrive`, and phase 3 `moves`.
 
@@ -83,15 +83,12 @@ issued code at core = issued_by code at core (picked core at.slot)
 abbrev pub ports_step : Slot → PinView → AtWork → AtWork
 ports_step slot pins m = m
 
-abbrev pub routes_of : Fixed → Routes
-routes_of fixed = record { id = fixed.id; ways = fixed.ways; gaps = fixed.gaps }
-
 -- where an instruction is issued in a slot
 abbrev pub setting_of : Fixed → Slot → PinView → NodeRec → Setting
 setting_of fixed slot pins rec = record {
-  id = fixed.id;
+  id = fixed.routes.id;
   slot = slot;
-  levels = pins.level;
+  outside = pins.level;
   is_busy = λ c. chan_is_busy rec c;
 }
 
@@ -116,9 +113,9 @@ abbrev pub note_levels : PinView → AtWork → AtWork
 note_levels pins m = record m { rec = record m.rec { levels = levels_of m.rec.core.ports pins.level } }
 
 -- the node in a slot, after its four phases
-abbrev pub worked : Fixed → NodeRec → Slot → Arrivals → PinView → AtWork
-worked fixed rec slot arrivals pins =
-    note_levels pins (issue fixed slot pins (moves (routes_of fixed) slot (ports_step slot pins (arrive slot arrivals (slot_begins rec)))))
+abbrev pub after_phases : Fixed → NodeRec → Slot → Arrivals → PinView → AtWork
+after_phases fixed rec slot arrivals pins =
+    note_levels pins (issue fixed slot pins (moves fixed.routes slot (ports_step slot pins (arrive slot arrivals (slot_begins rec)))))
 
 -- a node after a slot, and what the slot gave to the outside
 pub record Stepped : Type 0 where
@@ -128,4 +125,4 @@ pub record Stepped : Type 0 where
 -- one slot of a node: arrivals, ports, switch, and at most one issue
 unfoldable pub node_step : Fixed → NodeRec → Slot → Arrivals → PinView → Stepped
 node_step fixed rec slot arrivals pins =
-    let m = worked fixed rec slot arrivals pins in record { rec = m.rec; emitted = emitted_in slot m }
+    let m = after_phases fixed rec slot arrivals pins in record { rec = m.rec; emitted = emitted_in slot m }

@@ -22,7 +22,7 @@ use Rattle.step_model.specs.Step.{Stepped, Issued, trap, node_step}
 
 -- a node of this code, with no network
 abbrev pub node_of_code : List Instr → Fixed
-node_of_code code = record { id = 0; code = code; ways = replicate 16 0; gaps = replicate 8 0 }
+node_of_code code = record { code = code; routes = record { id = 0; ways = replicate 16 0; gaps = replicate 8 0 } }
 
 -- nothing comes from outside
 abbrev pub no_arrivals : Arrivals

@@ -27,7 +27,7 @@ use Rattle.step_model.specs.Worked.{no_arrivals, idle, start, first, start_as, w
 
 -- node 3, with this code
 abbrev pub node_3 : List Instr → Fixed
-node_3 code = record { id = 3; code = code; ways = replicate 16 1; gaps = 4 ∷ replicate 7 0 }
+node_3 code = record { code = code; routes = record { id = 3; ways = replicate 16 1; gaps = 4 ∷ replicate 7 0 } }
 
 abbrev pub quiet_slot : List Instr → NodeRec → ℕ → Stepped
 quiet_slot code rec slot = node_step (node_3 code) rec slot no_arrivals low_pins

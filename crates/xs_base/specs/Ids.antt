@@ -7,7 +7,7 @@ use Rattle.xs_base.specs.declared.numbers.TheConstants.{CHAN_END_KIND}
 abbrev pub chan_id : NodeId → ChanNumber → Identifier
 chan_id node n = node * 65536 + n * 256 + CHAN_END_KIND
 
--- the resource with this number, of a kind that is on no other node: no port and no channel end
+-- the resource with this number, of a kind whose identifiers do not name their node: neither port nor channel end
 abbrev pub res_id : ℕ → Kind → Identifier
 res_id number kind = number * 256 + kind
 

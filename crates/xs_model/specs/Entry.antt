@@ -19,14 +19,14 @@ return_address number th = if number == KERNEL_CALL then word_sum th.pc 4 else t
 abbrev pub handler_address : ℕ → Thread → Word
 handler_address number th = if number == KERNEL_CALL then word_sum th.kep 64 else th.kep
 
--- the thread in its handler for a trap with number et and data ed, to return to next
+-- the thread in its handler for a trap with this number and data, to return to next
 abbrev pub trapped : Thread → ℕ → Word → Word → Thread
-trapped th et ed next = record th {
+trapped th number value next = record th {
   spc = next;
   ssr = th.sr;
   sed = th.ed;
-  et = et;
-  ed = ed;
+  et = number;
+  ed = value;
   sr = status_in_trap th.sr;
-  pc = handler_address et th;
+  pc = handler_address number th;
 }

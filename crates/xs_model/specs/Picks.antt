@@ -6,21 +6,24 @@ use Rattle.xs_model.specs.declared.thread.Run.TheVariants.{Going, Paused}
 use Rattle.xs_model.specs.Record.{CoreRec, thread_of, last_of}
 use Rattle.xs_model.specs.Waits.{holds}
 
--- four slots lie between two issues of one thread
+-- a thread may issue in the fourth slot after its last issue, and later
 abbrev pub is_rested : Option Slot → Slot → Bool
 is_rested None slot = true
 is_rested (Some last) slot = nat_le (last + 4) slot
 
--- whether a thread would issue if it were rested: it is going, or what pauses it holds. That a paused thread may take
--- an event is not built yet.
-abbrev pub is_able : CoreRec → Slot → Run → Bool
-is_able core slot Going = true
-is_able core slot (Paused wait) = holds core slot wait
-is_able core slot _ = false
+-- whether a thread goes, or what pauses it holds
+abbrev pub goes_or_holds : CoreRec → Slot → Run → Bool
+goes_or_holds core slot Going = true
+goes_or_holds core slot (Paused wait) = holds core slot wait
+goes_or_holds core slot _ = false
+
+-- whether a thread would issue if it were rested. That a paused thread may take an event is not built yet.
+abbrev pub is_able : CoreRec → ThreadNumber → Slot → Bool
+is_able core k slot = goes_or_holds core slot (thread_of core k).run
 
 -- whether a thread may issue in a slot
 abbrev pub eligible : CoreRec → ThreadNumber → Slot → Bool
-eligible core k slot = is_able core slot (thread_of core k).run && is_rested (last_of core k) slot
+eligible core k slot = is_able core k slot && is_rested (last_of core k) slot
 
 -- never is before every slot
 abbrev pub is_earlier : Option Slot → Option Slot → Bool

@@ -17,7 +17,7 @@ pub record ChanRec : Type 0 where
 abbrev pub unused_chan : ChanRec
 unused_chan = record { used = false; dest = None; output = []; input = [] }
 
--- a timer: the value of its condition, and whether it has the condition
+-- a timer: whether it is in use, the value of its condition, and whether it has the condition
 pub record TimerRec : Type 0 where
   pub used : Bool
   pub value : Word
@@ -66,7 +66,8 @@ pub record TransferRec : Type 0 where
   pub bits : ℕ
   pub time : Option ℕ
 
--- a port that is on: `shift` has its bits in the order in which they leave
+-- a port: `clock` is a clock block, or None for the reference; `wanted` is the number of bits that completes a transfer,
+-- and `held` says that a sample waits to be taken; `shift` has its bits in the order in which they leave
 pub record PortRec : Type 0 where
   pub on : Bool
   pub output : Bool

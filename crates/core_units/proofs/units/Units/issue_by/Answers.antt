@@ -11,17 +11,17 @@ use Rattle.core_units.proofs.units.Units.issue_by.Goals as goal
 use Rattle.core_units.proofs.units.Units.issue_by.Goals.{After-is_on_resources}
 
 -- what the outcome makes of the thread is what the definition executes
-its_issue : (c : After-is_on_resources) (at : Setting) → at.id ≡ c.args.program.now.id → at.slot ≡ c.args.slot
+its_issue : (c : After-is_on_resources) (here : Setting) → here.id ≡ c.args.program.now.id → here.slot ≡ c.args.slot
     → settled c.args.program.now.code c.execute-outcome.new.self c.args.k (effect_of c.execute-outcome.result c.execute-outcome.new.self)
-    ≡ executed c.args.program.now.code at (issue_begins c.args.self.now at.slot c.args.k) c.args.k (code_at c.args.program.now.code (thread_of (issue_begins c.args.self.now at.slot c.args.k) c.args.k).pc)
-its_issue c at id slot =
+    ≡ executed c.args.program.now.code here (issue_begins c.args.self.now here.slot c.args.k) c.args.k (code_at c.args.program.now.code (thread_of (issue_begins c.args.self.now here.slot c.args.k) c.args.k).pc)
+its_issue c here id slot =
     let code = c.args.program.now.code in
-    let begun : c.begin.new.self ≡ issue_begins c.args.self.now at.slot c.args.k =
+    let begun : c.begin.new.self ≡ issue_begins c.args.self.now here.slot c.args.k =
     c.begin.ensures.units ∙ ap (λ t. issue_begins c.args.self.now t c.args.k) (sym slot)
     in
-    same_settled code c.args.k c.begin.new.self c.execute-outcome.new.self c.execute-outcome.result (effect at c.begin.new.self c.args.k c.in-Some.ins) (c.execute-outcome.ensures.row at (id ∙ sym c.id.ensures))
-    ∙ ap (λ ins. executed code at c.begin.new.self c.args.k ins) (sym c.in-Some.is ∙ c.at.ensures.value ∙ ap (code_at code) c.pc_of-pc.ensures)
-    ∙ ap (λ (core : CoreRec). executed code at core c.args.k (code_at code (thread_of core c.args.k).pc)) begun
+    same_settled code c.args.k c.begin.new.self c.execute-outcome.new.self c.execute-outcome.result (effect here c.begin.new.self c.args.k c.in-Some.ins) (c.execute-outcome.ensures.row here (id ∙ sym c.id.ensures))
+    ∙ ap (λ ins. executed code here c.begin.new.self c.args.k ins) (sym c.in-Some.is ∙ c.at.ensures.value ∙ ap (code_at code) c.pc_of-pc.ensures)
+    ∙ ap (λ (core : CoreRec). executed code here core c.args.k (code_at code (thread_of core c.args.k).pc)) begun
 
 pub returns-in-Some-clause-units : goal.returns-in-Some-clause-units
-returns-in-Some-clause-units c = λ at id slot. c.settle.ensures.units ∙ ap (λ (i : Issued). i.core) (its_issue c at id slot)
+returns-in-Some-clause-units c = λ here id slot. c.settle.ensures.units ∙ ap (λ (i : Issued). i.core) (its_issue c here id slot)
