@@ -1,6 +1,8 @@
 //! `Units`, what a core keeps from slot to slot but for its network.
 ghost use Rattle.std.specs.Prelude.{◌≡◌, ◌<◌, ◌↔◌, false, length, IfSome, IsErr};
+ghost use Rattle.std.specs.Borrow.{sem};
 ghost use Rattle.std.specs.Result.{result_ok};
+ghost use Rattle.core_units.specs.Lends.{LendsChans};
 ghost use Rattle.xs_base.specs.declared.numbers.TheConstants.{MEMORY_BYTES, CHAN_ENDS, THREADS};
 ghost use Rattle.xs_model.specs.Record.{first_core, free_thread, thread_of};
 ghost use Rattle.xs_model.specs.Memory.{load_word, is_word_address};
@@ -20,8 +22,7 @@ pub struct Units {
     pub(crate) reach: u8,
     pub(crate) slots: Slots,
     pub(crate) ram: Ram,
-    /// The channel ends, which the switch of the node works with too.
-    pub chans: ChanEnds,
+    pub(crate) chans: ChanEnds,
 }
 
 impl Model for Units {
@@ -51,6 +52,14 @@ impl Units {
             ram,
             chans: ChanEnds::new(id),
         }
+    }
+
+    /// The channel ends, for the switch of the node, which works with them too.
+    pub fn chans_mut(&mut self) -> &mut ChanEnds
+        ensures* writes_back { sem 𝓛 (LendsChans self.entry result) }
+        ensures value { result.now ≡ self.old.chans }
+    {
+        &mut self.chans
     }
 
     /// What a thread, 0 to 7, does.
