@@ -12,7 +12,7 @@ use Rattle.xs_base.specs.declared.entry.What.TheVariants as what
 use Rattle.serial_model.specs.Serial.{arriving, is_credit, token_entries, credit_entries}
 use Rattle.run_plan.specs.declared.track.Crossing.{Crossing}
 use Rattle.run_plan.specs.declared.track.Track.{Track}
-use Rattle.run_plan.specs.Tracks.{IsTrack, GoesOn, crossing_of, MayFollow, Later, Beside, IsInOrder, IsDueFrom, due_of, seen_of, one_if, count_of}
+use Rattle.run_plan.specs.Tracks.{IsTrack, GoesOn, crossing_of, MayFollow, Later, Beside, AreInSendingOrder, IsDueFrom, due_of, seen_of, one_if, entry_count}
 
 zero-sum : (n : ℕ) → 0 + n ≡ n
 zero-sum n = omega arith
@@ -72,7 +72,7 @@ module _ (slot delay : ℕ) where
       let eq_f : eqb (f.slot + delay) slot ≡ true = eq-eqb (f.slot + delay) slot (omega (arith, same)) in
       rw (eq, eq_f, credit) refl
 
-  seen-now : (s : ℕ) (w : What) (es : List Entry) → s + delay ≡ slot → AllByRecursion (MayFollow (at s w)) es → IsInOrder es
+  seen-now : (s : ℕ) (w : What) (es : List Entry) → s + delay ≡ slot → AllByRecursion (MayFollow (at s w)) es → AreInSendingOrder es
       → crossing_of (arriving slot delay (at s w ∷ es)) ≡ seen_of (due_of slot delay (Some (at s w))) (due_of slot delay (slice_get es 0))
   seen-now s what.Credit es now follow order =
       let eq : eqb (s + delay) slot ≡ true = eq-eqb (s + delay) slot now in
@@ -83,7 +83,7 @@ module _ (slot delay : ℕ) where
       rw eq refl
   seen-now s (what.Token t) (f ∷ fs) now follow order = seen-beside t s f fs now follow.0 order.0
 
-  seen-first : (s : ℕ) (w : What) (es : List Entry) → slot ≤ s + delay → AllByRecursion (MayFollow (at s w)) es → IsInOrder es → (slot < s + delay) ⊎ (s + delay ≤ slot)
+  seen-first : (s : ℕ) (w : What) (es : List Entry) → slot ≤ s + delay → AllByRecursion (MayFollow (at s w)) es → AreInSendingOrder es → (slot < s + delay) ⊎ (s + delay ≤ slot)
       → crossing_of (arriving slot delay (at s w ∷ es)) ≡ seen_of (due_of slot delay (Some (at s w))) (due_of slot delay (slice_get es 0))
   seen-first s w es h follow order (inl later) =
       let ne : eqb (s + delay) slot ≡ false = ne_eqb (s + delay) slot (λ same. omega arith) in
@@ -91,7 +91,7 @@ module _ (slot delay : ℕ) where
       rw (ne, none) refl
   seen-first s w es h follow order (inr now) = seen-now s w es (omega arith) follow order
 
-  pub seen-at : (first : ℕ) (es : List Entry) → IsDueFrom slot delay first es → IsInOrder es
+  pub seen-at : (first : ℕ) (es : List Entry) → IsDueFrom slot delay first es → AreInSendingOrder es
       → crossing_of (arriving slot delay es) ≡ seen_of (due_of slot delay (slice_get es first)) (due_of slot delay (slice_get es (first + 1)))
   seen-at zero [] due order = refl
   seen-at zero (e ∷ es) due order = seen-first e.slot e.what es due.0 order.0 order.1 (cases_lt slot (e.slot + delay))
@@ -105,7 +105,7 @@ module _ (slot delay : ℕ) where
   later-due es h = all-map IsLater (λ (e : Entry). slot + 1 ≤ e.slot + delay) (λ e l. omega (arith, l)) es h
 
   next-beside : (t : Token) (s : ℕ) (f : Entry) (fs : List Entry) → s + delay ≡ slot → MayFollow (at s (what.Token t)) f → AllByRecursion (MayFollow f) fs
-      → IsDueFrom (slot + 1) delay (count_of (seen_of (due_of slot delay (Some (at s (what.Token t)))) (due_of slot delay (Some f)))) (at s (what.Token t) ∷ (f ∷ fs))
+      → IsDueFrom (slot + 1) delay (entry_count (seen_of (due_of slot delay (Some (at s (what.Token t)))) (due_of slot delay (Some f)))) (at s (what.Token t) ∷ (f ∷ fs))
   next-beside t s f fs now (Later l) order =
       let eq : eqb (s + delay) slot ≡ true = eq-eqb (s + delay) slot now in
       let ne : eqb (f.slot + delay) slot ≡ false = ne_eqb (f.slot + delay) slot (λ same. omega (arith, l)) in
@@ -117,8 +117,8 @@ module _ (slot delay : ℕ) where
       let rest = later-due fs (after-credit f fs (omega (arith, same)) credit order) in
       rw (eq, eq_f) (omega arith, (omega (arith, same), rest))
 
-  next-now : (s : ℕ) (w : What) (es : List Entry) → s + delay ≡ slot → AllByRecursion (MayFollow (at s w)) es → IsInOrder es
-      → IsDueFrom (slot + 1) delay (count_of (seen_of (due_of slot delay (Some (at s w))) (due_of slot delay (slice_get es 0)))) (at s w ∷ es)
+  next-now : (s : ℕ) (w : What) (es : List Entry) → s + delay ≡ slot → AllByRecursion (MayFollow (at s w)) es → AreInSendingOrder es
+      → IsDueFrom (slot + 1) delay (entry_count (seen_of (due_of slot delay (Some (at s w))) (due_of slot delay (slice_get es 0)))) (at s w ∷ es)
   next-now s what.Credit es now follow order =
       let eq : eqb (s + delay) slot ≡ true = eq-eqb (s + delay) slot now in
       let rest = later-due es (after-credit (at s what.Credit) es (omega arith) refl follow) in
@@ -128,16 +128,16 @@ module _ (slot delay : ℕ) where
       rw eq (omega arith, tt)
   next-now s (what.Token t) (f ∷ fs) now follow order = next-beside t s f fs now follow.0 order.0
 
-  next-first : (s : ℕ) (w : What) (es : List Entry) → slot ≤ s + delay → AllByRecursion (MayFollow (at s w)) es → IsInOrder es → (slot < s + delay) ⊎ (s + delay ≤ slot)
-      → IsDueFrom (slot + 1) delay (count_of (seen_of (due_of slot delay (Some (at s w))) (due_of slot delay (slice_get es 0)))) (at s w ∷ es)
+  next-first : (s : ℕ) (w : What) (es : List Entry) → slot ≤ s + delay → AllByRecursion (MayFollow (at s w)) es → AreInSendingOrder es → (slot < s + delay) ⊎ (s + delay ≤ slot)
+      → IsDueFrom (slot + 1) delay (entry_count (seen_of (due_of slot delay (Some (at s w))) (due_of slot delay (slice_get es 0)))) (at s w ∷ es)
   next-first s w es h follow order (inl later) =
       let ne : eqb (s + delay) slot ≡ false = ne_eqb (s + delay) slot (λ same. omega arith) in
       let rest = later-due es (after-later (at s w) es later follow) in
       rw ne (omega arith, rest)
   next-first s w es h follow order (inr now) = next-now s w es (omega arith) follow order
 
-  pub next-at : (first : ℕ) (es : List Entry) → IsDueFrom slot delay first es → IsInOrder es
-      → IsDueFrom (slot + 1) delay (first + count_of (seen_of (due_of slot delay (slice_get es first)) (due_of slot delay (slice_get es (first + 1))))) es
+  pub next-at : (first : ℕ) (es : List Entry) → IsDueFrom slot delay first es → AreInSendingOrder es
+      → IsDueFrom (slot + 1) delay (first + entry_count (seen_of (due_of slot delay (slice_get es first)) (due_of slot delay (slice_get es (first + 1))))) es
   next-at zero [] due order = tt
   next-at zero (e ∷ es) due order = rw zero-sum (next-first e.slot e.what es due.0 order.0 order.1 (cases_lt slot (e.slot + delay)))
   next-at (suc k) [] due order = absurd due
@@ -150,7 +150,7 @@ due-append slot delay zero es new h k = all-append (λ (e : Entry). slot ≤ e.s
 due-append slot delay (suc first) [] new h k = absurd h
 due-append slot delay (suc first) (e ∷ es) new h k = (h.0, due-append slot delay first es new h.1 k)
 
-pub order-append : (slot : ℕ) (es new : List Entry) → IsInOrder es → AllByRecursion (λ (e : Entry). e.slot < slot) es → AllByRecursion (λ (e : Entry). e.slot ≡ slot) new → IsInOrder new → IsInOrder (es ++ new)
+pub order-append : (slot : ℕ) (es new : List Entry) → AreInSendingOrder es → AllByRecursion (λ (e : Entry). e.slot < slot) es → AllByRecursion (λ (e : Entry). e.slot ≡ slot) new → AreInSendingOrder new → AreInSendingOrder (es ++ new)
 order-append slot [] new order before at order_new = order_new
 order-append slot (e ∷ es) new order before at order_new = (
   all-append (MayFollow e) es new order.0 (all-map (λ (f : Entry). f.slot ≡ slot) (MayFollow e) (λ f same. Later (omega (arith, before.0, same))) new at),
@@ -158,7 +158,7 @@ order-append slot (e ∷ es) new order before at order_new = (
 )
 
 -- what a slot sends is in order
-pub sent-order : (slot : ℕ) (token : Option Token) (credit : Bool) → IsInOrder (token_entries slot token ++ credit_entries slot credit)
+pub sent-order : (slot : ℕ) (token : Option Token) (credit : Bool) → AreInSendingOrder (token_entries slot token ++ credit_entries slot credit)
 sent-order slot None false = tt
 sent-order slot None true = (tt, tt)
 sent-order slot (Some t) false = (tt, tt)
@@ -174,11 +174,11 @@ one_if-most : (b : Bool) → one_if b ≤ 1
 one_if-most false = omega arith
 one_if-most true = omega arith
 
-pub count-most : (c : Crossing) → count_of c ≤ 2
+pub count-most : (c : Crossing) → entry_count c ≤ 2
 count-most c = omega (arith, one_if-most (is_some c.token), one_if-most c.credit)
 
 -- a directed link that goes on to the next slot
-module _ (slot : ℕ) (track : Track) (is : IsTrack slot track) (delayed : 1 ≤ track.delay) (token : Option Token) (credit : Bool) where
+module _ (slot : ℕ) (track : Track) (is : IsTrack slot track) (token : Option Token) (credit : Bool) where
   abbrev sent : List Entry
   sent = token_entries slot token ++ credit_entries slot credit
 
@@ -189,20 +189,20 @@ module _ (slot : ℕ) (track : Track) (is : IsTrack slot track) (delayed : 1 ≤
   at_sent = sent-at slot token credit
 
   abbrev first : ℕ
-  first = track.first + count_of track.arrived
+  first = track.first + entry_count track.arrived
 
   due_next : IsDueFrom (slot + 1) track.delay first track.history.entries
   due_next =
       let e = is.arrived ∙ seen-at slot track.delay track.first track.history.entries is.due is.in_order in
-      subst (λ (c : Crossing). IsDueFrom (slot + 1) track.delay (track.first + count_of c) track.history.entries) (sym e)
+      subst (λ (c : Crossing). IsDueFrom (slot + 1) track.delay (track.first + entry_count c) track.history.entries) (sym e)
       (next-at slot track.delay track.first track.history.entries is.due is.in_order)
 
   due_all : IsDueFrom (slot + 1) track.delay first entries
   due_all =
       due-append (slot + 1) track.delay first track.history.entries sent due_next
-      (all-map (λ (e : Entry). e.slot ≡ slot) (λ (e : Entry). slot + 1 ≤ e.slot + track.delay) (λ e same. omega (arith, same, delayed)) sent at_sent)
+      (all-map (λ (e : Entry). e.slot ≡ slot) (λ (e : Entry). slot + 1 ≤ e.slot + track.delay) (λ e same. omega (arith, same, is.delayed)) sent at_sent)
 
-  order_all : IsInOrder entries
+  order_all : AreInSendingOrder entries
   order_all = order-append slot track.history.entries sent is.in_order is.before at_sent (sent-order slot token credit)
 
   before_all : AllByRecursion (λ (e : Entry). e.slot < slot + 1) entries
@@ -222,7 +222,9 @@ module _ (slot : ℕ) (track : Track) (is : IsTrack slot track) (delayed : 1 ≤
         delay = delay;
         entries = is_entries;
         next = record {
-          in_order = subst IsInOrder (sym is_entries) order_all;
+          from_end = omega (arith, from_end, is.from_end);
+          delayed = omega (arith, delay, is.delayed);
+          in_order = subst AreInSendingOrder (sym is_entries) order_all;
           before = subst (AllByRecursion (λ (e : Entry). e.slot < slot + 1)) (sym is_entries) before_all;
           few = omega (arith, is_first, is.few, count-most track.arrived);
           due =

@@ -2,3 +2,4 @@ pub mod Due
 pub mod Through
 pub mod Systems
 pub mod Starts
+pub mod Arrivals

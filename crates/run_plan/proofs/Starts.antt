@@ -8,10 +8,11 @@ use Rattle.sys_plan.specs.Plan.{PlanRec, Direction, IsPlan, IsLink, WaysLead, Al
 use Rattle.serial_model.specs.Serial.{system_at_start, nodes_at_start, serial}
 use Rattle.run_plan.specs.declared.track.Track.{Track}
 use Rattle.run_plan.specs.declared.seat.Seat.{Seat}
-use Rattle.run_plan.specs.Seats.{IsBelow, IsSeat}
+use Rattle.run_plan.specs.Incoming.{IsBelow}
+use Rattle.run_plan.specs.Seats.{IsSeat}
 use Rattle.run_plan.specs.Passes.{IsReadyTrack}
-use Rattle.run_plan.specs.Run.{AllPlay, AllCarry, IsSystem, IsRun}
-use Rattle.run_plan.specs.Starts.{Starts, AllStart, track_at_start, tracks_at_start}
+use Rattle.run_plan.specs.Run.{AllPlay, AllCarry, IsSystem, AreReady}
+use Rattle.run_plan.specs.Starts.{StartsAs, AllStart, track_at_start, tracks_at_start}
 use Rattle.run_plan.proofs.Systems.{play-length, carry-length}
 
 serial-start : (plan : PlanRec) → serial plan 0 ≡ system_at_start plan
@@ -25,8 +26,8 @@ ways-at plan n (node ∷ nodes) zero m d all h e = let same : n ≡ m = omega ar
 ways-at plan n (node ∷ nodes) (suc k) m d all h e = ways-at plan (n + 1) nodes k m d all.1 (omega arith) (omega arith)
 
 -- one more node
-pub start-more : (plan : PlanRec) (n : ℕ) (nodes : List NodePlan) (seats : List Seat) (m : ℕ) (node : NodePlan) (seat : Seat) → AllStart plan n nodes seats → m ≡ n + length nodes → Starts plan m node seat → AllStart plan n (nodes ++ node ∷ []) (seats ++ seat ∷ [])
-start-more plan n [] [] m node seat all e s = let same : m ≡ n = omega arith in (subst (λ (j : ℕ). Starts plan j node seat) same s, tt)
+pub start-more : (plan : PlanRec) (n : ℕ) (nodes : List NodePlan) (seats : List Seat) (m : ℕ) (node : NodePlan) (seat : Seat) → AllStart plan n nodes seats → m ≡ n + length nodes → StartsAs plan m node seat → AllStart plan n (nodes ++ node ∷ []) (seats ++ seat ∷ [])
+start-more plan n [] [] m node seat all e s = let same : m ≡ n = omega arith in (subst (λ (j : ℕ). StartsAs plan j node seat) same s, tt)
 start-more plan n [] (x ∷ xs) m node seat all e s = absurd all
 start-more plan n (y ∷ ys) [] m node seat all e s = absurd all
 start-more plan n (y ∷ ys) (x ∷ xs) m node seat all e s = (all.0, start-more plan (n + 1) ys xs m node seat all.1 (omega arith) s)
@@ -58,8 +59,7 @@ start-seats plan n links (y ∷ ys) [] e all = absurd all
 start-seats plan n links (y ∷ ys) (x ∷ xs) e all = (
   record {
     before = all.0.before;
-    eight = ap length all.0.incoming;
-    incoming = subst (λ (m : ℕ). AllByRecursion (IsBelow m) x.incoming) e all.0.below;
+    incoming = subst (λ (m : ℕ). AllByRecursion (IsBelow m) x.incoming.links) e all.0.below;
     more = omega (arith, all.0.keeps.rest);
   },
   start-seats plan (n + 1) links ys xs e all.1,
@@ -68,20 +68,20 @@ start-seats plan n links (y ∷ ys) (x ∷ xs) e all = (
 start-tracks : (count : ℕ) (links : List LinkPlan) → AllByRecursion (IsLink count) links → AllByRecursion (IsReadyTrack 0 count) (tracks_at_start (directions links))
 start-tracks count [] all = tt
 start-tracks count (l ∷ links) all = (
-  record { from = all.0.a; from_end = all.0.a_end; delay = all.0.least_delay; here = record { in_order = tt; before = tt; few = omega arith; due = tt; arrived = refl } },
+  record { from = all.0.a; here = record { from_end = all.0.a_end; delayed = all.0.least_delay; in_order = tt; before = tt; few = omega arith; due = tt; arrived = refl } },
   (
-    record { from = all.0.b; from_end = all.0.b_end; delay = all.0.least_delay; here = record { in_order = tt; before = tt; few = omega arith; due = tt; arrived = refl } },
+    record { from = all.0.b; here = record { from_end = all.0.b_end; delayed = all.0.least_delay; in_order = tt; before = tt; few = omega arith; due = tt; arrived = refl } },
     start-tracks count links all.1,
   ),
 )
 
-pub run-start : (plan : PlanRec) (seats : List Seat) (tracks : List Track) → IsPlan plan → AllStart plan 0 plan.nodes seats → tracks ≡ tracks_at_start (directions plan.links) → IsRun plan 0 seats tracks
+pub run-start : (plan : PlanRec) (seats : List Seat) (tracks : List Track) → IsPlan plan → AllStart plan 0 plan.nodes seats → tracks ≡ tracks_at_start (directions plan.links) → AreReady plan 0 seats tracks
 run-start plan seats tracks is all e =
     let ds = directions plan.links in
     let play = start-play plan 0 plan.nodes seats all in
     let count = play-length plan 0 0 plan.nodes seats (nodes_at_start plan 0 plan.nodes) (map (λ (node : NodePlan). []) plan.nodes) play in
     let links = carry-length ds (tracks_at_start ds) (map (λ (d : Direction). []) ds) (start-carry ds) in
-    subst (IsRun plan 0 seats) (sym e) (record {
+    subst (AreReady plan 0 seats) (sym e) (record {
       system = subst (IsSystem plan 0 seats (tracks_at_start ds)) (sym (serial-start plan)) (record { play = play; carry = start-carry ds });
       seats = start-seats plan 0 (length (tracks_at_start ds)) plan.nodes seats (sym links) all;
       tracks = subst (λ (m : ℕ). AllByRecursion (IsReadyTrack 0 m) (tracks_at_start ds)) (sym count) (start-tracks (length plan.nodes) plan.links is.links);

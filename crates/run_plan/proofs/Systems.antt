@@ -1,6 +1,7 @@
 -- The nodes and directed links at work, from slot to slot, are those of the serial machine.
 use Rattle.std.proofs.Common.{◌≡◌, ℕ, zero, suc, ◌+◌, ◌<◌, Option, Some, None, List, [], ◌∷◌, ◌++◌, length, map, get_or, refl, sym, ap, ◌∙◌, subst, arith, add-one}
 use Rattle.std.specs.List.{AllByRecursion, AllZip}
+use Rattle.xs_base.specs.Batch.{BatchRec}
 use Rattle.xs_base.specs.declared.entry.Entry.{Entry}
 use Rattle.xs_model.specs.declared.event.Event.{Event}
 use Rattle.xs_model.specs.Record.{NodeRec}
@@ -9,17 +10,18 @@ use Rattle.sys_plan.specs.declared.NodePlan.{NodePlan}
 use Rattle.sys_plan.specs.Plan.{PlanRec, Direction, directions, gaps_of}
 use Rattle.step_model.specs.Start.{fixed_of}
 use Rattle.step_model.specs.Step.{Stepped, node_step}
-use Rattle.trace_lines.specs.Kept.{Keeps}
-use Rattle.core_step.specs.Core.{CoreValue, StandsAt, SlotsBefore}
-use Rattle.serial_model.specs.Serial.{SystemRec, arriving, arriving_by, token_among, credit_among, arrivals_at, low_pins, steps_from, steps_of, sent_by, longer_histories, longer_events, system_step, serial}
+use Rattle.trace_lines.specs.Kept.{KeptEvents, Keeps}
+use Rattle.core_step.specs.Core.{StandsAt}
+use Rattle.serial_model.specs.Serial.{arriving, arriving_by, token_among, credit_among, arrivals_at, pins_at, steps_from, steps_of, sent_by, longer_histories, longer_events, system_step, serial}
 use Rattle.run_plan.specs.declared.track.Crossing.{Crossing}
 use Rattle.run_plan.specs.declared.track.Track.{Track}
 use Rattle.run_plan.specs.declared.seat.Seat.{Seat}
-use Rattle.run_plan.specs.Tracks.{crossing_of, nothing, IsInOrder, IsDueFrom, IsTrack}
-use Rattle.run_plan.specs.Seats.{IsBelow, IsSeat, Steps, arrived_of, arrived_by, arrivals_by, step_of}
+use Rattle.run_plan.specs.Tracks.{crossing_of, no_crossing}
+use Rattle.run_plan.specs.Incoming.{IsBelow, incoming_of, arrived_of, arrived_by, arrivals_by}
+use Rattle.run_plan.specs.Seats.{IsSeat, StepsOn, step_of}
 use Rattle.run_plan.specs.Passes.{IsReadyTrack, Advances, SameSeat, SameTrack}
-use Rattle.run_plan.specs.Run.{Plays, AllPlay, AllCarry, IsSystem, IsRun, incoming_of}
-use Rattle.run_plan.proofs.Through.{all-at, all-zip, zip-length, zip-refl}
+use Rattle.run_plan.specs.Run.{Plays, AllPlay, Carries, AllCarry, IsSystem, AreReady}
+use Rattle.run_plan.proofs.Through.{all-at, all-zip, zip-length}
 
 map-same : {X Y : Type 0} (f g : X → Y) → ((x : X) → f x ≡ g x) → (xs : List X) → map f xs ≡ map g xs
 map-same f g h [] = refl
@@ -28,7 +30,7 @@ map-same f g h (x ∷ xs) = λ i. h x i ∷ map-same f g h xs i
 module _ (plan : PlanRec) (slot nodes_count : ℕ) where
   -- what arrives by the directed link with a number
   arrived-at : (ds : List Direction) (tracks : List Track) (histories : List (List Entry)) (k : ℕ) → AllCarry ds tracks histories → AllByRecursion (IsReadyTrack slot nodes_count) tracks
-      → get_or (arrived_of tracks) k nothing ≡ crossing_of (arriving slot (get_or (map (λ (d : Direction). d.delay) ds) k 0) (get_or histories k []))
+      → get_or (arrived_of tracks) k no_crossing ≡ crossing_of (arriving slot (get_or (map (λ (d : Direction). d.delay) ds) k 0) (get_or histories k []))
   arrived-at [] [] [] k carry all = refl
   arrived-at (d ∷ ds) (t ∷ ts) (h ∷ hs) zero carry all =
       all.0.here.arrived ∙ (λ i. crossing_of (arriving slot (carry.0.delay i) (carry.0.entries i)))
@@ -48,12 +50,12 @@ module _ (plan : PlanRec) (slot nodes_count : ℕ) where
 
     -- the step of a node that plays its part is the serial machine's
     step-same : (n : ℕ) (node : NodePlan) (seat : Seat) (rec : NodeRec) (events : List Event) → Plays plan slot n node seat rec events
-        → step_of slot tracks seat rec ≡ node_step (fixed_of node (gaps_of plan n)) rec slot (arrivals_at plan histories slot n) low_pins
+        → step_of slot tracks seat rec ≡ node_step (fixed_of node (gaps_of plan n)) rec slot (arrivals_at plan histories slot n) (pins_at plan n slot)
     step-same n node seat rec events p =
         let arrivals = ap (arrivals_by tracks) p.incoming ∙ arrivals-same n in
-        λ i. node_step (p.fixed i) rec slot (arrivals i) low_pins
+        λ i. node_step (p.fixed i) rec slot (arrivals i) (pins_at plan n slot)
 
-    plays-next : (n : ℕ) (node : NodePlan) (before after : Seat) (rec : NodeRec) (events : List Event) → Plays plan slot n node before rec events → Steps slot tracks before after
+    plays-next : (n : ℕ) (node : NodePlan) (before after : Seat) (rec : NodeRec) (events : List Event) → Plays plan slot n node before rec events → StepsOn slot tracks before after
         → (step : Stepped) → step_of slot tracks before rec ≡ step → Plays plan (slot + 1) n node after step.rec (events ++ step.emitted.events)
     plays-next n node before after rec events p s step same = record {
       fixed = s.fixed ∙ p.fixed;
@@ -65,7 +67,7 @@ module _ (plan : PlanRec) (slot nodes_count : ℕ) where
           (s.keeps events p.keeps);
     }
 
-    all-play : (n : ℕ) (nodes : List NodePlan) (seats : List Seat) (recs : List NodeRec) (events : List (List Event)) (after : List Seat) → AllPlay plan slot n nodes seats recs events → AllZip (Steps slot tracks) seats after
+    all-play : (n : ℕ) (nodes : List NodePlan) (seats : List Seat) (recs : List NodeRec) (events : List (List Event)) (after : List Seat) → AllPlay plan slot n nodes seats recs events → AllZip (StepsOn slot tracks) seats after
         → AllPlay plan (slot + 1) n nodes after (map (λ (s : Stepped). s.rec) (steps_from plan histories slot n nodes recs)) (longer_events (steps_from plan histories slot n nodes recs) events)
     all-play n [] [] [] [] [] play zip = tt
     all-play n [] [] [] [] (a ∷ afters) play zip = absurd zip
@@ -76,7 +78,7 @@ module _ (plan : PlanRec) (slot nodes_count : ℕ) where
     )
     all-play n _ _ _ _ _ play zip = absurd play
 
-    all-given : (n : ℕ) (nodes : List NodePlan) (seats : List Seat) (recs : List NodeRec) (events : List (List Event)) (after : List Seat) → AllPlay plan slot n nodes seats recs events → AllZip (Steps slot tracks) seats after
+    all-given : (n : ℕ) (nodes : List NodePlan) (seats : List Seat) (recs : List NodeRec) (events : List (List Event)) (after : List Seat) → AllPlay plan slot n nodes seats recs events → AllZip (StepsOn slot tracks) seats after
         → map (λ (s : Seat). s.given) after ≡ map (λ (s : Stepped). s.emitted) (steps_from plan histories slot n nodes recs)
     all-given n [] [] [] [] [] play zip = refl
     all-given n [] [] [] [] (a ∷ afters) play zip = absurd zip
@@ -112,7 +114,7 @@ serial-next plan slot = rw add-one refl
 
 -- the nodes and directed links after a slot are the serial machine's
 pub system-next : (plan : PlanRec) (slot count : ℕ) (seats after : List Seat) (tracks tracks_after : List Track) → IsSystem plan slot seats tracks (serial plan slot) → AllByRecursion (IsReadyTrack slot count) tracks
-    → AllZip (Steps slot tracks) seats after → AllZip (Advances slot after) tracks tracks_after → IsSystem plan (slot + 1) after tracks_after (serial plan (slot + 1))
+    → AllZip (StepsOn slot tracks) seats after → AllZip (Advances slot after) tracks tracks_after → IsSystem plan (slot + 1) after tracks_after (serial plan (slot + 1))
 system-next plan slot count seats after tracks tracks_after is ready steps advances =
     let system = serial plan slot in
     let given = all-given plan slot count tracks system.histories is.carry ready 0 plan.nodes seats system.nodes system.events after is.play steps in
@@ -122,86 +124,59 @@ system-next plan slot count seats after tracks tracks_after is ready steps advan
     })
 
 -- each node and each directed link is ready for the next slot
-pub seats-next : (slot links links_after : ℕ) (tracks : List Track) (seats after : List Seat) → links_after ≡ links → AllZip (Steps slot tracks) seats after → AllByRecursion (IsSeat slot links) seats → AllByRecursion (IsSeat (slot + 1) links_after) after
-seats-next slot links links_after tracks seats after same = all-zip (Steps slot tracks) (IsSeat slot links) (IsSeat (slot + 1) links_after) (λ x y s h. record {
+seats-next : (slot count : ℕ) (tracks : List Track) (seats after : List Seat) → AllZip (StepsOn slot tracks) seats after → AllByRecursion (IsSeat slot count) seats → AllByRecursion (IsSeat (slot + 1) count) after
+seats-next slot count tracks seats after = all-zip (StepsOn slot tracks) (IsSeat slot count) (IsSeat (slot + 1) count) (λ x y s h. record {
   before = s.before_next;
-  eight = ap length s.incoming ∙ h.eight;
-  incoming = subst (λ (n : ℕ). AllByRecursion (IsBelow n) y.incoming) (sym same) (subst (AllByRecursion (IsBelow links)) (sym s.incoming) h.incoming);
+  incoming = subst (AllByRecursion (IsBelow count)) (sym s.incoming) h.incoming;
   more = omega (arith, s.more, h.more);
 }) seats after
 
-pub tracks-next : (slot count count_after : ℕ) (seats : List Seat) (tracks after : List Track) → count_after ≡ count → AllZip (Advances slot seats) tracks after → AllByRecursion (IsReadyTrack slot count) tracks → AllByRecursion (IsReadyTrack (slot + 1) count_after) after
-tracks-next slot count count_after seats tracks after same = all-zip (Advances slot seats) (IsReadyTrack slot count) (IsReadyTrack (slot + 1) count_after) (λ x y a h. record {
-  from = omega (arith, a.from, h.from, same);
-  from_end = omega (arith, a.from_end, h.from_end);
-  delay = omega (arith, a.delay, h.delay);
+tracks-next : (slot count : ℕ) (seats : List Seat) (tracks after : List Track) → AllZip (Advances slot seats) tracks after → AllByRecursion (IsReadyTrack slot count) tracks → AllByRecursion (IsReadyTrack (slot + 1) count) after
+tracks-next slot count seats tracks after = all-zip (Advances slot seats) (IsReadyTrack slot count) (IsReadyTrack (slot + 1) count) (λ x y a h. record {
+  from = omega (arith, a.from, h.from);
   here = a.next;
 }) tracks after
 
 -- room that is made changes none of this
-module _ (plan : PlanRec) (slot : ℕ) where
-  play-same : (n : ℕ) (nodes : List NodePlan) (seats : List Seat) (recs : List NodeRec) (events : List (List Event)) (after : List Seat) → AllPlay plan slot n nodes seats recs events → AllZip SameSeat seats after → AllPlay plan slot n nodes after recs events
-  play-same n [] [] [] [] [] play zip = tt
-  play-same n [] [] [] [] (a ∷ afters) play zip = absurd zip
-  play-same n (node ∷ nodes) (seat ∷ seats) (rec ∷ recs) (es ∷ all_events) [] play zip = absurd zip
-  play-same n (node ∷ nodes) (seat ∷ seats) (rec ∷ recs) (es ∷ all_events) (a ∷ afters) play zip =
-      let p = play.0 in
-      let z = zip.0 in (
-        record {
-          fixed = ap (λ (c : CoreValue). c.fixed) z.core ∙ p.fixed;
-          incoming = z.incoming ∙ p.incoming;
-          stands = subst (λ (c : CoreValue). StandsAt c rec slot) (sym z.core) p.stands;
-          keeps = record { first = z.events ∙ p.keeps.first; rest = z.more ∙ p.keeps.rest };
-        },
-        play-same (n + 1) nodes seats recs all_events afters play.1 zip.1,
-      )
-  play-same n _ _ _ _ _ play zip = absurd play
+pub same-seat : (seat : Seat) (events : KeptEvents) → events.events ≡ seat.events.events → events.more ≡ seat.events.more → SameSeat seat (record seat { events = events })
+same-seat seat events e m = λ i. record seat { events = record { events = e i; more = m i; spare = seat.events.spare } }
 
-  carry-same : (ds : List Direction) (tracks : List Track) (histories : List (List Entry)) (after : List Track) → AllCarry ds tracks histories → AllZip SameTrack tracks after → AllCarry ds after histories
-  carry-same [] [] [] [] carry zip = tt
-  carry-same [] [] [] (a ∷ afters) carry zip = absurd zip
-  carry-same (d ∷ ds) (t ∷ ts) (h ∷ hs) [] carry zip = absurd zip
-  carry-same (d ∷ ds) (t ∷ ts) (h ∷ hs) (a ∷ afters) carry zip =
-      let c = carry.0 in
-      let z = zip.0 in (
-        record { from = z.from ∙ c.from; from_end = z.from_end ∙ c.from_end; delay = z.delay ∙ c.delay; entries = z.entries ∙ c.entries },
-        carry-same ds ts hs afters carry.1 zip.1,
-      )
-  carry-same _ _ _ _ carry zip = absurd carry
+pub same-track : (track : Track) (history : BatchRec) → history.entries ≡ track.history.entries → SameTrack track (record track { history = history })
+same-track track history e = λ i. record track { history = record { entries = e i; spare = track.history.spare } }
 
-  pub system-same : (seats after : List Seat) (tracks tracks_after : List Track) (system : SystemRec) → IsSystem plan slot seats tracks system → AllZip SameSeat seats after → AllZip SameTrack tracks tracks_after → IsSystem plan slot after tracks_after system
-  system-same seats after tracks tracks_after system is s t = record {
-    play = play-same 0 plan.nodes seats system.nodes system.events after is.play s;
-    carry = carry-same (directions plan.links) tracks system.histories tracks_after is.carry t;
-  }
+play-same : (plan : PlanRec) (slot n : ℕ) (nodes : List NodePlan) (seats : List Seat) (recs : List NodeRec) (events : List (List Event)) (after : List Seat) → AllPlay plan slot n nodes seats recs events → AllZip SameSeat seats after → AllPlay plan slot n nodes after recs events
+play-same plan slot n [] [] [] [] [] play zip = tt
+play-same plan slot n [] [] [] [] (a ∷ afters) play zip = absurd zip
+play-same plan slot n (node ∷ nodes) (seat ∷ seats) (rec ∷ recs) (es ∷ all_events) [] play zip = absurd zip
+play-same plan slot n (node ∷ nodes) (seat ∷ seats) (rec ∷ recs) (es ∷ all_events) (a ∷ afters) play zip =
+    let p = subst (λ (s : Seat). Plays plan slot n node s rec es) (sym zip.0) play.0 in (
+      record { fixed = p.fixed; incoming = p.incoming; stands = p.stands; keeps = record { first = p.keeps.first; rest = p.keeps.rest } },
+      play-same plan slot (n + 1) nodes seats recs all_events afters play.1 zip.1,
+    )
+play-same plan slot n _ _ _ _ _ play zip = absurd play
 
-pub seats-same : (slot links links_after : ℕ) (seats after : List Seat) → links_after ≡ links → AllZip SameSeat seats after → AllByRecursion (IsSeat slot links) seats → AllByRecursion (IsSeat slot links_after) after
-seats-same slot links links_after seats after same = all-zip SameSeat (IsSeat slot links) (IsSeat slot links_after) (λ x y s h. record {
-  before = subst (λ (c : CoreValue). SlotsBefore c slot) (sym s.core) h.before;
-  eight = ap length s.incoming ∙ h.eight;
-  incoming = subst (λ (n : ℕ). AllByRecursion (IsBelow n) y.incoming) (sym same) (subst (AllByRecursion (IsBelow links)) (sym s.incoming) h.incoming);
-  more = omega (arith, s.more, h.more);
-}) seats after
+carry-same : (ds : List Direction) (tracks : List Track) (histories : List (List Entry)) (after : List Track) → AllCarry ds tracks histories → AllZip SameTrack tracks after → AllCarry ds after histories
+carry-same [] [] [] [] carry zip = tt
+carry-same [] [] [] (a ∷ afters) carry zip = absurd zip
+carry-same (d ∷ ds) (t ∷ ts) (h ∷ hs) [] carry zip = absurd zip
+carry-same (d ∷ ds) (t ∷ ts) (h ∷ hs) (a ∷ afters) carry zip =
+    let c = subst (λ (t : Track). Carries d t h) (sym zip.0) carry.0 in
+    (record { from = c.from; from_end = c.from_end; delay = c.delay; entries = c.entries }, carry-same ds ts hs afters carry.1 zip.1)
+carry-same _ _ _ _ carry zip = absurd carry
 
-track-same : (slot : ℕ) (x y : Track) → SameTrack x y → IsTrack slot x → IsTrack slot y
-track-same slot x y s h = record {
-  in_order = subst IsInOrder (sym s.entries) h.in_order;
-  before = subst (AllByRecursion (λ (e : Entry). e.slot < slot)) (sym s.entries) h.before;
-  few = omega (arith, s.first, h.few);
-  due =
-      subst (λ (d : ℕ). IsDueFrom slot d y.first y.history.entries) (sym s.delay)
-      (subst (λ (n : ℕ). IsDueFrom slot x.delay n y.history.entries) (sym s.first)
-      (subst (IsDueFrom slot x.delay x.first) (sym s.entries) h.due));
-  arrived = s.arrived ∙ (h.arrived ∙ (λ i. crossing_of (arriving slot (sym s.delay i) (sym s.entries i))));
-}
+pub seats-same : (slot count : ℕ) (seats after : List Seat) → AllZip SameSeat seats after → AllByRecursion (IsSeat slot count) seats → AllByRecursion (IsSeat slot count) after
+seats-same slot count seats after =
+    all-zip SameSeat (IsSeat slot count) (IsSeat slot count)
+    (λ x y s h. let k = subst (IsSeat slot count) (sym s) h in record { before = k.before; incoming = k.incoming; more = k.more }) seats after
 
-pub tracks-same : (slot count count_after : ℕ) (tracks after : List Track) → count_after ≡ count → AllZip SameTrack tracks after → AllByRecursion (IsReadyTrack slot count) tracks → AllByRecursion (IsReadyTrack slot count_after) after
-tracks-same slot count count_after tracks after same = all-zip SameTrack (IsReadyTrack slot count) (IsReadyTrack slot count_after) (λ x y s h. record {
-  from = omega (arith, s.from, h.from, same);
-  from_end = omega (arith, s.from_end, h.from_end);
-  delay = omega (arith, s.delay, h.delay);
-  here = track-same slot x y s h.here;
-}) tracks after
+pub tracks-same : (slot count : ℕ) (tracks after : List Track) → AllZip SameTrack tracks after → AllByRecursion (IsReadyTrack slot count) tracks → AllByRecursion (IsReadyTrack slot count) after
+tracks-same slot count tracks after =
+    all-zip SameTrack (IsReadyTrack slot count) (IsReadyTrack slot count)
+    (λ x y s h.
+    let k = subst (IsReadyTrack slot count) (sym s) h in
+    let t = k.here in
+    record { from = k.from; here = record { from_end = t.from_end; delayed = t.delayed; in_order = t.in_order; before = t.before; few = t.few; due = t.due; arrived = t.arrived } })
+    tracks after
 
 -- the node and the directed link at a place
 pub play-at : (plan : PlanRec) (slot n : ℕ) (nodes : List NodePlan) (seats : List Seat) (recs : List NodeRec) (events : List (List Event)) (k : ℕ) (s : Seat) (r : NodeRec) → AllPlay plan slot n nodes seats recs events → k < length nodes
@@ -233,38 +208,24 @@ given-at [] k d s h = absurd (omega arith)
 given-at (x ∷ xs) zero d s h = refl
 given-at (x ∷ xs) (suc k) d s h = given-at xs k d s (omega arith)
 
--- what arrives by eight link ends
-pub eight-arrivals : (tracks : List Track) (xs : List (Option ℕ)) (d0 d1 d2 d3 d4 d5 d6 d7 : Option ℕ) (c0 c1 c2 c3 c4 c5 c6 c7 : Crossing) → length xs ≡ 8
-    → c0 ≡ arrived_by tracks (get_or xs 0 d0) → c1 ≡ arrived_by tracks (get_or xs 1 d1) → c2 ≡ arrived_by tracks (get_or xs 2 d2) → c3 ≡ arrived_by tracks (get_or xs 3 d3)
-    → c4 ≡ arrived_by tracks (get_or xs 4 d4) → c5 ≡ arrived_by tracks (get_or xs 5 d5) → c6 ≡ arrived_by tracks (get_or xs 6 d6) → c7 ≡ arrived_by tracks (get_or xs 7 d7)
-    → record {
-      tokens = c0.token ∷ c1.token ∷ c2.token ∷ c3.token ∷ c4.token ∷ c5.token ∷ c6.token ∷ c7.token ∷ [];
-      credits = c0.credit ∷ c1.credit ∷ c2.credit ∷ c3.credit ∷ c4.credit ∷ c5.credit ∷ c6.credit ∷ c7.credit ∷ [];
-    } ≡ arrivals_by tracks xs
-eight-arrivals tracks (x0 ∷ x1 ∷ x2 ∷ x3 ∷ x4 ∷ x5 ∷ x6 ∷ x7 ∷ []) d0 d1 d2 d3 d4 d5 d6 d7 c0 c1 c2 c3 c4 c5 c6 c7 len e0 e1 e2 e3 e4 e5 e6 e7 = λ i. record {
-  tokens = (e0 i).token ∷ (e1 i).token ∷ (e2 i).token ∷ (e3 i).token ∷ (e4 i).token ∷ (e5 i).token ∷ (e6 i).token ∷ (e7 i).token ∷ [];
-  credits = (e0 i).credit ∷ (e1 i).credit ∷ (e2 i).credit ∷ (e3 i).credit ∷ (e4 i).credit ∷ (e5 i).credit ∷ (e6 i).credit ∷ (e7 i).credit ∷ [];
-}
-eight-arrivals tracks _ d0 d1 d2 d3 d4 d5 d6 d7 c0 c1 c2 c3 c4 c5 c6 c7 len e0 e1 e2 e3 e4 e5 e6 e7 = absurd (omega (arith, len))
-
 -- the directed link at a place is ready
 pub ready-at : (slot count : ℕ) (tracks : List Track) (i : ℕ) (d t : Track) → AllByRecursion (IsReadyTrack slot count) tracks → i < length tracks → get_or tracks i d ≡ t → IsReadyTrack slot count t
 ready-at slot count tracks i d t all inside is = subst (IsReadyTrack slot count) is (all-at (IsReadyTrack slot count) tracks i d all inside)
 
--- a run goes on, and stays what it is where room is made
-pub run-same : (plan : PlanRec) (slot : ℕ) (seats after : List Seat) (tracks tracks_after : List Track) → IsRun plan slot seats tracks → AllZip SameSeat seats after → AllZip SameTrack tracks tracks_after → IsRun plan slot after tracks_after
-run-same plan slot seats after tracks tracks_after run s t = record {
-  system = system-same plan slot seats after tracks tracks_after (serial plan slot) run.system s t;
-  seats = seats-same slot (length tracks) (length tracks_after) seats after (zip-length SameTrack tracks tracks_after t) s run.seats;
-  tracks = tracks-same slot (length seats) (length after) tracks tracks_after (zip-length SameSeat seats after s) t run.tracks;
+-- nodes and directed links stay ready where room is made, and are ready for the next slot after one
+pub ready-same : (plan : PlanRec) (slot : ℕ) (seats after : List Seat) (tracks tracks_after : List Track) → AreReady plan slot seats tracks → AllZip SameSeat seats after → AllZip SameTrack tracks tracks_after → AreReady plan slot after tracks_after
+ready-same plan slot seats after tracks tracks_after ready s t = record {
+  system = record {
+    play = play-same plan slot 0 plan.nodes seats (serial plan slot).nodes (serial plan slot).events after ready.system.play s;
+    carry = carry-same (directions plan.links) tracks (serial plan slot).histories tracks_after ready.system.carry t;
+  };
+  seats = subst (λ (n : ℕ). AllByRecursion (IsSeat slot n) after) (sym (zip-length SameTrack tracks tracks_after t)) (seats-same slot (length tracks) seats after s ready.seats);
+  tracks = subst (λ (n : ℕ). AllByRecursion (IsReadyTrack slot n) tracks_after) (sym (zip-length SameSeat seats after s)) (tracks-same slot (length seats) tracks tracks_after t ready.tracks);
 }
 
-pub run-next : (plan : PlanRec) (slot : ℕ) (seats after : List Seat) (tracks tracks_after : List Track) → IsRun plan slot seats tracks → AllZip (Steps slot tracks) seats after → AllZip (Advances slot after) tracks tracks_after → IsRun plan (slot + 1) after tracks_after
-run-next plan slot seats after tracks tracks_after run s t = record {
-  system = system-next plan slot (length seats) seats after tracks tracks_after run.system run.tracks s t;
-  seats = seats-next slot (length tracks) (length tracks_after) tracks seats after (zip-length (Advances slot after) tracks tracks_after t) s run.seats;
-  tracks = tracks-next slot (length seats) (length after) after tracks tracks_after (zip-length (Steps slot tracks) seats after s) t run.tracks;
+pub ready-next : (plan : PlanRec) (slot : ℕ) (seats after : List Seat) (tracks tracks_after : List Track) → AreReady plan slot seats tracks → AllZip (StepsOn slot tracks) seats after → AllZip (Advances slot after) tracks tracks_after → AreReady plan (slot + 1) after tracks_after
+ready-next plan slot seats after tracks tracks_after ready s t = record {
+  system = system-next plan slot (length seats) seats after tracks tracks_after ready.system ready.tracks s t;
+  seats = subst (λ (n : ℕ). AllByRecursion (IsSeat (slot + 1) n) after) (sym (zip-length (Advances slot after) tracks tracks_after t)) (seats-next slot (length tracks) tracks seats after s ready.seats);
+  tracks = subst (λ (n : ℕ). AllByRecursion (IsReadyTrack (slot + 1) n) tracks_after) (sym (zip-length (StepsOn slot tracks) seats after s)) (tracks-next slot (length seats) after tracks tracks_after t ready.tracks);
 }
-
-pub tracks-refl : (tracks : List Track) → AllZip SameTrack tracks tracks
-tracks-refl tracks = zip-refl SameTrack (λ x. record { from = refl; from_end = refl; delay = refl; entries = refl; first = refl; arrived = refl }) tracks

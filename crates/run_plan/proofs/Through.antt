@@ -1,5 +1,5 @@
 -- Passes over lists.
-use Rattle.std.proofs.Common.{◌≡◌, ℕ, zero, suc, ◌+◌, ◌<◌, ◌≤◌, List, [], ◌∷◌, length, get_or, refl, ap, subst, arith}
+use Rattle.std.proofs.Common.{◌≡◌, ℕ, zero, suc, ◌+◌, ◌<◌, ◌≤◌, List, [], ◌∷◌, length, get_or, refl, sym, ap, subst, arith}
 use Rattle.std.specs.Prelude.{slice_set}
 use Rattle.std.specs.List.{AllByRecursion, AllZip}
 use Rattle.run_plan.specs.Passes.{Through}
@@ -23,17 +23,22 @@ module _ {X : Type 0} (R : X → X → Type 0) where
   zip-refl r (x ∷ xs) = (r x, zip-refl r xs)
 
   -- the place that is next is as it was
-  pub through-here : (i : ℕ) (xs ys : List X) (d : X) → Through R i xs ys → get_or ys i d ≡ get_or xs i d
+  through-here : (i : ℕ) (xs ys : List X) (d : X) → Through R i xs ys → get_or ys i d ≡ get_or xs i d
   through-here zero xs ys d h = ap (λ zs. get_or zs 0 d) h
   through-here (suc i) [] ys d h = absurd h
   through-here (suc i) (x ∷ xs) [] d h = absurd h
   through-here (suc i) (x ∷ xs) (y ∷ ys) d h = through-here i xs ys d h.1
 
-  pub through-length : (i : ℕ) (xs ys : List X) → Through R i xs ys → length ys ≡ length xs
+  through-length : (i : ℕ) (xs ys : List X) → Through R i xs ys → length ys ≡ length xs
   through-length zero xs ys h = ap length h
   through-length (suc i) [] ys h = absurd h
   through-length (suc i) (x ∷ xs) [] h = absurd h
   through-length (suc i) (x ∷ xs) (y ∷ ys) h = omega (arith, through-length i xs ys h.1)
+
+  -- what held of each place holds of the one that is next
+  pub through-at : (P : X → Type 0) (i : ℕ) (xs ys : List X) (d : X) → Through R i xs ys → AllByRecursion P xs → i < length ys → P (get_or ys i d)
+  through-at P i xs ys d h all k =
+      subst P (sym (through-here i xs ys d h)) (all-at P xs i d all (omega (arith, through-length i xs ys h)))
 
   -- the next place is changed
   pub through-more : (i : ℕ) (xs ys : List X) (d y : X) → Through R i xs ys → i < length ys → R (get_or ys i d) y → Through R (i + 1) xs (slice_set ys i y)

@@ -1,6 +1,6 @@
 -- What a serial machine keeps.
-use Rattle.run_plan.specs.Run.{IsRun}
+use Rattle.run_plan.specs.Run.{AreReady}
 use Rattle.run_plan.specs.declared.machine.SerialMachine.TheInside.{Inside}
 
 abbrev pub IsMachine : Inside → Type 0
-IsMachine m = IsRun m.plan.value m.clock m.seats.items m.tracks.items
+IsMachine m = AreReady m.plan.value m.clock m.seats.items m.tracks.items

@@ -1,4 +1,5 @@
 pub mod Tracks
+pub mod Incoming
 pub mod Seats
 pub mod Passes
 pub mod Run

@@ -1,8 +1,8 @@
 -- What contracts see of a serial machine.
-use Rattle.std.specs.Prelude.{ℕ}
+use Rattle.xs_base.specs.Numbers.{Slot}
 use Rattle.sys_plan.specs.Plan.{PlanRec}
 
 -- the plan, and how many slots have passed
 pub record MachineRec : Type 0 where
   pub plan : PlanRec
-  pub now : ℕ
+  pub now : Slot

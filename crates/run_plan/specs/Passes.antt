@@ -1,5 +1,7 @@
 -- Passes over lists, in which each place is changed in turn.
 use Rattle.std.specs.Prelude.{ℕ, zero, suc, ◌≡◌, ◌<◌, ◌≤◌, List, [], ◌∷◌, map, slice_index_or}
+use Rattle.xs_base.specs.Numbers.{Slot, Position}
+use Rattle.xs_base.specs.declared.numbers.TheConstants.{EVENT_ROOM}
 use Rattle.xs_model.specs.Outside.{Emitted, emitted_events}
 use Rattle.trace_lines.specs.Kept.{HasRoom}
 use Rattle.serial_model.specs.Serial.{sent_by}
@@ -16,27 +18,18 @@ Through R (suc i) (x ∷ xs) (y ∷ ys) = R x y × Through R i xs ys
 
 -- room for the events of a slot
 abbrev pub HasEventRoom : Seat → Type 0
-HasEventRoom seat = HasRoom 112 seat.events
+HasEventRoom seat = HasRoom EVENT_ROOM seat.events
 
 -- room for the entries of a slot
 abbrev pub HasEntryRoom : Track → Type 0
 HasEntryRoom track = 2 ≤ track.history.spare
 
 -- nothing changed but the room
-pub record SameSeat (before after : Seat) : Type 0 where
-  pub core : after.core ≡ before.core
-  pub given : after.given ≡ before.given
-  pub incoming : after.incoming ≡ before.incoming
-  pub events : after.events.events ≡ before.events.events
-  pub more : after.events.more ≡ before.events.more
+abbrev pub SameSeat : Seat → Seat → Type 0
+SameSeat before after = record after { events = record after.events { spare = before.events.spare } } ≡ before
 
-pub record SameTrack (before after : Track) : Type 0 where
-  pub from : after.from ≡ before.from
-  pub from_end : after.from_end ≡ before.from_end
-  pub delay : after.delay ≡ before.delay
-  pub entries : after.history.entries ≡ before.history.entries
-  pub first : after.first ≡ before.first
-  pub arrived : after.arrived ≡ before.arrived
+abbrev pub SameTrack : Track → Track → Type 0
+SameTrack before after = record after { history = record after.history { spare = before.history.spare } } ≡ before
 
 -- the same with the room
 pub record MakesEventRoom (before after : Seat) : Type 0 where
@@ -48,15 +41,13 @@ pub record MakesEntryRoom (before after : Track) : Type 0 where
   pub room : HasEntryRoom after
 
 -- a directed link as it is before a slot, among so many nodes
-pub record IsReadyTrack (slot nodes : ℕ) (track : Track) : Type 0 where
-  pub from : track.from < nodes
-  pub from_end : track.from_end < 8
-  pub delay : 1 ≤ track.delay
+pub record IsReadyTrack (slot : Slot) (node_count : ℕ) (track : Track) : Type 0 where
+  pub from : track.from < node_count
   pub here : IsTrack slot track
 
 -- what the node at a position gave in its slot
-abbrev pub given_by : List Seat → ℕ → Emitted
-given_by seats n = slice_index_or (map (λ (s : Seat). s.given) seats) n (emitted_events [])
+abbrev pub given_at : List Seat → Position → Emitted
+given_at seats n = slice_index_or (map (λ (s : Seat). s.given) seats) n (emitted_events [])
 
-abbrev pub Advances : ℕ → List Seat → Track → Track → Type 0
-Advances slot seats before after = GoesOn slot (sent_by slot (given_by seats before.from) before.from_end) before after
+abbrev pub Advances : Slot → List Seat → Track → Track → Type 0
+Advances slot seats before after = GoesOn slot (sent_by slot (given_at seats before.from) before.from_end) before after

@@ -1,6 +1,7 @@
 -- The nodes and the directed links of a plan as they start.
 use Rattle.std.specs.Prelude.{ℕ, ◌≡◌, ◌+◌, List, [], ◌∷◌, length, map}
 use Rattle.std.specs.List.{AllByRecursion}
+use Rattle.xs_base.specs.Numbers.{Position, EndNumber}
 use Rattle.sys_plan.specs.declared.NodePlan.{NodePlan}
 use Rattle.sys_plan.specs.Plan.{PlanRec, Direction, directions, gaps_of}
 use Rattle.step_model.specs.Start.{fixed_of, node_of}
@@ -8,34 +9,33 @@ use Rattle.trace_lines.specs.Kept.{Keeps}
 use Rattle.core_step.specs.Core.{StandsAt, SlotsBefore}
 use Rattle.run_plan.specs.declared.track.Track.{Track}
 use Rattle.run_plan.specs.declared.seat.Seat.{Seat}
-use Rattle.run_plan.specs.Tracks.{nothing}
-use Rattle.run_plan.specs.Seats.{IsBelow}
-use Rattle.run_plan.specs.Run.{incoming_of}
+use Rattle.run_plan.specs.Tracks.{no_crossing}
+use Rattle.run_plan.specs.Incoming.{IsBelow, incoming_of}
 
 -- the node at a position as it starts
-pub record Starts (plan : PlanRec) (n : ℕ) (node : NodePlan) (seat : Seat) : Type 0 where
+pub record StartsAs (plan : PlanRec) (n : Position) (node : NodePlan) (seat : Seat) : Type 0 where
   pub fixed : seat.core.fixed ≡ fixed_of node (gaps_of plan n)
   pub stands : StandsAt seat.core (node_of node (gaps_of plan n)) 0
   pub before : SlotsBefore seat.core 0
-  pub incoming : seat.incoming ≡ incoming_of plan n
-  pub below : AllByRecursion (IsBelow (length (directions plan.links))) seat.incoming
+  pub incoming : seat.incoming.links ≡ incoming_of plan n
+  pub below : AllByRecursion (IsBelow (length (directions plan.links))) seat.incoming.links
   pub keeps : Keeps seat.events []
 
 -- that is so of these nodes, the first of which stands at position n
-abbrev pub AllStart : PlanRec → ℕ → List NodePlan → List Seat → Type 0
+abbrev pub AllStart : PlanRec → Position → List NodePlan → List Seat → Type 0
 AllStart plan n [] [] = Unit {0}
-AllStart plan n (node ∷ nodes) (seat ∷ seats) = Starts plan n node seat × AllStart plan (n + 1) nodes seats
+AllStart plan n (node ∷ nodes) (seat ∷ seats) = StartsAs plan n node seat × AllStart plan (n + 1) nodes seats
 AllStart plan n _ _ = ⊥
 
 -- a directed link as it starts
-abbrev pub track_at_start : ℕ → ℕ → ℕ → Track
+abbrev pub track_at_start : Position → EndNumber → ℕ → Track
 track_at_start from from_end delay = record {
   from = from;
   from_end = from_end;
   delay = delay;
   history = record { entries = []; spare = 0 };
   first = 0;
-  arrived = nothing;
+  arrived = no_crossing;
 }
 
 abbrev pub tracks_at_start : List Direction → List Track

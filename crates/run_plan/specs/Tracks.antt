@@ -1,6 +1,8 @@
 -- Directed links at work: which entries of a history arrive in a slot.
 use Rattle.std.specs.Prelude.{ℕ, zero, suc, ◌≡◌, ◌+◌, ◌*◌, ◌<◌, ◌≤◌, Bool, true, false, ◌==◌, if◌then◌else◌, Option, Some, None, is_some, List, [], ◌∷◌, ◌++◌}
 use Rattle.std.specs.List.{AllByRecursion}
+use Rattle.xs_base.specs.Numbers.{Slot}
+use Rattle.xs_base.specs.declared.numbers.TheConstants.{LINK_ENDS}
 use Rattle.xs_base.specs.declared.entry.Entry.{Entry}
 use Rattle.xs_base.specs.declared.entry.What.{What}
 use Rattle.xs_base.specs.declared.entry.What.TheVariants as what
@@ -17,27 +19,27 @@ pub data MayFollow (e f : Entry) : Type 0 where
   Later : e.slot < f.slot → MayFollow e f
   Beside : e.slot ≡ f.slot → is_credit e.what ≡ false → is_credit f.what ≡ true → MayFollow e f
 
-abbrev pub IsInOrder : List Entry → Type 0
-IsInOrder [] = Unit {0}
-IsInOrder (e ∷ es) = AllByRecursion (MayFollow e) es × IsInOrder es
+abbrev pub AreInSendingOrder : List Entry → Type 0
+AreInSendingOrder [] = Unit {0}
+AreInSendingOrder (e ∷ es) = AllByRecursion (MayFollow e) es × AreInSendingOrder es
 
 -- so many entries arrived before a slot, and the rest did not
-abbrev pub IsDueFrom : ℕ → ℕ → ℕ → List Entry → Type 0
+abbrev pub IsDueFrom : Slot → ℕ → ℕ → List Entry → Type 0
 IsDueFrom slot delay zero es = AllByRecursion (λ (e : Entry). slot ≤ e.slot + delay) es
 IsDueFrom slot delay (suc first) [] = ⊥
 IsDueFrom slot delay (suc first) (e ∷ es) = (e.slot + delay < slot) × IsDueFrom slot delay first es
 
 -- what an entry is, if it arrives in a slot
-abbrev pub due_of : ℕ → ℕ → Option Entry → Option What
+abbrev pub due_of : Slot → ℕ → Option Entry → Option What
 due_of slot delay None = None
 due_of slot delay (Some e) = if (e.slot + delay) == slot then Some e.what else None
 
-abbrev pub nothing : Crossing
-nothing = record { token = None; credit = false }
+abbrev pub no_crossing : Crossing
+no_crossing = record { token = None; credit = false }
 
 -- what arrives, of the first two entries that may
 abbrev pub seen_of : Option What → Option What → Crossing
-seen_of None second = nothing
+seen_of None second = no_crossing
 seen_of (Some (what.Token t)) second = record { token = Some t; credit = is_some second }
 seen_of (Some what.Credit) second = record { token = None; credit = true }
 
@@ -46,19 +48,21 @@ one_if false = 0
 one_if true = 1
 
 -- how many entries a crossing is made of
-abbrev pub count_of : Crossing → ℕ
-count_of c = one_if (is_some c.token) + one_if c.credit
+abbrev pub entry_count : Crossing → ℕ
+entry_count c = one_if (is_some c.token) + one_if c.credit
 
 -- a directed link as it is before a slot
-pub record IsTrack (slot : ℕ) (track : Track) : Type 0 where
-  pub in_order : IsInOrder track.history.entries
+pub record IsTrack (slot : Slot) (track : Track) : Type 0 where
+  pub from_end : track.from_end < LINK_ENDS
+  pub delayed : 1 ≤ track.delay
+  pub in_order : AreInSendingOrder track.history.entries
   pub before : AllByRecursion (λ (e : Entry). e.slot < slot) track.history.entries
   pub few : track.first ≤ 2 * slot
   pub due : IsDueFrom slot track.delay track.first track.history.entries
   pub arrived : track.arrived ≡ crossing_of (arriving slot track.delay track.history.entries)
 
 -- what a slot makes of a directed link, which goes on with what its sender sent
-pub record GoesOn (slot : ℕ) (sent : List Entry) (before after : Track) : Type 0 where
+pub record GoesOn (slot : Slot) (sent : List Entry) (before after : Track) : Type 0 where
   pub from : after.from ≡ before.from
   pub from_end : after.from_end ≡ before.from_end
   pub delay : after.delay ≡ before.delay

@@ -6,7 +6,7 @@ ghost use Rattle.trace_lines.specs.Kept.{Keeps};
 ghost use Rattle.core_step.specs.Core.{StandsAt};
 ghost use Rattle.xs_model.specs.Record.{first_node};
 
-use crate::passes::{advance_all, make_entry_room, make_event_room, step_all};
+use crate::passes::pass_slot;
 use crate::seat::Seat;
 use crate::track::Track;
 use crate::wiring::{seats_of, tracks_of};
@@ -63,10 +63,7 @@ impl SerialMachine {
         ensures passed { OnOk result (self.new.now ≡ self.old.now + 1) }
         ensures err { OnErr result (self.new ≡ self.old) }
     {
-        make_event_room(&mut self.seats)?;
-        make_entry_room(&mut self.tracks)?;
-        step_all(&mut self.seats, &self.tracks, self.clock);
-        advance_all(&mut self.tracks, &self.seats, self.clock);
+        pass_slot(&mut self.seats, &mut self.tracks, self.clock)?;
         self.clock += 1;
         Ok(())
     }

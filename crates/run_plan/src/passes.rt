@@ -1,32 +1,53 @@
 //! The passes of a slot over all nodes and all directed links.
-ghost use Rattle.std.specs.Prelude.{◌-◌, ◌^◌, ◌<◌, length, OnOk};
+ghost use Rattle.std.specs.Prelude.{◌≡◌, ◌+◌, ◌-◌, ◌^◌, ◌<◌, length, OnOk, OnErr};
 ghost use Rattle.std.specs.List.{AllByRecursion, AllZip};
-ghost use Rattle.run_plan.specs.Seats.{IsSeat, Steps};
+ghost use Rattle.sys_plan.specs.Plan.{PlanRec};
+ghost use Rattle.run_plan.specs.Seats.{IsSeat, StepsOn};
 ghost use Rattle.run_plan.specs.Passes.{HasEventRoom, HasEntryRoom, SameSeat, SameTrack, IsReadyTrack, Advances};
+ghost use Rattle.run_plan.specs.Run.{AreReady};
 
 use crate::seat::Seat;
 use crate::track::Track;
 use std::alloc::AllocError;
-
-// How many events a slot of a node can have at most.
-const MOST_EVENTS: usize = 112;
+use xs_base::numbers::EVENT_ROOM;
 
 // How many entries a slot can add to a history at most: a token and a credit.
 const MOST_ENTRIES: usize = 2;
 
-/// Makes room for the events of a slot. The error is want of memory, and changes nothing but the room.
-pub(crate) fn make_event_room(seats: &mut [Seat]) -> Result<(), AllocError>
+/// One slot of all nodes and all directed links. The error is want of memory, and changes nothing but the room.
+pub(crate) fn pass_slot(
+    seats: &mut [Seat],
+    tracks: &mut [Track],
+    slot: u32,
+) -> Result<(), AllocError>
+    requires slot { slot < 2 ^ 32 - 1 }
+    requires seats { AllByRecursion (IsSeat slot (length tracks.old)) seats.old }
+    requires tracks { AllByRecursion (IsReadyTrack slot (length seats.old)) tracks.old }
+    ensures ok { OnOk result ((plan : PlanRec) → AreReady plan slot seats.old tracks.old → AreReady plan (slot + 1) seats.new tracks.new) }
+    ensures err { OnErr result ((plan : PlanRec) → AreReady plan slot seats.old tracks.old → AreReady plan slot seats.new tracks.new) }
+    ensures seats { length seats.new ≡ length seats.old }
+    ensures tracks { length tracks.new ≡ length tracks.old }
+{
+    make_event_room(seats)?;
+    make_entry_room(tracks)?;
+    step_all(seats, tracks, slot);
+    advance_all(tracks, seats, slot);
+    Ok(())
+}
+
+// Makes room for the events of a slot. The error is want of memory, and changes nothing but the room.
+fn make_event_room(seats: &mut [Seat]) -> Result<(), AllocError>
     ensures same { AllZip SameSeat seats.old seats.new }
     ensures room { OnOk result (AllByRecursion HasEventRoom seats.new) }
 {
     for seat in seats.iter_mut() {
-        seat.events.reserve(MOST_EVENTS)?;
+        seat.events.reserve(EVENT_ROOM)?;
     }
     Ok(())
 }
 
-/// Makes room for the entries of a slot. The error is want of memory, and changes nothing but the room.
-pub(crate) fn make_entry_room(tracks: &mut [Track]) -> Result<(), AllocError>
+// Makes room for the entries of a slot. The error is want of memory, and changes nothing but the room.
+fn make_entry_room(tracks: &mut [Track]) -> Result<(), AllocError>
     ensures same { AllZip SameTrack tracks.old tracks.new }
     ensures room { OnOk result (AllByRecursion HasEntryRoom tracks.new) }
 {
@@ -36,20 +57,20 @@ pub(crate) fn make_entry_room(tracks: &mut [Track]) -> Result<(), AllocError>
     Ok(())
 }
 
-/// One slot of each node.
-pub(crate) fn step_all(seats: &mut [Seat], tracks: &[Track], slot: u32)
+// One slot of each node.
+fn step_all(seats: &mut [Seat], tracks: &[Track], slot: u32)
     requires slot { slot < 2 ^ 32 - 1 }
     requires seats { AllByRecursion (IsSeat slot (length tracks.now)) seats.old }
     requires room { AllByRecursion HasEventRoom seats.old }
-    ensures steps { AllZip (Steps slot tracks.now) seats.old seats.new }
+    ensures steps { AllZip (StepsOn slot tracks.now) seats.old seats.new }
 {
     for seat in seats.iter_mut() {
         seat.step(tracks, slot);
     }
 }
 
-/// Each directed link goes on with what its sender's slot gave.
-pub(crate) fn advance_all(tracks: &mut [Track], seats: &[Seat], slot: u32)
+// Each directed link goes on with what its sender's slot gave.
+fn advance_all(tracks: &mut [Track], seats: &[Seat], slot: u32)
     requires slot { slot < 2 ^ 32 - 1 }
     requires tracks { AllByRecursion (IsReadyTrack slot (length seats.now)) tracks.old }
     requires room { AllByRecursion HasEntryRoom tracks.old }

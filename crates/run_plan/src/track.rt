@@ -1,7 +1,8 @@
 //! `Track`, one directed link: its history, and what of it arrives. See docs/LINKS.md.
 ghost use Rattle.std.specs.Prelude.{◌≡◌, ◌+◌, ◌-◌, ◌^◌, ◌<◌, ◌≤◌, ◌++◌, slice_get};
+ghost use Rattle.xs_base.specs.declared.numbers.TheConstants.{LINK_ENDS};
 ghost use Rattle.serial_model.specs.Serial.{sent_by};
-ghost use Rattle.run_plan.specs.Tracks.{due_of, seen_of, nothing, count_of, IsTrack, GoesOn};
+ghost use Rattle.run_plan.specs.Tracks.{due_of, seen_of, no_crossing, entry_count, IsTrack, GoesOn};
 
 use trace_lines::Emissions;
 use xs_base::{Batch, Entry, Token, What};
@@ -14,9 +15,19 @@ pub(crate) struct Crossing {
 }
 
 impl Crossing {
+    /// Nothing crosses.
+    pub(crate) fn none() -> Crossing
+        ensures { result ≡ no_crossing }
+    {
+        Crossing {
+            token: None,
+            credit: false,
+        }
+    }
+
     // How many entries of the history it is made of.
     fn count(self) -> usize
-        ensures value { result ≡ count_of self }
+        ensures value { result ≡ entry_count self }
         ensures most { result ≤ 2 }
     {
         usize::from(self.token.is_some()) + usize::from(self.credit)
@@ -55,7 +66,7 @@ impl Track {
         ensures { result ≡ seen_of (due_of slot self.now.delay (slice_get self.now.history.entries self.now.first)) (due_of slot self.now.delay (slice_get self.now.history.entries (self.now.first + 1))) }
     {
         match self.due_at(self.first, slot) {
-            None => nothing(),
+            None => Crossing::none(),
             Some(What::Token(t)) => Crossing {
                 token: Some(t),
                 credit: self.due_at(self.first + 1, slot).is_some(),
@@ -69,7 +80,7 @@ impl Track {
 
     // Puts what the sender's link end sent in a slot after the history.
     fn append(&mut self, slot: u32, sent: &Emissions)
-        requires end { self.old.from_end < 8 }
+        requires end { self.old.from_end < LINK_ENDS }
         requires room { 2 ≤ self.old.history.spare }
         ensures entries { self.new.history.entries ≡ self.old.history.entries ++ sent_by slot sent.now self.old.from_end }
         ensures rest { self.new ≡ record self.old { history = self.new.history } }
@@ -93,23 +104,11 @@ impl Track {
     pub(crate) fn go_on(&mut self, slot: u32, sent: &Emissions)
         requires slot { slot < 2 ^ 32 - 1 }
         requires track { IsTrack slot self.old }
-        requires delay { 1 ≤ self.old.delay }
-        requires end { self.old.from_end < 8 }
         requires room { 2 ≤ self.old.history.spare }
         ensures next { GoesOn slot (sent_by slot sent.now self.old.from_end) self.old self.new }
     {
         self.first += self.arrived.count();
         self.append(slot, sent);
         self.arrived = self.seen(slot + 1);
-    }
-}
-
-// Nothing crosses.
-pub(crate) fn nothing() -> Crossing
-    ensures { result ≡ nothing }
-{
-    Crossing {
-        token: None,
-        credit: false,
     }
 }

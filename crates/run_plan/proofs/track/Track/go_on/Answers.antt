@@ -20,7 +20,7 @@ returns c =
     let entries = c.append.ensures.entries in
     record {
       next =
-          goes-on slot before c.requires.track c.requires.delay token credit _
+          goes-on slot before c.requires.track token credit _
           (ap (λ (t : Track). t.from) rest) (ap (λ (t : Track). t.from_end) rest) delay entries first
           (c.seen-self.ensures ∙ (λ i. seen_of (due_of (slot + 1) (delay i) (slice_get (entries i) (first i))) (due_of (slot + 1) (delay i) (slice_get (entries i) (first i + 1)))));
     }

@@ -1,0 +1,42 @@
+-- What arrives at a node by the link ends up to the last that a directed link reaches.
+use Rattle.std.proofs.Common.{◌≡◌, ℕ, zero, suc, ◌+◌, ◌<◌, Bool, Option, List, [], ◌∷◌, length, drop, get_or, refl, sym, ap, ◌∙◌, arith}
+use Rattle.std.specs.Prelude.{slice_set}
+use Rattle.std.specs.List.{AllByRecursion}
+use Rattle.xs_base.specs.declared.token.Token.{Token}
+use Rattle.run_plan.specs.declared.track.Crossing.{Crossing}
+use Rattle.run_plan.specs.declared.track.Track.{Track}
+use Rattle.run_plan.specs.Incoming.{IsNowhere, NothingElse, Gathers, arrived_by, arrivals_by}
+
+module _ (tracks : List Track) where
+  -- one more link end is looked at
+  pub gathers-next : (i : ℕ) (links : List (Option ℕ)) (tokens : List (Option Token)) (credits : List Bool) (d : Option ℕ) (c : Crossing) → Gathers tracks i links tokens credits → i < length links
+      → c ≡ arrived_by tracks (get_or links i d) → Gathers tracks (i + 1) links (slice_set tokens i c.token) (slice_set credits i c.credit)
+  gathers-next zero (link ∷ links) (token ∷ tokens) (credit ∷ credits) d c g h e = ((ap (λ (x : Crossing). x.token) e, ap (λ (x : Crossing). x.credit) e), g.1)
+  gathers-next (suc i) (link ∷ links) (token ∷ tokens) (credit ∷ credits) d c g h e =
+      let p : suc i + 1 ≡ suc (i + 1) = omega arith in
+      rw p (g.0, gathers-next i links tokens credits d c g.1 (omega arith) e)
+  gathers-next i [] tokens credits d c g h e = absurd (omega arith)
+  gathers-next zero (link ∷ links) [] credits d c g h e = absurd g
+  gathers-next zero (link ∷ links) (token ∷ tokens) [] d c g h e = absurd g
+  gathers-next (suc i) (link ∷ links) [] credits d c g h e = absurd g
+  gathers-next (suc i) (link ∷ links) (token ∷ tokens) [] d c g h e = absurd g
+
+  -- where none of the rest is reached, that is all
+  pub gathers-all : (i : ℕ) (links : List (Option ℕ)) (tokens : List (Option Token)) (credits : List Bool) → Gathers tracks i links tokens credits → AllByRecursion IsNowhere (drop i links)
+      → record { tokens = tokens; credits = credits } ≡ arrivals_by tracks links
+  gathers-all zero [] [] [] g none = refl
+  gathers-all zero (link ∷ links) (token ∷ tokens) (credit ∷ credits) g none =
+      let here = g.0 none.0 in
+      let is_token = here.0 ∙ (λ k. (arrived_by tracks (sym none.0 k)).token) in
+      let is_credit = here.1 ∙ (λ k. (arrived_by tracks (sym none.0 k)).credit) in
+      let rest = gathers-all zero links tokens credits g.1 none.1 in
+      λ k. record { tokens = is_token k ∷ (rest k).tokens; credits = is_credit k ∷ (rest k).credits }
+  gathers-all (suc i) (link ∷ links) (token ∷ tokens) (credit ∷ credits) g none =
+      let rest = gathers-all i links tokens credits g.1 none in
+      λ k. record { tokens = g.0.0 k ∷ (rest k).tokens; credits = g.0.1 k ∷ (rest k).credits }
+  gathers-all _ _ _ _ g none = absurd g
+
+  -- by a link end that no directed link comes to nothing arrives
+  pub nothing-else : (links : List (Option ℕ)) → NothingElse links (arrivals_by tracks links).tokens (arrivals_by tracks links).credits
+  nothing-else [] = tt
+  nothing-else (link ∷ links) = (λ none. ((λ k. (arrived_by tracks (none k)).token), (λ k. (arrived_by tracks (none k)).credit)), nothing-else links)
