@@ -1,3 +1,3 @@
-pub mod Units
 pub mod Core
+pub mod Network
 pub mod Inside

@@ -1,14 +1,10 @@
 //! One node's core: boot, and one slot after another. See docs/MACHINE.md.
 #![tactic(auto)]
 
-mod execute;
+mod network;
 mod node_core;
-mod resources;
-mod start;
-mod traps;
-mod waits;
 
-pub use core_memory::BadAddress;
+pub use core_units::BadAddress;
 pub use node_core::Core;
 pub use sys_plan::NodePlan;
 pub use trace_lines::{Emissions, Event, Happen};

@@ -66,6 +66,7 @@ impl Units {
     pub fn run_of(&self, th: u8) -> Run
         requires { th < THREADS }
         ensures value { result ≡ (thread_of self.now th).run }
+        ensures threads { length self.now.threads ≡ THREADS }
     {
         self.threads[th as usize].run
     }

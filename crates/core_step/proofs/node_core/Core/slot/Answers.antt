@@ -1,14 +1,67 @@
-use Rattle.core_step.proofs.Steps.{stepped, gave}
+use Rattle.std.proofs.Common.{◌≡◌, ◌+◌, sym, refl, subst}
+use Rattle.xs_model.specs.Record.{NodeRec}
+use Rattle.xs_model.specs.AtWork.{slot_begins}
+use Rattle.switch_routes.specs.Rows.{SentBy}
+use Rattle.step_model.specs.Fixed.{Fixed}
+use Rattle.step_model.specs.Step.{node_step}
+use Rattle.core_step.specs.Core.{CoreValue, StandsAt, SentBefore}
+use Rattle.core_step.specs.Network.{NetworkRec, NetworkStands, Brings, routes_of}
+use Rattle.core_step.specs.Inside.{value_of}
+use Rattle.core_step.proofs.Slot.{begins, stepped, gave, its_setting, sent_by, sent_before_next}
 use Rattle.core_step.proofs.node_core.Core.slot.Goals as goal
+use Rattle.core_step.proofs.node_core.Core.slot.Goals.{After-issue}
 
-pub returns-clause-step : goal.returns-clause-step
-returns-clause-step c = λ rec h.
-    let a = c.args in
-    stepped a.self.now.fixed rec a.slot a.arrivals.now a._pins.now c.bring.new.self c.bring.ensures.fixed (c.bring.ensures.stands rec h) c.pick_and_issue.new.self
-    c.pick_and_issue.ensures.windows c.pick_and_issue.ensures.core c.pick_and_issue.ensures.after c.bring.ensures.sent (c.bring.ensures.credited rec h)
+-- what the network brings to a node for which the core stands
+brings : (c : After-issue) (rec : NodeRec) → StandsAt (value_of c.self.inside) rec c.args.slot → Brings c.args.slot c.args.arrivals.now (routes_of c.self.inside.network) c.bring.new.self c.bring.new.chans c.bring.new.out (slot_begins rec)
+brings c rec at =
+    let s = c.self.inside in
+    let stands = begins (value_of s).fixed s.units s.network rec c.args.slot at in
+    c.bring.ensures.brings (slot_begins rec)
+    (subst (λ chans. NetworkStands c.args.slot s.network chans c.clear.new.self (slot_begins rec)) (sym c.chans_mut.ensures.value)
+    (subst (λ out. NetworkStands c.args.slot s.network s.units.chans out (slot_begins rec)) (sym c.clear.ensures) stands))
 
-pub returns-clause-emissions : goal.returns-clause-emissions
-returns-clause-emissions c = λ rec h.
+sent : (c : After-issue) → SentBy c.args.slot c.bring.new.self.links
+sent c =
+    c.bring.ensures.sent (sent_by c.args.slot c.self.inside.network.links (subst (λ (v : CoreValue). SentBefore c.args.slot v.links) (sym c.self.view_is) c.requires.before))
+
+step_is : (c : After-issue) (fixed : Fixed) (rec : NodeRec) → StandsAt c.args.self.now rec c.args.slot
+    → StandsAt (record { fixed = fixed; core = c.issue.new.self; inputs = c.bring.new.self.switch.inputs; links = c.bring.new.self.links }) (node_step c.args.self.now.fixed rec c.args.slot c.args.arrivals.now c.args._pins.now).rec (c.args.slot + 1)
+step_is c fixed rec h =
     let a = c.args in
-    gave a.self.now.fixed rec a.slot a.arrivals.now a._pins.now c.bring.new.self c.bring.ensures.fixed (c.bring.ensures.stands rec h) c.bring.new.out c.pick_and_issue.new.out
-    (c.bring.ensures.emissions rec h) c.pick_and_issue.ensures.events
+    let s = c.self.inside in
+    let at = subst (λ (v : CoreValue). StandsAt v rec a.slot) (sym c.self.view_is) h in
+    let now = (value_of s).fixed in
+    subst (λ (v : CoreValue). StandsAt (record { fixed = fixed; core = c.issue.new.self; inputs = c.bring.new.self.switch.inputs; links = c.bring.new.self.links }) (node_step v.fixed rec a.slot a.arrivals.now a._pins.now).rec (a.slot + 1)) c.self.view_is
+    (stepped now rec a.slot a.arrivals.now a._pins.now s.units c.bring.new.self c.bring.new.chans c.bring.new.out at.stands.core (brings c rec at) fixed c.issue.new.self
+    (c.issue.ensures.units (its_setting now rec a.slot a.arrivals.now a._pins.now) c.self.invariant.node refl) (sent c))
+
+emissions_are : (c : After-issue) (rec : NodeRec) → StandsAt c.args.self.now rec c.args.slot → c.issue.new.out ≡ (node_step c.args.self.now.fixed rec c.args.slot c.args.arrivals.now c.args._pins.now).emitted
+emissions_are c rec h =
+    let a = c.args in
+    let s = c.self.inside in
+    let at = subst (λ (v : CoreValue). StandsAt v rec a.slot) (sym c.self.view_is) h in
+    let now = (value_of s).fixed in
+    subst (λ (v : CoreValue). c.issue.new.out ≡ (node_step v.fixed rec a.slot a.arrivals.now a._pins.now).emitted) c.self.view_is
+    (gave now rec a.slot a.arrivals.now a._pins.now s.units c.bring.new.self c.bring.new.chans c.bring.new.out at.stands.core (brings c rec at) c.issue.new.out
+    (c.issue.ensures.events (its_setting now rec a.slot a.arrivals.now a._pins.now) c.self.invariant.node refl))
+
+pub returns-then-issue-clause-step : goal.returns-then-issue-clause-step
+returns-then-issue-clause-step c = λ rec h.
+    let s = (goal.at.returns-then-issue-clause-step c).After-issue in
+    subst (λ (n : NetworkRec). StandsAt (record { fixed = record { code = s.self.inside.program.code; routes = routes_of n }; core = s.issue.new.self; inputs = n.switch.inputs; links = n.links }) (node_step s.args.self.now.fixed rec s.args.slot s.args.arrivals.now s.args._pins.now).rec (s.args.slot + 1)) (sym c.stir.ensures) (step_is s _ rec h)
+
+pub returns-then-issue-clause-emissions : goal.returns-then-issue-clause-emissions
+returns-then-issue-clause-emissions c = emissions_are (goal.at.returns-then-issue-clause-emissions c).After-issue
+
+pub returns-then-issue-clause-after : goal.returns-then-issue-clause-after
+returns-then-issue-clause-after c =
+    subst (λ (n : NetworkRec). SentBefore (c.args.slot + 1) n.links) (sym c.stir.ensures) (sent_before_next c.args.slot c.bring.new.self.links (sent (goal.at.returns-then-issue-clause-after c).After-issue))
+
+pub returns-else-issue-clause-step : goal.returns-else-issue-clause-step
+returns-else-issue-clause-step c = step_is (goal.at.returns-else-issue-clause-step c).After-issue _
+
+pub returns-else-issue-clause-emissions : goal.returns-else-issue-clause-emissions
+returns-else-issue-clause-emissions c = emissions_are (goal.at.returns-else-issue-clause-emissions c).After-issue
+
+pub returns-else-issue-clause-after : goal.returns-else-issue-clause-after
+returns-else-issue-clause-after c = sent_before_next c.args.slot c.bring.new.self.links (sent (goal.at.returns-else-issue-clause-after c).After-issue)

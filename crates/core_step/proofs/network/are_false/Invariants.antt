@@ -1,6 +1,6 @@
 use Rattle.std.proofs.Common.{ℕ, ◌≡◌, ◌<◌, false}
 use Rattle.std.specs.Prelude.{slice_index_or}
-use Rattle.core_step.proofs.start.are_false.Given as goal
+use Rattle.core_step.proofs.network.are_false.Given as goal
 
 abbrev pub invariant-loop-end : goal.invariant-loop-end
 invariant-loop-end l = (e : ℕ) → e < l.end → slice_index_or l.credits e false ≡ false
