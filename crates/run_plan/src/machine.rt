@@ -70,6 +70,8 @@ impl SerialMachine {
 
     /// Steps on until so many slots have passed since the start; does nothing where they have. The error is want of
     /// memory, and leaves the machine at a whole slot before the limit.
+    // Not inlined, so that its caller's variables take no registers from the loop.
+    #[inline(never)]
     pub fn run(&mut self, limit: u32) -> Result<(), AllocError>
         ensures plan { self.new.plan ≡ self.old.plan }
         ensures ran { OnOk result (self.new.now ≡ max self.old.now limit) }

@@ -33,6 +33,8 @@ impl Seat {
     }
 
     /// One slot of the node, with what arrives by its links. Its events are kept, in room that was made for them.
+    // Not inlined: the registers of the loop over the nodes are then not shared with all that a slot may do.
+    #[inline(never)]
     pub(crate) fn step(&mut self, tracks: &[Track], slot: u32)
         requires slot { slot < 2 ^ 32 - 1 }
         requires seat { IsSeat slot (length tracks.now) self.old }
