@@ -1,6 +1,6 @@
 //! At most one issue in a slot.
-ghost use Rattle.std.specs.Prelude.{◌≡◌, ◌<◌, ◌≤◌, false, Some, None, length, IsTrue};
-ghost use Rattle.xs_base.specs.declared.numbers.TheConstants.{THREADS};
+ghost use Rattle.std.specs.Prelude.{◌≡◌, ◌<◌, ◌≤◌, ◌+◌, false, Some, None, length, IsTrue};
+ghost use Rattle.xs_base.specs.declared.numbers.TheConstants.{THREADS, EVENT_ROOM, ISSUE_EVENTS};
 ghost use Rattle.xs_model.specs.Record.{thread_of};
 ghost use Rattle.xs_model.specs.Entry.{trapped, return_address, handler_address};
 ghost use Rattle.xs_instructions.specs.Instr.{InRange, built};
@@ -20,7 +20,7 @@ impl Units {
     /// At most one issue, by the thread that is picked in a slot. What happens is put after the events of `out`.
     /// It answers whether channel ends may have changed. See docs/MACHINE.md.
     pub fn issue(&mut self, program: &Program, slot: u32, out: &mut Emissions) -> bool
-        requires room { length out.old.events ≤ 72 }
+        requires room { length out.old.events + ISSUE_EVENTS ≤ EVENT_ROOM }
         ensures units { (here : Setting) → here.id ≡ program.now.id → here.slot ≡ slot → self.new ≡ (issued program.now.code here self.old).core }
         ensures events { (here : Setting) → here.id ≡ program.now.id → here.slot ≡ slot → out.new ≡ and_happened out.old slot (issued program.now.code here self.old).happened }
         ensures chans { result ≡ false → self.new.chans ≡ self.old.chans }
@@ -34,7 +34,7 @@ impl Units {
     // Thread k issues.
     fn issue_by(&mut self, k: u8, program: &Program, slot: u32, out: &mut Emissions) -> bool
         requires thread { k < THREADS }
-        requires room { length out.old.events ≤ 72 }
+        requires room { length out.old.events + ISSUE_EVENTS ≤ EVENT_ROOM }
         ensures units { (here : Setting) → here.id ≡ program.now.id → here.slot ≡ slot → self.new ≡ (issued_by program.now.code here self.old (Some k)).core }
         ensures events { (here : Setting) → here.id ≡ program.now.id → here.slot ≡ slot → out.new ≡ and_happened out.old slot (issued_by program.now.code here self.old (Some k)).happened }
         ensures chans { result ≡ false → self.new.chans ≡ self.old.chans }
@@ -103,7 +103,7 @@ impl Units {
     // What the outcome of its instruction makes of thread k.
     fn settle(&mut self, k: u8, program: &Program, outcome: Outcome, slot: u32, out: &mut Emissions)
         requires thread { k < THREADS }
-        requires room { length out.old.events ≤ 72 }
+        requires room { length out.old.events + ISSUE_EVENTS ≤ EVENT_ROOM }
         ensures units { self.new ≡ (settled program.now.code self.old k (effect_of outcome self.old)).core }
         ensures events { out.new ≡ and_happened out.old slot (settled program.now.code self.old k (effect_of outcome self.old)).happened }
         ensures chans { self.new.chans ≡ self.old.chans }
@@ -118,7 +118,7 @@ impl Units {
     // Thread k traps. It halts where no code stands at its handler's address.
     fn trap(&mut self, k: u8, program: &Program, et: u32, ed: u32, slot: u32, out: &mut Emissions)
         requires thread { k < THREADS }
-        requires room { length out.old.events ≤ 72 }
+        requires room { length out.old.events + ISSUE_EVENTS ≤ EVENT_ROOM }
         ensures units { self.new ≡ (trap program.now.code self.old k et ed).core }
         ensures events { out.new ≡ and_happened out.old slot (trap program.now.code self.old k et ed).happened }
         ensures chans { self.new.chans ≡ self.old.chans }

@@ -4,8 +4,8 @@ use Rattle.xs_model.specs.Outside.{Emitted}
 use Rattle.xs_model.specs.Events.{IsWithinCounts}
 use Rattle.trace_lines.specs.declared.emitted.Emissions.TheInside.{Inside}
 
-abbrev pub emitted_in : Inside → Emitted
-emitted_in c = record { events = c.events.items; tokens = c.tokens; credits = c.credits }
+abbrev pub emitted_of : Inside → Emitted
+emitted_of c = record { events = c.events.items; tokens = c.tokens; credits = c.credits }
 
 -- every event is within its counts, and link ends are marked as used where one is
 pub record IsWellMarked (c : Inside) : Type 0 where

@@ -1,19 +1,21 @@
 //! `Emissions`, what one slot of a node gives.
 ghost use Rattle.std.specs.Prelude.{◌≡◌, ◌<◌, ◌≤◌, [], ◌∷◌, ◌++◌, length, Some, None, true, false, slice_index_or, slice_set, All};
+ghost use Rattle.xs_base.specs.declared.numbers.TheConstants.{EVENT_ROOM};
 ghost use Rattle.xs_model.specs.Outside.{emitted_events};
 ghost use Rattle.xs_model.specs.Events.{IsWithinCounts};
 
 use arrayvec::ArrayVec;
 use std::marker::Model;
 use xs_base::Token;
+use xs_base::numbers::EVENT_ROOM;
 use xs_model::Event;
 
-/// What one slot of a node gives: at most 112 events in their order, and for each link end 0 to 7 at most one token
+/// What one slot of a node gives: at most `EVENT_ROOM` events in their order, and for each link end 0 to 7 at most one token
 /// and one credit that leave by it. Contracts see it as an `Emitted` of `Rattle.xs_model.specs.Outside`. It takes
 /// no memory beyond its own. See docs/MACHINE.md.
 #[derive(Drop)]
 pub struct Emissions {
-    events: ArrayVec<Event, 112>,
+    events: ArrayVec<Event, EVENT_ROOM>,
     tokens: [Option<Token>; 8],
     credits: [bool; 8],
     // Whether a token or a credit was set since all were cleared.
@@ -25,9 +27,9 @@ impl Model for Emissions {
 
     ghost Value = { Emitted };
 
-    ghost use Rattle.trace_lines.specs.Places.{emitted_in, IsWellMarked};
+    ghost use Rattle.trace_lines.specs.Places.{emitted_of, IsWellMarked};
 
-    ghost view = { emitted_in };
+    ghost view = { emitted_of };
 
     ghost invariant = { IsWellMarked };
 }
@@ -57,9 +59,9 @@ impl Emissions {
         }
     }
 
-    /// Puts an event after those of this slot, which are fewer than 112.
+    /// Puts an event after those of this slot, of which there are fewer than there is room for, `EVENT_ROOM`.
     pub fn add_event(&mut self, e: Event)
-        requires room { length self.old.events < 112 }
+        requires room { length self.old.events < EVENT_ROOM }
         requires within { IsWithinCounts e }
         ensures { self.new ≡ record self.old { events = self.old.events ++ e ∷ [] } }
     {
@@ -88,7 +90,7 @@ impl Emissions {
     pub fn events(&self) -> &[Event]
         ensures value { result.now ≡ self.now.events }
         ensures within { All IsWithinCounts result.now }
-        ensures bound { length result.now ≤ 112 }
+        ensures bound { length result.now ≤ EVENT_ROOM }
     {
         self.events.as_slice()
     }

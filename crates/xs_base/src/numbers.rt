@@ -56,6 +56,9 @@ pub const CLOCK_KIND: u8 = 6;
 /// How many events the switch may make in a slot: one for each input.
 pub const SWITCH_EVENTS: usize = 40;
 
+/// How many events an issue may make.
+pub const ISSUE_EVENTS: usize = 2;
+
 /// For how many events of one slot of a node there is room.
 pub const EVENT_ROOM: usize = 112;
 
