@@ -20,7 +20,7 @@ use Rattle.source_model.specs.Operands.{Amount, Known}
 use Rattle.source_model.specs.Statement as says
 use Rattle.source_model.specs.Statement.{Line}
 use Rattle.source_model.specs.Layout.{Label, Sofar, place_of, section_length, here, define_all, after_line, after_lines, bytes_length}
-use Rattle.source_model.specs.Source.{values_in, instruction_in, is_missing, fault_of_line, first_fault, or_fault, has_bad_byte, has_label_twice, is_not_allowed, has_unknown_name, has_wrong_operands, has_number_out_of_range, has_label_missing, defines_twice, code_of_line, code_from, bytes_of_line, bytes_from, bytes_of_values}
+use Rattle.source_model.specs.Source.{values_in, instruction_in, is_missing, fault_of_line, first_fault, or_fault, has_bad_byte, has_label_twice, is_not_allowed, has_unknown_name, has_wrong_operands, has_number_out_of_range, has_label_missing, defines_twice, code_of_line, code_of_lines, bytes_of_line, bytes_of_lines, bytes_of_values}
 
 -- the state in a section, with so many instructions, bytes of data and bytes of constants
 abbrev pub state : Section → ℕ → ℕ → ℕ → List Label → Sofar
@@ -43,13 +43,13 @@ pub record IsClean (whole before final : Sofar) (line : Line) (instructions : Li
 pub record AreClean (whole before final : Sofar) (lines : List Line) (instructions : List Instr) (in_first in_second : List ℕ) : Type 0 where
   pub after : after_lines before lines ≡ final
   pub fault : (n : ℕ) → first_fault whole before n lines ≡ None
-  pub code : code_from whole before lines ≡ instructions
-  pub in_data : bytes_from Data whole before lines ≡ in_first
-  pub in_constants : bytes_from Constants whole before lines ≡ in_second
+  pub code : code_of_lines whole before lines ≡ instructions
+  pub in_data : bytes_of_lines Data whole before lines ≡ in_first
+  pub in_constants : bytes_of_lines Constants whole before lines ≡ in_second
 
 module _ (whole : Sofar) where
   pub clean-nil : (before : Sofar) → AreClean whole before before [] [] [] []
-  unfolding after_lines first_fault code_from bytes_from
+  unfolding after_lines first_fault code_of_lines bytes_of_lines
   clean-nil before = record { after = refl; fault = λ n. refl; code = refl; in_data = refl; in_constants = refl }
 
   after-cons : (before : Sofar) (line : Line) (lines : List Line) → after_lines before (line ∷ lines) ≡ after_lines (after_line before line) lines
@@ -60,12 +60,12 @@ module _ (whole : Sofar) where
   unfolding first_fault
   fault-cons before n line lines = refl
 
-  code-cons : (before : Sofar) (line : Line) (lines : List Line) → code_from whole before (line ∷ lines) ≡ code_of_line whole before line ++ code_from whole (after_line before line) lines
-  unfolding code_from
+  code-cons : (before : Sofar) (line : Line) (lines : List Line) → code_of_lines whole before (line ∷ lines) ≡ code_of_line whole before line ++ code_of_lines whole (after_line before line) lines
+  unfolding code_of_lines
   code-cons before line lines = refl
 
-  bytes-cons : (section : Section) (before : Sofar) (line : Line) (lines : List Line) → bytes_from section whole before (line ∷ lines) ≡ bytes_of_line section whole before line ++ bytes_from section whole (after_line before line) lines
-  unfolding bytes_from
+  bytes-cons : (section : Section) (before : Sofar) (line : Line) (lines : List Line) → bytes_of_lines section whole before (line ∷ lines) ≡ bytes_of_line section whole before line ++ bytes_of_lines section whole (after_line before line) lines
+  unfolding bytes_of_lines
   bytes-cons section before line lines = refl
 
   pub clean-cons : (before between after : Sofar) (line : Line) (lines : List Line) (c c' : List Instr) (d d' k k' : List ℕ) → IsClean whole before between line c d k → AreClean whole between after lines c' d' k' → AreClean whole before after (line ∷ lines) (c ++ c') (d ++ d') (k ++ k')
@@ -74,9 +74,9 @@ module _ (whole : Sofar) where
     fault = λ n. fault-cons before n line lines
         ∙ (ap (λ o. or_fault n o (first_fault whole (after_line before line) (n + 1) lines)) h.fault
         ∙ (ap (λ s. first_fault whole s (n + 1) lines) h.after ∙ r.fault (n + 1)));
-    code = code-cons before line lines ∙ (ap (λ l. l ++ code_from whole (after_line before line) lines) h.code ∙ ap (λ l. c ++ l) (ap (λ s. code_from whole s lines) h.after ∙ r.code));
-    in_data = bytes-cons Data before line lines ∙ (ap (λ l. l ++ bytes_from Data whole (after_line before line) lines) h.in_data ∙ ap (λ l. d ++ l) (ap (λ s. bytes_from Data whole s lines) h.after ∙ r.in_data));
-    in_constants = bytes-cons Constants before line lines ∙ (ap (λ l. l ++ bytes_from Constants whole (after_line before line) lines) h.in_constants ∙ ap (λ l. k ++ l) (ap (λ s. bytes_from Constants whole s lines) h.after ∙ r.in_constants));
+    code = code-cons before line lines ∙ (ap (λ l. l ++ code_of_lines whole (after_line before line) lines) h.code ∙ ap (λ l. c ++ l) (ap (λ s. code_of_lines whole s lines) h.after ∙ r.code));
+    in_data = bytes-cons Data before line lines ∙ (ap (λ l. l ++ bytes_of_lines Data whole (after_line before line) lines) h.in_data ∙ ap (λ l. d ++ l) (ap (λ s. bytes_of_lines Data whole s lines) h.after ∙ r.in_data));
+    in_constants = bytes-cons Constants before line lines ∙ (ap (λ l. l ++ bytes_of_lines Constants whole (after_line before line) lines) h.in_constants ∙ ap (λ l. k ++ l) (ap (λ s. bytes_of_lines Constants whole s lines) h.after ∙ r.in_constants));
   }
 
   -- lines after lines
@@ -97,14 +97,14 @@ module _ (whole : Sofar) where
       no_fault_more n (fault_of_line whole before line) (first_fault whole (after_line before line) (n + 1) lines) (first_fault whole (after_line before line) (n + 1) (lines ++ more)) h
       (λ e. fault-append (after_line before line) (n + 1) lines more e k)
 
-  code-append : (before : Sofar) (lines more : List Line) → code_from whole before (lines ++ more) ≡ code_from whole before lines ++ code_from whole (after_lines before lines) more
-  unfolding code_from after_lines
+  code-append : (before : Sofar) (lines more : List Line) → code_of_lines whole before (lines ++ more) ≡ code_of_lines whole before lines ++ code_of_lines whole (after_lines before lines) more
+  unfolding code_of_lines after_lines
   code-append before [] more = refl
   code-append before (line ∷ lines) more =
       ap (λ l. code_of_line whole before line ++ l) (code-append (after_line before line) lines more) ∙ sym (append_assoc (code_of_line whole before line) _ _)
 
-  bytes-append : (section : Section) (before : Sofar) (lines more : List Line) → bytes_from section whole before (lines ++ more) ≡ bytes_from section whole before lines ++ bytes_from section whole (after_lines before lines) more
-  unfolding bytes_from after_lines
+  bytes-append : (section : Section) (before : Sofar) (lines more : List Line) → bytes_of_lines section whole before (lines ++ more) ≡ bytes_of_lines section whole before lines ++ bytes_of_lines section whole (after_lines before lines) more
+  unfolding bytes_of_lines after_lines
   bytes-append section before [] more = refl
   bytes-append section before (line ∷ lines) more =
       ap (λ l. bytes_of_line section whole before line ++ l) (bytes-append section (after_line before line) lines more) ∙ sym (append_assoc (bytes_of_line section whole before line) _ _)
@@ -113,9 +113,9 @@ module _ (whole : Sofar) where
   clean-append before between after lines more c c' d d' k k' h r = record {
     after = after-append before lines more ∙ (ap (λ s. after_lines s more) h.after ∙ r.after);
     fault = λ n. fault-append before n lines more (h.fault n) (λ m. ap (λ s. first_fault whole s m more) h.after ∙ r.fault m);
-    code = code-append before lines more ∙ (ap (λ l. l ++ code_from whole (after_lines before lines) more) h.code ∙ ap (λ l. c ++ l) (ap (λ s. code_from whole s more) h.after ∙ r.code));
-    in_data = bytes-append Data before lines more ∙ (ap (λ l. l ++ bytes_from Data whole (after_lines before lines) more) h.in_data ∙ ap (λ l. d ++ l) (ap (λ s. bytes_from Data whole s more) h.after ∙ r.in_data));
-    in_constants = bytes-append Constants before lines more ∙ (ap (λ l. l ++ bytes_from Constants whole (after_lines before lines) more) h.in_constants ∙ ap (λ l. k ++ l) (ap (λ s. bytes_from Constants whole s more) h.after ∙ r.in_constants));
+    code = code-append before lines more ∙ (ap (λ l. l ++ code_of_lines whole (after_lines before lines) more) h.code ∙ ap (λ l. c ++ l) (ap (λ s. code_of_lines whole s more) h.after ∙ r.code));
+    in_data = bytes-append Data before lines more ∙ (ap (λ l. l ++ bytes_of_lines Data whole (after_lines before lines) more) h.in_data ∙ ap (λ l. d ++ l) (ap (λ s. bytes_of_lines Data whole s more) h.after ∙ r.in_data));
+    in_constants = bytes-append Constants before lines more ∙ (ap (λ l. l ++ bytes_of_lines Constants whole (after_lines before lines) more) h.in_constants ∙ ap (λ l. k ++ l) (ap (λ s. bytes_of_lines Constants whole s more) h.after ∙ r.in_constants));
   }
 
   -- the nine tests

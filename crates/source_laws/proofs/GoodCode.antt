@@ -24,7 +24,7 @@ use Rattle.source_model.specs.declared.layout.Place.{Place}
 use Rattle.source_model.specs.Operands.{Amount, Known, Target, Address, Offset}
 use Rattle.source_model.specs.Statement.{Says, NoEffect, Unknown, Misshapen, Instruction, Values, Zeros, Align, Line}
 use Rattle.source_model.specs.Layout.{Label, place_of, Sofar, section_length, address_in, after_line}
-use Rattle.source_model.specs.Source.{target_in, target_value, amount_value, values_in, is_missing, names_missing, code_of, same_section, code_of_line, code_from, symbol_of}
+use Rattle.source_model.specs.Source.{target_in, target_value, amount_value, values_in, is_missing, names_missing, code_of, same_section, code_of_line, code_of_lines, symbol_of}
 use Rattle.source_laws.proofs.Each.{some_for_none, each_parts}
 use Rattle.source_laws.proofs.Sound.{IsTarget, IsTargetAt, HasTargets, IsSoundAt, all_append}
 use Rattle.source_laws.proofs.Fine.{IsFine, AreFine}
@@ -140,11 +140,11 @@ line_good whole before line w f =
     (λ e. says_good whole before.layout.instructions line.statement.home line.statement.says w f.sound.says f.defined)
     (λ e. tt)
 
-pub code_good : (whole before : Sofar) (lines : List Line) → IsWhole whole → AreFine whole before lines → AllByRecursion (IsGood (symbols_of whole)) (code_from whole before lines)
-unfolding code_from
+pub code_good : (whole before : Sofar) (lines : List Line) → IsWhole whole → AreFine whole before lines → AllByRecursion (IsGood (symbols_of whole)) (code_of_lines whole before lines)
+unfolding code_of_lines
 code_good whole before [] w f = tt
 code_good whole before (line ∷ lines) w f =
-    all_append (IsGood (symbols_of whole)) (code_of_line whole before line) (code_from whole (after_line before line) lines) (line_good whole before line w f.0) (code_good whole (after_line before line) lines w f.1)
+    all_append (IsGood (symbols_of whole)) (code_of_line whole before line) (code_of_lines whole (after_line before line) lines) (line_good whole before line w f.0) (code_good whole (after_line before line) lines w f.1)
 
 pub all_then : {A : Type 0} (P Q : A → Type 0) (xs : List A) → ((x : A) → P x → Q x) → AllByRecursion P xs → AllByRecursion Q xs
 all_then P Q [] h k = tt

@@ -10,7 +10,7 @@ use Rattle.source_model.specs.declared.AsmKind.{AsmKind}
 use Rattle.source_model.specs.declared.layout.Section.TheVariants.{Data, Constants}
 use Rattle.source_model.specs.Statement.{Line, line_of}
 use Rattle.source_model.specs.Layout.{nothing_yet, whole_of, round_up_to_word, bytes_length}
-use Rattle.source_model.specs.Source.{first_fault, code_from, bytes_from, bytes_together, image_of, Image, outcome, assembled}
+use Rattle.source_model.specs.Source.{first_fault, code_of_lines, bytes_of_lines, bytes_together, image_of, Image, outcome, assembled}
 use Rattle.source_laws.proofs.FirstFault.{absent}
 use Rattle.source_laws.proofs.Fine.{AreFine, all_sound, all_fine, all_code_fits, all_bytes_fit}
 use Rattle.source_laws.proofs.Lengths.{code_length, data_length, constants_length}
@@ -40,19 +40,19 @@ module _ (lines : List Line) (fine : AreFine (whole_of lines) nothing_yet lines)
   is_whole : IsWhole (whole_of lines)
   is_whole = record { code = bounded.code; reached = table.reached }
 
-  code_is : length (code_from (whole_of lines) nothing_yet lines) ≡ (whole_of lines).layout.instructions
+  code_is : length (code_of_lines (whole_of lines) nothing_yet lines) ≡ (whole_of lines).layout.instructions
   code_is = omega (arith, code_length (whole_of lines) nothing_yet lines fine)
 
-  data_is : length (bytes_from Data (whole_of lines) nothing_yet lines) ≡ (whole_of lines).layout.data_bytes
+  data_is : length (bytes_of_lines Data (whole_of lines) nothing_yet lines) ≡ (whole_of lines).layout.data_bytes
   data_is = omega (arith, data_length (whole_of lines) nothing_yet lines fine)
 
-  constants_is : length (bytes_from Constants (whole_of lines) nothing_yet lines) ≡ (whole_of lines).layout.constant_bytes
+  constants_is : length (bytes_of_lines Constants (whole_of lines) nothing_yet lines) ≡ (whole_of lines).layout.constant_bytes
   constants_is = omega (arith, constants_length (whole_of lines) nothing_yet lines fine)
 
   bytes_is : length (image_of (whole_of lines) lines).bytes ≡ bytes_length (whole_of lines).layout.data_bytes (whole_of lines).layout.constant_bytes
   bytes_is =
-      together_length (bytes_from Data (whole_of lines) nothing_yet lines) (bytes_from Constants (whole_of lines) nothing_yet lines)
-      ∙ (ap (λ d. bytes_length d (length (bytes_from Constants (whole_of lines) nothing_yet lines))) data_is
+      together_length (bytes_of_lines Data (whole_of lines) nothing_yet lines) (bytes_of_lines Constants (whole_of lines) nothing_yet lines)
+      ∙ (ap (λ d. bytes_length d (length (bytes_of_lines Constants (whole_of lines) nothing_yet lines))) data_is
       ∙ ap (bytes_length (whole_of lines).layout.data_bytes) constants_is)
 
   good : AllByRecursion (IsGood (image_of (whole_of lines) lines).symbols) (image_of (whole_of lines) lines).code

@@ -181,14 +181,14 @@ values-end : values.values_from values.CommaNext width.Byte [] ≡ Some []
 unfolding values_from
 values-end = refl
 
-values-one : (t : Token) → same_name (45 ∷ []) t.bytes ≡ false → values.values_of width.Byte (t ∷ []) ≡ put_first (values.plain_value t.kind width.Byte t.bytes) (values.values_from values.CommaNext width.Byte [])
+values-one : (t : Token) → same_name (45 ∷ []) t.bytes ≡ false → values.listed_values width.Byte (t ∷ []) ≡ put_first (values.plain_value t.kind width.Byte t.bytes) (values.values_from values.CommaNext width.Byte [])
 unfolding values_from
 values-one t h = cond-false _ _ _ h
 
 in_byte : (n : ℕ) → n < 256 → at_most 255 (Some n) ≡ Some n
 in_byte n h = cond-true _ _ _ (let t : nat_le n 255 ≡ true = grind (arith, nat_tests) in t)
 
-byte_value : (n : ℕ) → n < 256 → values.values_of width.Byte (token_of (decimal n) ∷ []) ≡ Some (Known (Some n) ∷ [])
+byte_value : (n : ℕ) → n < 256 → values.listed_values width.Byte (token_of (decimal n) ∷ []) ≡ Some (Known (Some n) ∷ [])
 byte_value n h =
     let run = decimal_run n (omega arith) in
     values-one (token_of (decimal n)) (digits_no_minus (decimal n) run)

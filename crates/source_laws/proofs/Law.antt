@@ -16,7 +16,7 @@ use Rattle.xs_instructions.specs.Image.{ImageRec, IsImage, Symbol, may_follow, i
 use Rattle.source_model.specs.declared.layout.Section.TheVariants.{Text, Data, Constants}
 use Rattle.source_model.specs.Statement.{Line, line_of}
 use Rattle.source_model.specs.Layout.{Label, Sofar, nothing_yet, bytes_length, round_up_to_word, section_start, address_in}
-use Rattle.source_model.specs.Source.{Image, assembled, assembled_from, outcome, image_of, first_fault, bytes_from, bytes_together, symbol_of}
+use Rattle.source_model.specs.Source.{Image, assembled, assembled_from, outcome, image_of, first_fault, bytes_of_lines, bytes_together, symbol_of}
 use Rattle.source_model.specs.Canonical as canonical
 use Rattle.source_model.specs.Canonical.{Item, Instruction, DataSection, ConstantSection, Byte, labels_at, labels_below, behind_labels, data_room, items, item_line}
 use Rattle.source_laws.specs.LabelOrder.{symbols_from, IsNext}
@@ -341,9 +341,9 @@ module _ (image : ImageRec) (h : IsImage image) (bytes : AllByRecursion IsByte i
   image_is =
       let r : List Instr → List ℕ → ℕ → List Symbol → ImageRec = λ c b a s. record { code = c; bytes = b; cp_at = a; symbols = s } in
       let clean = lines_clean in
-      let bs : bytes_together (bytes_from Data whole nothing_yet lines) (bytes_from Constants whole nothing_yet lines) ≡ image.bytes =
-      ap (λ b. bytes_together b (bytes_from Constants whole nothing_yet lines)) clean.in_data ∙ (ap (λ b. bytes_together first b) clean.in_constants ∙ bytes_are) in
-      ap (λ c. r c (bytes_together (bytes_from Data whole nothing_yet lines) (bytes_from Constants whole nothing_yet lines)) (section_start whole.layout Constants) (map (symbol_of whole.layout) whole.labels)) clean.code
+      let bs : bytes_together (bytes_of_lines Data whole nothing_yet lines) (bytes_of_lines Constants whole nothing_yet lines) ≡ image.bytes =
+      ap (λ b. bytes_together b (bytes_of_lines Constants whole nothing_yet lines)) clean.in_data ∙ (ap (λ b. bytes_together first b) clean.in_constants ∙ bytes_are) in
+      ap (λ c. r c (bytes_together (bytes_of_lines Data whole nothing_yet lines) (bytes_of_lines Constants whole nothing_yet lines)) (section_start whole.layout Constants) (map (symbol_of whole.layout) whole.labels)) clean.code
       ∙ (ap (λ b. r image.code b (section_start whole.layout Constants) (map (symbol_of whole.layout) whole.labels)) bs
       ∙ (ap (λ a. r image.code image.bytes a (map (symbol_of whole.layout) whole.labels)) cp_is
       ∙ ap (λ s. r image.code image.bytes cp s) (symbols_back symbols h.places)))

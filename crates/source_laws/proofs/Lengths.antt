@@ -15,7 +15,7 @@ use Rattle.source_model.specs.Operands.{Amount}
 use Rattle.source_model.specs.Values.{width_bytes, little_endian}
 use Rattle.source_model.specs.Statement.{Says, NoEffect, Unknown, Misshapen, Instruction, Values, Zeros, Align, Line}
 use Rattle.source_model.specs.Layout.{Sofar, may_stand, added, moved, after_line, after_lines}
-use Rattle.source_model.specs.Source.{values_in, amount_value, is_out_of_range, code_of, bytes_of, bytes_of_values, same_section, code_from, bytes_from}
+use Rattle.source_model.specs.Source.{values_in, amount_value, is_out_of_range, code_of, bytes_of, bytes_of_values, same_section, code_of_lines, bytes_of_lines}
 use Rattle.source_laws.proofs.Each.{all_some-length}
 use Rattle.source_laws.proofs.Sound.{IsSoundAt}
 use Rattle.source_laws.proofs.Fine.{AreFine}
@@ -93,8 +93,8 @@ constants_step whole Constants i d c home says s h r = rw h (omega (arith, bytes
 pub layout_after : (before : Sofar) (line : Line) → line.bad_byte ≡ false → (after_line before line).layout ≡ moved before.layout line.statement
 layout_after before line h = rw h refl
 
-pub code_length : (whole before : Sofar) (lines : List Line) → AreFine whole before lines → length (code_from whole before lines) + before.layout.instructions ≡ (after_lines before lines).layout.instructions
-unfolding code_from after_lines
+pub code_length : (whole before : Sofar) (lines : List Line) → AreFine whole before lines → length (code_of_lines whole before lines) + before.layout.instructions ≡ (after_lines before lines).layout.instructions
+unfolding code_of_lines after_lines
 code_length whole before [] h = omega arith
 code_length whole before (line ∷ lines) h =
     let layout = before.layout in
@@ -103,8 +103,8 @@ code_length whole before (line ∷ lines) h =
     let rest = code_length whole (after_line before line) lines h.1 in
     rw (length-append, ← rest, after, ← step) (omega arith)
 
-pub data_length : (whole before : Sofar) (lines : List Line) → AreFine whole before lines → length (bytes_from Data whole before lines) + before.layout.data_bytes ≡ (after_lines before lines).layout.data_bytes
-unfolding bytes_from after_lines
+pub data_length : (whole before : Sofar) (lines : List Line) → AreFine whole before lines → length (bytes_of_lines Data whole before lines) + before.layout.data_bytes ≡ (after_lines before lines).layout.data_bytes
+unfolding bytes_of_lines after_lines
 data_length whole before [] h = omega arith
 data_length whole before (line ∷ lines) h =
     let layout = before.layout in
@@ -113,8 +113,8 @@ data_length whole before (line ∷ lines) h =
     let rest = data_length whole (after_line before line) lines h.1 in
     rw (length-append, ← rest, after, ← step) (omega arith)
 
-pub constants_length : (whole before : Sofar) (lines : List Line) → AreFine whole before lines → length (bytes_from Constants whole before lines) + before.layout.constant_bytes ≡ (after_lines before lines).layout.constant_bytes
-unfolding bytes_from after_lines
+pub constants_length : (whole before : Sofar) (lines : List Line) → AreFine whole before lines → length (bytes_of_lines Constants whole before lines) + before.layout.constant_bytes ≡ (after_lines before lines).layout.constant_bytes
+unfolding bytes_of_lines after_lines
 constants_length whole before [] h = omega arith
 constants_length whole before (line ∷ lines) h =
     let layout = before.layout in

@@ -9,7 +9,7 @@ use Rattle.xs_text.specs.declared.token_reader.TokKind.{TokKind}
 use Rattle.xs_text.specs.declared.token_reader.TokKind.TheVariants.{Name, Number, Mark, Stray}
 use Rattle.xs_instructions.specs.Image.{same_name, is_reserved}
 use Rattle.xs_instructions.specs.Instr.{takes_value, value_parts}
-use Rattle.xs_instructions.specs.Find.{find, known, may_stand, have_form, is_of_row, first_row, values_among}
+use Rattle.xs_instructions.specs.Find.{find, known, shape_fits, have_form, is_of_row, first_row, values_among}
 use Rattle.xs_instructions.specs.Rows.{name_of, parts_of, is_built}
 use Rattle.xs_instructions.specs.Words.{fixed, register_number}
 use Rattle.xs_instructions.specs.declared.rows.TheConstants.{ROWS}
@@ -24,7 +24,7 @@ use Rattle.source_model.specs.declared.layout.Width.TheVariants.{Byte, Short, Wo
 use Rattle.source_model.specs.declared.layout.Home.{Home}
 use Rattle.source_model.specs.declared.layout.Home.TheVariants.{Anywhere, InText, InBytes, BeginsData, BeginsConstants, Nowhere}
 use Rattle.source_model.specs.Operands.{Amount, Target, Operand, operands_of, or_shape, label_shape, shape_by_kind, shape_of, shapes_of, name_amount, amount_by_kind, amount_of, amounts_of}
-use Rattle.source_model.specs.Values.{values_of}
+use Rattle.source_model.specs.Values.{listed_values}
 use Rattle.source_laws.proofs.Each.{none_for_some, each_parts}
 use Rattle.source_model.specs.Statement.{Says, NoEffect, Unknown, Misshapen, Instruction, Values, Zeros, Statement, Line, is_nothing, is_lone_name, lone_number, shaped, zeros, aligned, valued, directive, of_row, instruction, statement, begins_label, labels_first, after_labels, line_of, is_name_kind}
 
@@ -117,7 +117,7 @@ target Number base bytes h = cc
 target Mark base bytes h = absurd (mark_target (fixed bytes) h)
 target Stray base bytes h = cc
 
-label_alone : (s : Shape) → may_stand part.Label s ≡ true → s ≡ shape.Label
+label_alone : (s : Shape) → shape_fits part.Label s ≡ true → s ≡ shape.Label
 label_alone shape.Label h = refl
 label_alone (shape.Reg r) h = absurd (false≢true h)
 label_alone shape.Num h = absurd (false≢true h)
@@ -127,7 +127,7 @@ no_targets : (parts : List Part) → HasTargets parts []
 no_targets [] = tt
 no_targets (p ∷ parts) = tt
 
-with_target : (p : Part) (operand : Operand) (s : Shape) (parts : List Part) (amounts : List Amount) → shape_of operand ≡ Some s → may_stand p s ≡ true
+with_target : (p : Part) (operand : Operand) (s : Shape) (parts : List Part) (amounts : List Amount) → shape_of operand ≡ Some s → shape_fits p s ≡ true
     → HasTargets (filter takes_value parts) amounts
     → HasTargets (filter takes_value (p ∷ parts)) (cond (takes_value p) (amount_of operand ∷ amounts) amounts)
 with_target part.Common operand s parts amounts e h k = (tt, k)
@@ -148,7 +148,7 @@ targets (p ∷ parts) [] shapes e h = no_targets (filter takes_value (p ∷ part
 targets (p ∷ parts) (operand ∷ rest) [] e h = absurd (none_for_some shape_of operand rest e)
 targets (p ∷ parts) (operand ∷ rest) (s ∷ shapes) e h =
     let shaped = each_parts shape_of operand rest s shapes e in
-    let both = and_parts (may_stand p s) (have_form parts shapes) h in
+    let both = and_parts (shape_fits p s) (have_form parts shapes) h in
     with_target p operand s parts _ shaped.0 both.0 (targets parts rest shapes shaped.1 both.1)
 
 -- the row that is found has the form
@@ -221,9 +221,9 @@ directive_sound name rest =
     (either _ (stated Anywhere _ (aligned_sound Anywhere (lone_number rest)))
     (either _ (stated BeginsData _ (shaped_sound BeginsData (is_nothing rest)))
     (either _ (stated BeginsConstants _ (shaped_sound BeginsConstants (is_nothing rest)))
-    (either _ (stated InBytes _ (valued_sound Word (values_of Word rest)))
-    (either _ (stated InBytes _ (valued_sound Short (values_of Short rest)))
-    (either _ (stated InBytes _ (valued_sound Byte (values_of Byte rest)))
+    (either _ (stated InBytes _ (valued_sound Word (listed_values Word rest)))
+    (either _ (stated InBytes _ (valued_sound Short (listed_values Short rest)))
+    (either _ (stated InBytes _ (valued_sound Byte (listed_values Byte rest)))
     (either _ (stated InBytes _ (zeros_sound (lone_number rest))) (stated Nowhere NoEffect tt)))))))))
 
 statement_sound : (ts : List Token) → IsSoundStatement (statement ts)

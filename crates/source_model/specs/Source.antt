@@ -188,19 +188,19 @@ abbrev pub code_of_line : Sofar → Sofar → Line → List Instr
 code_of_line whole before line =
     if same_section Text before.layout.section then code_of whole before.layout.instructions line.statement.says else []
 
-unfoldable pub code_from : Sofar → Sofar → List Line → List Instr
-code_from whole before [] = []
-code_from whole before (line ∷ lines) = code_of_line whole before line ++ code_from whole (after_line before line) lines
+unfoldable pub code_of_lines : Sofar → Sofar → List Line → List Instr
+code_of_lines whole before [] = []
+code_of_lines whole before (line ∷ lines) = code_of_line whole before line ++ code_of_lines whole (after_line before line) lines
 
 -- the bytes of a line for a section, after some lines
 abbrev pub bytes_of_line : Section → Sofar → Sofar → Line → List ℕ
 bytes_of_line section whole before line =
     if same_section section before.layout.section then bytes_of whole (section_length before.layout section) line.statement.says else []
 
-unfoldable pub bytes_from : Section → Sofar → Sofar → List Line → List ℕ
-bytes_from section whole before [] = []
-bytes_from section whole before (line ∷ lines) =
-    bytes_of_line section whole before line ++ bytes_from section whole (after_line before line) lines
+unfoldable pub bytes_of_lines : Section → Sofar → Sofar → List Line → List ℕ
+bytes_of_lines section whole before [] = []
+bytes_of_lines section whole before (line ∷ lines) =
+    bytes_of_line section whole before line ++ bytes_of_lines section whole (after_line before line) lines
 
 -- the bytes of both sections: zeros come before the first constant, up to a word
 abbrev pub bytes_together : List ℕ → List ℕ → List ℕ
@@ -212,8 +212,8 @@ symbol_of whole label = (label.0, address_in whole label.1)
 
 abbrev pub image_of : Sofar → List Line → ImageRec
 image_of whole lines = record {
-  code = code_from whole nothing_yet lines;
-  bytes = bytes_together (bytes_from Data whole nothing_yet lines) (bytes_from Constants whole nothing_yet lines);
+  code = code_of_lines whole nothing_yet lines;
+  bytes = bytes_together (bytes_of_lines Data whole nothing_yet lines) (bytes_of_lines Constants whole nothing_yet lines);
   cp_at = section_start whole.layout Constants;
   symbols = map (symbol_of whole.layout) whole.labels;
 }

@@ -13,7 +13,7 @@ use Rattle.source_model.specs.declared.layout.Home.TheVariants.{Anywhere, InText
 use Rattle.source_model.specs.declared.layout.Width.{Width}
 use Rattle.source_model.specs.declared.layout.Width.TheVariants.{Byte, Short, Word}
 use Rattle.source_model.specs.Operands.{Amount, Operand, operands_of, shapes_of, amounts_of}
-use Rattle.source_model.specs.Values.{values_of}
+use Rattle.source_model.specs.Values.{listed_values}
 
 -- what a statement says
 pub data Says : Type 0 where
@@ -79,9 +79,9 @@ valued width (Some amounts) = Values width amounts
 -- the directives of bytes
 abbrev pub bytes_directive : List ℕ → List Token → Statement
 bytes_directive name rest =
-    if same_name (codes ".word") name then record { home = InBytes; says = valued Word (values_of Word rest) }
-    else (if same_name (codes ".short") name then record { home = InBytes; says = valued Short (values_of Short rest) }
-    else (if same_name (codes ".byte") name then record { home = InBytes; says = valued Byte (values_of Byte rest) }
+    if same_name (codes ".word") name then record { home = InBytes; says = valued Word (listed_values Word rest) }
+    else (if same_name (codes ".short") name then record { home = InBytes; says = valued Short (listed_values Short rest) }
+    else (if same_name (codes ".byte") name then record { home = InBytes; says = valued Byte (listed_values Byte rest) }
     else (if same_name (codes ".space") name then record { home = InBytes; says = zeros (lone_number rest) }
     else record { home = Nowhere; says = NoEffect })))
 

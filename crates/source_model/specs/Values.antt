@@ -74,5 +74,5 @@ values_from ValueNext width (t ∷ rest) =
 values_from DigitsNext width (t ∷ rest) = put_first (signed_value t.kind width t.bytes) (values_from CommaNext width rest)
 values_from CommaNext width (t ∷ rest) = if same_name (codes ",") t.bytes then values_from ValueNext width rest else None
 
-abbrev pub values_of : Width → List Token → Option (List Amount)
-values_of width tokens = values_from ValueNext width tokens
+abbrev pub listed_values : Width → List Token → Option (List Amount)
+listed_values width tokens = values_from ValueNext width tokens

@@ -12,9 +12,9 @@ use Rattle.source_model.specs.Operands.{operands_after}
 use Rattle.source_model.specs.Values.{values_from}
 use Rattle.source_model.specs.Statement.{labels_first, after_labels}
 use Rattle.source_model.specs.Layout.{place_of, define_all, after_lines}
-use Rattle.source_model.specs.Source.{defines_twice, first_fault, code_from, bytes_from}
+use Rattle.source_model.specs.Source.{defines_twice, first_fault, code_of_lines, bytes_of_lines}
 
 -- names them all on its own line, so that they unfold where it does
 unfoldable pub computes : Type 0
-unfolding without_comment parted lines_of tokens_after node_line node_of_end link_line bit_line source_line frame_line frame_from framed node_plans system_of register_number fixed find known all_some operands_after values_from labels_first after_labels place_of define_all after_lines defines_twice first_fault code_from bytes_from
+unfolding without_comment parted lines_of tokens_after node_line node_of_end link_line bit_line source_line frame_line frame_from framed node_plans system_of register_number fixed find known all_some operands_after values_from labels_first after_labels place_of define_all after_lines defines_twice first_fault code_of_lines bytes_of_lines
 computes = Unit {0}

@@ -5,7 +5,7 @@ use Rattle.std.proofs.lemmas.List.{append-nil}
 use Rattle.std.proofs.lemmas.Bool.{cond-true, cond-false}
 use Rattle.source_model.specs.Statement.{begins_label, labels_first, after_labels}
 use Rattle.xs_assembler.specs.declared.pieces.Piece.{Piece}
-use Rattle.xs_assembler.specs.Parts.{token_of, tokens_in}
+use Rattle.xs_assembler.specs.Parts.{read_token, tokens_in}
 use Rattle.xs_assembler.specs.Lines.{begins_with_label, names_in}
 use Rattle.xs_assembler.proofs.Steps.{pushed}
 
@@ -26,8 +26,8 @@ split_next all (t ∷ c ∷ rest) d old new e is inv =
     let after = suffix 2 (t ∷ c ∷ rest) in (
       ap (λ xs. names_in new ++ labels_first (tokens_in xs)) after
           ∙ (ap (λ ns. names_in ns ++ labels_first (tokens_in rest)) is
-          ∙ pushed name_now old t.bytes (labels_first (tokens_in rest)) _ (ap (λ ls. names_in old ++ ls) (sym (cond-true (begins_label (token_of t) (token_of c)) _ _ e)) ∙ inv.0)),
-      ap (λ xs. after_labels (tokens_in xs)) after ∙ (sym (cond-true (begins_label (token_of t) (token_of c)) _ _ e) ∙ inv.1),
+          ∙ pushed name_now old t.bytes (labels_first (tokens_in rest)) _ (ap (λ ls. names_in old ++ ls) (sym (cond-true (begins_label (read_token t) (read_token c)) _ _ e)) ∙ inv.0)),
+      ap (λ xs. after_labels (tokens_in xs)) after ∙ (sym (cond-true (begins_label (read_token t) (read_token c)) _ _ e) ∙ inv.1),
     )
 
 no_label : (xs : List Piece) → begins_with_label (tokens_in xs) ≡ false → (labels_first (tokens_in xs) ≡ []) × (after_labels (tokens_in xs) ≡ tokens_in xs)

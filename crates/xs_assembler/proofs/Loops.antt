@@ -11,10 +11,10 @@ use Rattle.xs_text.specs.declared.token_reader.TokKind.TheVariants.{Name}
 use Rattle.source_model.specs.declared.layout.Section.{Section}
 use Rattle.source_model.specs.Operands as model
 use Rattle.source_model.specs.Operands.{operands_after, base_after}
-use Rattle.source_model.specs.Operands.{amount_of as model_amount}
+use Rattle.source_model.specs.Operands.{amount_of}
 use Rattle.xs_assembler.specs.declared.pieces.Piece.{Piece}
 use Rattle.xs_assembler.specs.declared.operands.Operand.{Operand}
-use Rattle.xs_assembler.specs.Parts.{token_of, tokens_in, operand_of, operands_in, amount_of, amounts_in}
+use Rattle.xs_assembler.specs.Parts.{read_token, tokens_in, operand_of, operands_in, read_amount, amounts_in}
 use Rattle.xs_assembler.specs.declared.amount.Amount.{Amount}
 use Rattle.xs_assembler.proofs.Steps.{pushed}
 
@@ -27,7 +27,7 @@ operands_next second last xs i d ops new base all h e is inv =
     let x = get_or xs i d in
     ap (λ os. operands_in os ++ operands_after last x.bytes.now (tokens_in (drop (i + 1) xs))) is
     ∙ pushed operand_of ops (record { base = base; piece = x }) (operands_after last x.bytes.now (tokens_in (drop (i + 1) xs))) all
-    (ap (λ b. operands_in ops ++ (record { base = b; token = token_of x } ∷ operands_after last x.bytes.now (tokens_in (drop (i + 1) xs)))) e
+    (ap (λ b. operands_in ops ++ (record { base = b; token = read_token x } ∷ operands_after last x.bytes.now (tokens_in (drop (i + 1) xs)))) e
     ∙ (ap (λ l. operands_in ops ++ operands_after second last (tokens_in l)) (sym (drop_more xs i d h)) ∙ inv))
 
 pub operands_done : (second last : List ℕ) (xs : List Piece) (i : ℕ) (ops all : List model.Operand) → length xs ≤ i
@@ -58,39 +58,39 @@ left_at (p ∷ parts) (suc k) x xs e = rw add-one (rw add-one at (left_at parts 
 
 -- one step of the loop that takes the amounts of a row
 pub amounts_next : (row : Row) (xs : List Operand) (k : ℕ) (d : Operand) (old new : List Amount) (amount : Amount) (all : List model.Amount)
-    → k < length xs → takes_value_at row k ≡ true → amount_of amount ≡ model_amount (operand_of (get_or xs k d)) → new ≡ old ++ amount ∷ []
-    → amounts_in old ++ values_among (drop k (parts_of row)) (map model_amount (operands_in (drop k xs))) ≡ all
-    → amounts_in new ++ values_among (drop (k + 1) (parts_of row)) (map model_amount (operands_in (drop (k + 1) xs))) ≡ all
+    → k < length xs → takes_value_at row k ≡ true → read_amount amount ≡ amount_of (operand_of (get_or xs k d)) → new ≡ old ++ amount ∷ []
+    → amounts_in old ++ values_among (drop k (parts_of row)) (map amount_of (operands_in (drop k xs))) ≡ all
+    → amounts_in new ++ values_among (drop (k + 1) (parts_of row)) (map amount_of (operands_in (drop (k + 1) xs))) ≡ all
 amounts_next row xs k d old new amount all h takes e is inv =
-    let rest = map model_amount (operands_in (drop (k + 1) xs)) in
-    let x = model_amount (operand_of (get_or xs k d)) in
+    let rest = map amount_of (operands_in (drop (k + 1) xs)) in
+    let x = amount_of (operand_of (get_or xs k d)) in
     ap (λ os. amounts_in os ++ values_among (drop (k + 1) (parts_of row)) rest) is
-    ∙ pushed amount_of old amount (values_among (drop (k + 1) (parts_of row)) rest) all
+    ∙ pushed read_amount old amount (values_among (drop (k + 1) (parts_of row)) rest) all
     (ap (λ a. amounts_in old ++ (a ∷ values_among (drop (k + 1) (parts_of row)) rest)) e
     ∙ (ap (λ l. amounts_in old ++ l) (sym (taken_at true (parts_of row) k x rest refl (past_parts (parts_of row) k takes) takes))
-    ∙ (ap (λ l. amounts_in old ++ values_among (drop k (parts_of row)) (map model_amount (operands_in l))) (sym (drop_more xs k d h)) ∙ inv)))
+    ∙ (ap (λ l. amounts_in old ++ values_among (drop k (parts_of row)) (map amount_of (operands_in l))) (sym (drop_more xs k d h)) ∙ inv)))
 
 abbrev pub no_operand : Operand
 no_operand = record { base = None; piece = record { kind = Name; bytes = record { ref_ptr = (0, 0); now = [] } } }
 
 pub amounts_left : (row : Row) (xs : List Operand) (k : ℕ) (d : Operand) (old new : List Amount) (all : List model.Amount)
     → k < length xs → takes_value_at row k ≡ false → new ≡ old
-    → amounts_in old ++ values_among (drop k (parts_of row)) (map model_amount (operands_in (drop k xs))) ≡ all
-    → amounts_in new ++ values_among (drop (k + 1) (parts_of row)) (map model_amount (operands_in (drop (k + 1) xs))) ≡ all
+    → amounts_in old ++ values_among (drop k (parts_of row)) (map amount_of (operands_in (drop k xs))) ≡ all
+    → amounts_in new ++ values_among (drop (k + 1) (parts_of row)) (map amount_of (operands_in (drop (k + 1) xs))) ≡ all
 amounts_left row xs k d old new all h takes is inv =
-    let rest = map model_amount (operands_in (drop (k + 1) xs)) in
-    let x = model_amount (operand_of (get_or xs k d)) in
+    let rest = map amount_of (operands_in (drop (k + 1) xs)) in
+    let x = amount_of (operand_of (get_or xs k d)) in
     ap (λ os. amounts_in os ++ values_among (drop (k + 1) (parts_of row)) rest) is
     ∙ (ap (λ l. amounts_in old ++ l) (sym (left_at (parts_of row) k x rest takes))
-    ∙ (ap (λ l. amounts_in old ++ values_among (drop k (parts_of row)) (map model_amount (operands_in l))) (sym (drop_more xs k d h)) ∙ inv))
+    ∙ (ap (λ l. amounts_in old ++ values_among (drop k (parts_of row)) (map amount_of (operands_in l))) (sym (drop_more xs k d h)) ∙ inv))
 
 none_among : (parts : List Part) → values_among {A = model.Amount} parts [] ≡ []
 none_among [] = refl
 none_among (p ∷ parts) = refl
 
 pub amounts_done : (row : Row) (xs : List Operand) (k : ℕ) (old : List Amount) (all : List model.Amount) → length xs ≤ k
-    → amounts_in old ++ values_among (drop k (parts_of row)) (map model_amount (operands_in (drop k xs))) ≡ all → amounts_in old ≡ all
+    → amounts_in old ++ values_among (drop k (parts_of row)) (map amount_of (operands_in (drop k xs))) ≡ all → amounts_in old ≡ all
 amounts_done row xs k old all h inv =
     sym (append-nil (amounts_in old))
     ∙ (ap (λ l. amounts_in old ++ l) (sym (none_among (drop k (parts_of row))))
-    ∙ (ap (λ l. amounts_in old ++ values_among (drop k (parts_of row)) (map model_amount (operands_in l))) (sym (drop_all k xs h)) ∙ inv))
+    ∙ (ap (λ l. amounts_in old ++ values_among (drop k (parts_of row)) (map amount_of (operands_in l))) (sym (drop_all k xs h)) ∙ inv))

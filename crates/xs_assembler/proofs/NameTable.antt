@@ -14,7 +14,7 @@ use Rattle.xs_instructions.specs.Words.{same_name}
 use Rattle.source_model.specs.declared.layout.Place.{Place}
 use Rattle.source_model.specs.Layout.{Label, place_of, define}
 use Rattle.xs_assembler.specs.declared.names.Label.{Label as ReadLabel}
-use Rattle.xs_assembler.specs.Names.{Finds, label_of, labels_in}
+use Rattle.xs_assembler.specs.Names.{Finds, read_label, labels_in}
 use Rattle.std.proofs.lemmas.List.{map-append}
 
 same_is_eq : (a b : List ℕ) → same_name a b ≡ bytes_eq a b
@@ -87,4 +87,4 @@ finds_same places labels same e finds = subst (Finds places) (sym e) finds
 
 -- the labels with one more
 pub one_more : (old new : List ReadLabel) (label : ReadLabel) → new ≡ old ++ label ∷ [] → labels_in new ≡ labels_in old ++ (label.name.now, label.place) ∷ []
-one_more old new label e = ap labels_in e ∙ map-append label_of old (label ∷ [])
+one_more old new label e = ap labels_in e ∙ map-append read_label old (label ∷ [])

@@ -8,7 +8,7 @@ use Rattle.source_model.specs.declared.AsmKind.{AsmKind}
 use Rattle.source_model.specs.declared.layout.Section.TheVariants.{Data, Constants}
 use Rattle.source_model.specs.Statement.{Line, line_of}
 use Rattle.source_model.specs.Layout.{Sofar, nothing_yet, whole_of, section_start}
-use Rattle.source_model.specs.Source.{Assembled, Image, Fault, first_fault, code_from, bytes_from, image_of, outcome, assembled, bytes_together, symbol_of}
+use Rattle.source_model.specs.Source.{Assembled, Image, Fault, first_fault, code_of_lines, bytes_of_lines, image_of, outcome, assembled, bytes_together, symbol_of}
 use Rattle.xs_assembler.specs.declared.output.Output.{Output}
 use Rattle.xs_assembler.specs.declared.asm_error.AsmError.{AsmError}
 use Rattle.xs_assembler.specs.declared.asm_error.AsmError.TheVariants as error
@@ -27,8 +27,8 @@ made whole code bytes constants = record {
 same_image : (whole : Sofar) (lines : List Line) (output : Output) → HasLines whole nothing_yet lines output → image_of whole lines ≡ image_with whole output
 same_image whole lines output h =
     sym (ap (λ c. made whole c output.data_bytes.items output.constant_bytes.items) h.code
-    ∙ (ap (λ b. made whole (code_from whole nothing_yet lines) b output.constant_bytes.items) h.data_bytes
-    ∙ ap (λ k. made whole (code_from whole nothing_yet lines) (bytes_from Data whole nothing_yet lines) k) h.constant_bytes))
+    ∙ (ap (λ b. made whole (code_of_lines whole nothing_yet lines) b output.constant_bytes.items) h.data_bytes
+    ∙ ap (λ k. made whole (code_of_lines whole nothing_yet lines) (bytes_of_lines Data whole nothing_yet lines) k) h.constant_bytes))
 
 -- the parts of an image
 pub parts_are : (whole : Sofar) (output : Output) (bytes : List ℕ) (cp_at : ℕ) (symbols : List Symbol) → bytes ≡ bytes_together output.data_bytes.items output.constant_bytes.items

@@ -10,7 +10,7 @@ use Rattle.source_model.specs.declared.layout.Section.TheVariants.{Text, Data, C
 use Rattle.source_model.specs.declared.layout.Layout.{Layout}
 use Rattle.source_model.specs.Statement.{Says, Statement, Line, line_of}
 use Rattle.source_model.specs.Layout.{Sofar, nothing_yet, section_length, may_stand, added, longer, longer_in, section_after, moved, after_line, after_lines, whole_of}
-use Rattle.source_model.specs.Source.{first_fault, fault_of_line, or_fault, code_of_line, bytes_of_line, code_from, bytes_from}
+use Rattle.source_model.specs.Source.{first_fault, fault_of_line, or_fault, code_of_line, bytes_of_line, code_of_lines, bytes_of_lines}
 use Rattle.xs_assembler.specs.declared.output.Output.{Output}
 use Rattle.xs_assembler.specs.Output.{HasLine, HasLines}
 use Rattle.xs_assembler.specs.Passes.{source_lines, AreWithin}
@@ -153,17 +153,17 @@ whole_done text reading sofar h e = sym (ap (λ ls. after_lines sofar ls) (left_
 pub record OutputSoFar (whole : Sofar) (text : List ℕ) (reading : Reading) (before : Sofar) (output : Output) : Type 0 where
   pub base : SoFar text reading before.layout
   pub fault : first_fault whole before (reading.number + 1) (left_in reading) ≡ first_fault whole nothing_yet 1 (source_lines text)
-  pub code : output.code.items ++ code_from whole before (left_in reading) ≡ code_from whole nothing_yet (source_lines text)
-  pub data_bytes : output.data_bytes.items ++ bytes_from Data whole before (left_in reading) ≡ bytes_from Data whole nothing_yet (source_lines text)
-  pub constant_bytes : output.constant_bytes.items ++ bytes_from Constants whole before (left_in reading) ≡ bytes_from Constants whole nothing_yet (source_lines text)
+  pub code : output.code.items ++ code_of_lines whole before (left_in reading) ≡ code_of_lines whole nothing_yet (source_lines text)
+  pub data_bytes : output.data_bytes.items ++ bytes_of_lines Data whole before (left_in reading) ≡ bytes_of_lines Data whole nothing_yet (source_lines text)
+  pub constant_bytes : output.constant_bytes.items ++ bytes_of_lines Constants whole before (left_in reading) ≡ bytes_of_lines Constants whole nothing_yet (source_lines text)
 
 pub output_first : (whole : Sofar) (text : List ℕ) (output : Output) → output.code.items ≡ [] → output.data_bytes.items ≡ [] → output.constant_bytes.items ≡ [] → OutputSoFar whole text (start_of text) nothing_yet output
 output_first whole text output e f g = record {
   base = sofar_first text;
   fault = refl;
-  code = ap (λ xs. xs ++ code_from whole nothing_yet (source_lines text)) e;
-  data_bytes = ap (λ xs. xs ++ bytes_from Data whole nothing_yet (source_lines text)) f;
-  constant_bytes = ap (λ xs. xs ++ bytes_from Constants whole nothing_yet (source_lines text)) g;
+  code = ap (λ xs. xs ++ code_of_lines whole nothing_yet (source_lines text)) e;
+  data_bytes = ap (λ xs. xs ++ bytes_of_lines Data whole nothing_yet (source_lines text)) f;
+  constant_bytes = ap (λ xs. xs ++ bytes_of_lines Constants whole nothing_yet (source_lines text)) g;
 }
 
 first_fault-cons : (whole before : Sofar) (number : ℕ) (line : Line) (lines : List Line) → first_fault whole before number (line ∷ lines) ≡ or_fault number (fault_of_line whole before line) (first_fault whole (after_line before line) (number + 1) lines)
@@ -174,21 +174,21 @@ first_fault-nil : (whole before : Sofar) (number : ℕ) → first_fault whole be
 unfolding first_fault
 first_fault-nil whole before number = refl
 
-code_from-cons : (whole before : Sofar) (line : Line) (lines : List Line) → code_from whole before (line ∷ lines) ≡ code_of_line whole before line ++ code_from whole (after_line before line) lines
-unfolding code_from
-code_from-cons whole before line lines = refl
+code_of_lines-cons : (whole before : Sofar) (line : Line) (lines : List Line) → code_of_lines whole before (line ∷ lines) ≡ code_of_line whole before line ++ code_of_lines whole (after_line before line) lines
+unfolding code_of_lines
+code_of_lines-cons whole before line lines = refl
 
-code_from-nil : (whole before : Sofar) → code_from whole before [] ≡ []
-unfolding code_from
-code_from-nil whole before = refl
+code_of_lines-nil : (whole before : Sofar) → code_of_lines whole before [] ≡ []
+unfolding code_of_lines
+code_of_lines-nil whole before = refl
 
-bytes_from-cons : (section : Section) (whole before : Sofar) (line : Line) (lines : List Line) → bytes_from section whole before (line ∷ lines) ≡ bytes_of_line section whole before line ++ bytes_from section whole (after_line before line) lines
-unfolding bytes_from
-bytes_from-cons section whole before line lines = refl
+bytes_of_lines-cons : (section : Section) (whole before : Sofar) (line : Line) (lines : List Line) → bytes_of_lines section whole before (line ∷ lines) ≡ bytes_of_line section whole before line ++ bytes_of_lines section whole (after_line before line) lines
+unfolding bytes_of_lines
+bytes_of_lines-cons section whole before line lines = refl
 
-bytes_from-nil : (section : Section) (whole before : Sofar) → bytes_from section whole before [] ≡ []
-unfolding bytes_from
-bytes_from-nil section whole before = refl
+bytes_of_lines-nil : (section : Section) (whole before : Sofar) → bytes_of_lines section whole before [] ≡ []
+unfolding bytes_of_lines
+bytes_of_lines-nil section whole before = refl
 
 -- the list so far, with what a line adds, and what comes after
 grown : {A : Type 0} (old new more rest all whole : List A) → new ≡ old ++ more → all ≡ more ++ rest → old ++ all ≡ whole → new ++ rest ≡ whole
@@ -206,12 +206,12 @@ output_next whole text old new span line before after output more h k number non
           ∙ (first_fault-cons whole before (old.number + 1) line (left_in new)
           ∙ ap (λ o. or_fault (old.number + 1) o (first_fault whole (after_line before line) ((old.number + 1) + 1) (left_in new))) none))
           ∙ h.fault);
-      code = grown output.code.items more.code.items (code_of_line whole before line) (code_from whole (after_line before line) (left_in new)) _ _ has.code
-          (ap (λ ls. code_from whole before ls) left ∙ code_from-cons whole before line (left_in new)) h.code;
-      data_bytes = grown output.data_bytes.items more.data_bytes.items (bytes_of_line Data whole before line) (bytes_from Data whole (after_line before line) (left_in new)) _ _ has.data_bytes
-          (ap (λ ls. bytes_from Data whole before ls) left ∙ bytes_from-cons Data whole before line (left_in new)) h.data_bytes;
-      constant_bytes = grown output.constant_bytes.items more.constant_bytes.items (bytes_of_line Constants whole before line) (bytes_from Constants whole (after_line before line) (left_in new)) _ _ has.constant_bytes
-          (ap (λ ls. bytes_from Constants whole before ls) left ∙ bytes_from-cons Constants whole before line (left_in new)) h.constant_bytes;
+      code = grown output.code.items more.code.items (code_of_line whole before line) (code_of_lines whole (after_line before line) (left_in new)) _ _ has.code
+          (ap (λ ls. code_of_lines whole before ls) left ∙ code_of_lines-cons whole before line (left_in new)) h.code;
+      data_bytes = grown output.data_bytes.items more.data_bytes.items (bytes_of_line Data whole before line) (bytes_of_lines Data whole (after_line before line) (left_in new)) _ _ has.data_bytes
+          (ap (λ ls. bytes_of_lines Data whole before ls) left ∙ bytes_of_lines-cons Data whole before line (left_in new)) h.data_bytes;
+      constant_bytes = grown output.constant_bytes.items more.constant_bytes.items (bytes_of_line Constants whole before line) (bytes_of_lines Constants whole (after_line before line) (left_in new)) _ _ has.constant_bytes
+          (ap (λ ls. bytes_of_lines Constants whole before ls) left ∙ bytes_of_lines-cons Constants whole before line (left_in new)) h.constant_bytes;
     } in
     subst (λ (s : Sofar). OutputSoFar whole text new s more) (sym is) next
 
@@ -235,9 +235,9 @@ pub output_has : (whole : Sofar) (text : List ℕ) (reading : Reading) (before :
 output_has whole text reading before output h e =
     let none = left_none reading e in
     record {
-      code = all_of _ _ _ (ap (λ ls. code_from whole before ls) none ∙ code_from-nil whole before) h.code;
-      data_bytes = all_of _ _ _ (ap (λ ls. bytes_from Data whole before ls) none ∙ bytes_from-nil Data whole before) h.data_bytes;
-      constant_bytes = all_of _ _ _ (ap (λ ls. bytes_from Constants whole before ls) none ∙ bytes_from-nil Constants whole before) h.constant_bytes;
+      code = all_of _ _ _ (ap (λ ls. code_of_lines whole before ls) none ∙ code_of_lines-nil whole before) h.code;
+      data_bytes = all_of _ _ _ (ap (λ ls. bytes_of_lines Data whole before ls) none ∙ bytes_of_lines-nil Data whole before) h.data_bytes;
+      constant_bytes = all_of _ _ _ (ap (λ ls. bytes_of_lines Constants whole before ls) none ∙ bytes_of_lines-nil Constants whole before) h.constant_bytes;
     }
 
 -- what the calls for one line require

@@ -10,7 +10,7 @@ use Rattle.xs_assembler.specs.declared.pieces.Piece.{Piece}
 use Rattle.xs_assembler.specs.declared.amount.Amount.{Amount}
 use Rattle.xs_assembler.specs.declared.values.Next.{Next}
 use Rattle.xs_assembler.specs.declared.values.Next.TheVariants as read
-use Rattle.xs_assembler.specs.Parts.{token_of, tokens_in, amount_of, amounts_in}
+use Rattle.xs_assembler.specs.Parts.{read_token, tokens_in, read_amount, amounts_in}
 use Rattle.xs_assembler.specs.Values.{next_of, with_value, after_step}
 use Rattle.xs_assembler.proofs.Steps.{before_all, before_put}
 
@@ -19,7 +19,7 @@ no_piece = record { kind = Name; bytes = record { ref_ptr = (0, 0); now = [] } }
 
 -- how the values of the rest go on, by what a step gives
 abbrev pub Steps : Width → Next → Piece → Option (Option Amount × Next) → Type 0
-Steps width next piece step = (rest : List Token) → values_from (next_of next) width (token_of piece ∷ rest) ≡ after_step width rest step
+Steps width next piece step = (rest : List Token) → values_from (next_of next) width (read_token piece ∷ rest) ≡ after_step width rest step
 
 abbrev pub Kept : Width → List Piece → List Amount → Next → ℕ → Option (List model.Amount) → Type 0
 Kept width xs values next i all = before_all (amounts_in values) (values_from (next_of next) width (tokens_in (drop i xs))) ≡ all
@@ -38,8 +38,8 @@ value_next width next after now value v xs i d old new all h step is grows same 
     let rest = λ (n : Next). values_from (next_of n) width (tokens_in (drop (i + 1) xs)) in
     ap (λ n. before_all (amounts_in new) (rest n)) same
     ∙ (ap (λ vs. before_all (amounts_in vs) (rest after)) grows
-    ∙ (ap (λ ys. before_all ys (rest after)) (map-append amount_of old (v ∷ []))
-    ∙ (before_put (amounts_in old) (amount_of v) (rest after)
+    ∙ (ap (λ ys. before_all ys (rest after)) (map-append read_amount old (v ∷ []))
+    ∙ (before_put (amounts_in old) (read_amount v) (rest after)
     ∙ (ap (λ o. before_all (amounts_in old) (with_value o (rest after))) (sym is) ∙ step_kept width next after value xs i d old all h step inv))))
 
 pub no_value_next : (width : Width) (next after now : Next) (value : Option Amount) (xs : List Piece) (i : ℕ) (d : Piece) (old new : List Amount) (all : Option (List model.Amount))

@@ -9,11 +9,11 @@ use Rattle.source_model.specs.Layout as model
 use Rattle.source_model.specs.Layout.{place_of}
 use Rattle.xs_assembler.specs.declared.names.Label.{Label}
 
-abbrev pub label_of : Label → model.Label
-label_of label = (label.name.now, label.place)
+abbrev pub read_label : Label → model.Label
+read_label label = (label.name.now, label.place)
 
 abbrev pub labels_in : List Label → List model.Label
-labels_in labels = map label_of labels
+labels_in labels = map read_label labels
 
 -- The table finds each name where the labels have it.
 pub record Finds (places : BTreeMap (Bor (List ℕ)) Place) (labels : List model.Label) : Type 0 where

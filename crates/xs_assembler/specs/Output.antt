@@ -5,7 +5,7 @@ use Rattle.source_model.specs.declared.layout.Section.{Section}
 use Rattle.source_model.specs.declared.layout.Section.TheVariants.{Text, Data, Constants}
 use Rattle.source_model.specs.Statement.{Line}
 use Rattle.source_model.specs.Layout.{Sofar}
-use Rattle.source_model.specs.Source.{same_section, code_of_line, bytes_of_line, code_from, bytes_from}
+use Rattle.source_model.specs.Source.{same_section, code_of_line, bytes_of_line, code_of_lines, bytes_of_lines}
 use Rattle.xs_assembler.specs.declared.output.Output.{Output}
 
 -- what a section gets of code, and of bytes
@@ -26,6 +26,6 @@ pub record HasLine (whole before : Sofar) (line : Line) (old new : Output) : Typ
 
 -- The output is that of the lines.
 pub record HasLines (whole : Sofar) (before : Sofar) (lines : List Line) (output : Output) : Type 0 where
-  pub code : output.code.items ≡ code_from whole before lines
-  pub data_bytes : output.data_bytes.items ≡ bytes_from Data whole before lines
-  pub constant_bytes : output.constant_bytes.items ≡ bytes_from Constants whole before lines
+  pub code : output.code.items ≡ code_of_lines whole before lines
+  pub data_bytes : output.data_bytes.items ≡ bytes_of_lines Data whole before lines
+  pub constant_bytes : output.constant_bytes.items ≡ bytes_of_lines Constants whole before lines

@@ -9,7 +9,7 @@ use Rattle.source_model.specs.Values.{ValueNext, DigitsNext, CommaNext, values_f
 use Rattle.xs_assembler.specs.declared.amount.Amount.{Amount}
 use Rattle.xs_assembler.specs.declared.values.Next.{Next}
 use Rattle.xs_assembler.specs.declared.values.Next.TheVariants as read
-use Rattle.xs_assembler.specs.Parts.{amount_of}
+use Rattle.xs_assembler.specs.Parts.{read_amount}
 
 abbrev pub next_of : Next → grammar.Next
 next_of read.Value = ValueNext
@@ -19,7 +19,7 @@ next_of read.Comma = CommaNext
 -- the values with those of the rest, by what a step gives
 abbrev pub with_value : Option Amount → Option (List model.Amount) → Option (List model.Amount)
 with_value None after = after
-with_value (Some value) after = put_first (Some (amount_of value)) after
+with_value (Some value) after = put_first (Some (read_amount value)) after
 
 abbrev pub after_step : Width → List Token → Option (Option Amount × Next) → Option (List model.Amount)
 after_step width rest None = None

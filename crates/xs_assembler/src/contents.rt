@@ -4,7 +4,7 @@ ghost use Rattle.std.specs.List.{list_any};
 ghost use Rattle.source_model.specs.Layout.{address_in};
 ghost use Rattle.source_model.specs.Statement.{Instruction, Values};
 ghost use Rattle.source_model.specs.Source.{words_past, amount_value, target_value, offset_value, address_value, values_in, is_missing, names_missing};
-ghost use Rattle.xs_assembler.specs.Parts.{amount_of, amounts_in};
+ghost use Rattle.xs_assembler.specs.Parts.{read_amount, amounts_in};
 ghost use Rattle.xs_assembler.specs.Lines.{says_of};
 ghost use Rattle.xs_assembler.specs.Sofar.{sofar_of};
 ghost use Rattle.xs_assembler.specs.Contents.{Resolves};
@@ -106,7 +106,7 @@ fn offset_value(whole: Layout, base: Section, place: Option<Place>) -> Option<u3
 // The value of an amount, None where it is out of range.
 fn amount_value(whole: &Sofar, amount: Amount) -> Option<u32>
     requires { whole.now.layout.data_bytes < 2 ^ 62 }
-    ensures { result ≡ amount_value (sofar_of whole.now) (amount_of amount.entry) }
+    ensures { result ≡ amount_value (sofar_of whole.now) (read_amount amount.entry) }
 {
     match amount {
         Amount::Known(value) => value,
@@ -189,7 +189,7 @@ pub fn resolve(alloc: Global, whole: &Sofar, says: &Says) -> Result<Option<Conte
 
 // Whether no line defines the name of an amount.
 fn is_missing(whole: &Sofar, amount: Amount) -> bool
-    ensures { result ≡ is_missing (sofar_of whole.now) (amount_of amount.entry) }
+    ensures { result ≡ is_missing (sofar_of whole.now) (read_amount amount.entry) }
 {
     match amount {
         Amount::Known(_) => false,

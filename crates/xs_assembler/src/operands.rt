@@ -5,7 +5,7 @@ ghost use Rattle.xs_instructions.specs.Table.{parts_of, values_among};
 ghost use Rattle.source_model.specs.Operands.{base_named, base_after, operands_of, name_shape, shape_of, shapes_of, name_amount, amount_of, amounts_of};
 ghost use Rattle.xs_instructions.specs.Table.{register_number};
 ghost use Rattle.xs_assembler.specs.Parts.{tokens_in, operand_of, operands_in, amounts_in};
-ghost use Rattle.xs_assembler.specs.Parts.{amount_of as read_amount};
+ghost use Rattle.xs_assembler.specs.Parts.{read_amount};
 
 use crate::amount::Amount;
 use crate::pieces::Piece;

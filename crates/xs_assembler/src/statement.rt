@@ -3,9 +3,9 @@ ghost use Rattle.source_model.specs.Statement.{is_nothing, is_lone_name, lone_nu
 ghost use Rattle.std.specs.Prelude.{option_and_then};
 ghost use Rattle.xs_text.specs.Numbers.{at_most, source_number_of};
 ghost use Rattle.source_model.specs.Operands.{operands_of};
-ghost use Rattle.source_model.specs.Values.{values_of};
+ghost use Rattle.source_model.specs.Values.{listed_values};
 ghost use Rattle.source_model.specs.Statement.{not_zero, valued};
-ghost use Rattle.xs_assembler.specs.Parts.{token_of, tokens_in};
+ghost use Rattle.xs_assembler.specs.Parts.{read_token, tokens_in};
 ghost use Rattle.xs_assembler.specs.Lines.{says_of, statement_of};
 
 use crate::amount::Amount;
@@ -105,7 +105,7 @@ fn unit(digits: &[u8]) -> Option<u32>
 
 // The values of a directive.
 fn valued<'a>(alloc: Global, width: Width, pieces: &[Piece<'a>]) -> Result<Says<'a>, AllocError>
-    ensures { IfOk result (λ says. says_of says ≡ valued width (values_of width (tokens_in pieces.now))) }
+    ensures { IfOk result (λ says. says_of says ≡ valued width (listed_values width (tokens_in pieces.now))) }
 {
     match read_values(alloc, width, pieces)? {
         Some(values) => Ok(Says::Values(width, values)),

@@ -1,6 +1,6 @@
 ghost use Rattle.std.specs.Prelude.{◌≡◌, ◌≤◌, IfOk, IfSome, option_map, vec_items, List, ◌∷◌};
-ghost use Rattle.source_model.specs.Values.{width_bytes, greatest_value, greatest_negative, negated, label_value, plain_value, signed_value, values_from, values_of};
-ghost use Rattle.xs_assembler.specs.Parts.{amount_of, amounts_in, token_of, tokens_in};
+ghost use Rattle.source_model.specs.Values.{width_bytes, greatest_value, greatest_negative, negated, label_value, plain_value, signed_value, values_from, listed_values};
+ghost use Rattle.xs_assembler.specs.Parts.{read_amount, amounts_in, read_token, tokens_in};
 ghost use Rattle.xs_assembler.specs.Values.{next_of, after_step};
 ghost use Rattle.xs_text.specs.Tokens.{Token};
 
@@ -54,7 +54,7 @@ fn negated(n: u32) -> u32
 
 // A value without a sign, or None where the token is none.
 fn plain_value<'a>(piece: Piece<'a>, width: Width) -> Option<Amount<'a>>
-    ensures { option_map amount_of result ≡ plain_value piece.entry.kind width piece.entry.bytes.now }
+    ensures { option_map read_amount result ≡ plain_value piece.entry.kind width piece.entry.bytes.now }
 {
     match piece.kind {
         TokKind::Number => Some(Amount::Known(source_number(piece.bytes, greatest_value(width)))),
@@ -65,7 +65,7 @@ fn plain_value<'a>(piece: Piece<'a>, width: Width) -> Option<Amount<'a>>
 
 // A label's address, as `.word` alone may have it.
 fn label_value<'a>(name: &'a [u8], width: Width) -> Option<Amount<'a>>
-    ensures { option_map amount_of result ≡ label_value width name.now }
+    ensures { option_map read_amount result ≡ label_value width name.now }
 {
     match width {
         Width::Word => {
@@ -80,7 +80,7 @@ fn label_value<'a>(name: &'a [u8], width: Width) -> Option<Amount<'a>>
 
 // A value after a sign, or None where the token is none.
 fn signed_value<'a>(piece: Piece<'a>, width: Width) -> Option<Amount<'a>>
-    ensures { option_map amount_of result ≡ signed_value piece.entry.kind width piece.entry.bytes.now }
+    ensures { option_map read_amount result ≡ signed_value piece.entry.kind width piece.entry.bytes.now }
 {
     match piece.kind {
         TokKind::Number => {
@@ -106,7 +106,7 @@ pub fn read_values<'a>(
     width: Width,
     pieces: &[Piece<'a>],
 ) -> Result<Option<Vec<Amount<'a>>>, AllocError>
-    ensures { IfOk result (λ values. option_map (λ v. amounts_in v.items) values ≡ values_of width (tokens_in pieces.now)) }
+    ensures { IfOk result (λ values. option_map (λ v. amounts_in v.items) values ≡ listed_values width (tokens_in pieces.now)) }
 {
     let mut values = Vec::new(alloc);
     let mut next = Next::Value;
@@ -128,7 +128,7 @@ pub fn read_values<'a>(
 // The value that the token ends, if it does, and what may come next. None where the token may not come here.
 #[tactic(auto, unfolding(source_model::specs::Values::values_from))]
 fn value_step<'a>(piece: Piece<'a>, width: Width, next: Next) -> Option<(Option<Amount<'a>>, Next)>
-    ensures { (rest : List Token) → values_from (next_of next) width (token_of piece.entry ∷ rest) ≡ after_step width rest result }
+    ensures { (rest : List Token) → values_from (next_of next) width (read_token piece.entry ∷ rest) ≡ after_step width rest result }
 {
     match next {
         Next::Value if same_name(b"-", piece.bytes) => Some((None, Next::Digits)),

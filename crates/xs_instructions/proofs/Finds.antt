@@ -16,7 +16,7 @@ use Rattle.xs_instructions.specs.Words.{same_name}
 use Rattle.xs_instructions.specs.Rows.{name_of, parts_of}
 use Rattle.xs_instructions.specs.Operands.{row_of, values_of, at}
 use Rattle.xs_instructions.specs.Instr.{InRange, takes_value, value_parts}
-use Rattle.xs_instructions.specs.Find.{may_stand, have_form, is_of_row, first_row, find, is_in_range, are_in_range}
+use Rattle.xs_instructions.specs.Find.{shape_fits, have_form, is_of_row, first_row, find, is_in_range, are_in_range}
 use Rattle.xs_instructions.specs.Spelling.{shape_at, shapes, values_after}
 use Rattle.xs_instructions.proofs.Names.{same_name-same}
 use Rattle.xs_instructions.proofs.Made.{InRange-test}
@@ -32,7 +32,7 @@ no_register_below n _ = true
 abbrev apart : Part → Part → Bool
 apart Common q = no_register_below 12 q
 apart AnyRegister q = no_register_below 16 q
-apart p q = not (may_stand q (shape_at p []))
+apart p q = not (shape_fits q (shape_at p []))
 
 -- the same for two forms
 abbrev forms_apart : List Part → List Part → Bool
@@ -70,7 +70,7 @@ first_and_rest p parts (v ∷ values) h = and_parts (is_in_range p v) (are_in_ra
 same_number : (n : ℕ) → (n == n) ≡ true
 same_number n = grind (arith, nat_tests)
 
-stands : (p : Part) (values : List ℕ) → first_in_range p values ≡ true → may_stand p (shape_at p values) ≡ true
+stands : (p : Part) (values : List ℕ) → first_in_range p values ≡ true → shape_fits p (shape_at p values) ≡ true
 stands Common values h = h
 stands AnyRegister values h = h
 stands (Register n) values h = same_number n
@@ -88,16 +88,16 @@ stand (p ∷ parts) values h =
 other_number : (r v n : ℕ) → nat_lt v n ≡ true → not (nat_lt r n) ≡ true → (r == v) ≡ false
 other_number r v n below above = grind (arith, nat_tests)
 
-common_elsewhere : (q : Part) (v n : ℕ) → nat_lt v n ≡ true → no_register_below n q ≡ true → may_stand q (shape.Reg v) ≡ false
+common_elsewhere : (q : Part) (v n : ℕ) → nat_lt v n ≡ true → no_register_below n q ≡ true → shape_fits q (shape.Reg v) ≡ false
 common_elsewhere Common v n h a = absurd (false≢true a)
 common_elsewhere AnyRegister v n h a = absurd (false≢true a)
 common_elsewhere (Register r) v n h a = other_number r v n h a
 common_elsewhere _ v n h a = refl
 
-stands_not : (p q : Part) (values : List ℕ) → apart p q ≡ true → first_in_range p values ≡ true → may_stand q (shape_at p values) ≡ false
+stands_not : (p q : Part) (values : List ℕ) → apart p q ≡ true → first_in_range p values ≡ true → shape_fits q (shape_at p values) ≡ false
 stands_not Common q values a h = common_elsewhere q (at values 0) 12 h a
 stands_not AnyRegister q values a h = common_elsewhere q (at values 0) 16 h a
-stands_not p q values a h = not-true (may_stand q (shape_at p [])) a
+stands_not p q values a h = not-true (shape_fits q (shape_at p [])) a
 
 stand_not : (parts others : List Part) (values : List ℕ) → forms_apart parts others ≡ true → are_in_range (filter takes_value parts) values ≡ true → have_form others (shapes parts values) ≡ false
 stand_not [] [] values a h = absurd (false≢true a)
@@ -107,7 +107,7 @@ stand_not (p ∷ parts) (q ∷ others) values a h =
     let both = first_and_rest p parts values h in
     ⊎_elim
     (λ here. rw (stands_not p q values here both.0) refl)
-    (λ later. rw (stand_not parts others (values_after p values) later both.1) (and-false (may_stand q (shape_at p values))))
+    (λ later. rw (stand_not parts others (values_after p values) later both.1) (and-false (shape_fits q (shape_at p values))))
     (or_cases (apart p q) (forms_apart parts others) a)
 
 row_fits : (r : Row) (values : List ℕ) → are_in_range (value_parts r) values ≡ true → is_of_row r (name_of r) (shapes (parts_of r) values) ≡ true

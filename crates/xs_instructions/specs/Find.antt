@@ -14,24 +14,24 @@ use Rattle.xs_instructions.specs.Operands.{made}
 use Rattle.xs_instructions.specs.Instr.{is_width, takes_value, value_parts}
 
 -- whether what is written may stand at a part
-abbrev pub may_stand : Part → Shape → Bool
-may_stand Common (shape.Reg n) = nat_lt n 12
-may_stand AnyRegister (shape.Reg n) = nat_lt n 16
-may_stand (Register r) (shape.Reg n) = r == n
-may_stand Small shape.Num = true
-may_stand Width shape.Num = true
-may_stand Short shape.Num = true
-may_stand (Exactly k) shape.Num = true
-may_stand Label shape.Label = true
-may_stand (Word k) (shape.Word n) = k == n
-may_stand _ _ = false
+abbrev pub shape_fits : Part → Shape → Bool
+shape_fits Common (shape.Reg n) = nat_lt n 12
+shape_fits AnyRegister (shape.Reg n) = nat_lt n 16
+shape_fits (Register r) (shape.Reg n) = r == n
+shape_fits Small shape.Num = true
+shape_fits Width shape.Num = true
+shape_fits Short shape.Num = true
+shape_fits (Exactly k) shape.Num = true
+shape_fits Label shape.Label = true
+shape_fits (Word k) (shape.Word n) = k == n
+shape_fits _ _ = false
 
 -- whether the shapes of a line's operands have the form
 abbrev pub have_form : List Part → List Shape → Bool
 have_form [] [] = true
 have_form [] (s ∷ shapes) = false
 have_form (p ∷ parts) [] = false
-have_form (p ∷ parts) (s ∷ shapes) = may_stand p s && have_form parts shapes
+have_form (p ∷ parts) (s ∷ shapes) = shape_fits p s && have_form parts shapes
 
 abbrev pub is_of_row : Row → List ℕ → List Shape → Bool
 is_of_row r name shapes = same_name (name_of r) name && have_form (parts_of r) shapes

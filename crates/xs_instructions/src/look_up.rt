@@ -1,7 +1,7 @@
 ghost use Rattle.std.specs.Prelude.{◌≡◌};
 ghost use Rattle.xs_instructions.specs.Words.{same_name};
 ghost use Rattle.xs_instructions.specs.Rows.{name_of};
-ghost use Rattle.xs_instructions.specs.Find.{may_stand, have_form, is_of_row, first_row, find, known};
+ghost use Rattle.xs_instructions.specs.Find.{shape_fits, have_form, is_of_row, first_row, find, known};
 ghost use Rattle.std.specs.List.{list_any};
 
 use crate::rows::{Part, ROWS, Row};
@@ -63,14 +63,14 @@ fn have_form(parts: &[Part], shapes: &[Shape]) -> bool
         [] => shapes.is_empty(),
         [part, parts @ ..] => match shapes {
             [] => false,
-            [shape, shapes @ ..] => may_stand(*part, *shape) && have_form(parts, shapes),
+            [shape, shapes @ ..] => shape_fits(*part, *shape) && have_form(parts, shapes),
         },
     }
 }
 
 // Whether what is written may stand at a part.
-fn may_stand(part: Part, shape: Shape) -> bool
-    ensures { result ≡ may_stand part shape }
+fn shape_fits(part: Part, shape: Shape) -> bool
+    ensures { result ≡ shape_fits part shape }
 {
     match (part, shape) {
         (Part::Common, Shape::Reg(n)) => n < 12,
