@@ -2,8 +2,8 @@
 #![tactic(auto)]
 
 mod event_order;
-mod traffic_lines;
 mod node_lines;
+mod traffic_lines;
 mod whole_trace;
 
 pub use whole_trace::trace;

@@ -7,8 +7,8 @@ ghost use Rattle.trace_model.specs.Trace.{event_lines, more_line, halted_line, h
 
 use core_memory::words_in_order;
 use core_step::Core;
-use std::alloc::{AllocError, Global};
 use line_text::{append_decimal, append_hex_word, line_of};
+use std::alloc::{AllocError, Global};
 use trace_model::NodeEvent;
 use xs_base::Text;
 use xs_model::Run;

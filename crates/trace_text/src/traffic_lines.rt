@@ -2,8 +2,8 @@
 ghost use Rattle.std.specs.Prelude.{◌≡◌, ◌++◌, OnOk};
 ghost use Rattle.trace_model.specs.Trace.{tokens_sent, credits_sent, link_end_text, counts_text, traffic_line};
 
-use std::alloc::AllocError;
 use line_text::append_decimal;
+use std::alloc::AllocError;
 use xs_base::{Entry, Text, What};
 
 // How many tokens, and how many credits.

@@ -6,10 +6,10 @@ ghost use Rattle.trace_model.specs.EventOrder.{AreWithinCounts};
 ghost use Rattle.trace_model.specs.Trace.{by_position, events_in_order, halted_at, memory_at, more_at, traffic_at, lines_before_end, trace_text};
 
 use crate::event_order::merge;
-use crate::traffic_lines::append_traffic_line;
 use crate::node_lines::{
     append_end_line, append_event_lines, append_halted_lines, append_memory_lines, append_more_line,
 };
+use crate::traffic_lines::append_traffic_line;
 use run_plan::SerialMachine;
 use std::alloc::{AllocError, Global};
 use sys_plan::{LinkPlan, NodePlan, Plan};
