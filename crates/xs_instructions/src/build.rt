@@ -57,42 +57,49 @@ impl Row {
     }
 }
 
-// A field, by its operand's letter: the value with a number, as far as it fits.
-macro_rules! field {
-    (u $values:ident $number:literal) => { short($values, $number) };
-    (l $values:ident $number:literal) => { short($values, $number) };
-    ($letter:ident $values:ident $number:literal) => { byte($values, $number) };
-}
-
-// The fields of an instruction, one after another. A number that the row itself names is none.
+// The fields of an instruction, one after another, out of pairs of what a byte and two bytes hold of the values.
 macro_rules! fields {
-    ($make:path, [$($field:expr,)*] $values:ident [$($number:literal)*]) => { $make($($field),*) };
-    ($make:path, [$($field:expr,)*] $values:ident [$number:literal $($numbers:literal)*] $operand:ident $($operands:ident)*) => {
-        fields!($make, [$($field,)* field!($operand $values $number),] $values [$($numbers)*] $($operands)*)
+    ($make:path, [$($field:ident)*] [$($rest:tt)*]) => { $make($($field),*) };
+    ($make:path, [$($field:ident)*] [($byte:ident $short:ident) $($rest:tt)*] u $($operands:ident)*) => {
+        fields!($make, [$($field)* $short] [$($rest)*] $($operands)*)
+    };
+    ($make:path, [$($field:ident)*] [($byte:ident $short:ident) $($rest:tt)*] l $($operands:ident)*) => {
+        fields!($make, [$($field)* $short] [$($rest)*] $($operands)*)
+    };
+    ($make:path, [$($field:ident)*] [($byte:ident $short:ident) $($rest:tt)*] $operand:ident $($operands:ident)*) => {
+        fields!($make, [$($field)* $byte] [$($rest)*] $($operands)*)
     };
 }
 
-// An instruction put together.
+// An instruction put together. A number that the row itself names is no field.
 macro_rules! instruction {
-    ($kind:ident $row:ident $values:ident [$($mark:ident)* $(($number:literal) $($after:ident)*)?]) => { $kind::$row };
-    ($kind:ident $row:ident $values:ident [$($mark:ident)* $(($operand:ident) $($after:ident)*)+]) => {
-        fields!($kind::$row, [] $values [0 1 2 3 4 5] $($operand)+)
+    ($kind:ident $row:ident [$($mark:ident)* $(($number:literal) $($after:ident)*)?] $values:tt) => { $kind::$row };
+    ($kind:ident $row:ident [$($mark:ident)* $(($operand:ident) $($after:ident)*)+] $values:tt) => {
+        fields!($kind::$row, [] $values $($operand)+)
     };
 }
 
 macro_rules! instructions {
-    ($of:ident $values:ident; $($group:ident $kind:ident { $($row:ident $name:literal $form:tt)* })*) => {
+    ($of:ident $a:ident $b:ident $c:ident $d:ident $e:ident $f:ident $first:ident $second:ident; $($group:ident $kind:ident { $($row:ident $name:literal $form:tt)* })*) => {
         match $of {
-            $($(Row::$row => Instr::$group(instruction!($kind $row $values $form)),)*)*
+            $($(Row::$row => Instr::$group(instruction!($kind $row $form [($a $first) ($b $second) ($c $c) ($d $d) ($e $e) ($f $f)])),)*)*
         }
     };
 }
 
-// The row's instruction with these values, each as far as it fits its field.
+// The row's instruction with these values, each as far as it fits its field. Two bytes have the first two alone.
 fn made(row: Row, values: &[u32]) -> Instr
     ensures { result ≡ made row (kept (value_parts row) values.now) }
 {
-    table!(instructions row values)
+    let a = byte(values, 0);
+    let b = byte(values, 1);
+    let c = byte(values, 2);
+    let d = byte(values, 3);
+    let e = byte(values, 4);
+    let f = byte(values, 5);
+    let first = short(values, 0);
+    let second = short(values, 1);
+    table!(instructions row a b c d e f first second)
 }
 
 // Whether a value is in the range of its part.

@@ -99,20 +99,33 @@ fn text_of(alloc: Global, pieces: &[Piece]) -> Result<String, AllocError> {
     Ok(text)
 }
 
-fn gives(
-    alloc: Global,
-    name: &[u8],
-    shapes: &[Shape],
-    values: &[u32],
-    expected: &str,
-) -> Result<bool, AllocError> {
-    let text = outcome(alloc, name, shapes, values)?;
-    Ok(text.as_str() == expected)
-}
+const R0: Shape = Shape::Reg(0);
+
+const R1: Shape = Shape::Reg(1);
+
+const R2: Shape = Shape::Reg(2);
+
+const R3: Shape = Shape::Reg(3);
+
+const R5: Shape = Shape::Reg(5);
+
+const R10: Shape = Shape::Reg(10);
+
+const R11: Shape = Shape::Reg(11);
+
+const CP: Shape = Shape::Reg(12);
+
+const DP: Shape = Shape::Reg(13);
+
+const SP: Shape = Shape::Reg(14);
+
+const LR: Shape = Shape::Reg(15);
 
 const RES: Shape = Shape::Word(0);
 
 const T: Shape = Shape::Word(1);
+
+const KEP: Shape = Shape::Word(3);
 
 const SPC: Shape = Shape::Word(8);
 
@@ -128,53 +141,159 @@ const MINUS: Shape = Shape::Word(15);
 
 const NUM: Shape = Shape::Num;
 
-fn reg(number: u8) -> Shape {
-    Shape::Reg(number)
+struct Case {
+    name: &'static [u8],
+    shapes: &'static [Shape],
+    values: &'static [u32],
+    expected: &'static str,
 }
+
+static CASES: [Case; 22] = [
+    Case {
+        name: b"add",
+        shapes: &[R0, COMMA, R11, COMMA, R5],
+        values: &[0, 11, 5],
+        expected: " add r0 , r11 , r5",
+    },
+    Case {
+        name: b"add",
+        shapes: &[R0, COMMA, R1, COMMA, NUM],
+        values: &[0, 1, 11],
+        expected: " add r0 , r1 , 11",
+    },
+    Case {
+        name: b"add",
+        shapes: &[R0, COMMA, R1, COMMA, NUM],
+        values: &[0, 1, 12],
+        expected: "out of range",
+    },
+    Case {
+        name: b"shl",
+        shapes: &[R0, COMMA, R1, COMMA, NUM],
+        values: &[0, 1, 8],
+        expected: " shl r0 , r1 , 8",
+    },
+    Case {
+        name: b"shl",
+        shapes: &[R0, COMMA, R1, COMMA, NUM],
+        values: &[0, 1, 9],
+        expected: "out of range",
+    },
+    Case {
+        name: b"shl",
+        shapes: &[R0, COMMA, R1, COMMA, NUM],
+        values: &[0, 1, 0],
+        expected: "out of range",
+    },
+    Case {
+        name: b"shr",
+        shapes: &[R0, COMMA, R1, COMMA, NUM],
+        values: &[0, 1, 32],
+        expected: " shr r0 , r1 , 32",
+    },
+    Case {
+        name: b"mul",
+        shapes: &[R0, COMMA, R1, COMMA, NUM],
+        values: &[0, 1, 2],
+        expected: "no row",
+    },
+    Case {
+        name: b"add",
+        shapes: &[CP, COMMA, R1, COMMA, R2],
+        values: &[12, 1, 2],
+        expected: "no row",
+    },
+    Case {
+        name: b"ldc",
+        shapes: &[R3, COMMA, NUM],
+        values: &[3, 65_535],
+        expected: " ldc r3 , 65535",
+    },
+    Case {
+        name: b"ldc",
+        shapes: &[R3, COMMA, NUM],
+        values: &[3, 65_536],
+        expected: "out of range",
+    },
+    Case {
+        name: b"ldc",
+        shapes: &[R3, COMMA, NUM],
+        values: &[3, 1, 1],
+        expected: "out of range",
+    },
+    Case {
+        name: b"ldw",
+        shapes: &[LR, COMMA, DP, LEFT, NUM, RIGHT],
+        values: &[15, 7],
+        expected: " ldw r15 , r13 [ 7 ]",
+    },
+    Case {
+        name: b"ldw",
+        shapes: &[LR, COMMA, CP, LEFT, NUM, RIGHT],
+        values: &[15, 0],
+        expected: "no row",
+    },
+    Case {
+        name: b"ldw",
+        shapes: &[SPC, COMMA, SP, LEFT, NUM, RIGHT],
+        values: &[1],
+        expected: " ldw spc , r14 [ 1 ]",
+    },
+    Case {
+        name: b"ldw",
+        shapes: &[SPC, COMMA, SP, LEFT, NUM, RIGHT],
+        values: &[2],
+        expected: "out of range",
+    },
+    Case {
+        name: b"set",
+        shapes: &[KEP, COMMA, R10],
+        values: &[],
+        expected: "no row",
+    },
+    Case {
+        name: b"ldap",
+        shapes: &[R11, COMMA, Shape::Label],
+        values: &[65_535],
+        expected: " ldap r11 , @65535",
+    },
+    Case {
+        name: b"bu",
+        shapes: &[NUM],
+        values: &[4],
+        expected: "no row",
+    },
+    Case {
+        name: b"outct",
+        shapes: &[RES, LEFT, R0, RIGHT, COMMA, NUM],
+        values: &[0, 12],
+        expected: "out of range",
+    },
+    Case {
+        name: b"ldaw",
+        shapes: &[R0, COMMA, R1, LEFT, MINUS, R2, RIGHT],
+        values: &[0, 1, 2],
+        expected: " ldaw r0 , r1 [ - r2 ]",
+    },
+    Case {
+        name: b"init",
+        shapes: &[T, LEFT, R1, RIGHT, COLON, SP, COMMA, R2],
+        values: &[1, 2],
+        expected: " init t [ r1 ] : r14 , r2",
+    },
+];
 
 #[test]
 fn finds_builds_and_spells(rt: HostRuntime) -> Result<(), Fail> {
-    let alloc = rt.alloc();
-    let add = [reg(0), COMMA, reg(11), COMMA, reg(5)];
-    assert!(rt; gives(alloc, b"add", &add, &[0, 11, 5], " add r0 , r11 , r5")?);
-    let small = [reg(0), COMMA, reg(1), COMMA, NUM];
-    assert!(rt; gives(alloc, b"add", &small, &[0, 1, 11], " add r0 , r1 , 11")?);
-    assert!(rt; gives(alloc, b"add", &small, &[0, 1, 12], "out of range")?);
-    assert!(rt; gives(alloc, b"shl", &small, &[0, 1, 8], " shl r0 , r1 , 8")?);
-    assert!(rt; gives(alloc, b"shl", &small, &[0, 1, 9], "out of range")?);
-    assert!(rt; gives(alloc, b"shl", &small, &[0, 1, 0], "out of range")?);
-    assert!(rt; gives(alloc, b"shr", &small, &[0, 1, 32], " shr r0 , r1 , 32")?);
-    assert!(rt; gives(alloc, b"mul", &small, &[0, 1, 2], "no row")?);
-    let beyond = [reg(12), COMMA, reg(1), COMMA, reg(2)];
-    assert!(rt; gives(alloc, b"add", &beyond, &[12, 1, 2], "no row")?);
-    let ldc = [reg(3), COMMA, NUM];
-    assert!(rt; gives(alloc, b"ldc", &ldc, &[3, 65_535], " ldc r3 , 65535")?);
-    assert!(rt; gives(alloc, b"ldc", &ldc, &[3, 65_536], "out of range")?);
-    assert!(rt; gives(alloc, b"ldc", &ldc, &[3, 1, 1], "out of range")?);
+    for case in &CASES {
+        let text = outcome(rt.alloc(), case.name, case.shapes, case.values)?;
+        assert_eq!(rt; text.as_str(), case.expected);
+    }
     Ok(())
 }
 
 #[test]
-fn fixed_registers_and_numbers(rt: HostRuntime) -> Result<(), Fail> {
-    let alloc = rt.alloc();
-    let from_dp = [reg(15), COMMA, reg(13), LEFT, NUM, RIGHT];
-    assert!(rt; gives(alloc, b"ldw", &from_dp, &[15, 7], " ldw r15 , r13 [ 7 ]")?);
-    let from_cp = [reg(15), COMMA, reg(12), LEFT, NUM, RIGHT];
-    assert!(rt; gives(alloc, b"ldw", &from_cp, &[15, 0], "no row")?);
-    let spc = [SPC, COMMA, reg(14), LEFT, NUM, RIGHT];
-    assert!(rt; gives(alloc, b"ldw", &spc, &[1], " ldw spc , r14 [ 1 ]")?);
-    assert!(rt; gives(alloc, b"ldw", &spc, &[2], "out of range")?);
-    let kep = [Shape::Word(3), COMMA, reg(10)];
-    assert!(rt; gives(alloc, b"set", &kep, &[], "no row")?);
-    let ldap = [reg(11), COMMA, Shape::Label];
-    assert!(rt; gives(alloc, b"ldap", &ldap, &[65_535], " ldap r11 , @65535")?);
-    assert!(rt; gives(alloc, b"bu", &[NUM], &[4], "no row")?);
-    let token = [RES, LEFT, reg(0), RIGHT, COMMA, NUM];
-    assert!(rt; gives(alloc, b"outct", &token, &[0, 12], "out of range")?);
-    let back = [reg(0), COMMA, reg(1), LEFT, MINUS, reg(2), RIGHT];
-    assert!(rt; gives(alloc, b"ldaw", &back, &[0, 1, 2], " ldaw r0 , r1 [ - r2 ]")?);
-    let other = [T, LEFT, reg(1), RIGHT, COLON, reg(14), COMMA, reg(2)];
-    assert!(rt; gives(alloc, b"init", &other, &[1, 2], " init t [ r1 ] : r14 , r2")?);
+fn knows_names(rt: HostRuntime) {
     assert!(rt; known(b"init") && !known(b"ini") && !known(b""));
     assert_eq!(rt; register_number(b"lr"), Some(15));
     assert_eq!(rt; register_number(b"r12"), None);
@@ -182,5 +301,4 @@ fn fixed_registers_and_numbers(rt: HostRuntime) -> Result<(), Fail> {
     assert_eq!(rt; fixed(b"sr"), None);
     assert!(rt; built(Instr::Threads(ThreadIns::Freet)));
     assert!(rt; !built(Instr::Threads(ThreadIns::Ssync)));
-    Ok(())
 }
