@@ -11,12 +11,7 @@ ghost use Rattle.core_memory.specs.Order.{WordsInOrder, NextWord, NoWordsLeft};
 
 use std::alloc::{AllocError, Global};
 use std::marker::Model;
-
-/// The address of the first byte of the memory.
-const MEMORY_BASE: u32 = 0x00010000;
-
-/// How many bytes the memory has.
-const MEMORY_SIZE: u32 = 65536;
+use xs_base::numbers::{MEMORY_BYTES, MEMORY_START};
 
 /// How many words the memory has.
 const MEMORY_WORDS: usize = 16384;
@@ -94,8 +89,8 @@ impl Ram {
 fn word_place(at: u32) -> Option<usize>
     ensures { MatchOption result (is_word_address at ≡ false) (IsPlaceOf at) }
 {
-    let offset = at.wrapping_sub(MEMORY_BASE);
-    if offset < MEMORY_SIZE && offset % 4 == 0 {
+    let offset = at.wrapping_sub(MEMORY_START);
+    if offset < MEMORY_BYTES && offset % 4 == 0 {
         Some((offset / 4) as usize)
     } else {
         None

@@ -1,4 +1,4 @@
 pub mod Faults
 pub mod LabelOrder
 pub mod LabelValues
-pub mod StandsFor
+pub mod TextStandsFor

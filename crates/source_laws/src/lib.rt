@@ -10,7 +10,7 @@ ghost use Rattle.source_model.specs.Statement.{line_of};
 ghost use Rattle.source_model.specs.Layout.{nothing_yet, whole_of};
 ghost use Rattle.source_model.specs.Source.{first_fault, image_of, Image, Fault, assembled};
 ghost use Rattle.source_laws.specs.Faults.{IsFirstSourceFault, HasNoSourceFault, image_of_text};
-ghost use Rattle.source_laws.specs.StandsFor.{StandsFor};
+ghost use Rattle.source_laws.specs.TextStandsFor.{TextStandsFor};
 
 mod written;
 
@@ -35,7 +35,7 @@ pub fn sources_make_images()
 
 /// The canonical text of an image is read as this image, whatever the image. See docs/OUTPUT.md.
 pub fn canonical_is_read_back()
-    ensures { (image : ImageRec) → IsImage image → AllByRecursion (λ b. b < 256) image.bytes → StandsFor (canonical image) image }
+    ensures { (image : ImageRec) → IsImage image → AllByRecursion (λ b. b < 256) image.bytes → TextStandsFor (canonical image) image }
 {
     written_is_read();
 }

@@ -102,9 +102,9 @@ has_no_form given NoForm = true
 has_no_form given (Form form) = not (is_line_built given form)
 has_no_form given _ = false
 
-abbrev pub has_number_out_of_range : FrameSays → Bool
-has_number_out_of_range (Form form) = not (are_numbers_in_range form)
-has_number_out_of_range _ = false
+abbrev pub has_frame_number_out_of_range : FrameSays → Bool
+has_frame_number_out_of_range (Form form) = not (are_numbers_in_range form)
+has_frame_number_out_of_range _ = false
 
 -- it names a node that is not given, or a link end that no link has given
 abbrev pub names_none : Given → FrameSays → Bool
@@ -143,7 +143,7 @@ abbrev pub tests : Given → List ℕ → FrameSays → List (SysKind × Bool)
 tests given l said =
     (FirstLine, is_other_first_line said)
     ∷ (BadLine, (is_of_the_frame said && not (all_allowed l)) || has_no_form given said)
-    ∷ (NumberOutOfRange, has_number_out_of_range said)
+    ∷ (NumberOutOfRange, has_frame_number_out_of_range said)
     ∷ (NoSuchNode, names_none given said)
     ∷ (GivenTwice, is_given_twice given said)
     ∷ (IdTwice, is_id_twice given said)

@@ -12,7 +12,7 @@ use Rattle.system_model.specs.declared.frame_line.FrameLine.{FrameLine}
 use Rattle.system_model.specs.declared.frame_line.FrameLine.TheVariants.{Node, Link, Bit, Source}
 use Rattle.system_model.specs.declared.frame_line.GivenNode.{GivenNode}
 use Rattle.system_model.specs.FrameLines.{is_header, frame_line, are_numbers_in_range}
-use Rattle.system_model.specs.Frame.{SourceText, Given, FrameSays, Blank, Header, NoHeader, Form, says_in_frame, says_by, says_form, says, is_empty, is_other_first_line, is_of_the_frame, has_no_form, has_number_out_of_range, names_none, is_given_twice, is_id_twice, is_link_to_itself, is_link_end_twice, is_bit_twice, fault_of, first_that_holds, put_by_number}
+use Rattle.system_model.specs.Frame.{SourceText, Given, FrameSays, Blank, Header, NoHeader, Form, says_in_frame, says_by, says_form, says, is_empty, is_other_first_line, is_of_the_frame, has_no_form, has_frame_number_out_of_range, names_none, is_given_twice, is_id_twice, is_link_to_itself, is_link_end_twice, is_bit_twice, fault_of, first_that_holds, put_by_number}
 use Rattle.system_model.specs.System.{source_of}
 use Rattle.system_text.specs.Forms.{when, in_range, in_room, formed}
 use Rattle.system_text.specs.Judged.{later_fault}
@@ -44,7 +44,7 @@ abbrev pub fault_by : Given → Bool → FrameSays → Option SysKind
 fault_by given allowed said = first_that_holds (
     (FirstLine, is_other_first_line said)
     ∷ (BadLine, (is_of_the_frame said && not allowed) || has_no_form given said)
-    ∷ (NumberOutOfRange, has_number_out_of_range said)
+    ∷ (NumberOutOfRange, has_frame_number_out_of_range said)
     ∷ (NoSuchNode, names_none given said)
     ∷ (GivenTwice, is_given_twice given said)
     ∷ (IdTwice, is_id_twice given said)

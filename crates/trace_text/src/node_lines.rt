@@ -11,10 +11,8 @@ use line_text::{append_decimal, append_hex_word, line_of};
 use std::alloc::{AllocError, Global};
 use trace_model::NodeEvent;
 use xs_base::Text;
+use xs_base::numbers::MEMORY_START;
 use xs_model::Run;
-
-// The address of the first byte of the memory.
-const MEMORY_BASE: u32 = 0x0001_0000;
 
 // How many words the memory has.
 const MEMORY_WORDS: u32 = 16384;
@@ -78,7 +76,7 @@ pub(crate) fn append_memory_lines(out: &mut Text, node: u8, core: &Core) -> Resu
 {
     words_in_order();
     for k in 0..MEMORY_WORDS {
-        let at = MEMORY_BASE + 4 * k;
+        let at = MEMORY_START + 4 * k;
         // Each such address is one of a word.
         let w = core.word(at).unwrap();
         append_memory_line(out, node, at, w)?;

@@ -9,7 +9,7 @@ use Rattle.answer_model.specs.declared.Status.{Status}
 use Rattle.answer_model.specs.declared.Status.TheVariants as status
 use Rattle.system_model.specs.System.{System, Plan, Frame, Source, system_of, longest_input}
 use Rattle.answer_model.specs.Top.{answer, answer_to, answer_of_form, usage_answer, form_of_words, taken_by}
-use Rattle.xs1_top.specs.Call.{IsWhole, IsInput, Answers, AnswersInPart, TookInput, RefusesFrame, RefusesSource, RefusesNothing}
+use Rattle.xs1_top.specs.Call.{IsWhole, IsInput, Answers, AnswersInPart, TookInput, IsFrameRefusal, IsSourceRefusal, RefusesNothing}
 use Rattle.xs1_top.proofs.Systems.{system_of-front}
 
 -- the status of an answer, or the text was not written whole
@@ -68,22 +68,22 @@ AnswersInPart-form words left before after bytes text form a e front given t wro
     (input, is_input, subst (WrotePart before after) (t ∙ ap (λ a. a.text) is) wrote)
 
 -- the statuses of answers
-status-frame : (form : Form) (system : System) → (answer_to form system).status ≡ status.SystemFault → RefusesFrame system
+status-frame : (form : Form) (system : System) → (answer_to form system).status ≡ status.SystemFault → IsFrameRefusal system
 status-frame form (Plan plan) e = cc
 status-frame form (Frame line kind) e = tt
 status-frame form (Source node line kind) e = cc
 
-frame-status : (form : Form) (system : System) → RefusesFrame system → (answer_to form system).status ≡ status.SystemFault
+frame-status : (form : Form) (system : System) → IsFrameRefusal system → (answer_to form system).status ≡ status.SystemFault
 frame-status form (Plan plan) h = absurd h
 frame-status form (Frame line kind) h = refl
 frame-status form (Source node line kind) h = absurd h
 
-status-source : (form : Form) (system : System) → (answer_to form system).status ≡ status.SourceFault → RefusesSource system
+status-source : (form : Form) (system : System) → (answer_to form system).status ≡ status.SourceFault → IsSourceRefusal system
 status-source form (Plan plan) e = cc
 status-source form (Frame line kind) e = cc
 status-source form (Source node line kind) e = tt
 
-source-status : (form : Form) (system : System) → RefusesSource system → (answer_to form system).status ≡ status.SourceFault
+source-status : (form : Form) (system : System) → IsSourceRefusal system → (answer_to form system).status ≡ status.SourceFault
 source-status form (Plan plan) h = absurd h
 source-status form (Frame line kind) h = absurd h
 source-status form (Source node line kind) h = refl
@@ -101,16 +101,16 @@ ended_by : (form : Form) (system : System) (a : Answer) (ended wanted : Status) 
 ended_by form system a ended wanted given ends whole e =
     whole_end a.status ended ends whole ∙ (ap (λ a. a.status) given ∙ e)
 
-pub frame-ended : (form : Form) (system : System) (a : Answer) (ended : Status) → a ≡ answer_to form system → Ends a.status ended → ended ≡ status.SystemFault → RefusesFrame system
+pub frame-ended : (form : Form) (system : System) (a : Answer) (ended : Status) → a ≡ answer_to form system → Ends a.status ended → ended ≡ status.SystemFault → IsFrameRefusal system
 frame-ended form system a ended given ends e = status-frame form system (ended_at form system a ended status.SystemFault given ends tt e)
 
-pub ended-frame : (form : Form) (system : System) (a : Answer) (ended : Status) → a ≡ answer_to form system → Ends a.status ended → IsWhole ended → RefusesFrame system → ended ≡ status.SystemFault
+pub ended-frame : (form : Form) (system : System) (a : Answer) (ended : Status) → a ≡ answer_to form system → Ends a.status ended → IsWhole ended → IsFrameRefusal system → ended ≡ status.SystemFault
 ended-frame form system a ended given ends whole h = ended_by form system a ended status.SystemFault given ends whole (frame-status form system h)
 
-pub source-ended : (form : Form) (system : System) (a : Answer) (ended : Status) → a ≡ answer_to form system → Ends a.status ended → ended ≡ status.SourceFault → RefusesSource system
+pub source-ended : (form : Form) (system : System) (a : Answer) (ended : Status) → a ≡ answer_to form system → Ends a.status ended → ended ≡ status.SourceFault → IsSourceRefusal system
 source-ended form system a ended given ends e = status-source form system (ended_at form system a ended status.SourceFault given ends tt e)
 
-pub ended-source : (form : Form) (system : System) (a : Answer) (ended : Status) → a ≡ answer_to form system → Ends a.status ended → IsWhole ended → RefusesSource system → ended ≡ status.SourceFault
+pub ended-source : (form : Form) (system : System) (a : Answer) (ended : Status) → a ≡ answer_to form system → Ends a.status ended → IsWhole ended → IsSourceRefusal system → ended ≡ status.SourceFault
 ended-source form system a ended given ends whole h = ended_by form system a ended status.SourceFault given ends whole (source-status form system h)
 
 pub plan-ended : (form : Form) (system : System) (a : Answer) (ended : Status) → a ≡ answer_to form system → Ends a.status ended → ended ≡ status.Done → RefusesNothing system

@@ -69,16 +69,16 @@ TookInput words (Some left) None = ⊥
 TookInput words None (Some after) = ⊥
 
 -- the frame of the system text is refused
-abbrev pub RefusesFrame : System → Type 0
-RefusesFrame (Plan plan) = ⊥
-RefusesFrame (Frame line kind) = Unit {0}
-RefusesFrame (Source node line kind) = ⊥
+abbrev pub IsFrameRefusal : System → Type 0
+IsFrameRefusal (Plan plan) = ⊥
+IsFrameRefusal (Frame line kind) = Unit {0}
+IsFrameRefusal (Source node line kind) = ⊥
 
 -- the source of a node is refused
-abbrev pub RefusesSource : System → Type 0
-RefusesSource (Plan plan) = ⊥
-RefusesSource (Frame line kind) = ⊥
-RefusesSource (Source node line kind) = Unit {0}
+abbrev pub IsSourceRefusal : System → Type 0
+IsSourceRefusal (Plan plan) = ⊥
+IsSourceRefusal (Frame line kind) = ⊥
+IsSourceRefusal (Source node line kind) = Unit {0}
 
 -- nothing is refused
 abbrev pub RefusesNothing : System → Type 0

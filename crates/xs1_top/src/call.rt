@@ -3,7 +3,7 @@ ghost use Rattle.std.specs.Prelude.{ℕ, ◌≡◌, ◌≢◌, ◌<◌, ◌+◌,
 ghost use Rattle.xs_edge.specs.Edge.{HasRisen, Wrote, WrotePart};
 ghost use Rattle.system_model.specs.System.{system_of, longest_input};
 ghost use Rattle.answer_model.specs.Top.{answer_to, form_of_words, text_for};
-ghost use Rattle.xs1_top.specs.Call.{IsWhole, IsRead, IsSilent, Answers, AnswersInPart, TookInput, RefusesFrame, RefusesSource, RefusesNothing};
+ghost use Rattle.xs1_top.specs.Call.{IsWhole, IsRead, IsSilent, Answers, AnswersInPart, TookInput, IsFrameRefusal, IsSourceRefusal, RefusesNothing};
 ghost use Rattle.xs1_top.specs.Reads.{ReadsAtMost};
 
 use crate::check::check_text;
@@ -62,10 +62,10 @@ pub fn top<S: Source, K: Sink, G: Gate>(
     ensures usage { result ≡ Status.Usage → form_of_words (map string_bytes words.now) ≡ None }
     ensures usage_given { form_of_words (map string_bytes words.now) ≡ None → (result ≡ Status.Usage) ⊎ (result ≡ Status.WriteFault) }
     ensures usage_reads_nothing { form_of_words (map string_bytes words.now) ≡ None → source.new ≡ source.old }
-    ensures system_fault { result ≡ Status.SystemFault → IfSome (S.left source.old) (λ input. RefusesFrame (system_of input)) }
-    ensures system_fault_given { IsSome (form_of_words (map string_bytes words.now)) → IsWhole result → IfSome (S.left source.old) (λ input. RefusesFrame (system_of input) → result ≡ Status.SystemFault) }
-    ensures source_fault { result ≡ Status.SourceFault → IfSome (S.left source.old) (λ input. RefusesSource (system_of input)) }
-    ensures source_fault_given { IsSome (form_of_words (map string_bytes words.now)) → IsWhole result → IfSome (S.left source.old) (λ input. RefusesSource (system_of input) → result ≡ Status.SourceFault) }
+    ensures system_fault { result ≡ Status.SystemFault → IfSome (S.left source.old) (λ input. IsFrameRefusal (system_of input)) }
+    ensures system_fault_given { IsSome (form_of_words (map string_bytes words.now)) → IsWhole result → IfSome (S.left source.old) (λ input. IsFrameRefusal (system_of input) → result ≡ Status.SystemFault) }
+    ensures source_fault { result ≡ Status.SourceFault → IfSome (S.left source.old) (λ input. IsSourceRefusal (system_of input)) }
+    ensures source_fault_given { IsSome (form_of_words (map string_bytes words.now)) → IsWhole result → IfSome (S.left source.old) (λ input. IsSourceRefusal (system_of input) → result ≡ Status.SourceFault) }
     ensures done { result ≡ Status.Done → IfSome (S.left source.old) (λ input. RefusesNothing (system_of input)) }
     ensures script_fault { result ≢ Status.ScriptFault }
 {

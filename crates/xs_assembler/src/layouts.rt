@@ -5,6 +5,7 @@ ghost use Rattle.xs_assembler.specs.Lines.{says_of, statement_of};
 use crate::statement::{Says, Statement};
 use crate::values::width_bytes;
 use source_model::{Home, Layout, Place, Section};
+use xs_base::numbers::{CODE_START, MEMORY_START};
 
 // No lines yet.
 pub fn no_lines() -> Layout
@@ -133,9 +134,9 @@ pub fn section_start(whole: Layout, section: Section) -> u64
     ensures small { result < 2 ^ 63 }
 {
     match section {
-        Section::Text => 0x0004_0000,
-        Section::Data => 0x0001_0000,
-        Section::Constants => 0x0001_0000 + round_up_to_word(whole.data_bytes),
+        Section::Text => CODE_START,
+        Section::Data => MEMORY_START,
+        Section::Constants => MEMORY_START + round_up_to_word(whole.data_bytes),
     }
 }
 

@@ -1,9 +1,10 @@
 -- Where code stands: the instruction at place k has the address 0x00040000 + 4k.
 use Rattle.std.specs.Prelude.{ℕ, ◌+◌, ◌-◌, ◌*◌, ◌/◌, ◌%◌, Bool, ◌&&◌, ◌==◌, nat_le, nat_lt, if◌then◌else◌, Option, None, List, length, slice_get}
+use Rattle.xs_base.specs.declared.numbers.TheConstants.{CODE_START}
 use Rattle.xs_instructions.specs.declared.instr.Instr.{Instr}
 
 abbrev pub code_start : ℕ
-code_start = 0x00040000
+code_start = CODE_START
 
 -- the address of the instruction at a place, counted from 0
 abbrev pub place_address : ℕ → ℕ

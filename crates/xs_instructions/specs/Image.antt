@@ -2,6 +2,7 @@
 use Rattle.std.specs.Prelude.{ℕ, ◌≡◌, ◌+◌, ◌%◌, ◌<◌, ◌≤◌, Bool, ◌||◌, ◌&&◌, not, ◌==◌, nat_le, nat_lt, if◌then◌else◌, List, [], ◌∷◌, length, codes, Option, Some, None, IsTrue, IfSome, slice_get, String, string_bytes}
 use denote.Ref.{Bor}
 use Rattle.std.specs.List.{list_any, AllByRecursion}
+use Rattle.xs_base.specs.declared.numbers.TheConstants.{MEMORY_START}
 use Rattle.xs_text.specs.Tokens.{is_name}
 use Rattle.xs_instructions.specs.declared.instr.Instr.{Instr}
 pub use Rattle.xs_instructions.specs.Words.{same_name}
@@ -53,7 +54,7 @@ abbrev pub may_be_label : List ℕ → Bool
 may_be_label name = is_name name && not (is_reserved name)
 
 abbrev pub data_start : ℕ
-data_start = 0x00010000
+data_start = MEMORY_START
 
 -- whether some symbol has the address
 abbrev pub has_symbol_at : List Symbol → ℕ → Bool

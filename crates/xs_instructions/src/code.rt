@@ -4,6 +4,7 @@ ghost use Rattle.xs_instructions.specs.Code.{code_at};
 ghost use Rattle.xs_instructions.specs.Instr.{InRange, built};
 
 use crate::instr::Instr;
+use xs_base::numbers::CODE_START;
 
 /// At most so many instructions stand in an image.
 pub const MOST_CODE: usize = 16_384;
@@ -15,7 +16,7 @@ pub fn instr_at(code: &[Instr], pc: u32) -> Option<Instr>
     ensures in_range { AllByRecursion InRange code.now → IfSome result InRange }
     ensures built { AllByRecursion (λ ins. IsTrue (built ins)) code.now → IfSome result (λ ins. IsTrue (built ins)) }
 {
-    let offset = pc.checked_sub(0x0004_0000)?;
+    let offset = pc.checked_sub(CODE_START)?;
     if offset % 4 != 0 {
         return None;
     }

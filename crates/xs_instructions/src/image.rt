@@ -7,6 +7,7 @@ use crate::code::instr_at;
 use crate::instr::Instr;
 use crate::symbols::Symbols;
 use std::marker::Model;
+use xs_base::numbers::CODE_START;
 
 /// What a source stands for (docs/ASSEMBLY.md): code, the bytes of its data, where the constants begin, and its
 /// labels. The record `IsImage` says what every image keeps.
@@ -97,8 +98,8 @@ impl Image {
         ensures value { result ≡ entry_of self.now }
     {
         match self.symbols.address(b"main") {
-            Some(at) if at >= 0x0004_0000 => at,
-            _ => 0x0004_0000,
+            Some(at) if at >= CODE_START => at,
+            _ => CODE_START,
         }
     }
 }

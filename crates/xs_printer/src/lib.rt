@@ -3,7 +3,7 @@
 
 ghost use Rattle.std.specs.Prelude.{◌≡◌, IfOk};
 ghost use Rattle.source_model.specs.Canonical.{canonical};
-ghost use Rattle.source_laws.specs.StandsFor.{StandsFor};
+ghost use Rattle.source_laws.specs.TextStandsFor.{TextStandsFor};
 
 mod labels;
 mod sections;
@@ -22,7 +22,7 @@ use xs_instructions::Image;
 /// docs/OUTPUT.md.
 pub fn print_image(alloc: Global, image: &Image) -> Result<Text, AllocError>
     ensures text { IfOk result (λ text. text ≡ canonical image.now) }
-    ensures reads_back { IfOk result (λ text. StandsFor text image.now) }
+    ensures reads_back { IfOk result (λ text. TextStandsFor text image.now) }
 {
     canonical_is_read_back();
     let firsts = first_labels(alloc, image)?;

@@ -11,12 +11,8 @@ use crate::statement::{append_decimal, append_statement};
 use source_laws::{labels_stand_in_order, labels_stand_in_their_parts};
 use std::alloc::AllocError;
 use xs_base::Text;
+use xs_base::numbers::{CODE_START, MEMORY_START};
 use xs_instructions::{Image, Instr, spelling};
-
-// The address of the first instruction, and that of the first byte.
-const CODE_START: u32 = 0x0004_0000;
-
-const DATA_START: u32 = 0x0001_0000;
 
 // Puts the line of an instruction.
 fn append_instruction(
@@ -107,12 +103,12 @@ pub(crate) fn append_data(
     ensures next { IfOk result (λ k. IsFirstFrom image.now.symbols image.now.cp_at k) }
 {
     labels_stand_in_order();
-    let room = (image.cp_at() - DATA_START) as usize;
+    let room = (image.cp_at() - MEMORY_START) as usize;
     if bytes.len() < room {
-        let next = append_bytes(out, image, bytes, DATA_START, first)?;
-        append_labels(out, image, next, DATA_START + bytes.len() as u32)
+        let next = append_bytes(out, image, bytes, MEMORY_START, first)?;
+        append_labels(out, image, next, MEMORY_START + bytes.len() as u32)
     } else {
-        append_bytes(out, image, &bytes[..room], DATA_START, first)
+        append_bytes(out, image, &bytes[..room], MEMORY_START, first)
     }
 }
 
@@ -128,7 +124,7 @@ pub(crate) fn append_constants(
     ensures { OnOk result (out.new ≡ out.old ++ lines_text image.now.symbols (constant_items image.now)) }
 {
     let cp_at = image.cp_at();
-    let room = (cp_at - DATA_START) as usize;
+    let room = (cp_at - MEMORY_START) as usize;
     let constants = &bytes[room.min(bytes.len())..];
     let next = append_bytes(out, image, constants, cp_at, first)?;
     append_labels(out, image, next, cp_at + constants.len() as u32)?;

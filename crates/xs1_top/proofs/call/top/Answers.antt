@@ -2,7 +2,7 @@ use Rattle.std.proofs.Common.{◌≡◌, ◌∙◌, ap}
 use Rattle.system_model.specs.System.{system_of}
 use Rattle.answer_model.specs.Top.{answer_to}
 use Rattle.answer_model.specs.declared.Status.TheVariants as status
-use Rattle.xs1_top.specs.Call.{RefusesFrame, RefusesSource, RefusesNothing}
+use Rattle.xs1_top.specs.Call.{IsFrameRefusal, IsSourceRefusal, RefusesNothing}
 use Rattle.xs1_top.proofs.Systems.{told}
 use Rattle.xs1_top.proofs.Calls.{Answers-usage, AnswersInPart-usage, Answers-form, AnswersInPart-form, TookInput-form, frame-ended, ended-frame, source-ended, ended-source, plan-ended}
 use Rattle.xs1_top.proofs.call.top.Goals as goal
@@ -39,28 +39,28 @@ pub returns-in-Ok-answer_of-clause-system_fault :
 returns-in-Ok-answer_of-clause-system_fault g c = λ ended.
     let given : c.in-Ok-answer_of.answer ≡ answer_to c.in-Some.form (system_of c.in-Ok.input.items) =
     c.in-Ok-answer_of.ensures ∙ ap (λ bytes. answer_to c.in-Some.form (system_of bytes)) c.deref.ensures.value in
-    told RefusesFrame _ c.in-Ok.input.items c.in-Ok.ensures.front (frame-ended c.in-Some.form _ c.in-Ok-answer_of.answer _ given c.finish-in-Ok-answer_of.ensures.status ended)
+    told IsFrameRefusal _ c.in-Ok.input.items c.in-Ok.ensures.front (frame-ended c.in-Some.form _ c.in-Ok-answer_of.answer _ given c.finish-in-Ok-answer_of.ensures.status ended)
 
 pub returns-in-Ok-answer_of-clause-system_fault_given :
     goal.returns-in-Ok-answer_of-clause-system_fault_given
 returns-in-Ok-answer_of-clause-system_fault_given g c = λ _ whole.
     let given : c.in-Ok-answer_of.answer ≡ answer_to c.in-Some.form (system_of c.in-Ok.input.items) =
     c.in-Ok-answer_of.ensures ∙ ap (λ bytes. answer_to c.in-Some.form (system_of bytes)) c.deref.ensures.value in
-    told (λ system. RefusesFrame system → c.finish-in-Ok-answer_of.result ≡ status.SystemFault) _ c.in-Ok.input.items c.in-Ok.ensures.front (ended-frame c.in-Some.form _ c.in-Ok-answer_of.answer _ given c.finish-in-Ok-answer_of.ensures.status whole)
+    told (λ system. IsFrameRefusal system → c.finish-in-Ok-answer_of.result ≡ status.SystemFault) _ c.in-Ok.input.items c.in-Ok.ensures.front (ended-frame c.in-Some.form _ c.in-Ok-answer_of.answer _ given c.finish-in-Ok-answer_of.ensures.status whole)
 
 pub returns-in-Ok-answer_of-clause-source_fault :
     goal.returns-in-Ok-answer_of-clause-source_fault
 returns-in-Ok-answer_of-clause-source_fault g c = λ ended.
     let given : c.in-Ok-answer_of.answer ≡ answer_to c.in-Some.form (system_of c.in-Ok.input.items) =
     c.in-Ok-answer_of.ensures ∙ ap (λ bytes. answer_to c.in-Some.form (system_of bytes)) c.deref.ensures.value in
-    told RefusesSource _ c.in-Ok.input.items c.in-Ok.ensures.front (source-ended c.in-Some.form _ c.in-Ok-answer_of.answer _ given c.finish-in-Ok-answer_of.ensures.status ended)
+    told IsSourceRefusal _ c.in-Ok.input.items c.in-Ok.ensures.front (source-ended c.in-Some.form _ c.in-Ok-answer_of.answer _ given c.finish-in-Ok-answer_of.ensures.status ended)
 
 pub returns-in-Ok-answer_of-clause-source_fault_given :
     goal.returns-in-Ok-answer_of-clause-source_fault_given
 returns-in-Ok-answer_of-clause-source_fault_given g c = λ _ whole.
     let given : c.in-Ok-answer_of.answer ≡ answer_to c.in-Some.form (system_of c.in-Ok.input.items) =
     c.in-Ok-answer_of.ensures ∙ ap (λ bytes. answer_to c.in-Some.form (system_of bytes)) c.deref.ensures.value in
-    told (λ system. RefusesSource system → c.finish-in-Ok-answer_of.result ≡ status.SourceFault) _ c.in-Ok.input.items c.in-Ok.ensures.front (ended-source c.in-Some.form _ c.in-Ok-answer_of.answer _ given c.finish-in-Ok-answer_of.ensures.status whole)
+    told (λ system. IsSourceRefusal system → c.finish-in-Ok-answer_of.result ≡ status.SourceFault) _ c.in-Ok.input.items c.in-Ok.ensures.front (ended-source c.in-Some.form _ c.in-Ok-answer_of.answer _ given c.finish-in-Ok-answer_of.ensures.status whole)
 
 pub returns-in-Ok-answer_of-clause-done :
     goal.returns-in-Ok-answer_of-clause-done

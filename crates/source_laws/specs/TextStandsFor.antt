@@ -4,5 +4,5 @@ use Rattle.xs_instructions.specs.Image.{ImageRec}
 use Rattle.source_model.specs.Source.{Image, assembled}
 
 -- the text is a source without faults, and stands for the image
-abbrev pub StandsFor : List ℕ → ImageRec → Type 0
-StandsFor text image = assembled text ≡ Image image
+abbrev pub TextStandsFor : List ℕ → ImageRec → Type 0
+TextStandsFor text image = assembled text ≡ Image image
