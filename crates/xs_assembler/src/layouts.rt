@@ -134,9 +134,9 @@ pub fn section_start(whole: Layout, section: Section) -> u64
     ensures small { result < 2 ^ 63 }
 {
     match section {
-        Section::Text => CODE_START,
-        Section::Data => MEMORY_START,
-        Section::Constants => MEMORY_START + round_up_to_word(whole.data_bytes),
+        Section::Text => u64::from(CODE_START),
+        Section::Data => u64::from(MEMORY_START),
+        Section::Constants => u64::from(MEMORY_START) + round_up_to_word(whole.data_bytes),
     }
 }
 
