@@ -1,4 +1,4 @@
--- What callers see of the sinks in memory and of a source that breaks.
+-- What callers see of the sources and sinks.
 use Rattle.std.specs.Prelude.{ℕ, List}
 
 -- a sink in memory: the bytes written, how many more fit, and how often a write has failed
@@ -11,4 +11,14 @@ pub record Store : Type 0 where
 pub record Breaking : Type 0 where
   pub left : List ℕ
   pub allowed : ℕ
+  pub faults : ℕ
+
+-- a source that counts its reads: the bytes not yet read, and how often it was read
+pub record Counting : Type 0 where
+  pub left : List ℕ
+  pub reads : ℕ
+
+-- a source or a sink over a stream: the reader or the writer as it stands, and how often a read or a write has failed
+pub record Stream (S : Type 0) : Type 0 where
+  pub stream : S
   pub faults : ℕ
