@@ -2,7 +2,8 @@
 use Rattle.std.proofs.Common.{◌≡◌, ℕ, ◌+◌, ◌⊎◌, List, [], length, take, drop, Option, Some, None, IfSome, refl, sym, ap, ◌∙◌, subst, arith, inl, inr}
 use Rattle.std.proofs.lemmas.List.{length-take}
 use Rattle.std.proofs.Math.Seq.{drop-append_seam}
-use Rattle.xs_edge.specs.Edge.{Took, Wrote, WrotePart}
+use Rattle.std.specs.Io.KnownBytes.{Appends, Consumes}
+use Rattle.xs_edge.specs.Edge.{HasRisen, AppendsPart}
 use Rattle.answer_model.specs.declared.Form.{Form}
 use Rattle.answer_model.specs.declared.Answer.{Answer}
 use Rattle.answer_model.specs.declared.Status.{Status}
@@ -30,16 +31,16 @@ some_input : (left : Option (List ℕ)) → (input : List ℕ) × IsInput left i
 some_input None = ([], tt)
 some_input (Some input) = (input, refl)
 
-pub Answers-usage : (words : List (List ℕ)) (left before after : Option (List ℕ)) (text : List ℕ) (ended : Status) → None ≡ form_of_words words → text ≡ usage_answer.text → Ends status.Usage ended → Wrote before after text → IsWhole ended → Answers words left before after ended
+pub Answers-usage : (words : List (List ℕ)) (left before after : Option (List ℕ)) (text : List ℕ) (ended : Status) → None ≡ form_of_words words → text ≡ usage_answer.text → Ends status.Usage ended → Appends before after text → IsWhole ended → Answers words left before after ended
 Answers-usage words left before after text ended e t ends wrote whole =
     let (input, is_input) = some_input left in
     let is = sym (answer-usage words input e) in
-    (input, is_input, subst (Wrote before after) (t ∙ ap (λ a. a.text) is) wrote, whole_end status.Usage ended ends whole ∙ ap (λ a. a.status) is)
+    (input, is_input, subst (Appends before after) (t ∙ ap (λ a. a.text) is) wrote, whole_end status.Usage ended ends whole ∙ ap (λ a. a.status) is)
 
-pub AnswersInPart-usage : (words : List (List ℕ)) (left before after : Option (List ℕ)) (text : List ℕ) → None ≡ form_of_words words → text ≡ usage_answer.text → WrotePart before after text → AnswersInPart words left before after
+pub AnswersInPart-usage : (words : List (List ℕ)) (left before after : Option (List ℕ)) (text : List ℕ) → None ≡ form_of_words words → text ≡ usage_answer.text → AppendsPart before after text → AnswersInPart words left before after
 AnswersInPart-usage words left before after text e t wrote =
     let (input, is_input) = some_input left in
-    (input, is_input, subst (WrotePart before after) (t ∙ ap (λ a. a.text) (sym (answer-usage words input e))) wrote)
+    (input, is_input, subst (AppendsPart before after) (t ∙ ap (λ a. a.text) (sym (answer-usage words input e))) wrote)
 
 -- words of a form
 answer-form : (words : List (List ℕ)) (input bytes : List ℕ) (form : Form) → Some form ≡ form_of_words words → system_of input ≡ system_of bytes → answer words input ≡ answer_to form (system_of bytes)
@@ -53,19 +54,19 @@ known_input (Some input) bytes front = (input, refl, sym (ap system_of front ∙
 
 pub Answers-form : (words : List (List ℕ)) (left before after : Option (List ℕ)) (bytes text : List ℕ) (form : Form) (a : Answer) (ended : Status)
     → Some form ≡ form_of_words words → IfSome left (λ input. bytes ≡ take (longest_input + 1) input) → a ≡ answer_to form (system_of bytes) → text ≡ a.text
-    → Ends a.status ended → Wrote before after text → IsWhole ended → Answers words left before after ended
+    → Ends a.status ended → Appends before after text → IsWhole ended → Answers words left before after ended
 Answers-form words left before after bytes text form a ended e front given t ends wrote whole =
     let (input, is_input, same) = known_input left bytes front in
     let is : a ≡ answer words input = given ∙ sym (answer-form words input bytes form e same) in
-    (input, is_input, subst (Wrote before after) (t ∙ ap (λ a. a.text) is) wrote, whole_end a.status ended ends whole ∙ ap (λ a. a.status) is)
+    (input, is_input, subst (Appends before after) (t ∙ ap (λ a. a.text) is) wrote, whole_end a.status ended ends whole ∙ ap (λ a. a.status) is)
 
 pub AnswersInPart-form : (words : List (List ℕ)) (left before after : Option (List ℕ)) (bytes text : List ℕ) (form : Form) (a : Answer)
     → Some form ≡ form_of_words words → IfSome left (λ input. bytes ≡ take (longest_input + 1) input) → a ≡ answer_to form (system_of bytes) → text ≡ a.text
-    → WrotePart before after text → AnswersInPart words left before after
+    → AppendsPart before after text → AnswersInPart words left before after
 AnswersInPart-form words left before after bytes text form a e front given t wrote =
     let (input, is_input, same) = known_input left bytes front in
     let is : a ≡ answer words input = given ∙ sym (answer-form words input bytes form e same) in
-    (input, is_input, subst (WrotePart before after) (t ∙ ap (λ a. a.text) is) wrote)
+    (input, is_input, subst (AppendsPart before after) (t ∙ ap (λ a. a.text) is) wrote)
 
 -- the statuses of answers
 status-frame : (form : Form) (system : System) → (answer_to form system).status ≡ status.SystemFault → IsFrameRefusal system
@@ -116,13 +117,22 @@ ended-source form system a ended given ends whole h = ended_by form system a end
 pub plan-ended : (form : Form) (system : System) (a : Answer) (ended : Status) → a ≡ answer_to form system → Ends a.status ended → ended ≡ status.Done → RefusesNothing system
 plan-ended form system a ended given ends e = status-plan form system (ended_at form system a ended status.Done given ends tt e)
 
+plan-status : (form : Form) (system : System) → RefusesNothing system → (answer_to form system).status ≡ status.Done
+plan-status form (Plan plan) h = refl
+plan-status form (Frame line kind) h = absurd h
+plan-status form (Source node line kind) h = absurd h
+
+-- nothing is refused, and the text was written
+pub ended-plan : (form : Form) (system : System) (a : Answer) (ended : Status) → a ≡ answer_to form system → Ends a.status ended → ¬ (ended ≡ status.WriteFault) → RefusesNothing system → ended ≡ status.Done
+ended-plan form system a ended given (inl e) written h = e ∙ (ap (λ a. a.status) given ∙ plan-status form system h)
+ended-plan form system a ended given (inr e) written h = absurd (written e)
+
 -- the input is taken
-pub TookInput-form : (words : List (List ℕ)) (left after : Option (List ℕ)) (bytes : List ℕ) (form : Form) → Some form ≡ form_of_words words → IfSome left (λ input. bytes ≡ take (longest_input + 1) input) → Took left after bytes → TookInput words left after
+pub TookInput-form : (words : List (List ℕ)) (left after : Option (List ℕ)) (bytes : List ℕ) (form : Form) → Some form ≡ form_of_words words → IfSome left (λ input. bytes ≡ take (longest_input + 1) input) → Consumes left after bytes → TookInput words left after
 TookInput-form words (Some input) (Some rest) bytes form e front took =
     let count : taken_by (Some form) input ≡ length bytes =
     omega (arith, ap length front, length-take (longest_input + 1) input) in
     let after : drop (length bytes) input ≡ rest = ap (drop (length bytes)) took ∙ drop-append_seam bytes rest in
     sym (ap (λ form. drop (taken_by form input) input) (sym e) ∙ (ap (λ n. drop n input) count ∙ after))
 TookInput-form words (Some input) None bytes form e front took = absurd took
-TookInput-form words None (Some rest) bytes form e front took = absurd took
-TookInput-form words None None bytes form e front took = tt
+TookInput-form words None after bytes form e front took = tt

@@ -1,4 +1,5 @@
 mod Calls
+mod CountedReads
 mod FormOfWords
 mod Pieces
 mod RowsOfReads

@@ -1,23 +1,25 @@
 -- Reads in a row, and one more.
-use Rattle.std.proofs.Common.{ℕ, suc, ◌+◌, ◌<◌, ◌≤◌, Result, Ok, arith, refl, inl, inr}
+use Rattle.std.proofs.Common.{ℕ, suc, ◌+◌, ◌<◌, ◌≤◌, ◌≡◌, Result, Ok, arith, refl, inl, inr}
 use Rattle.xs_edge.specs.declared.Failed.{Failed}
-use Rattle.xs1_top.specs.Reads.{ReadGives, TookReads, ReadsAtMost}
+use Rattle.xs1_top.specs.Reads.{ReadGives, OneRead, TookReads, ReadsAtMost}
 
--- at most so many reads in a row, each of which took at least one byte
-abbrev pub Reading : {S : Type 0} → ReadGives S → ℕ → S → S → Type 0
-Reading gives most from to = (n : ℕ) × (n ≤ most) × TookReads gives n from to
+-- reads in a row, each of which took at least one byte, took so many bytes in all
+abbrev pub Reading : {S : Type 0} → ReadGives S → ℕ → ℕ → S → S → Type 0
+Reading gives most taken from to = (n : ℕ) × (n ≤ taken) × TookReads gives most n taken from to
 
-pub Reading-start : {S : Type 0} (gives : ReadGives S) (from : S) → Reading gives 0 from from
-Reading-start gives from = (0, omega arith, refl)
+pub Reading-start : {S : Type 0} (gives : ReadGives S) (most : ℕ) (from : S) → Reading gives most 0 from from
+Reading-start gives most from = (0, omega arith, (refl, refl))
 
-pub Reading-more : {S : Type 0} (gives : ReadGives S) (most taken : ℕ) (from mid to : S) → Reading gives most from mid → 0 < taken → gives mid (Ok taken) to → Reading gives (most + taken) from to
-Reading-more gives most taken from mid to (n, few, reads) some read =
-    (suc n, omega arith, (mid, reads, taken, some, read))
+pub Reading-more : {S : Type 0} (gives : ReadGives S) (most taken count longer : ℕ) (from mid to : S)
+    → Reading gives most taken from mid → 0 < count → longer ≡ taken + count → OneRead gives most taken mid (Ok count) to → Reading gives most longer from to
+Reading-more gives most taken count longer from mid to (n, few, reads) some e read =
+    (suc n, omega arith, (taken, mid, reads, count, some, e, read))
 
 -- no more reads
-pub ReadsAtMost-end : {S : Type 0} (gives : ReadGives S) (most limit : ℕ) (from to : S) → Reading gives most from to → most < limit → ReadsAtMost gives limit from to
-ReadsAtMost-end gives most limit from to (n, few, reads) h = (n, omega arith, to, reads, inl refl)
+pub ReadsAtMost-end : {S : Type 0} (gives : ReadGives S) (limit most taken : ℕ) (from to : S) → Reading gives most taken from to → taken < limit → ReadsAtMost gives limit most from to
+ReadsAtMost-end gives limit most taken from to (n, few, reads) h = (n, omega arith, taken, to, reads, inl refl)
 
 -- one more read
-pub ReadsAtMost-last : {S : Type 0} (gives : ReadGives S) (most limit : ℕ) (from mid to : S) (answered : Result ℕ Failed) → Reading gives most from mid → most < limit → gives mid answered to → ReadsAtMost gives limit from to
-ReadsAtMost-last gives most limit from mid to answered (n, few, reads) h read = (n, omega arith, mid, reads, inr (answered, read))
+pub ReadsAtMost-last : {S : Type 0} (gives : ReadGives S) (limit most taken : ℕ) (from mid to : S) (answered : Result ℕ Failed)
+    → Reading gives most taken from mid → taken < limit → OneRead gives most taken mid answered to → ReadsAtMost gives limit most from to
+ReadsAtMost-last gives limit most taken from mid to answered (n, few, reads) h read = (n, omega arith, taken, mid, reads, inr (answered, read))

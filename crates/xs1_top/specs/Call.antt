@@ -1,12 +1,13 @@
 -- What the program's one call does to its source and its sink, and the status that it ends with.
-use Rattle.std.specs.Prelude.{ℕ, ◌≡◌, ◌≤◌, Option, Some, None, List, drop}
-use Rattle.xs_edge.specs.Edge.{Wrote, WrotePart}
+use Rattle.std.specs.Prelude.{ℕ, ◌≡◌, ◌≤◌, Option, Some, None, IsSome, IfSome, List, drop}
+use Rattle.std.specs.Io.KnownBytes.{Appends}
+use Rattle.xs_edge.specs.Edge.{HasRisen, AppendsPart}
 use Rattle.answer_model.specs.declared.Form.{Form}
 use Rattle.answer_model.specs.declared.Form.TheVariants.{Run, Check}
 use Rattle.answer_model.specs.declared.Status.{Status}
 use Rattle.answer_model.specs.declared.Status.TheVariants.{Done, Memory, Usage, SystemFault, SourceFault, ScriptFault, ReadFault, WriteFault}
-use Rattle.system_model.specs.System.{System, Plan, Frame, Source}
-use Rattle.answer_model.specs.Top.{answer, taken, most_slots}
+use Rattle.system_model.specs.System.{System, Plan, Frame, Source, system_of}
+use Rattle.answer_model.specs.Top.{answer, form_of_words, taken, most_slots}
 
 -- a run of the form has no more slots than a run may have
 abbrev pub HasFewSlots : Form → Type 0
@@ -54,19 +55,18 @@ IsInput None input = Unit {0}
 -- The text of the answer to the words and the input was added to what was written, and the status is the answer's.
 abbrev pub Answers : List (List ℕ) → Option (List ℕ) → Option (List ℕ) → Option (List ℕ) → Status → Type 0
 Answers words left before after status =
-    (input : List ℕ) × IsInput left input × Wrote before after (answer words input).text × (status ≡ (answer words input).status)
+    (input : List ℕ) × IsInput left input × Appends before after (answer words input).text × (status ≡ (answer words input).status)
 
 -- a front of that text was added, or nothing
 abbrev pub AnswersInPart : List (List ℕ) → Option (List ℕ) → Option (List ℕ) → Option (List ℕ) → Type 0
 AnswersInPart words left before after =
-    (input : List ℕ) × IsInput left input × WrotePart before after (answer words input).text
+    (input : List ℕ) × IsInput left input × AppendsPart before after (answer words input).text
 
 -- the bytes of the input that the words ask for were taken, and no others
 abbrev pub TookInput : List (List ℕ) → Option (List ℕ) → Option (List ℕ) → Type 0
 TookInput words (Some left) (Some after) = after ≡ drop (taken words left) left
-TookInput words None None = Unit {0}
 TookInput words (Some left) None = ⊥
-TookInput words None (Some after) = ⊥
+TookInput words None after = Unit {0}
 
 -- the frame of the system text is refused
 abbrev pub IsFrameRefusal : System → Type 0
@@ -85,3 +85,12 @@ abbrev pub RefusesNothing : System → Type 0
 RefusesNothing (Plan plan) = Unit {0}
 RefusesNothing (Frame line kind) = ⊥
 RefusesNothing (Source node line kind) = ⊥
+
+-- Where the words are of a form and the source tells an input whose system is of this kind, the status is the wanted one.
+abbrev pub EndsWhere : (System → Type 0) → Status → List (List ℕ) → Option (List ℕ) → Status → Type 0
+EndsWhere IsOfKind wanted words left status =
+    IsSome (form_of_words words) → IfSome left (λ input. IsOfKind (system_of input) → status ≡ wanted)
+
+-- no fault was counted
+abbrev pub IsCalm : ℕ → ℕ → Type 0
+IsCalm before after = ¬ HasRisen before after

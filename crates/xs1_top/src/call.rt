@@ -1,9 +1,10 @@
 //! The program's one call.
-ghost use Rattle.std.specs.Prelude.{ℕ, ◌≡◌, ◌≢◌, ◌<◌, ◌+◌, ◌⊎◌, Some, None, IfOk, IfSome, IsSome, map, string_bytes};
-ghost use Rattle.xs_edge.specs.Edge.{HasRisen, Wrote, WrotePart};
+ghost use Rattle.std.specs.Prelude.{ℕ, ◌≡◌, ◌≢◌, ◌<◌, ◌+◌, ◌⊎◌, Some, None, IfOk, IfSome, map, string_bytes};
+ghost use Rattle.std.specs.Io.KnownBytes.{Appends};
+ghost use Rattle.xs_edge.specs.Edge.{HasRisen, AppendsPart};
 ghost use Rattle.system_model.specs.System.{system_of, longest_input};
 ghost use Rattle.answer_model.specs.Top.{answer_to, form_of_words, text_for};
-ghost use Rattle.xs1_top.specs.Call.{IsWhole, IsRead, IsSilent, Answers, AnswersInPart, TookInput, IsFrameRefusal, IsSourceRefusal, RefusesNothing};
+ghost use Rattle.xs1_top.specs.Call.{IsWhole, IsRead, IsSilent, Answers, AnswersInPart, TookInput, IsFrameRefusal, IsSourceRefusal, RefusesNothing, EndsWhere, IsCalm};
 ghost use Rattle.xs1_top.specs.Reads.{ReadsAtMost};
 
 use crate::check::check_text;
@@ -50,7 +51,7 @@ pub fn top<S: Source, K: Sink, G: Gate>(
     ensures part { result ≡ Status.WriteFault → AnswersInPart (map string_bytes words.now) (S.left source.old) (K.written sink.old) (K.written sink.new) }
     ensures silent { IsSilent result → sink.new ≡ sink.old }
     ensures left { IsRead result → TookInput (map string_bytes words.now) (S.left source.old) (S.left source.new) }
-    ensures reads { ReadsAtMost S.read_gives (longest_input + 2) source.old source.new }
+    ensures reads { ReadsAtMost S.read_gives (longest_input + 2) (longest_input + 1) source.old source.new }
 
     // Where reads and writes fail.
     ensures read_fault { result ≡ Status.ReadFault → HasRisen (S.faults source.old) (S.faults source.new) }
@@ -63,10 +64,12 @@ pub fn top<S: Source, K: Sink, G: Gate>(
     ensures usage_given { form_of_words (map string_bytes words.now) ≡ None → (result ≡ Status.Usage) ⊎ (result ≡ Status.WriteFault) }
     ensures usage_reads_nothing { form_of_words (map string_bytes words.now) ≡ None → source.new ≡ source.old }
     ensures system_fault { result ≡ Status.SystemFault → IfSome (S.left source.old) (λ input. IsFrameRefusal (system_of input)) }
-    ensures system_fault_given { IsSome (form_of_words (map string_bytes words.now)) → IsWhole result → IfSome (S.left source.old) (λ input. IsFrameRefusal (system_of input) → result ≡ Status.SystemFault) }
+    ensures system_fault_given { IsWhole result → EndsWhere IsFrameRefusal Status.SystemFault (map string_bytes words.now) (S.left source.old) result }
     ensures source_fault { result ≡ Status.SourceFault → IfSome (S.left source.old) (λ input. IsSourceRefusal (system_of input)) }
-    ensures source_fault_given { IsSome (form_of_words (map string_bytes words.now)) → IsWhole result → IfSome (S.left source.old) (λ input. IsSourceRefusal (system_of input) → result ≡ Status.SourceFault) }
+    ensures source_fault_given { IsWhole result → EndsWhere IsSourceRefusal Status.SourceFault (map string_bytes words.now) (S.left source.old) result }
     ensures done { result ≡ Status.Done → IfSome (S.left source.old) (λ input. RefusesNothing (system_of input)) }
+    ensures done_given { result ≢ Status.Memory → IsCalm (S.faults source.old) (S.faults source.new) → IsCalm (K.faults sink.old) (K.faults sink.new)
+        → EndsWhere RefusesNothing Status.Done (map string_bytes words.now) (S.left source.old) result }
     ensures script_fault { result ≢ Status.ScriptFault }
 {
     let Some(form) = form_of_words(words) else {
@@ -119,9 +122,9 @@ fn text_of(alloc: Global, form: Form, plan: &Plan) -> Result<Text, AllocError>
 fn finish<K: Sink>(sink: &mut K, text: &[u8], status: Status) -> Status
     requires { IsWhole status }
     ensures status { (result ≡ status) ⊎ (result ≡ Status.WriteFault) }
-    ensures whole { IsWhole result → Wrote (K.written sink.old) (K.written sink.new) text.now }
+    ensures whole { IsWhole result → Appends (K.written sink.old) (K.written sink.new) text.now }
     ensures calm { IsWhole result → K.faults sink.new ≡ K.faults sink.old }
-    ensures part { result ≡ Status.WriteFault → WrotePart (K.written sink.old) (K.written sink.new) text.now }
+    ensures part { result ≡ Status.WriteFault → AppendsPart (K.written sink.old) (K.written sink.new) text.now }
     ensures fault { result ≡ Status.WriteFault → HasRisen (K.faults sink.old) (K.faults sink.new) }
 {
     match write_all(sink, text) {

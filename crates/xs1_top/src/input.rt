@@ -1,6 +1,7 @@
 //! Reading the input whole, or as much of it as shows that it is too long.
 ghost use Rattle.std.specs.Prelude.{◌≡◌, ◌<◌, ◌≤◌, ◌+◌, length, take, vec_len, IfOk, OnOk, IfSome, IsErrOf};
-ghost use Rattle.xs_edge.specs.Edge.{HasRisen, Took};
+ghost use Rattle.std.specs.Io.KnownBytes.{Consumes};
+ghost use Rattle.xs_edge.specs.Edge.{HasRisen};
 ghost use Rattle.system_model.specs.System.{longest_input};
 ghost use Rattle.xs1_top.specs.Reads.{ReadsAtMost};
 
@@ -45,16 +46,16 @@ impl From<AllocError> for ReadError {
 }
 
 /// Reads until the input ends, a read fails, or 4,194,305 bytes are taken, which is one more than an input may
-/// have. No more than that is ever taken. `ReadError::Failed` comes only where the source's count of faults has
+/// have. No more than that is ever taken, and no read is made after it. No read has an empty buffer. `ReadError::Failed` comes only where the source's count of faults has
 /// risen, and `ReadError::Memory` where memory was wanting; the bytes taken till then are lost.
 pub fn read_all<S: Source>(alloc: Global, source: &mut S) -> Result<Vec<u8>, ReadError>
-    ensures taken { IfOk result (λ bytes. Took (S.left source.old) (S.left source.new) bytes.items) }
+    ensures taken { IfOk result (λ bytes. Consumes (S.left source.old) (S.left source.new) bytes.items) }
     ensures front { IfOk result (λ bytes. IfSome (S.left source.old) (λ left. bytes.items ≡ take (longest_input + 1) left)) }
     ensures within { IfOk result (λ bytes. vec_len bytes ≤ longest_input + 1) }
     ensures calm { OnOk result (S.faults source.new ≡ S.faults source.old) }
     ensures failed { IsErrOf result ReadError.Failed → HasRisen (S.faults source.old) (S.faults source.new) }
     ensures memory { IsErrOf result ReadError.Memory → S.faults source.new ≡ S.faults source.old }
-    ensures reads { ReadsAtMost S.read_gives (longest_input + 2) source.old source.new }
+    ensures reads { ReadsAtMost S.read_gives (longest_input + 2) (longest_input + 1) source.old source.new }
 {
     let mut buffer = make_buffer(alloc)?;
     read_through(alloc, source, &mut buffer)
@@ -73,13 +74,13 @@ fn read_through<S: Source>(
     buffer: &mut [u8],
 ) -> Result<Vec<u8>, ReadError>
     requires { 0 < length buffer.old }
-    ensures taken { IfOk result (λ bytes. Took (S.left source.old) (S.left source.new) bytes.items) }
+    ensures taken { IfOk result (λ bytes. Consumes (S.left source.old) (S.left source.new) bytes.items) }
     ensures front { IfOk result (λ bytes. IfSome (S.left source.old) (λ left. bytes.items ≡ take (longest_input + 1) left)) }
     ensures within { IfOk result (λ bytes. vec_len bytes ≤ longest_input + 1) }
     ensures calm { OnOk result (S.faults source.new ≡ S.faults source.old) }
     ensures failed { IsErrOf result ReadError.Failed → HasRisen (S.faults source.old) (S.faults source.new) }
     ensures memory { IsErrOf result ReadError.Memory → S.faults source.new ≡ S.faults source.old }
-    ensures reads { ReadsAtMost S.read_gives (longest_input + 2) source.old source.new }
+    ensures reads { ReadsAtMost S.read_gives (longest_input + 2) (longest_input + 1) source.old source.new }
 {
     let mut bytes = Vec::new(alloc);
     while bytes.len() < MOST_TAKEN {

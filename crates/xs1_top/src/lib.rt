@@ -4,6 +4,7 @@
 
 mod call;
 mod check;
+mod counted;
 mod input;
 mod output;
 mod refusals;
@@ -13,3 +14,4 @@ mod words;
 
 pub use answer_model::Status;
 pub use call::top;
+pub use counted::top_counted;

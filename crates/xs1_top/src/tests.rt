@@ -1,11 +1,13 @@
 //! One call that succeeds, and what the cases of case_runs cannot try: faults of the source and of the sink, and the
 //! longest input.
 
-use crate::top;
+use crate::{top, top_counted};
 use answer_model::Status;
 use std::alloc::{AllocError, Global};
 use std::test::Fail;
-use xs_edge::{FailingSink, FailingSource, ListSink, ListSource, OpenGate, Sink, Source};
+use xs_edge::{
+    CountingSource, FailingSink, FailingSource, ListSink, ListSource, OpenGate, Sink, Source,
+};
 
 const SUM: &[u8] =
     b"xs1 1\nnode 0 id 0\nsource 0\nmain: ldc r0, 5\n  ldc r1, 7\n  add r2, r0, r1 // 12\n  stw r2, dp[0]\n  freet\nend\n";
@@ -22,11 +24,16 @@ fn call<S: Source, K: Sink>(
     source: &mut S,
     sink: &mut K,
 ) -> Result<Status, AllocError> {
+    let words = owned(alloc, words)?;
+    Ok(top(alloc, &words, source, sink, &OpenGate))
+}
+
+fn owned(alloc: Global, words: &[&str]) -> Result<Vec<String>, AllocError> {
     let mut owned = Vec::new(alloc);
     for word in words {
         owned.push(String::from_str(alloc, word)?)?;
     }
-    Ok(top(alloc, &owned, source, sink, &OpenGate))
+    Ok(owned)
 }
 
 #[test]
@@ -97,5 +104,36 @@ fn takes_the_longest_input_and_no_longer(rt: HostRuntime) -> Result<(), Fail> {
         assert_eq!(rt; ended, status);
         assert_eq!(rt; sink.bytes(), text);
     }
+    Ok(())
+}
+
+// The input is one byte longer than what is taken of it.
+#[test]
+fn fails_where_a_read_fails_before_the_last_byte_that_is_taken(
+    rt: HostRuntime,
+) -> Result<(), Fail> {
+    for (after, status) in [
+        (LONGEST + 1, Status::SystemFault),
+        (LONGEST, Status::ReadFault),
+    ] {
+        let mut source = FailingSource::new(
+            padded(rt.alloc(), LONGEST + 2 - EMPTY.len(), 0)?,
+            after,
+        );
+        let mut sink = ListSink::with_room(rt.alloc(), 256)?;
+        let ended = call(rt.alloc(), &["run", "0"], &mut source, &mut sink)?;
+        assert_eq!(rt; ended, status);
+    }
+    Ok(())
+}
+
+#[test]
+fn reads_a_short_input_and_its_end(rt: HostRuntime) -> Result<(), Fail> {
+    let mut source = CountingSource::new(SUM.to_vec(rt.alloc())?);
+    let mut sink = ListSink::with_room(rt.alloc(), 256)?;
+    let words = owned(rt.alloc(), &["run", "20"])?;
+    let ended = top_counted(rt.alloc(), &words, &mut source, &mut sink, &OpenGate);
+    assert_eq!(rt; ended, Status::Done);
+    assert_eq!(rt; source.reads(), 2);
     Ok(())
 }

@@ -4,7 +4,7 @@ use Rattle.answer_model.specs.Top.{answer_to}
 use Rattle.answer_model.specs.declared.Status.TheVariants as status
 use Rattle.xs1_top.specs.Call.{IsFrameRefusal, IsSourceRefusal, RefusesNothing}
 use Rattle.xs1_top.proofs.Systems.{told}
-use Rattle.xs1_top.proofs.Calls.{Answers-usage, AnswersInPart-usage, Answers-form, AnswersInPart-form, TookInput-form, frame-ended, ended-frame, source-ended, ended-source, plan-ended}
+use Rattle.xs1_top.proofs.Calls.{Answers-usage, AnswersInPart-usage, Answers-form, AnswersInPart-form, TookInput-form, frame-ended, ended-frame, source-ended, ended-source, plan-ended, ended-plan}
 use Rattle.xs1_top.proofs.call.top.Goals as goal
 
 pub returns-in_default-clause-answered : goal.returns-in_default-clause-answered
@@ -43,7 +43,7 @@ returns-in-Ok-answer_of-clause-system_fault g c = λ ended.
 
 pub returns-in-Ok-answer_of-clause-system_fault_given :
     goal.returns-in-Ok-answer_of-clause-system_fault_given
-returns-in-Ok-answer_of-clause-system_fault_given g c = λ _ whole.
+returns-in-Ok-answer_of-clause-system_fault_given g c = λ whole _.
     let given : c.in-Ok-answer_of.answer ≡ answer_to c.in-Some.form (system_of c.in-Ok.input.items) =
     c.in-Ok-answer_of.ensures ∙ ap (λ bytes. answer_to c.in-Some.form (system_of bytes)) c.deref.ensures.value in
     told (λ system. IsFrameRefusal system → c.finish-in-Ok-answer_of.result ≡ status.SystemFault) _ c.in-Ok.input.items c.in-Ok.ensures.front (ended-frame c.in-Some.form _ c.in-Ok-answer_of.answer _ given c.finish-in-Ok-answer_of.ensures.status whole)
@@ -57,7 +57,7 @@ returns-in-Ok-answer_of-clause-source_fault g c = λ ended.
 
 pub returns-in-Ok-answer_of-clause-source_fault_given :
     goal.returns-in-Ok-answer_of-clause-source_fault_given
-returns-in-Ok-answer_of-clause-source_fault_given g c = λ _ whole.
+returns-in-Ok-answer_of-clause-source_fault_given g c = λ whole _.
     let given : c.in-Ok-answer_of.answer ≡ answer_to c.in-Some.form (system_of c.in-Ok.input.items) =
     c.in-Ok-answer_of.ensures ∙ ap (λ bytes. answer_to c.in-Some.form (system_of bytes)) c.deref.ensures.value in
     told (λ system. IsSourceRefusal system → c.finish-in-Ok-answer_of.result ≡ status.SourceFault) _ c.in-Ok.input.items c.in-Ok.ensures.front (ended-source c.in-Some.form _ c.in-Ok-answer_of.answer _ given c.finish-in-Ok-answer_of.ensures.status whole)
@@ -68,3 +68,10 @@ returns-in-Ok-answer_of-clause-done g c = λ ended.
     let given : c.in-Ok-answer_of.answer ≡ answer_to c.in-Some.form (system_of c.in-Ok.input.items) =
     c.in-Ok-answer_of.ensures ∙ ap (λ bytes. answer_to c.in-Some.form (system_of bytes)) c.deref.ensures.value in
     told RefusesNothing _ c.in-Ok.input.items c.in-Ok.ensures.front (plan-ended c.in-Some.form _ c.in-Ok-answer_of.answer _ given c.finish-in-Ok-answer_of.ensures.status ended)
+
+pub returns-in-Ok-answer_of-clause-done_given :
+    goal.returns-in-Ok-answer_of-clause-done_given
+returns-in-Ok-answer_of-clause-done_given g c = λ _ _ calm _.
+    let given : c.in-Ok-answer_of.answer ≡ answer_to c.in-Some.form (system_of c.in-Ok.input.items) =
+    c.in-Ok-answer_of.ensures ∙ ap (λ bytes. answer_to c.in-Some.form (system_of bytes)) c.deref.ensures.value in
+    told (λ system. RefusesNothing system → c.finish-in-Ok-answer_of.result ≡ status.Done) _ c.in-Ok.input.items c.in-Ok.ensures.front (ended-plan c.in-Some.form _ c.in-Ok-answer_of.answer _ given c.finish-in-Ok-answer_of.ensures.status (λ failed. calm (c.finish-in-Ok-answer_of.ensures.fault failed)))

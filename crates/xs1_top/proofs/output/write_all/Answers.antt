@@ -1,12 +1,16 @@
 use Rattle.std.proofs.Common.{take, drop, arith, ◌∙◌}
 use Rattle.std.proofs.lemmas.List.{take_rest}
-use Rattle.xs_edge.specs.Edge.{Wrote}
-use Rattle.xs1_top.proofs.Pieces.{Wrote-more}
+use Rattle.std.specs.Io.KnownBytes.{Appends}
+use Rattle.xs1_top.proofs.Pieces.{Appends-more, AppendsPart-kept, OnErr-held}
 use Rattle.xs1_top.proofs.output.write_all.Goals as goal
 
 pub loop-done-preserved : goal.loop-done-preserved
 loop-done-preserved g c =
     let text = c.args.text.now in
-    let piece : Wrote (g.K.Sink.written c.loop-done.sink) (g.K.Sink.written c.put.new.self) (take c.in_ok-done.field-0 (drop c.loop-done.done text)) =
+    let piece : Appends (g.K.Sink.written c.loop-done.sink) (g.K.Sink.written c.put.new.self) (take c.in_ok-done.field-0 (drop c.loop-done.done text)) =
     rw take_rest at c.in_ok-done.ensures.bytes in
-    (omega (arith, c.in_ok-done.ensures.fits), Wrote-more _ _ _ text c.loop-done.done c.in_ok-done.field-0 c.loop-done.invariant.1 piece, c.in_ok-done.ensures.calm ∙ c.loop-done.invariant.2)
+    (omega (arith, c.in_ok-done.ensures.fits), Appends-more _ _ _ text c.loop-done.done c.in_ok-done.field-0 c.loop-done.invariant.1 piece, c.in_ok-done.ensures.calm ∙ c.loop-done.invariant.2)
+
+pub returns-in_err-done-clause-part : goal.returns-in_err-done-clause-part
+returns-in_err-done-clause-part g c =
+    OnErr-held _ (AppendsPart-kept _ _ _ c.args.text.now c.loop-done.done c.loop-done.invariant.1 c.in_err-done.ensures.failed_written)

@@ -1,11 +1,11 @@
 use Rattle.std.proofs.Common.{length, take, ◌-◌, ◌≡◌, ◌≤◌}
-use Rattle.xs_edge.specs.Edge.{Wrote}
+use Rattle.std.specs.Io.KnownBytes.{Appends}
 use Rattle.xs1_top.proofs.output.write_all.Given as goal
 
 abbrev pub invariant-loop-done : goal.invariant-loop-done
 invariant-loop-done g l =
     (l.done ≤ length l.text)
-    × Wrote (g.K.Sink.written l.fn.sink) (g.K.Sink.written l.sink) (take l.done l.text)
+    × Appends (g.K.Sink.written l.fn.sink) (g.K.Sink.written l.sink) (take l.done l.text)
     × (g.K.Sink.faults l.sink ≡ g.K.Sink.faults l.fn.sink)
 
 abbrev pub decreases-loop-done : goal.decreases-loop-done

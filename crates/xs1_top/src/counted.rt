@@ -1,0 +1,21 @@
+//! How often the program's call reads, at a source that counts it.
+ghost use Rattle.std.specs.Prelude.{◌+◌, ◌≤◌};
+ghost use Rattle.system_model.specs.System.{longest_input};
+
+use crate::top;
+use answer_model::Status;
+use std::alloc::Global;
+use xs_edge::{CountingSource, Gate, Sink};
+
+/// The program's call over a source that counts its reads: it is read at most 4,194,306 times.
+pub fn top_counted<K: Sink, G: Gate>(
+    alloc: Global,
+    words: &[String],
+    source: &mut CountingSource,
+    sink: &mut K,
+    gate: &G,
+) -> Status
+    ensures { source.new.reads ≤ source.old.reads + (longest_input + 2) }
+{
+    top(alloc, words, source, sink, gate)
+}
