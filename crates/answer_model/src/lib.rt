@@ -3,7 +3,7 @@
 #![tactic(auto)]
 
 ghost use Rattle.std.specs.Prelude.{◌≡◌};
-ghost use Rattle.answer_model.specs.StatusNumber.{number_of_status};
+ghost use Rattle.answer_model.specs.StatusNumber.{number_of_status, WorkedStatuses};
 ghost use Rattle.answer_model.specs.Worked.{WorkedAnswers, WorkedChecks};
 ghost use Rattle.answer_model.specs.WorkedEdges.{WorkedFrames, WorkedSources, WorkedRuns};
 ghost use Rattle.answer_model.specs.WorkedPairs.{WorkedPairs};
@@ -84,4 +84,9 @@ pub fn worked_runs()
 /// The same at runs of two nodes.
 pub fn worked_pairs()
     ensures { WorkedPairs }
+{}
+
+/// The numbers of all statuses.
+pub fn worked_statuses()
+    ensures { WorkedStatuses }
 {}
