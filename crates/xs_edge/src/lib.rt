@@ -6,7 +6,7 @@
 ghost use Rattle.std.specs.Prelude.{◌≡◌, ◌<◌, ◌≤◌, ◌↔◌, ◌+◌, ◌-◌, ◌^◌, ℕ, min, List, [], Option, Result, length, take, IfOk, OnOk, OnErr, IfSome};
 ghost use Rattle.std.specs.Io.KnownBytes.{Keeps, Consumes, Appends};
 ghost use Rattle.xs_edge.specs.declared.Failed.{Failed};
-ghost use Rattle.xs_edge.specs.Edge.{HasRisen};
+ghost use Rattle.xs_edge.specs.Edge.{HasRisen, AppendsPart};
 
 mod counting;
 mod failing;
@@ -73,14 +73,14 @@ pub trait Sink {
     /// Writes a front of `piece`, and tells how many bytes of it: 1 to `piece.len()`, or 0 where `piece`
     /// is empty.
     ///
-    /// `Failed` comes only where the count of faults has risen by one. Nothing was written then. A sink that would
-    /// take no byte of a piece that isn't empty fails.
+    /// `Failed` comes only where the count of faults has risen by one. Some front of `piece`, or nothing, was
+    /// written then. A sink that would take no byte of a piece that isn't empty fails.
     fn put(&mut self, piece: &[u8]) -> Result<usize, Failed>
         ensures gives { put_gives self.old piece.now result self.new }
 
         // The failure.
         ensures failed { OnErr result (HasRisen (faults self.old) (faults self.new)) }
-        ensures failed_written { OnErr result (Keeps (written self.old) (written self.new)) }
+        ensures failed_part { OnErr result (AppendsPart (written self.old) (written self.new) piece.now) }
 
         // The answer.
         ensures calm { OnOk result (faults self.new ≡ faults self.old) }

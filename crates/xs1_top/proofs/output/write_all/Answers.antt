@@ -1,7 +1,8 @@
 use Rattle.std.proofs.Common.{take, drop, arith, ◌∙◌}
 use Rattle.std.proofs.lemmas.List.{take_rest}
 use Rattle.std.specs.Io.KnownBytes.{Appends}
-use Rattle.xs1_top.proofs.Pieces.{Appends-more, AppendsPart-kept, OnErr-held}
+use Rattle.xs_edge.specs.Edge.{AppendsPart}
+use Rattle.xs1_top.proofs.Pieces.{Appends-more, AppendsPart-more, OnErr-held}
 use Rattle.xs1_top.proofs.output.write_all.Goals as goal
 
 pub loop-done-preserved : goal.loop-done-preserved
@@ -13,4 +14,7 @@ loop-done-preserved g c =
 
 pub returns-in_err-done-clause-part : goal.returns-in_err-done-clause-part
 returns-in_err-done-clause-part g c =
-    OnErr-held _ (AppendsPart-kept _ _ _ c.args.text.now c.loop-done.done c.loop-done.invariant.1 c.in_err-done.ensures.failed_written)
+    let text = c.args.text.now in
+    let part : AppendsPart (g.K.Sink.written c.loop-done.sink) (g.K.Sink.written c.put.new.self) (drop c.loop-done.done text) =
+    rw take_rest at c.in_err-done.ensures.failed_part in
+    OnErr-held _ (AppendsPart-more _ _ _ text c.loop-done.done c.loop-done.invariant.1 part)
