@@ -138,11 +138,11 @@ is_bit_twice given (Form (Bit bit)) =
     list_any (λ (other : BitLine). (other.node == bit.node) && (other.bit == bit.bit)) given.bits
 is_bit_twice given _ = false
 
--- the tests of a line by what it says, in the order in which they refuse
-abbrev pub tests : Given → List ℕ → FrameSays → List (SysKind × Bool)
-tests given l said =
+-- the tests of a line by whether its bytes are allowed and by what it says, in the order in which they refuse
+abbrev pub tests : Given → Bool → FrameSays → List (SysKind × Bool)
+tests given allowed said =
     (FirstLine, is_other_first_line said)
-    ∷ (BadLine, (is_of_the_frame said && not (all_allowed l)) || has_no_form given said)
+    ∷ (BadLine, (is_of_the_frame said && not allowed) || has_no_form given said)
     ∷ (NumberOutOfRange, has_frame_number_out_of_range said)
     ∷ (NoSuchNode, names_none given said)
     ∷ (GivenTwice, is_given_twice given said)
@@ -159,7 +159,7 @@ first_that_holds (test ∷ others) = if test.1 then Some test.0 else first_that_
 
 -- the fault of a line, if it has one, after what is given
 abbrev pub fault_of : Given → List ℕ → Option SysKind
-fault_of given l = first_that_holds (tests given l (says given l))
+fault_of given l = first_that_holds (tests given (all_allowed l) (says given l))
 
 -- What a line gives
 

@@ -2,7 +2,6 @@
 use Rattle.std.specs.Prelude.{ℕ, ◌&&◌, ◌==◌, nat_lt, if◌then◌else◌, Result, Ok, Err, List, [], ◌∷◌, map, filter, length}
 use Rattle.std.specs.List.{list_any}
 use Rattle.xs_text.specs.Lines.{lines_of}
-use Rattle.xs_instructions.specs.Image.{ImageRec}
 use Rattle.source_model.specs.Source.{Assembled, Image, Fault, assembled_lines}
 use Rattle.source_model.specs.declared.AsmKind.{AsmKind}
 use Rattle.sys_plan.specs.Plan.{PlanRec}

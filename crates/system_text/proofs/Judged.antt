@@ -1,5 +1,5 @@
 -- What is found of a line of the frame.
-use Rattle.std.proofs.Common.{◌≡◌, ℕ, suc, ◌+◌, ◌≤◌, Bool, true, false, ◌&&◌, ◌||◌, not, List, [], ◌∷◌, length, map, drop, Option, Some, None, Ok, Err, refl, sym, ap, ◌∙◌, nat_lt, cond, length-drop, arith}
+use Rattle.std.proofs.Common.{◌≡◌, ℕ, suc, ◌+◌, ◌≤◌, Bool, true, false, not, List, [], ◌∷◌, length, map, drop, Option, Some, None, Ok, Err, refl, sym, ap, ◌∙◌, nat_lt, cond, length-drop, arith}
 use Rattle.std.specs.Prelude.{insert, if◌then◌else◌, ◌==◌}
 use Rattle.std.specs.List.{list_any, prefix_len}
 use Rattle.std.proofs.lemmas.Bool.Decides.{nat_tests}
@@ -7,12 +7,12 @@ use Rattle.xs_text.specs.Bytes.{all_allowed}
 use Rattle.xs_text.specs.Lines.{lines_of}
 use Rattle.xs_text.specs.Words.{words_of_line}
 use Rattle.system_model.specs.declared.SysKind.{SysKind}
-use Rattle.system_model.specs.declared.SysKind.TheVariants.{FirstLine, BadLine, GivenTwice, IdTwice, LinkEndTwice, LinkToItself, NumberOutOfRange, BitTwice, NoSuchNode}
+use Rattle.system_model.specs.declared.SysKind.TheVariants.{FirstLine, BadLine, NumberOutOfRange}
 use Rattle.system_model.specs.declared.frame_line.FrameLine.{FrameLine}
 use Rattle.system_model.specs.declared.frame_line.FrameLine.TheVariants.{Node, Link, Bit, Source}
 use Rattle.system_model.specs.declared.frame_line.GivenNode.{GivenNode}
 use Rattle.system_model.specs.FrameLines.{is_header, frame_line, are_numbers_in_range}
-use Rattle.system_model.specs.Frame.{SourceText, Given, FrameSays, Blank, Header, NoHeader, Form, says_in_frame, says_by, says_form, says, is_empty, is_other_first_line, is_of_the_frame, has_no_form, has_frame_number_out_of_range, names_none, is_given_twice, is_id_twice, is_link_to_itself, is_link_end_twice, is_bit_twice, fault_of, first_that_holds, put_by_number}
+use Rattle.system_model.specs.Frame.{SourceText, Given, FrameSays, Blank, Header, NoHeader, Form, says_in_frame, says_by, says_form, says, is_empty, fault_of, first_that_holds, tests, put_by_number}
 use Rattle.system_model.specs.System.{source_of}
 use Rattle.system_text.specs.Forms.{when, in_range, in_room, formed}
 use Rattle.system_text.specs.Judged.{later_fault}
@@ -41,18 +41,7 @@ node_added given now node nodes place e p h =
 -- The fault of a line by whether its bytes are allowed, and by what it says
 
 abbrev pub fault_by : Given → Bool → FrameSays → Option SysKind
-fault_by given allowed said = first_that_holds (
-    (FirstLine, is_other_first_line said)
-    ∷ (BadLine, (is_of_the_frame said && not allowed) || has_no_form given said)
-    ∷ (NumberOutOfRange, has_frame_number_out_of_range said)
-    ∷ (NoSuchNode, names_none given said)
-    ∷ (GivenTwice, is_given_twice given said)
-    ∷ (IdTwice, is_id_twice given said)
-    ∷ (LinkToItself, is_link_to_itself said)
-    ∷ (LinkEndTwice, is_link_end_twice given said)
-    ∷ (BitTwice, is_bit_twice given said)
-    ∷ []
-    )
+fault_by given allowed said = first_that_holds (tests given allowed said)
 
 pub fault_is : (given : Given) (l : List ℕ) (allowed : Bool) (said : FrameSays) → all_allowed l ≡ allowed → says given l ≡ said → fault_of given l ≡ fault_by given allowed said
 fault_is given l allowed said a s = ap (λ b. fault_by given b (says given l)) a ∙ ap (λ x. fault_by given allowed x) s

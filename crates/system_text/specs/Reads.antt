@@ -1,9 +1,10 @@
 -- What the reader returns: what a text stands for, unless memory was wanting.
-use Rattle.std.specs.Prelude.{ℕ, ◌≡◌, Result, Ok, Err}
+use Rattle.std.specs.Prelude.{ℕ, ◌≡◌, ◌+◌, Result, Ok, Err}
+use Rattle.xs_text.specs.Lines.{Reading, lines_of, bytes_left}
 use Rattle.source_model.specs.declared.AsmKind.{AsmKind}
 use Rattle.sys_plan.specs.Plan.{PlanRec}
 use Rattle.system_model.specs.declared.SysKind.{SysKind}
-use Rattle.system_model.specs.Frame.{Given, Framed, Whole, Refused}
+use Rattle.system_model.specs.Frame.{Given, Framed, Whole, Refused, frame_from}
 use Rattle.system_model.specs.System.{System}
 use Rattle.system_model.specs.System as stands
 use Rattle.system_text.specs.declared.system_error.SystemError.{SystemError}
@@ -41,6 +42,10 @@ ReadsFrame framed (Ok given) = framed ≡ Whole given
 ReadsFrame framed (Err (Frame line kind)) = framed ≡ Refused line kind
 ReadsFrame framed (Err (Source node line kind)) = ⊥
 ReadsFrame framed (Err Memory) = Unit {0}
+
+-- the frame of the lines that are still to be read, after what is given
+abbrev pub frame_of_rest : Reading → Given → Framed
+frame_of_rest lines given = frame_from (lines.number + 1) given (lines_of (bytes_left lines))
 
 -- the frame that a line begins is that of the lines after it, or the line refuses it
 abbrev pub ReadsLine : Framed → Framed → Result (Unit {0}) SystemError → Type 0

@@ -3,7 +3,7 @@ ghost use Rattle.xs_text.specs.Lines.{lines_of, bytes_left, line_bytes};
 ghost use Rattle.system_model.specs.Frame.{framed, frame_from, nothing_given, have_no_words, at_the_end, given_with};
 ghost use Rattle.system_text.specs.Judged.{said_by};
 ghost use Rattle.system_text.specs.Ranges.{IsShortSource};
-ghost use Rattle.system_text.specs.Reads.{ReadsFrame, ReadsLine};
+ghost use Rattle.system_text.specs.Reads.{ReadsFrame, ReadsLine, frame_of_rest};
 ghost use Rattle.system_text.specs.Sections.{with_reading};
 
 use crate::frame::{Frame, Said, Source};
@@ -68,7 +68,7 @@ fn read_line<'a>(
     requires ordered { line.from ≤ line.to }
     requires in_text { line.to ≤ length text.now }
     requires numbered { lines.old.number ≡ line.number }
-    ensures read { ReadsLine (frame_from line.number frame.old (line_bytes text.now line ∷ lines_of (bytes_left lines.old))) (frame_from (lines.new.number + 1) frame.new (lines_of (bytes_left lines.new))) result }
+    ensures read { ReadsLine (frame_from line.number frame.old (line_bytes text.now line ∷ lines_of (bytes_left lines.old))) (frame_of_rest lines.new frame.new) result }
     ensures same_text { lines.new.text ≡ lines.old.text }
     ensures onward { lines.old.at ≤ lines.new.at }
 {
@@ -88,7 +88,7 @@ fn read_said<'a>(
 ) -> Result<(), SystemError>
     requires same_text { lines.old.text ≡ text.now }
     requires short { IsShortSource text.now }
-    ensures read { ReadsLine (frame_from (lines.old.number + 1) (given_with number [] (said_by said) frame.old) (lines_of (bytes_left lines.old))) (frame_from (lines.new.number + 1) frame.new (lines_of (bytes_left lines.new))) result }
+    ensures read { ReadsLine (frame_of_rest lines.old (given_with number [] (said_by said) frame.old)) (frame_of_rest lines.new frame.new) result }
     ensures same_text { lines.new.text ≡ lines.old.text }
     ensures onward { lines.old.at ≤ lines.new.at }
 {
@@ -111,7 +111,7 @@ fn read_source<'a>(
 ) -> Result<(), SystemError>
     requires same_text { lines.old.text ≡ text.now }
     requires short { IsShortSource text.now }
-    ensures read { ReadsLine (frame_from (lines.old.number + 1) (with_reading number first frame.old) (lines_of (bytes_left lines.old))) (frame_from (lines.new.number + 1) frame.new (lines_of (bytes_left lines.new))) result }
+    ensures read { ReadsLine (frame_of_rest lines.old (with_reading number first frame.old)) (frame_of_rest lines.new frame.new) result }
     ensures same_text { lines.new.text ≡ lines.old.text }
     ensures onward { lines.old.at ≤ lines.new.at }
 {
