@@ -1,7 +1,7 @@
-//! Gives each case of data/cases.jsonl to the program's call, and says which of them it answers otherwise than the case
+//! Gives each case of the files in data/ to the program's call, and says which of them it answers otherwise than the case
 //! says and how many it answers so. The texts that the cases expect were written by hand, from docs/ASSEMBLY.md,
-//! docs/SYSTEM_TEXT.md and docs/OUTPUT.md. Sources and systems that reach the limits of a memory or of the whole input
-//! are too long for that file: the tests of xs_assembler and of xs1_top try those.
+//! docs/SYSTEM_TEXT.md, docs/INSTRUCTIONS.md and docs/OUTPUT.md. Sources and systems that reach the limits of a memory or
+//! of the whole input are too long for a file: the tests of xs_assembler and of xs1_top try those.
 #![tactic(auto)]
 
 mod case;
@@ -16,19 +16,52 @@ use xs1_top::top;
 const LONGEST_TEXT: usize = 65_536;
 
 fn main(rt: HostRuntime) -> Result<()> {
-    let mut count = 0u32;
-    let mut agreed = 0u32;
-    for line in fs::read_to_string(&rt, "cases.jsonl")?.lines() {
-        let case = Case::read(rt.alloc(), line).context("a line of cases.jsonl is no case")?;
-        count = count.saturating_add(1);
-        if agrees(&rt, &case)? {
-            agreed = agreed.saturating_add(1);
-        } else {
-            println!(rt; "{} differs: {}", case.name, case.why)?;
+    let mut tried = Tried {
+        cases: 0,
+        agreed: 0,
+    };
+    for file in files_of_cases(&rt)? {
+        tried.try_file(&rt, &file)?;
+    }
+    println!(rt; "{} of {} cases agree", tried.agreed, tried.cases)?;
+    Ok(())
+}
+
+// The files that end in .jsonl, in the order of their names.
+fn files_of_cases(rt: &HostRuntime) -> Result<Vec<String>> {
+    let mut files = Vec::new(rt.alloc());
+    for entry in fs::read_dir(rt, ".")? {
+        let entry = entry?;
+        let name = entry.file_name();
+        if name.ends_with(".jsonl") {
+            files.push(name.to_string(rt.alloc())?)?;
         }
     }
-    println!(rt; "{agreed} of {count} cases agree")?;
-    Ok(())
+    files.sort()?;
+    Ok(files)
+}
+
+// How many cases were tried so far, and how many of them were answered as they say.
+#[derive(Drop)]
+struct Tried {
+    cases: u32,
+    agreed: u32,
+}
+
+impl Tried {
+    // Tries the cases of a file, one a line, and tells those that were answered otherwise.
+    fn try_file(&mut self, rt: &HostRuntime, file: &str) -> Result<()> {
+        for line in fs::read_to_string(rt, file)?.lines() {
+            let case = Case::read(rt.alloc(), line).context("a line of the cases is no case")?;
+            self.cases = self.cases.saturating_add(1);
+            if agrees(rt, &case)? {
+                self.agreed = self.agreed.saturating_add(1);
+            } else {
+                println!(rt; "{} differs: {}", case.name, case.why)?;
+            }
+        }
+        Ok(())
+    }
 }
 
 // Whether the program, given the words and the input of the case, ends with its status and writes its text.
