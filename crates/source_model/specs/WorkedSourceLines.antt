@@ -1,14 +1,21 @@
 -- What sources stand for, worked out by hand.
-use Rattle.std.specs.Prelude.{ℕ, ◌≡◌, Option, Some, None, List, [], ◌∷◌, ◌++◌, codes, replicate, flat_map}
+use Rattle.std.specs.Prelude.{ℕ, ◌≡◌, true, false, Option, Some, None, List, [], ◌∷◌, ◌++◌, map, take, codes, replicate, flat_map}
+use Rattle.xs_text.specs.Lines.{lines_of}
+use Rattle.xs_text.specs.Tokens.{tokens_of}
 use Rattle.xs_instructions.specs.Image.{ImageRec, Symbol}
 use Rattle.xs_instructions.specs.declared.instr.Instr.{Instr}
 use Rattle.xs_instructions.specs.declared.instr.Instr.TheVariants.{Words, Memory, Flow, Resources}
 use Rattle.xs_instructions.specs.declared.instr.WordIns.TheVariants.{Ldc, Nop}
-use Rattle.xs_instructions.specs.declared.instr.MemIns.TheVariants.{LdwDp, StwDp}
+use Rattle.xs_instructions.specs.declared.instr.MemIns.TheVariants.{LdwDp, LdwCp, StwDp}
 use Rattle.xs_instructions.specs.declared.instr.FlowIns.TheVariants.{Bu, Bt}
 use Rattle.xs_instructions.specs.declared.instr.ResIns.TheVariants.{OutctImm}
+use Rattle.xs_instructions.specs.declared.rows.Row.TheVariants as row
 use Rattle.source_model.specs.declared.AsmKind.TheVariants.{BadByte, UnknownName, WrongOperands, NumberOutOfRange, LabelTwice, LabelMissing, DirectiveNotAllowed, TooManyInstructions, TooManyBytes}
-use Rattle.source_model.specs.Source.{Assembled, Image, Fault, assembled}
+use Rattle.source_model.specs.declared.layout.Section.TheVariants.{Data, Constants}
+use Rattle.source_model.specs.Operands.{Amount, Known, Offset, operands_of, amounts_of}
+use Rattle.source_model.specs.Statement.{line_of}
+use Rattle.source_model.specs.Layout.{Sofar, whole_of}
+use Rattle.source_model.specs.Source.{Assembled, Image, Fault, assembled, is_missing, instruction_in}
 
 abbrev pub of_source : {A : Type 0} → (ImageRec → A) → Assembled → Option A
 of_source part (Image image) = Some (part image)
@@ -203,8 +210,78 @@ pub record WorkedPadding : Type 0 where
 abbrev pub blocks : ℕ → List ℕ
 blocks n = flat_map (λ block. block) (replicate n (codes ".align 1024\nnop\n"))
 
+-- 16,384 instructions in 32 lines, the first of which is given
+abbrev pub full_from : List ℕ → List ℕ
+full_from line = line ++ (10 ∷ (blocks 15 ++ codes ".align 1024\n"))
+
+abbrev pub full : List ℕ
+full = full_from (codes "nop")
+
+-- which kind comes first where a line has faults of two
+pub record WorkedOrder : Type 0 where
+  pub byte_label_twice : assembled (codes "a:\na: # " ++ (1 ∷ [])) ≡ Fault 2 BadByte
+  pub label_twice_directive : assembled (codes "a: nop\na: .word 1") ≡ Fault 2 LabelTwice
+  pub label_twice_no_directive : assembled (codes "a: a: .foo") ≡ Fault 1 LabelTwice
+  pub label_twice_instruction : assembled (codes ".data\na:\na: nop") ≡ Fault 3 LabelTwice
+  pub label_twice_section : assembled (codes ".data\na: .byte 1\na: .data") ≡ Fault 3 LabelTwice
+  pub directive_reserved : assembled (codes "r0: .foo") ≡ Fault 1 DirectiveNotAllowed
+  -- a reserved name as a label
+  pub reserved_range : assembled (codes "r0: ldc r1, 65536") ≡ Fault 1 WrongOperands
+  pub reserved_missing : assembled (codes "r0: bu gone") ≡ Fault 1 WrongOperands
+  pub reserved_instructions : assembled (full ++ codes "r0: nop") ≡ Fault 33 WrongOperands
+  pub reserved_bytes : assembled (codes ".data\n.space 65536\nr0: .byte 1") ≡ Fault 3 WrongOperands
+  -- at the 16,385th instruction
+  pub label_twice_instructions : assembled (full ++ codes "a: a: nop") ≡ Fault 33 LabelTwice
+  pub range_instructions : assembled (full ++ codes "ldc r0, 65536") ≡ Fault 33 NumberOutOfRange
+  pub missing_instructions : assembled (full ++ codes "bu gone") ≡ Fault 33 LabelMissing
+  -- at the 65,537th byte
+  pub range_bytes : assembled (codes ".cp\n.space 65536\n.byte 256") ≡ Fault 3 NumberOutOfRange
+  pub missing_bytes : assembled (codes ".cp\n.space 65536\n.word gone") ≡ Fault 3 LabelMissing
+
+-- what the lines of a text say together
+abbrev pub said_by : List ℕ → Sofar
+said_by text = whole_of (map line_of (lines_of text))
+
+-- the amounts of operands of `ldw d, cp[u]`, and the instruction in a text: the row is not built
+abbrev pub constant_amounts : List ℕ → List Amount
+constant_amounts operands = amounts_of row.LdwCp (operands_of (tokens_of operands))
+
+abbrev pub constant_load : List ℕ → List ℕ → Option Instr
+constant_load text operands = instruction_in (said_by text) row.LdwCp (constant_amounts operands)
+
+-- a byte of data, two words of constants with zeros before them, and labels: `cp_at` is 0x00010004
+abbrev pub with_constants : List ℕ
+with_constants = codes "main: nop\n.data\nd: .byte 1\ne:\n.cp\nx: .word 1\ny: .byte 2, 3, 4\nz: .byte 5\nw:"
+
+-- `dp[name]` and `cp[name]`: words from the first address of the data, and from `cp_at`
+pub record WorkedOffsets : Type 0 where
+  pub by_dp : amounts_of row.LdwDp (operands_of (tokens_of (codes "r3, dp[x]"))) ≡ Known (Some 3) ∷ Offset Data (codes "x") ∷ []
+  pub by_cp : constant_amounts (codes "r3 , cp [ x ]") ≡ Known (Some 3) ∷ Offset Constants (codes "x") ∷ []
+  pub number : constant_amounts (codes "r3, cp[65535]") ≡ Known (Some 3) ∷ Known (Some 65535) ∷ []
+  pub first : constant_load with_constants (codes "r3, cp[x]") ≡ Some (Memory (LdwCp 3 0))
+  pub second : constant_load with_constants (codes "r3, cp[y]") ≡ Some (Memory (LdwCp 3 1))
+  pub end : constant_load with_constants (codes "r3, cp[w]") ≡ Some (Memory (LdwCp 3 2))
+  -- code begins at 0x00040000, which is 0x0002fffc past `cp_at`
+  pub code : constant_load with_constants (codes "r3, cp[main]") ≡ Some (Memory (LdwCp 3 49151))
+  pub uneven : constant_load with_constants (codes "r3, cp[z]") ≡ None
+  pub below : constant_load with_constants (codes "r3, cp[d]") ≡ None
+  pub in_the_zeros : constant_load with_constants (codes "r3, cp[e]") ≡ None
+  pub number_past : constant_load with_constants (codes "r3, cp[65536]") ≡ None
+  pub missing : map (is_missing (said_by with_constants)) (constant_amounts (codes "r3, cp[gone]")) ≡ false ∷ true ∷ []
+  pub not_missing : map (is_missing (said_by with_constants)) (constant_amounts (codes "r3, cp[x]")) ≡ false ∷ false ∷ []
+  -- the row is not built
+  pub not_built : assembled (codes "ldw r3, cp[x]\nx:") ≡ Fault 1 UnknownName
+  pub reserved : assembled (codes "ldw r3, cp[sr]") ≡ Fault 1 WrongOperands
+  -- the last word that a name may stand for, and the first that is too far
+  pub last_word : of_source (λ image. take 1 image.code) (assembled (codes "ldw r0, dp[x]\n" ++ (blocks 15 ++ codes ".align 381\nnop\n.align 381\nnop\n.align 381\nx:"))) ≡ Some (Memory (LdwDp 0 65535) ∷ [])
+  pub too_far : assembled (full_from (codes "ldw r0, dp[x]") ++ codes "x:") ≡ Fault 1 NumberOutOfRange
+
 -- limits
 pub record WorkedLimits : Type 0 where
+  -- 16,384 instructions and 65,536 bytes are taken
+  pub most_instructions : constants_of_source full ≡ Some 65536
+  pub most_bytes : constants_of_source (codes ".data\n.space 65536") ≡ Some 131072
+  pub most_with_zeros : constants_of_source (codes ".data\n.space 65529\n.cp\n.byte 1, 2, 3, 4") ≡ Some 131068
   pub instructions : assembled (codes "nop\n" ++ blocks 16) ≡ Fault 33 TooManyInstructions
   pub padding : assembled (codes "nop\n" ++ (blocks 15 ++ codes ".align 1023\nfoo")) ≡ Fault 33 UnknownName
   pub padding_past : assembled (codes "nop\n" ++ (blocks 15 ++ codes "nop\n.align 1023\n.align 1023\n.align 1024\nnop")) ≡ Fault 36 TooManyInstructions

@@ -1,7 +1,7 @@
 //! What a source text stands for: definitions, and the plain types that they speak of. See docs/ASSEMBLY.md.
 #![tactic(auto)]
 
-ghost use Rattle.source_model.specs.WorkedSourceLines.{WorkedBadBytes, WorkedUnknownNames, WorkedShapes, WorkedRanges, WorkedLabels, WorkedSizes, WorkedSections, WorkedPadding, WorkedLimits};
+ghost use Rattle.source_model.specs.WorkedSourceLines.{WorkedBadBytes, WorkedUnknownNames, WorkedShapes, WorkedRanges, WorkedLabels, WorkedSizes, WorkedSections, WorkedPadding, WorkedOrder, WorkedOffsets, WorkedLimits};
 
 mod canonical;
 mod layout;
@@ -43,5 +43,7 @@ pub fn worked_source_lines()
     ensures sizes { WorkedSizes }
     ensures sections { WorkedSections }
     ensures padding { WorkedPadding }
+    ensures order { WorkedOrder }
+    ensures offsets { WorkedOffsets }
     ensures limits { WorkedLimits }
 {}

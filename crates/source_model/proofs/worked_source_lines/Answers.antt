@@ -43,6 +43,14 @@ pub returns-clause-padding : goal.returns-clause-padding
 unfolding lines_of tokens_after register_number fixed find known operands_after all_some values_from labels_first after_labels place_of define_all after_lines defines_twice first_fault code_of_lines bytes_of_lines
 returns-clause-padding c = record { code = refl; code_even = refl; code_empty = refl; bytes = refl; label_before = refl; own_length = refl }
 
+pub returns-clause-order : goal.returns-clause-order
+unfolding lines_of tokens_after register_number fixed find known operands_after all_some values_from labels_first after_labels place_of define_all after_lines defines_twice first_fault code_of_lines bytes_of_lines
+returns-clause-order c = record { byte_label_twice = refl; label_twice_directive = refl; label_twice_no_directive = refl; label_twice_instruction = refl; label_twice_section = refl; directive_reserved = refl; reserved_range = refl; reserved_missing = refl; reserved_instructions = refl; reserved_bytes = refl; label_twice_instructions = refl; range_instructions = refl; missing_instructions = refl; range_bytes = refl; missing_bytes = refl }
+
+pub returns-clause-offsets : goal.returns-clause-offsets
+unfolding lines_of tokens_after register_number fixed find known operands_after all_some values_from labels_first after_labels place_of define_all after_lines defines_twice first_fault code_of_lines bytes_of_lines
+returns-clause-offsets c = record { by_dp = refl; by_cp = refl; number = refl; first = refl; second = refl; end = refl; code = refl; uneven = refl; below = refl; in_the_zeros = refl; number_past = refl; missing = refl; not_missing = refl; not_built = refl; reserved = refl; last_word = refl; too_far = refl }
+
 pub returns-clause-limits : goal.returns-clause-limits
 unfolding lines_of tokens_after register_number fixed find known operands_after all_some values_from labels_first after_labels place_of define_all after_lines defines_twice first_fault code_of_lines bytes_of_lines
-returns-clause-limits c = record { instructions = refl; padding = refl; padding_past = refl; target = refl; bytes = refl; zeros_of_constants = refl; constants = refl; out_of_range_first = refl; far_target = refl }
+returns-clause-limits c = record { most_instructions = refl; most_bytes = refl; most_with_zeros = refl; instructions = refl; padding = refl; padding_past = refl; target = refl; bytes = refl; zeros_of_constants = refl; constants = refl; out_of_range_first = refl; far_target = refl }
