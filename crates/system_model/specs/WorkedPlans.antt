@@ -1,12 +1,12 @@
 -- Frames of systems, read by hand.
-use Rattle.std.specs.Prelude.{ℕ, ◌≡◌, true, None, List, [], ◌∷◌, ◌++◌, map, codes, replicate}
+use Rattle.std.specs.Prelude.{ℕ, ◌≡◌, true, None, List, [], ◌∷◌, ◌++◌, length, map, codes, replicate}
 use Rattle.xs_text.specs.Lines.{lines_of}
 use Rattle.xs_instructions.specs.Image.{ImageRec}
 use Rattle.sys_plan.specs.Plan.{PlanRec}
 use Rattle.system_model.specs.declared.SysKind.{SysKind}
-use Rattle.system_model.specs.declared.SysKind.TheVariants.{FirstLine, BadLine, GivenTwice, IdTwice, LinkToItself, NumberOutOfRange, NodeWithoutSource, SectionNotEnded, BitTwice, NoSuchNode}
+use Rattle.system_model.specs.declared.SysKind.TheVariants.{FirstLine, BadLine, GivenTwice, IdTwice, LinkToItself, NumberOutOfRange, NodeWithoutSource, SectionNotEnded, TooLong, BitTwice, NoSuchNode}
 use Rattle.system_model.specs.Frame.{Framed, Whole, framed}
-use Rattle.system_model.specs.System.{Plan, Frame, system_of}
+use Rattle.system_model.specs.System.{Plan, Frame, plan_of, system_of}
 
 -- Refusals
 
@@ -248,3 +248,8 @@ pub record WorkedPlans : Type 0 where
   pub plan : system_of linked_7_and_3 ≡ Plan plan_of_3_and_7
   pub edges : system_of (codes "xs1 1\nnode 99 id 0\nnode 0 id 65535\nsource 99\nend\nsource 0\nend\n") ≡ Plan plan_of_0_and_99
   pub no_node : system_of (codes "xs1 1") ≡ Plan (record { nodes = []; links = [] })
+
+-- the longest input stands for what its lines say, and one byte more is too long, whatever the bytes
+pub record WorkedLength : Type 0 where
+  pub longest : (bytes : List ℕ) → length bytes ≡ 4194304 → system_of bytes ≡ plan_of (frame bytes)
+  pub longer : (bytes : List ℕ) → length bytes ≡ 4194305 → system_of bytes ≡ Frame 0 TooLong

@@ -2,7 +2,7 @@
 //! docs/SYSTEM_TEXT.md.
 #![tactic(auto)]
 
-ghost use Rattle.system_model.specs.WorkedPlans.{WorkedRefusals, WorkedPlans};
+ghost use Rattle.system_model.specs.WorkedPlans.{WorkedRefusals, WorkedPlans, WorkedLength};
 
 mod first_fault;
 mod frame_line;
@@ -39,8 +39,10 @@ pub enum SysKind {
     NoSuchNode,
 }
 
-/// The definitions give what was worked out by hand: the refusals of frames, and the plans of those that are accepted.
+/// The definitions give what was worked out by hand: the refusals of frames, the plans of those that are accepted, and how
+/// long an input may be.
 pub fn worked_systems_read()
     ensures refusals { WorkedRefusals }
     ensures systems { WorkedPlans }
+    ensures length { WorkedLength }
 {}

@@ -1,4 +1,5 @@
 use Rattle.std.proofs.Common.{refl}
+use Rattle.system_model.specs.System.{system_of}
 use Rattle.system_model.proofs.Computes.{computes}
 use Rattle.system_model.proofs.worked_systems_read.Goals as goal
 
@@ -17,3 +18,10 @@ returns-clause-refusals c = record {
 pub returns-clause-systems : goal.returns-clause-systems
 unfolding computes
 returns-clause-systems c = record { any_order = refl; plan = refl; edges = refl; no_node = refl }
+
+pub returns-clause-length : goal.returns-clause-length
+unfolding system_of
+returns-clause-length c = record {
+  longest = λ bytes long. rw long;
+  longer = λ bytes long. rw long;
+}
