@@ -1,11 +1,11 @@
 -- Single steps of the switch and of link ends, worked out by hand.
-use Rattle.std.specs.Prelude.{ℕ, ◌≡◌, Bool, true, false, Option, Some, None, List, [], ◌∷◌, length, replicate}
+use Rattle.std.specs.Prelude.{ℕ, ◌≡◌, Bool, true, false, Option, Some, None, List, [], ◌∷◌, ◌++◌, length, replicate}
 use Rattle.xs_base.specs.declared.token.Token.{Token}
 use Rattle.xs_base.specs.declared.token.Token.TheVariants.{Byte, Ctrl}
 use Rattle.xs_model.specs.declared.event.Happen.TheVariants as happen
 use Rattle.xs_model.specs.Record.{NodeRec, LinkRec, ChanRec, InputRec, Idle, Head1, Head2, Want, Local, Out, Lost, unused_chan, chan_of}
 use Rattle.xs_base.specs.Ids.{chan_id}
-use Rattle.net_model.specs.Chans.{got_chan}
+use Rattle.net_model.specs.Chans.{got_chan, chan_named, free_chan}
 use Rattle.net_model.specs.Links.{fresh_link, links_after_arrivals, may_send}
 use Rattle.xs_model.specs.AtWork.{AtWork}
 use Rattle.net_model.specs.Switch.{with_state, state_at, free_end}
@@ -25,6 +25,10 @@ eight_bytes = replicate 8 (Byte 9)
 abbrev pub full_link : LinkRec
 full_link = record { buffer = eight_bytes; sent = 1 ∷ []; credited = 6 ∷ [] }
 
+-- the same, with room for one token
+abbrev pub seven_in_link : LinkRec
+seven_in_link = record full_link { buffer = replicate 7 (Byte 9) }
+
 pub record WorkedLinkEnds : Type 0 where
   -- 8 tokens are without a credit: a credit of this slot lets the next one go, one of a later slot does not
   pub eight_out : may_send 4 100 (counted eight_slots []) ≡ false
@@ -37,6 +41,8 @@ pub record WorkedLinkEnds : Type 0 where
   -- a token and a credit arrive: both are taken, and both are dropped where the buffer is full and each token that was
   -- sent has its credit
   pub taken : links_after_arrivals 9 (Some (Byte 3) ∷ []) (true ∷ []) 0 (Some (counted (1 ∷ []) []) ∷ []) ≡ Some (record { buffer = Byte 3 ∷ []; sent = 1 ∷ []; credited = 9 ∷ [] }) ∷ []
+  -- the eighth token is kept
+  pub eighth_kept : links_after_arrivals 9 (Some (Byte 3) ∷ []) (false ∷ []) 0 (Some seven_in_link ∷ []) ≡ Some (record seven_in_link { buffer = replicate 7 (Byte 9) ++ Byte 3 ∷ [] }) ∷ []
   pub dropped : links_after_arrivals 9 (Some (Byte 3) ∷ []) (true ∷ []) 0 (Some full_link ∷ None ∷ []) ≡ Some full_link ∷ None ∷ []
   -- no credit is said to arrive, and none does
   pub no_credit : links_after_arrivals 5 [] [] 0 (Some (counted (0 ∷ []) []) ∷ []) ≡ Some (counted (0 ∷ []) []) ∷ []
@@ -143,3 +149,34 @@ pub record WorkedSteps : Type 0 where
   pub high_byte : (from_link (Out 0 0 (chan_id 513 9)) [] []).tokens ≡ one_token (Byte 2)
   pub low_byte : (from_link (Out 0 1 (chan_id 513 9)) [] []).tokens ≡ one_token (Byte 1)
   pub chan_byte : (from_link (Out 0 2 (chan_id 513 9)) [] []).tokens ≡ one_token (Byte 9)
+
+-- a node with link end 0, whose last channel end alone is in use
+abbrev pub last_chan_node : ChanRec → List Token → NodeRec
+last_chan_node chan buffer =
+    node_of_parts (replicate 31 unused_chan ++ chan ∷ []) (Some (record fresh_link { buffer = buffer }) ∷ replicate 7 None)
+
+-- slot 100 at node 1 as such a node: a packet for a destination came by the link end, or a token waits at the channel end
+abbrev pub to_last : ℕ → AtWork
+to_last dest = switched (routes_at 1) 100 (with_state (last_chan_node got_chan (Ctrl 1 ∷ [])) 0 (Want dest))
+
+abbrev pub from_last : ℕ → AtWork
+from_last dest = switched (routes_at 1) 100 (last_chan_node (sends (Ctrl 1 ∷ []) dest) [])
+
+-- channel end 31, the last
+pub record WorkedLastChan : Type 0 where
+  pub identifier : chan_id 1 31 ≡ 0x00011f02
+  pub named : chan_named 1 0x00011f02 ≡ Some 31
+  pub none_after : chan_named 1 0x00012002 ≡ None
+  -- it is got where all others are in use, and none is after it
+  pub got : free_chan (replicate 31 got_chan ++ unused_chan ∷ []) 0 ≡ Some 31
+  pub all_used : free_chan (replicate 32 got_chan) 0 ≡ None
+  -- a token comes to it, and is lost where it is not in use and where there is no such channel end
+  pub delivered : (to_last 0x00011f02).happened ≡ happen.Chan 31 (Ctrl 1) ∷ []
+  pub in_its_buffer : (chan_of (to_last 0x00011f02).rec.core 31).input ≡ Ctrl 1 ∷ []
+  pub lost : (to_last 0x00011e02).happened ≡ happen.Lost 0x00011e02 ∷ []
+  pub lost_after : (to_last 0x00012002).happened ≡ happen.Lost 0x00012002 ∷ []
+  pub lost_unused : (from_link (Want 0x00011f02) (Ctrl 1 ∷ []) []).happened ≡ happen.Lost 0x00011f02 ∷ []
+  -- its own token goes by the last input of the switch: to the other node, and to itself
+  pub goes_out : state_at (from_last 0x00000002).rec 39 ≡ Out 0 1 0x00000002
+  pub header_out : (from_last 0x00000002).tokens ≡ one_token (Byte 0)
+  pub to_itself : (from_last 0x00011f02).happened ≡ happen.Chan 31 (Ctrl 1) ∷ []

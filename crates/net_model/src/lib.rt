@@ -2,9 +2,9 @@
 #![tactic(auto)]
 
 ghost use Rattle.net_model.specs.Quiet.{QuietSwitch};
-ghost use Rattle.net_model.specs.Worked.{WorkedPair, WorkedLost, WorkedFull};
+ghost use Rattle.net_model.specs.Worked.{WorkedPair, WorkedLost, WorkedFull, WorkedLate};
 ghost use Rattle.net_model.specs.WorkedThree.{WorkedThree};
-ghost use Rattle.net_model.specs.WorkedSteps.{WorkedLinkEnds, WorkedSteps};
+ghost use Rattle.net_model.specs.WorkedSteps.{WorkedLinkEnds, WorkedSteps, WorkedLastChan};
 
 /// Where nothing waits and no channel end is in use, the switch does nothing.
 pub fn quiet_switch()
@@ -26,6 +26,11 @@ pub fn worked_full()
     ensures { WorkedFull }
 {}
 
+/// The same two nodes, where the receiver's program takes each token late, once all buffers are full.
+pub fn worked_late()
+    ensures { WorkedLate }
+{}
+
 /// Three nodes in a line: one passes a packet on, while its own waits.
 pub fn worked_three()
     ensures { WorkedThree }
@@ -39,4 +44,9 @@ pub fn worked_link_ends()
 /// Single steps of the switch's inputs.
 pub fn worked_steps()
     ensures { WorkedSteps }
+{}
+
+/// Steps to and from the last channel end, and its name.
+pub fn worked_last_chan()
+    ensures { WorkedLastChan }
 {}
