@@ -1,6 +1,6 @@
 -- Slots with channel ends and a link end, worked out by hand: node 3, whose link end 0 leads to every other node, with a
 -- gap of 4 slots.
-use Rattle.std.specs.Prelude.{ℕ, zero, suc, ◌≡◌, ◌+◌, Bool, true, false, Option, Some, None, List, [], ◌∷◌, replicate, slice_index_or}
+use Rattle.std.specs.Prelude.{ℕ, zero, suc, ◌≡◌, ◌+◌, Bool, true, false, Option, Some, None, List, [], ◌∷◌, ◌++◌, replicate, slice_index_or}
 use Rattle.xs_base.specs.declared.token.Token.{Token}
 use Rattle.xs_base.specs.declared.token.Token.TheVariants.{Byte, Ctrl}
 use Rattle.xs_model.specs.declared.thread.Thread.{Thread}
@@ -200,6 +200,27 @@ pub record WorkedDependency : Type 0 where
   pub refused_first : events_in_1 outct_end (two_threads (Room 0 1) (record got_chan { output = eight_bytes })) ≡ traps_in_1 4 own_id
   pub need_not_wait : (thread_in_1 chkct_end (two_threads (Tokens 0 4) (record got_chan { input = Ctrl 1 ∷ [] }))).pc ≡ 0x00040004
 
+-- node 3 at its start with these words in r0 and r1, whose last channel end alone is in use
+abbrev pub last_in_use : ℕ → ℕ → ChanRec → NodeRec
+last_in_use a b chan = record (start_as (with_three a b 0)) {
+  core = record (start_as (with_three a b 0)).core { chans = replicate 31 unused_chan ++ chan ∷ [] };
+}
+
+-- channel end 31 of node 3, after an instruction on it in slot 1
+abbrev pub last_in_1 : Instr → ChanRec → ChanRec
+last_in_1 ins chan = chan_of (quiet_slot (ins ∷ []) (last_in_use 0x00031f02 far_id chan) 1).rec.core 31
+
+-- channel end 31, the last
+pub record WorkedLast : Type 0 where
+  pub dest_set : last_in_1 setd_01 got_chan ≡ far_chan [] []
+  pub put : last_in_1 outct_end (far_chan [] []) ≡ far_chan (Ctrl 1 ∷ []) []
+  pub taken : last_in_1 chkct_end (record got_chan { input = Ctrl 1 ∷ Byte 5 ∷ [] }) ≡ record got_chan { input = Byte 5 ∷ [] }
+  pub pauses : (thread_in_1 chkct_end (last_in_use 0x00031f02 far_id got_chan)).run ≡ Paused (Tokens 31 1)
+  pub before_it : events_in_1 setd_01 (last_in_use 0x00031e02 far_id got_chan) ≡ traps_in_1 4 0x00031e02
+  pub after_it : events_in_1 setd_01 (last_in_use 0x00032002 far_id got_chan) ≡ traps_in_1 4 0x00032002
+  -- a destination may be any channel end of any node, there or not
+  pub dest_of_255 : (chan_in_1 setd_01 (two_words own_id 0x0005ff02 got_chan)).dest ≡ Some 0x0005ff02
+
 -- a token and a credit, or neither, come to link end 0
 abbrev pub come : Option Token → List Bool → Arrivals
 come token credits = record { tokens = token ∷ replicate 7 None; credits = credits }
@@ -281,3 +302,4 @@ pub record WorkedChannels : Type 0 where
   pub chkct : WorkedChkct
   pub dependency : WorkedDependency
   pub network : WorkedNetwork
+  pub last : WorkedLast

@@ -184,6 +184,15 @@ returns-clause-channels c = record {
     end_sent = refl;
     all_sent = refl;
   };
+  last = record {
+    dest_set = refl;
+    put = refl;
+    taken = refl;
+    pauses = refl;
+    before_it = refl;
+    after_it = refl;
+    dest_of_255 = refl;
+  };
 }
 
 pub returns-clause-waits : goal.returns-clause-waits
