@@ -2,6 +2,8 @@
 #![tactic(auto)]
 
 mod system_plan;
+#[cfg(test)]
+mod tests;
 mod worked;
 
 pub use system_plan::Plan;

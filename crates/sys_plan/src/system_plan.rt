@@ -1,5 +1,5 @@
 //! `Plan`, the plan of a system.
-ghost use Rattle.std.specs.Prelude.{◌≡◌, ◌<◌, ◌≤◌, ◌+◌, ◌*◌, ℕ, length, slice_index, IfSome, IsSome};
+ghost use Rattle.std.specs.Prelude.{◌≡◌, ◌<◌, ◌≤◌, ◌+◌, ◌*◌, ℕ, length, slice_index, None, IfSome, IsSome};
 ghost use Rattle.sys_plan.specs.Plan.{PlanRec, IsPlan, outgoing, incoming, directions, first_link, leaves_by, comes_to, delay_of, gap_of, gap_by, gaps_of};
 
 use crate::{LinkPlan, NodePlan};
@@ -52,18 +52,20 @@ impl Plan {
     }
 
     /// The number of the directed link that leaves by a link end of the node at a position. `None` comes exactly
-    /// where no link is there; any link end may be asked for.
+    /// where no link is there; any link end may be asked for, and none from 8 on has a link.
     pub fn outgoing(&self, node: u8, end: u8) -> Option<u32>
         ensures value { result ≡ outgoing self.now node end }
+        ensures none_past { 8 ≤ end → result ≡ None }
         ensures bound { IfSome result (λ link. link < length (directions self.now.links)) }
     {
         first_leaving(self.links(), node, end)
     }
 
     /// The number of the directed link that comes to a link end of the node at a position. `None` comes exactly
-    /// where no link is there; any link end may be asked for.
+    /// where no link is there; any link end may be asked for, and none from 8 on has a link.
     pub fn incoming(&self, node: u8, end: u8) -> Option<u32>
         ensures value { result ≡ incoming self.now node end }
+        ensures none_past { 8 ≤ end → result ≡ None }
         ensures bound { IfSome result (λ link. link < length (directions self.now.links)) }
     {
         first_coming(self.links(), node, end)
