@@ -25,3 +25,7 @@ module _ {X : Type 0} (n : ℕ) (kept all : List X) (e : X) (same : kept ≡ tak
 
   pub rest-more : n ≤ length kept → (length all - n) + 1 ≡ length (all ++ e ∷ []) - n
   rest-more h = omega (arith, length-kept, length-take n all, length-append all (e ∷ []))
+
+-- one more that is to be kept fits its room
+pub one_fits : (len spare capacity most : ℕ) → (capacity < most → len + spare ≤ capacity) → len < most → 1 ≤ spare → len < capacity
+one_fits len spare capacity most room few some = grind (arith, room)

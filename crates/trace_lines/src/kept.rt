@@ -1,5 +1,5 @@
 //! `NodeEvents`, a node's events of a run.
-ghost use Rattle.std.specs.Prelude.{ℕ, ◌≡◌, ◌+◌, ◌-◌, ◌^◌, ◌<◌, ◌≤◌, List, [], ◌∷◌, ◌++◌, length, OnOk, OnErr, All};
+ghost use Rattle.std.specs.Prelude.{ℕ, ◌≡◌, ◌+◌, ◌-◌, ◌^◌, ◌<◌, ◌≤◌, List, [], ◌∷◌, ◌++◌, length, IsOk, OnOk, OnErr, All};
 ghost use Rattle.xs_model.specs.declared.event.Event.{Event};
 ghost use Rattle.xs_model.specs.Events.{IsWithinCounts};
 ghost use Rattle.xs_model.specs.FirstEvents.{kept_at_most};
@@ -18,7 +18,7 @@ const KEPT_AT_MOST: usize = 262_144;
 pub struct NodeEvents {
     events: Vec<Event>,
     more: u64,
-    // How many events can be added with no memory taken.
+    // How many events can be added with no memory taken; those past the last that is kept take none.
     spare: usize,
 }
 
@@ -63,20 +63,24 @@ impl NodeEvents {
         self.more
     }
 
-    /// Makes room for this many events, so that `add` can take them with no memory. Once 262,144 are kept there is
-    /// always room. It costs nothing where there is room already. The error is want of memory, and changes nothing.
+    /// Makes room for this many events, so that `add` can take them with no memory: where fewer than 262,144 can still be
+    /// kept, for those, since what is only counted takes none. It costs nothing where there is room already, or once
+    /// 262,144 are kept. The error is want of memory, and changes nothing.
     pub fn reserve(&mut self, n: usize) -> Result<(), AllocError>
-        ensures room { OnOk result (HasRoom n self.new) }
+        ensures room { OnOk result (n ≤ self.new.spare) }
         ensures events { self.new.events ≡ self.old.events }
         ensures more { self.new.more ≡ self.old.more }
         ensures spare { self.old.spare ≤ self.new.spare }
+        ensures enough { n ≤ self.old.spare → IsOk result }
+        ensures all_kept { length self.old.events ≡ kept_at_most → IsOk result }
         ensures err { OnErr result (self.new ≡ self.old) }
     {
-        if n <= self.spare || self.events.len() >= KEPT_AT_MOST {
+        if n <= self.spare {
             return Ok(());
         }
-        self.events.reserve(n)?;
-        self.spare = self.events.capacity() - self.events.len();
+        let still_kept = KEPT_AT_MOST - self.events.len();
+        self.events.reserve(n.min(still_kept))?;
+        self.spare = n.max(self.events.capacity() - self.events.len());
         Ok(())
     }
 

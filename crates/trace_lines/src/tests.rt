@@ -41,6 +41,33 @@ fn events_are_kept_in_order(rt: HostRuntime) -> Result<(), Fail> {
 }
 
 #[test]
+fn all_that_are_kept_have_room_and_the_rest_is_counted(rt: HostRuntime) -> Result<(), Fail> {
+    let mut kept = NodeEvents::new(rt.alloc());
+    for slot in 0..262_146u32 {
+        kept.reserve(1)?;
+        kept.add(at(slot, Happen::Halt { thread: 3 }));
+    }
+    assert_eq!(rt; kept.events().len(), 262_144);
+    assert_eq!(rt; kept.events()[262_143].slot, 262_143);
+    assert_eq!(rt; kept.more(), 2);
+    kept.reserve(usize::MAX)?;
+    kept.add(trap());
+    assert_eq!(rt; kept.more(), 3);
+    Ok(())
+}
+
+#[test]
+fn room_for_more_events_than_are_kept(rt: HostRuntime) -> Result<(), Fail> {
+    let mut kept = NodeEvents::new(rt.alloc());
+    kept.reserve(usize::MAX)?;
+    kept.add(trap());
+    kept.reserve(300_000)?;
+    kept.add(trap());
+    assert_eq!(rt; kept.events().len(), 2);
+    Ok(())
+}
+
+#[test]
 fn emissions_are_read_back_and_cleared(rt: HostRuntime) {
     let mut emissions = Emissions::new();
     emissions.add_event(trap());

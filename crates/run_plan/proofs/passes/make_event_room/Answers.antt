@@ -19,7 +19,7 @@ loop-seat-preserved c =
     record {
       through =
           through-more MakesEventRoom c.loop-seat.seat-index c.args.seats.now c.loop-seat.seats c.seat-item.result _ c.loop-seat.invariant.through (omega arith)
-          (record { same = same-seat before c.reserve.new.self c.reserve.ensures.events c.reserve.ensures.more; room = c.in_ok-reserve.ensures.room });
+          (record { same = same-seat before c.reserve.new.self c.reserve.ensures.events c.reserve.ensures.more; room = λ few. c.in_ok-reserve.ensures.room });
     }
 
 pub returns-clause-same : goal.returns-clause-same
