@@ -49,8 +49,18 @@ end_cases None present ends e h there some value = absurd (false≢true (some.1 
 end_cases (Some x) present ends e h there some value =
     get_or-ends_in present ends e x.now h ∙ ap (λ (b : Bool). cond b (Some (get_or ends e x.now)) None) there ∙ ap Some (sym value)
 
-pub not_there : (present : List Bool) (ends : List EndCounts) (e : ℕ) (d : EndCounts) → e < length ends → get_or present e false ≡ false → get_or (ends_in present ends) e None ≡ None
-not_there present ends e d h there = get_or-ends_in present ends e d h ∙ ap (λ (b : Bool). cond b (Some (get_or ends e d)) None) there
+-- no link end is in its place, or there is no such place
+pub not_there : (present : List Bool) (ends : List EndCounts) (e : ℕ) → get_or present e false ≡ false → get_or (ends_in present ends) e None ≡ None
+not_there [] ends e there = refl
+not_there (p ∷ present) [] e there = refl
+not_there (p ∷ present) (w ∷ ends) zero there = ap (λ (b : Bool). cond b (Some w) None) there
+not_there (p ∷ present) (w ∷ ends) (suc e) there = not_there present ends e there
+
+-- a link end that is there has a place
+pub has_place : (present : List Bool) (e : ℕ) → get_or present e false ≡ true → e < length present
+has_place [] e there = absurd (false≢true there)
+has_place (p ∷ present) zero there = omega arith
+has_place (p ∷ present) (suc e) there = omega (arith, has_place present e there)
 
 -- a link end that is read from its place
 pub there : (present : List Bool) (ends : List EndCounts) (e : ℕ) (w : EndCounts) → e < length ends → get_or present e false ≡ true → w ≡ get_or ends e w → get_or (ends_in present ends) e None ≡ Some w

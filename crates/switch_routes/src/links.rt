@@ -1,5 +1,5 @@
 //! `Links`, the row of a node's link ends.
-ghost use Rattle.std.specs.Prelude.{ℕ, ◌≡◌, ◌<◌, true, Some, None, Option, List, [], ◌∷◌, drop, length, slice_set, slice_index_or, MatchOption};
+ghost use Rattle.std.specs.Prelude.{ℕ, ◌≡◌, ◌<◌, ◌≤◌, true, Some, None, Option, IsNone, List, [], ◌∷◌, drop, length, slice_set, slice_index_or, MatchOption};
 ghost use Rattle.std.specs.Borrow.{sem};
 ghost use Rattle.std.specs.List.{list_all};
 ghost use Rattle.xs_base.specs.declared.numbers.TheConstants.{LINK_ENDS};
@@ -62,14 +62,15 @@ impl Links {
         self.present[end as usize] = true;
     }
 
-    /// The link end with a number, 0 to 7: `None` exactly where the node has no such link end.
+    /// The link end with a number: `None` exactly where the node has no such link end. Any number may be asked for, and
+    /// no node has a link end from 8 on.
     pub fn end(&mut self, end: u8) -> Option<&mut LinkEnd>
-        requires within { end < LINK_ENDS }
         ensures* writes_back { sem 𝓛 (LendsEnd self.entry end result) }
+        ensures none_past { LINK_ENDS ≤ end → IsNone result }
         ensures cases { MatchOption result (counts_at self.old end ≡ None) (λ link. counts_at self.old end ≡ Some link.now) }
         ensures count { length self.old ≡ LINK_ENDS }
     {
-        if self.present[end as usize] {
+        if self.present.get(end as usize).copied().unwrap_or(false) {
             self.ends.get_mut(end as usize)
         } else {
             None

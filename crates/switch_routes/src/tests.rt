@@ -108,5 +108,7 @@ fn a_packet_from_node_to_node(rt: HostRuntime) {
     delivered[30] = Some(END);
     assert_eq!(rt; second.delivered, delivered);
     assert!(rt; first.links.end(0).is_some());
-    assert!(rt; first.links.end(1).is_none());
+    for end in 1..=255u8 {
+        assert!(rt; first.links.end(end).is_none());
+    }
 }

@@ -1,5 +1,4 @@
 use Rattle.std.proofs.Common.{ap, sym, ◌∙◌, arith}
-use Rattle.link_ends.specs.Counts.{fresh_counts}
 use Rattle.switch_routes.specs.Rows.{may_send_by}
 use Rattle.switch_routes.proofs.Places.{not_there, there}
 use Rattle.switch_routes.proofs.Rows.{sends-there, sends-none}
@@ -18,10 +17,10 @@ returns-then-self-end-clause-stands c =
 
 pub returns-else-self-end-clause-value : goal.returns-else-self-end-clause-value
 returns-else-self-end-clause-value c =
-    let none = not_there c.self.inside.present c.self.inside.ends.items c.args.end (fresh_counts 0) (omega (arith, c.self.invariant)) c.if-self-end.false in
+    let none = not_there c.self.inside.present c.self.inside.ends.items c.args.end c.if-self-end.false in
     rw (← c.self.view_is) (c.if-self-end.false ∙ sym (ap (may_send_by c.args.slot) none))
 
 pub returns-else-self-end-clause-stands : goal.returns-else-self-end-clause-stands
 returns-else-self-end-clause-stands c =
-    let none = not_there c.self.inside.present c.self.inside.ends.items c.args.end (fresh_counts 0) (omega (arith, c.self.invariant)) c.if-self-end.false in
+    let none = not_there c.self.inside.present c.self.inside.ends.items c.args.end c.if-self-end.false in
     rw (← c.self.view_is) (λ routes links gaps of by. c.if-self-end.false ∙ sends-none routes (ends_in c.self.inside.present c.self.inside.ends.items) links c.args.end c.args.slot none of)

@@ -1,21 +1,28 @@
-use Rattle.std.proofs.Common.{◌∙◌, refl, arith}
+use Rattle.std.proofs.Common.{◌∙◌, ◌≡◌, ◌<◌, length, get_or, true, false, ap, sym, refl, arith}
+use Rattle.std.specs.Prelude.{unwrap_or}
 use borrow.Follows.Closed.{read_of}
 use Rattle.std.specs.Option.{ghost_name_of}
-use Rattle.link_ends.specs.Counts.{EndCounts, fresh_counts}
+use Rattle.std.proofs.lemmas.Option.{unwrap_or-slice_get}
+use Rattle.link_ends.specs.Counts.{EndCounts}
 use Rattle.switch_routes.specs.Inside.{ends_in}
-use Rattle.switch_routes.proofs.Places.{ends_in-change, length-ends_in, end_cases, not_there}
+use Rattle.switch_routes.proofs.Places.{ends_in-change, length-ends_in, end_cases, not_there, has_place}
 use Rattle.switch_routes.proofs.links.Links.end.Goals as goal
 
-pub returns-then-self-end : goal.returns-then-self-end
-returns-then-self-end c =
+pub returns-then-unwrap_or : goal.returns-then-unwrap_or
+returns-then-unwrap_or c =
     let present = c.self.inside.present in
     let ends = c.self.inside.ends.items in
     let e = c.args.end in
+    let is : get_or present e false ≡ true = sym (c.get.ensures.lookup.4 (omega arith) false) ∙ ap (λ o. unwrap_or o false) (sym c.copied.ensures) ∙ sym c.unwrap_or.ensures ∙ c.if-unwrap_or.true in
+    let below : e < length ends = omega (arith, has_place present e is, c.self.invariant) in
     rw (← c.self.view_is) (
-      λ t. read_of (ghost_name_of c.get_mut.result) (λ (w : EndCounts). ends_in-change present ends e w c.if-self-end.true t) (ends_in present ends),
-      record { writes_back = tt; cases = end_cases c.get_mut.result present ends e (omega (arith, c.self.invariant)) c.if-self-end.true c.get_mut.ensures.variant c.get_mut.ensures.value; count = length-ends_in present ends (omega (arith, c.self.invariant)) ∙ c.self.invariant.eight },
+      λ t. read_of (ghost_name_of c.get_mut.result) (λ (w : EndCounts). ends_in-change present ends e w is t) (ends_in present ends),
+      record { writes_back = tt; none_past = λ past. absurd (omega (arith, has_place present e is, c.self.invariant)); cases = end_cases c.get_mut.result present ends e below is c.get_mut.ensures.variant c.get_mut.ensures.value; count = length-ends_in present ends (omega (arith, c.self.invariant)) ∙ c.self.invariant.eight },
     )
 
-pub returns-else-self-end : goal.returns-else-self-end
-returns-else-self-end c =
-    rw (← c.self.view_is) (refl, record { writes_back = tt; cases = not_there c.self.inside.present c.self.inside.ends.items c.args.end (fresh_counts 0) (omega (arith, c.self.invariant)) c.if-self-end.false; count = length-ends_in c.self.inside.present c.self.inside.ends.items (omega (arith, c.self.invariant)) ∙ c.self.invariant.eight })
+pub returns-else-unwrap_or : goal.returns-else-unwrap_or
+returns-else-unwrap_or c =
+    let present = c.self.inside.present in
+    let ends = c.self.inside.ends.items in
+    let is : get_or present c.args.end false ≡ false = sym (c.get.ensures.lookup.4 (omega arith) false) ∙ ap (λ o. unwrap_or o false) (sym c.copied.ensures) ∙ sym c.unwrap_or.ensures ∙ c.if-unwrap_or.false in
+    rw (← c.self.view_is) (refl, record { writes_back = tt; none_past = λ past. refl; cases = not_there present ends c.args.end is; count = length-ends_in present ends (omega (arith, c.self.invariant)) ∙ c.self.invariant.eight })

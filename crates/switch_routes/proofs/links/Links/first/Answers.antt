@@ -1,5 +1,4 @@
 use Rattle.std.proofs.Common.{◌∙◌, ap, arith}
-use Rattle.link_ends.specs.Counts.{fresh_counts}
 use Rattle.switch_routes.specs.Rows.{buffer_of}
 use Rattle.switch_routes.proofs.Places.{not_there, there, length-ends_in}
 use Rattle.switch_routes.proofs.links.Links.first.Goals as goal
@@ -11,5 +10,5 @@ returns-then-self-end c =
 
 pub returns-else-self-end : goal.returns-else-self-end
 returns-else-self-end c =
-    let none = not_there c.self.inside.present c.self.inside.ends.items c.args.end (fresh_counts 0) (omega (arith, c.self.invariant)) c.if-self-end.false in
+    let none = not_there c.self.inside.present c.self.inside.ends.items c.args.end c.if-self-end.false in
     rw (← c.self.view_is) (record { cases = ap buffer_of none; count = length-ends_in c.self.inside.present c.self.inside.ends.items (omega (arith, c.self.invariant)) ∙ c.self.invariant.eight })
