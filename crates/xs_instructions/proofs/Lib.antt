@@ -1,4 +1,5 @@
 pub mod Names
+pub mod Entries
 pub mod Kept
 pub mod Made
 pub mod Finds

@@ -1,5 +1,5 @@
 -- Images: what a source stands for.
-use Rattle.std.specs.Prelude.{ℕ, ◌≡◌, ◌+◌, ◌%◌, ◌<◌, ◌≤◌, Bool, ◌||◌, ◌&&◌, not, ◌==◌, nat_le, nat_lt, if◌then◌else◌, List, [], ◌∷◌, length, codes, Option, Some, None, IsTrue, IfSome, slice_get, String, string_bytes}
+use Rattle.std.specs.Prelude.{ℕ, zero, suc, ◌≡◌, ◌+◌, ◌%◌, ◌<◌, ◌≤◌, Bool, ◌||◌, ◌&&◌, not, ◌==◌, nat_le, nat_lt, if◌then◌else◌, List, [], ◌∷◌, ◌++◌, length, codes, Option, Some, None, is_some, IsTrue, IfSome, slice_get, String, string_bytes}
 use denote.Ref.{Bor}
 use Rattle.std.specs.List.{list_any, AllByRecursion}
 use Rattle.xs_base.specs.declared.numbers.TheConstants.{MEMORY_START}
@@ -25,6 +25,11 @@ symbol_of_pair pair = (pair.0.now, pair.1)
 abbrev pub symbol_at : ℕ → List Symbol → Option Symbol
 symbol_at k symbols = slice_get symbols k
 
+-- labels in the order of their definition, and the number that the hash of their names takes first
+pub record SymbolTable : Type 0 where
+  pub labels : List Symbol
+  pub key : ℕ
+
 -- code, the bytes of both data sections, where the second of them begins, and the labels in the order of
 -- their definition
 pub record ImageRec : Type 0 where
@@ -37,6 +42,25 @@ pub record ImageRec : Type 0 where
 abbrev pub address_of : List Symbol → List ℕ → Option ℕ
 address_of [] name = None
 address_of (s ∷ symbols) name = if same_name s.0 name then Some s.1 else address_of symbols name
+
+-- the number of the first symbol of a name, where the first symbol has the number k
+abbrev pub number_from : ℕ → List Symbol → List ℕ → Option ℕ
+number_from k [] name = None
+number_from k (s ∷ symbols) name = if same_name s.0 name then Some k else number_from (k + 1) symbols name
+
+-- the number of a name in the order of definition, from 0
+abbrev pub number_of : List Symbol → List ℕ → Option ℕ
+number_of symbols name = number_from 0 symbols name
+
+-- the symbols with one more, where none has its name
+abbrev pub defined : List ℕ → ℕ → List Symbol → List Symbol
+defined name at symbols = if is_some (address_of symbols name) then symbols else symbols ++ (name, at) ∷ []
+
+-- the symbols with another address for the one with a number
+abbrev pub with_address : ℕ → ℕ → List Symbol → List Symbol
+with_address k at [] = []
+with_address zero at (s ∷ symbols) = (s.0, at) ∷ symbols
+with_address (suc k) at (s ∷ symbols) = s ∷ with_address k at symbols
 
 -- names that the assembly language keeps for itself
 abbrev pub reserved_names : List (List ℕ)

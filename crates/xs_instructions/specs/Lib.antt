@@ -9,4 +9,5 @@ pub mod Filled
 pub mod WorkedForms
 pub mod Table
 pub mod Code
+pub mod SourceHash
 pub mod Image

@@ -24,16 +24,16 @@ impl Model for Image {
 
     ghost Value = { ImageRec };
 
-    ghost view = { λ i. record { code = i.code.items; bytes = i.bytes.items; cp_at = i.cp_at; symbols = i.symbols } };
+    ghost view = { λ i. record { code = i.code.items; bytes = i.bytes.items; cp_at = i.cp_at; symbols = i.symbols.labels } };
 
-    ghost invariant = { λ i. IsImage (record { code = i.code.items; bytes = i.bytes.items; cp_at = i.cp_at; symbols = i.symbols }) };
+    ghost invariant = { λ i. IsImage (record { code = i.code.items; bytes = i.bytes.items; cp_at = i.cp_at; symbols = i.symbols.labels }) };
 }
 
 impl Image {
     /// The image of these parts. It takes no memory.
     pub fn of(code: Vec<Instr>, bytes: Vec<u8>, cp_at: u32, symbols: Symbols) -> Image
-        requires parts { IsImage (record { code = code.items; bytes = bytes.items; cp_at = cp_at; symbols = symbols }) }
-        ensures value { result ≡ record { code = code.items; bytes = bytes.items; cp_at = cp_at; symbols = symbols } }
+        requires parts { IsImage (record { code = code.items; bytes = bytes.items; cp_at = cp_at; symbols = symbols.labels }) }
+        ensures value { result ≡ record { code = code.items; bytes = bytes.items; cp_at = cp_at; symbols = symbols.labels } }
     {
         Image {
             code,

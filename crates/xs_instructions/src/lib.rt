@@ -10,6 +10,7 @@ mod laws;
 mod look_up;
 mod rows;
 mod shape;
+mod source_hash;
 mod symbols;
 mod table;
 mod words;

@@ -4,15 +4,21 @@ use std::test::Fail;
 
 #[test]
 fn looks_up_labels(rt: HostRuntime) -> Result<(), Fail> {
-    let mut labels = Symbols::new(rt.alloc());
-    labels.define(rt.alloc(), b"main", 0x0004_0000)?;
-    labels.define(rt.alloc(), b"table", 0x0001_0000)?;
-    labels.define(rt.alloc(), b".end", 0x0004_0010)?;
+    let mut labels = Symbols::of_source(rt.alloc(), b"main: table: .end:");
+    assert!(rt; labels.define(rt.alloc(), b"main", 0)?);
+    assert!(rt; labels.define(rt.alloc(), b"table", 0x0001_0000)?);
+    assert!(rt; labels.define(rt.alloc(), b".end", 0x0004_0010)?);
+    assert!(rt; !labels.define(rt.alloc(), b"main", 4)?);
+    assert_eq!(rt; labels.count(), 3);
+    labels.set_address(0, 0x0004_0000);
     assert_eq!(rt; labels.address(b"main"), Some(0x0004_0000));
     assert_eq!(rt; labels.address(b"table"), Some(0x0001_0000));
     assert_eq!(rt; labels.address(b".end"), Some(0x0004_0010));
     assert_eq!(rt; labels.address(b"mai"), None);
     assert_eq!(rt; labels.address(b"\xff"), None);
+    assert_eq!(rt; labels.number(b".end"), Some(2));
+    assert_eq!(rt; labels.number(b"end"), None);
+    assert_eq!(rt; labels.number(b"\xff"), None);
     let (name, at) = labels.at(1).ok_or("a second label")?;
     assert_eq!(rt; name, "table");
     assert_eq!(rt; at, 0x0001_0000);
@@ -27,7 +33,7 @@ fn begins_at_main(rt: HostRuntime) -> Result<(), Fail> {
     code.push(Instr::Threads(ThreadIns::Freet))?;
     let mut bytes = Vec::new(rt.alloc());
     bytes.push(7)?;
-    let mut labels = Symbols::new(rt.alloc());
+    let mut labels = Symbols::of_source(rt.alloc(), b"");
     labels.define(rt.alloc(), b"main", 0x0004_0004)?;
     let image = Image::of(code, bytes, 0x0001_0004, labels);
     assert_eq!(rt; image.entry(), 0x0004_0004);
@@ -54,7 +60,7 @@ fn begins_at_the_code_without_main(rt: HostRuntime) -> Result<(), Fail> {
         Vec::new(rt.alloc()),
         Vec::new(rt.alloc()),
         0x0001_0000,
-        Symbols::new(rt.alloc()),
+        Symbols::of_source(rt.alloc(), b""),
     );
     assert_eq!(rt; image.entry(), 0x0004_0000);
     Ok(())
