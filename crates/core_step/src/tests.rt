@@ -17,7 +17,12 @@ fn boots_with_its_image(rt: HostRuntime) -> Result<(), Fail> {
     let plan = NodePlan {
         number: 0,
         id: 0,
-        image: Image::of(code, bytes, 0x0001_0000, Symbols::new(rt.alloc())),
+        image: Image::of(
+            code,
+            bytes,
+            0x0001_0000,
+            Symbols::of_source(rt.alloc(), b""),
+        ),
         ways: [0; 16],
     };
     let core = Core::boot(rt.alloc(), &plan, &NO_GAPS)?;
@@ -39,7 +44,7 @@ fn halts_where_no_code_stands(rt: HostRuntime) -> Result<(), Fail> {
             Vec::new(rt.alloc()),
             Vec::new(rt.alloc()),
             0x0001_0000,
-            Symbols::new(rt.alloc()),
+            Symbols::of_source(rt.alloc(), b""),
         ),
         ways: [0; 16],
     };
@@ -80,7 +85,12 @@ fn sends_a_packet(rt: HostRuntime) -> Result<(), Fail> {
     let plan = NodePlan {
         number: 0,
         id: 3,
-        image: Image::of(code, bytes, 0x0001_0004, Symbols::new(rt.alloc())),
+        image: Image::of(
+            code,
+            bytes,
+            0x0001_0004,
+            Symbols::of_source(rt.alloc(), b""),
+        ),
         ways: [1; 16],
     };
     let mut core = Core::boot(rt.alloc(), &plan, &FOUR_SLOTS)?;

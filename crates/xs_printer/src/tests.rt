@@ -8,7 +8,7 @@ fn prints_an_image_without_anything(rt: HostRuntime) -> Result<(), Fail> {
         Vec::new(rt.alloc()),
         Vec::new(rt.alloc()),
         0x0001_0000,
-        Symbols::new(rt.alloc()),
+        Symbols::of_source(rt.alloc(), b""),
     );
     let text = print_image(rt.alloc(), &image)?;
     assert_eq!(rt; text.bytes(), b".data\n.cp\n".as_slice());
@@ -24,7 +24,7 @@ fn prints_labels_where_they_stand(rt: HostRuntime) -> Result<(), Fail> {
     let mut bytes = Vec::new(rt.alloc());
     bytes.push(1)?;
     bytes.push(255)?;
-    let mut labels = Symbols::new(rt.alloc());
+    let mut labels = Symbols::of_source(rt.alloc(), b"");
     labels.define(rt.alloc(), b"main", 0x0004_0000)?;
     labels.define(rt.alloc(), b"loop", 0x0004_0000)?;
     labels.define(rt.alloc(), b".x$", 0x0004_0008)?;
@@ -52,7 +52,7 @@ fn prints_constants_from_cp_at_on(rt: HostRuntime) -> Result<(), Fail> {
     bytes.push(10)?;
     bytes.push(99)?;
     bytes.push(100)?;
-    let mut labels = Symbols::new(rt.alloc());
+    let mut labels = Symbols::of_source(rt.alloc(), b"");
     labels.define(rt.alloc(), b"k", 0x0001_0004)?;
     labels.define(rt.alloc(), b"e", 0x0001_0005)?;
     let image = Image::of(code, bytes, 0x0001_0004, labels);
