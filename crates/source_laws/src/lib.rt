@@ -1,8 +1,9 @@
 //! Laws of what a source text stands for: they hold for every text and every image. See docs/ASSEMBLY.md.
 #![tactic(auto)]
 
-ghost use Rattle.std.specs.Prelude.{ℕ, ◌≡◌, ◌<◌, None, List, map};
+ghost use Rattle.std.specs.Prelude.{ℕ, ◌≡◌, ◌<◌, None, List, map, IsTrue};
 ghost use Rattle.std.specs.List.{AllByRecursion};
+ghost use Rattle.xs_text.specs.Tokens.{is_name};
 ghost use Rattle.xs_instructions.specs.Image.{ImageRec, IsImage};
 ghost use Rattle.source_model.specs.declared.AsmKind.{AsmKind};
 ghost use Rattle.source_model.specs.Canonical.{canonical};
@@ -31,6 +32,11 @@ pub fn first_fault_decides()
 pub fn sources_make_images()
     ensures of_text { (text : List ℕ) (image : ImageRec) → assembled text ≡ Image image → IsImage image }
     ensures of_lines { (ls : List (List ℕ)) → first_fault (whole_of (map line_of ls)) nothing_yet 1 (map line_of ls) ≡ None → IsImage (image_of (whole_of (map line_of ls)) (map line_of ls)) }
+{}
+
+/// The labels of a line are names, whatever its bytes. See docs/ASSEMBLY.md.
+pub fn labels_are_names()
+    ensures { (bytes : List ℕ) → AllByRecursion (λ name. IsTrue (is_name name)) (line_of bytes).labels }
 {}
 
 /// The canonical text of an image is read as this image, whatever the image. See docs/OUTPUT.md.
