@@ -1,4 +1,6 @@
 pub mod NameTable
+pub mod Fronts
+pub mod Addresses
 pub mod Steps
 pub mod DefineSteps
 pub mod LabelSteps

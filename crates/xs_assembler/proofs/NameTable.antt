@@ -1,90 +1,153 @@
 -- A table of names finds what the labels have, also with a label more.
-use Rattle.std.proofs.Common.{◌≡◌, ℕ, Bool, true, false, cond, if◌then◌else◌, ◌&&◌, ◌||◌, ◌==◌, List, [], ◌∷◌, ◌++◌, Option, Some, None, refl, sym, ap, ◌∙◌, subst}
-use Rattle.std.specs.Prelude.{bytes_eq, is_some}
-use Rattle.std.specs.BTreeMap.{BTreeMap, get_by, is_at}
-use denote.Ref.{Bor}
-use Rattle.std.specs.Cmp.Lexicographic.{slice_cmp}
-use Rattle.std.specs.Ordering.{nat_cmp}
-use Rattle.std.specs.Map.{update, lookup}
+use Rattle.std.proofs.Common.{◌≡◌, ℕ, zero, suc, ◌+◌, Bool, true, false, if◌then◌else◌, ◌||◌, List, [], ◌∷◌, ◌++◌, length, take, Option, Some, None, option_map, refl, sym, ap, ◌∙◌, arith, add-one, nat_lt, length-append}
+use Rattle.std.specs.Prelude.{is_some, is_none, slice_get, option_and_then}
 use Rattle.std.proofs.lemmas.Bool.{cond-true, cond-false}
+use Rattle.std.proofs.lemmas.Bool.Decides.{nat_tests}
 use Rattle.std.proofs.Math.Bool.{or-true}
-use Rattle.std.proofs.lemmas.Slice.Eq.{bytes_eq-Decides}
-use Rattle.xs_instructions.specs.Image.{is_reserved}
+use Rattle.xs_instructions.specs.Image.{Symbol, is_reserved, address_of, number_from, number_of, defined}
 use Rattle.xs_instructions.specs.Words.{same_name}
 use Rattle.source_model.specs.declared.layout.Place.{Place}
 use Rattle.source_model.specs.Layout.{Label, place_of, define}
-use Rattle.xs_assembler.specs.declared.names.Label.{Label as ReadLabel}
-use Rattle.xs_assembler.specs.Names.{Finds, read_label, labels_in}
-use Rattle.std.proofs.lemmas.List.{map-append}
+use Rattle.xs_assembler.specs.Names.{labels_at}
 
-same_is_eq : (a b : List ℕ) → same_name a b ≡ bytes_eq a b
-same_is_eq [] [] = refl
-same_is_eq [] (d ∷ ds) = refl
-same_is_eq (c ∷ cs) [] = refl
-same_is_eq (c ∷ cs) (d ∷ ds) = ap (λ b. (c == d) && b) (same_is_eq cs ds)
+-- numbers, where one symbol more stands in front
 
-same_means : (a b : List ℕ) → same_name a b ≡ true → a ≡ b
-same_means a b e = (bytes_eq-Decides a b).0 (sym (same_is_eq a b) ∙ e)
+abbrev after : Option ℕ → Option ℕ
+after o = option_map (λ k. k + 1) o
 
-same_self : (a : List ℕ) → same_name a a ≡ true
-same_self a = same_is_eq a a ∙ (bytes_eq-Decides a a).1 refl
+after_step : (b : Bool) (k : ℕ) (o p : Option ℕ) → p ≡ after o → (if b then Some (k + 1) else p) ≡ after (if b then Some k else o)
+after_step true k o p e = refl
+after_step false k o p e = e
 
-cond_none : (b : Bool) (x : Place) (o : Option Place) → (if b then Some x else o) ≡ None → (b ≡ false) × (o ≡ None)
-cond_none true x o e = cc
-cond_none false x o e = (refl, e)
+number_from-after : (k : ℕ) (symbols : List Symbol) (name : List ℕ) → number_from (k + 1) symbols name ≡ after (number_from k symbols name)
+number_from-after k [] name = refl
+number_from-after k (s ∷ symbols) name = after_step (same_name s.0 name) k _ _ (number_from-after (k + 1) symbols name)
 
--- a name that has no place is not the first label's
-other_name : (b : Bool) (name cs : List ℕ) (label : List ℕ) → bytes_eq name cs ≡ b → same_name label name ≡ false → same_name label cs ≡ true → b ≡ false
-other_name false name cs label e other same = refl
-other_name true name cs label e other same =
-    let is : name ≡ cs = (bytes_eq-Decides name cs).0 e in
-    let found : same_name label name ≡ true = ap (λ n. same_name label n) is ∙ same in
-    cc
+number_of-after : (symbols : List Symbol) (name : List ℕ) → number_from 1 symbols name ≡ after (number_of symbols name)
+number_of-after symbols name = number_from-after 0 symbols name
 
-pushed_step : (b c : Bool) (x y : Place) (o p : Option Place) → (b ≡ true → c ≡ false) → p ≡ cond c (Some y) o → (if b then Some x else p) ≡ cond c (Some y) (if b then Some x else o)
-pushed_step true c x y o p apart e = sym (cond-false c _ _ (apart refl))
-pushed_step false c x y o p apart e = e
+-- the place of a name
 
--- with a label more, that name has its place, and each other name what it had
-pushed : (name : List ℕ) (place : Place) (labels : List Label) (cs : List ℕ) → place_of labels name ≡ None → place_of (labels ++ (name, place) ∷ []) cs ≡ cond (bytes_eq name cs) (Some place) (place_of labels cs)
+read_after : (p : Place) (places : List Place) (o : Option ℕ) → option_and_then (slice_get (p ∷ places)) (after o) ≡ option_and_then (slice_get places) o
+read_after p places None = refl
+read_after p places (Some k) = rw (add-one k) refl
+
+find_step : (b : Bool) (p : Place) (places : List Place) (o q : Option ℕ) (r : Option Place) → q ≡ after o → option_and_then (slice_get places) o ≡ r
+    → option_and_then (slice_get (p ∷ places)) (if b then Some 0 else q) ≡ (if b then Some p else r)
+find_step true p places o q r e f = refl
+find_step false p places o q r e f = ap (λ x. option_and_then (slice_get (p ∷ places)) x) e ∙ (read_after p places o ∙ f)
+
+pub find_is : (name : List ℕ) (symbols : List Symbol) (places : List Place) → length places ≡ length symbols
+    → option_and_then (slice_get places) (number_of symbols name) ≡ place_of (labels_at symbols places) name
 unfolding place_of
-pushed name place [] cs e = ap (λ b. if b then Some place else None) (same_is_eq name cs)
-pushed name place (label ∷ labels) cs e =
-    let parts = cond_none (same_name label.0 name) label.1 (place_of labels name) e in
-    pushed_step (same_name label.0 cs) (bytes_eq name cs) label.1 place (place_of labels cs) _
-    (λ same. other_name (bytes_eq name cs) name cs label.0 refl parts.0 same)
-    (pushed name place labels cs parts.1)
+find_is name [] places e = refl
+find_is name (s ∷ symbols) [] e = absurd (omega arith)
+find_is name (s ∷ symbols) (p ∷ places) e =
+    let long : length places ≡ length symbols = omega arith in
+    find_step (same_name s.0 name) p places _ _ _ (number_of-after symbols name) (find_is name symbols places long)
 
-pub define_new : (place : Place) (name : List ℕ) (labels : List Label) → is_reserved name ≡ false → place_of labels name ≡ None → define place name labels ≡ labels ++ (name, place) ∷ []
-define_new place name labels e f = cond-false _ _ _ (ap (λ b. b || is_some (place_of labels name)) e ∙ ap (λ o. is_some o) f)
+-- whether a name is among the first
+
+abbrev pub is_below : ℕ → Option ℕ → Bool
+is_below first None = false
+is_below first (Some k) = nat_lt k first
+
+none_below : (o : Option ℕ) → is_below 0 o ≡ false
+none_below None = refl
+none_below (Some k) = grind (arith, nat_tests)
+
+below_after : (n : ℕ) (o : Option ℕ) → is_below (suc n) (after o) ≡ is_below n o
+below_after n None = refl
+below_after n (Some k) = grind (arith, nat_tests)
+
+first_below : (n : ℕ) → nat_lt 0 (suc n) ≡ true
+first_below n = grind (arith, nat_tests)
+
+among_step : (b : Bool) (n : ℕ) (p : Place) (o q : Option ℕ) (r : Option Place) → q ≡ after o → is_below n o ≡ is_some r
+    → is_below (suc n) (if b then Some 0 else q) ≡ is_some (if b then Some p else r)
+among_step true n p o q r e f = first_below n
+among_step false n p o q r e f = ap (λ x. is_below (suc n) x) e ∙ (below_after n o ∙ f)
+
+pub among_is : (name : List ℕ) (first : ℕ) (symbols : List Symbol) (places : List Place) → length places ≡ length symbols
+    → is_below first (number_of symbols name) ≡ is_some (place_of (take first (labels_at symbols places)) name)
+unfolding place_of
+among_is name zero [] places e = refl
+among_is name (suc n) [] places e = refl
+among_is name first (s ∷ symbols) [] e = absurd (omega arith)
+among_is name zero (s ∷ symbols) (p ∷ places) e = none_below (number_of (s ∷ symbols) name)
+among_is name (suc n) (s ∷ symbols) (p ∷ places) e =
+    let long : length places ≡ length symbols = omega arith in
+    among_step (same_name s.0 name) n p _ _ _ (number_of-after symbols name) (among_is name n symbols places long)
+
+-- a label more
+
+pub define_new : (place : Place) (name : List ℕ) (labels : List Label) → is_reserved name ≡ false → is_some (place_of labels name) ≡ false → define place name labels ≡ labels ++ (name, place) ∷ []
+define_new place name labels e f = cond-false _ _ _ (ap (λ b. b || is_some (place_of labels name)) e ∙ f)
 
 pub define_old : (place : Place) (name : List ℕ) (labels : List Label) → is_some (place_of labels name) ≡ true → define place name labels ≡ labels
 define_old place name labels e = cond-true _ _ _ (ap (λ b. is_reserved name || b) e ∙ or-true (is_reserved name))
 
-pub not_some : (o : Option Place) → is_some o ≡ false → o ≡ None
-not_some (Some x) e = cc
-not_some None e = refl
+pub define_reserved : (place : Place) (name : List ℕ) (labels : List Label) → is_reserved name ≡ true → define place name labels ≡ labels
+define_reserved place name labels e = cond-true _ _ _ (ap (λ b. b || is_some (place_of labels name)) e)
 
-abbrev pub Table : Type 0
-Table = BTreeMap (Bor (List ℕ)) Place
+known_step : (b : Bool) (at : ℕ) (p : Place) (o : Option ℕ) (r : Option Place) → is_some o ≡ is_some r → is_some (if b then Some at else o) ≡ is_some (if b then Some p else r)
+known_step true at p o r e = refl
+known_step false at p o r e = e
 
-abbrev pub look_up : Table → List ℕ → Option Place
-look_up places name = get_by (λ k. slice_cmp nat_cmp name k.now) places
-
-pub finds_more : (places more : Table) (name : List ℕ) (place : Place) (labels : List Label)
-    → ((cs : List ℕ) → look_up more cs ≡ update bytes_eq (look_up places) name (Some place) cs)
-    → place_of labels name ≡ None → Finds places labels → Finds more (labels ++ (name, place) ∷ [])
-finds_more places more name place labels updates none finds = record {
-  found = λ cs. updates cs ∙ (ap (λ o. cond (bytes_eq name cs) (Some place) o) (finds.found cs) ∙ sym (pushed name place labels cs none));
-}
-
-pub finds_none : (places : Table) → places.entries ≡ [] → Finds places []
+known_is : (name : List ℕ) (symbols : List Symbol) (places : List Place) → length places ≡ length symbols → is_some (address_of symbols name) ≡ is_some (place_of (labels_at symbols places) name)
 unfolding place_of
-finds_none places e = record { found = λ name. ap (λ es. lookup (is_at (λ k. slice_cmp nat_cmp name k.now)) es) e }
+known_is name [] places e = refl
+known_is name (s ∷ symbols) [] e = absurd (omega arith)
+known_is name (s ∷ symbols) (p ∷ places) e =
+    let long : length places ≡ length symbols = omega arith in
+    known_step (same_name s.0 name) s.1 p _ _ (known_is name symbols places long)
 
-pub finds_same : (places : Table) (labels same : List Label) → labels ≡ same → Finds places same → Finds places labels
-finds_same places labels same e finds = subst (Finds places) (sym e) finds
+one_more : (symbols : List Symbol) (places : List Place) (s : Symbol) (p : Place) → length places ≡ length symbols
+    → labels_at (symbols ++ s ∷ []) (places ++ p ∷ []) ≡ labels_at symbols places ++ (s.0, p) ∷ []
+one_more [] [] s p e = refl
+one_more [] (q ∷ places) s p e = absurd (omega arith)
+one_more (t ∷ symbols) [] s p e = absurd (omega arith)
+one_more (t ∷ symbols) (q ∷ places) s p e =
+    let long : length places ≡ length symbols = omega arith in
+    ap (λ ls. (t.0, q) ∷ ls) (one_more symbols places s p long)
 
--- the labels with one more
-pub one_more : (old new : List ReadLabel) (label : ReadLabel) → new ≡ old ++ label ∷ [] → labels_in new ≡ labels_in old ++ (label.name.now, label.place) ∷ []
-one_more old new label e = ap labels_in e ∙ map-append read_label old (label ∷ [])
+some_of_none : (o : Option ℕ) (b : Bool) → b ≡ is_none o → is_some o ≡ (if b then false else true)
+some_of_none None b e = ap (λ x. if x then false else true) (sym e)
+some_of_none (Some x) b e = ap (λ x. if x then false else true) (sym e)
+
+-- the table after a name that it has, and after one that it has not
+module _ (name : List ℕ) (place : Place) (at : ℕ) (symbols more : List Symbol) (places : List Place) (long : length places ≡ length symbols) (free : is_reserved name ≡ false)
+    (is : more ≡ defined name at symbols) where
+  same_symbols : false ≡ is_none (address_of symbols name) → more ≡ symbols
+  same_symbols old = is ∙ cond-true _ _ _ (some_of_none (address_of symbols name) false old)
+
+  pub table_same : false ≡ is_none (address_of symbols name) → labels_at more places ≡ define place name (labels_at symbols places)
+  table_same old =
+      ap (λ ss. labels_at ss places) (same_symbols old)
+      ∙ sym (define_old place name (labels_at symbols places) (sym (known_is name symbols places long) ∙ some_of_none (address_of symbols name) false old))
+
+  pub long_same : false ≡ is_none (address_of symbols name) → length places ≡ length more
+  long_same old = long ∙ sym (ap length (same_symbols old))
+
+  more_symbols : true ≡ is_none (address_of symbols name) → more ≡ symbols ++ (name, at) ∷ []
+  more_symbols new = is ∙ cond-false _ _ _ (some_of_none (address_of symbols name) true new)
+
+  module _ (later : List Place) (pushed : later ≡ places ++ place ∷ []) where
+    pub table_more : true ≡ is_none (address_of symbols name) → labels_at more later ≡ define place name (labels_at symbols places)
+    table_more new =
+        ap (λ ss. labels_at ss later) (more_symbols new)
+        ∙ (ap (λ ps. labels_at (symbols ++ (name, at) ∷ []) ps) pushed
+        ∙ (one_more symbols places (name, at) place long
+        ∙ sym (define_new place name (labels_at symbols places) free (sym (known_is name symbols places long) ∙ some_of_none (address_of symbols name) true new))))
+
+    pub long_more : true ≡ is_none (address_of symbols name) → length later ≡ length more
+    long_more new = omega (arith, ap length (more_symbols new), ap length pushed, length-append symbols ((name, at) ∷ []), length-append places (place ∷ []))
+
+-- as many labels as places
+pub labels_at-length : (symbols : List Symbol) (places : List Place) → length places ≡ length symbols → length (labels_at symbols places) ≡ length places
+labels_at-length [] [] e = refl
+labels_at-length [] (p ∷ places) e = absurd (omega arith)
+labels_at-length (s ∷ symbols) [] e = absurd (omega arith)
+labels_at-length (s ∷ symbols) (p ∷ places) e =
+    let long : length places ≡ length symbols = omega arith in
+    ap suc (labels_at-length symbols places long)

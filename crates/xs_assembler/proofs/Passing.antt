@@ -14,6 +14,8 @@ use Rattle.source_model.specs.Source.{first_fault, fault_of_line, or_fault, code
 use Rattle.xs_assembler.specs.declared.output.Output.{Output}
 use Rattle.xs_assembler.specs.Output.{HasLine, HasLines}
 use Rattle.xs_assembler.specs.Passes.{source_lines, AreWithin}
+use Rattle.xs_assembler.specs.Names.{IsFront}
+use Rattle.xs_assembler.proofs.Fronts.{stands_in_front}
 use Rattle.xs_assembler.proofs.Sizes.{line_adds}
 
 -- lengths
@@ -152,14 +154,16 @@ whole_done text reading sofar h e = sym (ap (λ ls. after_lines sofar ls) (left_
 
 pub record OutputSoFar (whole : Sofar) (text : List ℕ) (reading : Reading) (before : Sofar) (output : Output) : Type 0 where
   pub base : SoFar text reading before.layout
+  pub rest : after_lines before (left_in reading) ≡ whole
   pub fault : first_fault whole before (reading.number + 1) (left_in reading) ≡ first_fault whole nothing_yet 1 (source_lines text)
   pub code : output.code.items ++ code_of_lines whole before (left_in reading) ≡ code_of_lines whole nothing_yet (source_lines text)
   pub data_bytes : output.data_bytes.items ++ bytes_of_lines Data whole before (left_in reading) ≡ bytes_of_lines Data whole nothing_yet (source_lines text)
   pub constant_bytes : output.constant_bytes.items ++ bytes_of_lines Constants whole before (left_in reading) ≡ bytes_of_lines Constants whole nothing_yet (source_lines text)
 
-pub output_first : (whole : Sofar) (text : List ℕ) (output : Output) → output.code.items ≡ [] → output.data_bytes.items ≡ [] → output.constant_bytes.items ≡ [] → OutputSoFar whole text (start_of text) nothing_yet output
-output_first whole text output e f g = record {
+pub output_first : (whole : Sofar) (text : List ℕ) (output : Output) → whole ≡ whole_of (source_lines text) → output.code.items ≡ [] → output.data_bytes.items ≡ [] → output.constant_bytes.items ≡ [] → OutputSoFar whole text (start_of text) nothing_yet output
+output_first whole text output is e f g = record {
   base = sofar_first text;
+  rest = sym is;
   fault = refl;
   code = ap (λ xs. xs ++ code_of_lines whole nothing_yet (source_lines text)) e;
   data_bytes = ap (λ xs. xs ++ bytes_of_lines Data whole nothing_yet (source_lines text)) f;
@@ -194,12 +198,24 @@ bytes_of_lines-nil section whole before = refl
 grown : {A : Type 0} (old new more rest all whole : List A) → new ≡ old ++ more → all ≡ more ++ rest → old ++ all ≡ whole → new ++ rest ≡ whole
 grown old new more rest all whole e f h = ap (λ xs. xs ++ rest) e ∙ (append_assoc old more rest ∙ (ap (λ xs. old ++ xs) (sym f) ∙ h))
 
+rest_next : (whole : Sofar) (text : List ℕ) (old new : Reading) (span : Span) (line : Line) (before : Sofar) (output : Output) → OutputSoFar whole text old before output → Steps text old new span line
+    → after_lines (after_line before line) (left_in new) ≡ whole
+rest_next whole text old new span line before output h k =
+    sym (ap (λ ls. after_lines before ls) (left_next text old new span line h.base.of_text k) ∙ after_lines-cons before line (left_in new)) ∙ h.rest
+
+-- the labels after a line stand in front of those of all lines
+pub output_front : (whole : Sofar) (text : List ℕ) (old new : Reading) (span : Span) (line : Line) (before : Sofar) (output : Output) → OutputSoFar whole text old before output → Steps text old new span line
+    → IsFront (after_line before line).labels whole.labels
+output_front whole text old new span line before output h k =
+    stands_in_front (after_line before line) whole (left_in new) (rest_next whole text old new span line before output h k)
+
 pub output_next : (whole : Sofar) (text : List ℕ) (old new : Reading) (span : Span) (line : Line) (before after : Sofar) (output more : Output) → OutputSoFar whole text old before output → Steps text old new span line → new.number ≡ old.number + 1
     → fault_of_line whole before line ≡ None → after ≡ after_line before line → HasLine whole before line output more → OutputSoFar whole text new after more
 output_next whole text old new span line before after output more h k number none is has =
     let left = left_next text old new span line h.base.of_text k in
     let next : OutputSoFar whole text new (after_line before line) more = record {
       base = sofar_next text old new span line before h.base k;
+      rest = rest_next whole text old new span line before output h k;
       fault =
           ap (λ n. first_fault whole (after_line before line) (n + 1) (left_in new)) number
           ∙ (sym (ap (λ ls. first_fault whole before (old.number + 1) ls) left

@@ -1,20 +1,26 @@
 -- The table of names.
-use Rattle.std.specs.Prelude.{ℕ, ◌≡◌, List, map}
-use Rattle.std.specs.BTreeMap.{BTreeMap, get_by}
-use Rattle.std.specs.Cmp.Lexicographic.{slice_cmp}
-use Rattle.std.specs.Ordering.{nat_cmp}
-use denote.Ref.{Bor}
+use Rattle.std.specs.Prelude.{ℕ, ◌≡◌, List, [], ◌∷◌, length, take, IsTrue}
+use Rattle.std.specs.List.{AllByRecursion}
+use Rattle.xs_text.specs.Tokens.{is_name}
+use Rattle.xs_instructions.specs.Image.{Symbol}
 use Rattle.source_model.specs.declared.layout.Place.{Place}
-use Rattle.source_model.specs.Layout as model
-use Rattle.source_model.specs.Layout.{place_of}
-use Rattle.xs_assembler.specs.declared.names.Label.{Label}
+use Rattle.source_model.specs.Layout.{Label}
 
-abbrev pub read_label : Label → model.Label
-read_label label = (label.name.now, label.place)
+-- labels in the order of their definition, and the number that the hash of their names takes first
+pub record NameTable : Type 0 where
+  pub labels : List Label
+  pub key : ℕ
 
-abbrev pub labels_in : List Label → List model.Label
-labels_in labels = map read_label labels
+-- symbols that have no addresses yet, each with its place
+abbrev pub labels_at : List Symbol → List Place → List Label
+labels_at [] places = []
+labels_at (s ∷ symbols) [] = []
+labels_at (s ∷ symbols) (place ∷ places) = (s.0, place) ∷ labels_at symbols places
 
--- The table finds each name where the labels have it.
-pub record Finds (places : BTreeMap (Bor (List ℕ)) Place) (labels : List model.Label) : Type 0 where
-  pub found : (name : List ℕ) → get_by (λ k. slice_cmp nat_cmp name k.now) places ≡ place_of labels name
+-- the labels that stand in front of others
+abbrev pub IsFront : List Label → List Label → Type 0
+IsFront front labels = take (length front) labels ≡ front
+
+-- names that labels may have, unless they are reserved
+abbrev pub AreNames : List (List ℕ) → Type 0
+AreNames names = AllByRecursion (λ (name : List ℕ). IsTrue (is_name name)) names

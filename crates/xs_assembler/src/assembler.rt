@@ -1,6 +1,7 @@
 ghost use Rattle.std.specs.Prelude.{ℕ, ◌≡◌, ◌+◌, ◌^◌, ◌<◌, ◌≤◌, List, None, length, map, IfOk, IfErr, IfSome, OnOk};
 ghost use Rattle.std.specs.List.{AllByRecursion};
-ghost use Rattle.xs_instructions.specs.Image.{ImageRec, IsImage, Symbol, AreLabels};
+ghost use Rattle.xs_instructions.specs.Image.{ImageRec, IsImage, Symbol};
+ghost use Rattle.xs_instructions.specs.SourceHash.{source_key};
 ghost use Rattle.source_model.specs.declared.AsmKind.{AsmKind};
 ghost use Rattle.source_model.specs.Statement.{line_of};
 ghost use Rattle.source_model.specs.Layout.{nothing_yet, whole_of, section_length, added, after_line, address_in};
@@ -8,20 +9,21 @@ ghost use Rattle.source_model.specs.Source.{assembled, Image as ImageOf, Fault a
 ghost use Rattle.xs_assembler.specs.Assembles.{Assembles, FaultOf, FirstFault, GivesImage, GivesFault};
 ghost use Rattle.xs_assembler.specs.Contents.{code_in, bytes_in};
 ghost use Rattle.xs_assembler.specs.Lines.{line_value, says_of};
-ghost use Rattle.xs_assembler.specs.Names.{labels_in};
+ghost use Rattle.xs_assembler.specs.Names.{IsFront};
 ghost use Rattle.xs_assembler.specs.Output.{Grows, HasLine, HasLines};
 ghost use Rattle.xs_assembler.specs.Passes.{source_lines, AreWithin, image_with};
-ghost use Rattle.xs_assembler.specs.Sofar.{sofar_of};
+ghost use Rattle.xs_assembler.specs.Sofar.{before_of, sofar_of};
 
 use crate::asm_error::AsmError;
+use crate::before::Before;
 use crate::contents::{Content, resolve};
 use crate::faults::{Findings, fault_of_line};
 use crate::layouts::{section_length, section_start};
 use crate::lines::{Line, read_line};
-use crate::names::Label;
+use crate::names::Names;
 use crate::output::{Output, put_zeros};
 use crate::sofar::Sofar;
-use source_laws::sources_make_images;
+use source_laws::{labels_are_names, sources_make_images};
 use source_model::{AsmKind, Layout, Place, Section};
 use std::alloc::{AllocError, Global};
 use xs_instructions::{Image, Symbols};
@@ -41,17 +43,18 @@ pub fn assemble(alloc: Global, text: &[u8]) -> Result<Image, AsmError>
     let whole = read_whole(alloc, text)?;
     let output = read_output(alloc, text, &whole)?;
     sources_make_images();
-    Ok(make_image(alloc, &whole, output)?)
+    Ok(make_image(whole, output)?)
 }
 
 // What all lines say together. It reads past faulty lines, since a fault of a line may hang on later ones.
-fn read_whole(alloc: Global, text: &[u8]) -> Result<Sofar<'_>, AllocError>
+fn read_whole(alloc: Global, text: &[u8]) -> Result<Sofar, AllocError>
     requires { length text.now < 2 ^ 32 }
     ensures value { IfOk result (λ whole. sofar_of whole ≡ whole_of (source_lines text.now)) }
     ensures within { IfOk result (λ whole. AreWithin (2 ^ 50) whole.layout) }
+    ensures keyed { IfOk result (λ whole. whole.names.key ≡ source_key text.now) }
 {
     let mut lines = Lines::new(text);
-    let mut sofar = Sofar::new(alloc);
+    let mut sofar = Sofar::of_source(alloc, text);
     while let Some(line) = lines.next_line() {
         note_line(alloc, &mut sofar, &text[line.from..line.to])?;
     }
@@ -59,13 +62,15 @@ fn read_whole(alloc: Global, text: &[u8]) -> Result<Sofar<'_>, AllocError>
 }
 
 // Notes a line.
-fn note_line<'a>(alloc: Global, sofar: &mut Sofar<'a>, bytes: &'a [u8]) -> Result<(), AllocError>
+fn note_line(alloc: Global, sofar: &mut Sofar, bytes: &[u8]) -> Result<(), AllocError>
     requires before { AreWithin (2 ^ 50) sofar.old.layout }
     requires little { length bytes.now < 2 ^ 32 }
-    ensures { OnOk result (sofar_of sofar.new ≡ after_line (sofar_of sofar.old) (line_of bytes.now)) }
+    ensures noted { OnOk result (sofar_of sofar.new ≡ after_line (sofar_of sofar.old) (line_of bytes.now)) }
+    ensures keyed { sofar.new.names.key ≡ sofar.old.names.key }
 {
+    labels_are_names();
     let line = read_line(alloc, bytes)?;
-    sofar.note(&line)?;
+    sofar.note(alloc, &line)?;
     Ok(())
 }
 
@@ -73,16 +78,17 @@ fn note_line<'a>(alloc: Global, sofar: &mut Sofar<'a>, bytes: &'a [u8]) -> Resul
 fn read_output(alloc: Global, text: &[u8], whole: &Sofar) -> Result<Output, AsmError>
     requires small { length text.now < 2 ^ 32 }
     requires within { AreWithin (2 ^ 50) whole.now.layout }
+    requires whole { sofar_of whole.now ≡ whole_of (source_lines text.now) }
     ensures ok { IfOk result (λ _. first_fault (sofar_of whole.now) nothing_yet 1 (source_lines text.now) ≡ None) }
     ensures output { IfOk result (HasLines (sofar_of whole.now) nothing_yet (source_lines text.now)) }
     ensures fault { IfErr result (FirstFault (first_fault (sofar_of whole.now) nothing_yet 1 (source_lines text.now))) }
 {
     let mut lines = Lines::new(text);
-    let mut sofar = Sofar::new(alloc);
+    let mut before = Before::nothing();
     let mut output = Output::new(alloc);
     while let Some(line) = lines.next_line() {
         let bytes = &text[line.from..line.to];
-        if let Some(kind) = put_line(alloc, whole, &mut sofar, bytes, &mut output)? {
+        if let Some(kind) = put_line(alloc, whole, &mut before, bytes, &mut output)? {
             let line = line.number;
             return Err(AsmError::Fault { line, kind });
         }
@@ -91,53 +97,55 @@ fn read_output(alloc: Global, text: &[u8], whole: &Sofar) -> Result<Output, AsmE
 }
 
 // Notes a line, and puts what it adds, unless it has a fault, whose first kind it gives.
-fn put_line<'a>(
+fn put_line(
     alloc: Global,
     whole: &Sofar,
-    sofar: &mut Sofar<'a>,
-    bytes: &'a [u8],
+    before: &mut Before,
+    bytes: &[u8],
     output: &mut Output,
 ) -> Result<Option<AsmKind>, AllocError>
     requires whole { AreWithin (2 ^ 50) whole.now.layout }
-    requires before { AreWithin (2 ^ 50) sofar.old.layout }
+    requires before { AreWithin (2 ^ 50) before.old.layout }
     requires little { length bytes.now < 2 ^ 32 }
-    ensures fault { IfOk result (λ kind. kind ≡ fault_of_line (sofar_of whole.now) (sofar_of sofar.old) (line_of bytes.now)) }
-    ensures noted { OnOk result (sofar_of sofar.new ≡ after_line (sofar_of sofar.old) (line_of bytes.now)) }
-    ensures output { IfOk result (λ kind. kind ≡ None → HasLine (sofar_of whole.now) (sofar_of sofar.old) (line_of bytes.now) output.old output.new) }
+    requires front { IsFront (after_line (before_of whole.now.names.labels before.old) (line_of bytes.now)).labels whole.now.names.labels }
+    ensures fault { IfOk result (λ kind. kind ≡ fault_of_line (sofar_of whole.now) (before_of whole.now.names.labels before.old) (line_of bytes.now)) }
+    ensures noted { OnOk result (before_of whole.now.names.labels before.new ≡ after_line (before_of whole.now.names.labels before.old) (line_of bytes.now)) }
+    ensures output { IfOk result (λ kind. kind ≡ None → HasLine (sofar_of whole.now) (before_of whole.now.names.labels before.old) (line_of bytes.now) output.old output.new) }
 {
     let line = read_line(alloc, bytes)?;
     let content = resolve(alloc, whole, &line.statement.says)?;
-    let before = sofar.layout;
-    if let Some(kind) = note_and_judge(whole, sofar, &line, content.is_none())? {
+    let layout = before.layout;
+    if let Some(kind) = note_and_judge(whole, before, &line, content.is_none()) {
         return Ok(Some(kind));
     }
-    put_content(output, before, &content)?;
+    put_content(output, layout, &content)?;
     Ok(None)
 }
 
 // Notes a line, and gives the first kind of which it has a fault, by whether a value is out of range.
-fn note_and_judge<'a>(
+fn note_and_judge(
     whole: &Sofar,
-    sofar: &mut Sofar<'a>,
-    line: &Line<'a>,
+    before: &mut Before,
+    line: &Line,
     out_of_range: bool,
-) -> Result<Option<AsmKind>, AllocError>
-    requires before { AreWithin (2 ^ 50) sofar.old.layout }
-    requires after { AreWithin (2 ^ 51) (after_line (sofar_of sofar.old) (line_value line.now)).layout }
-    requires fits { section_length sofar.old.layout sofar.old.layout.section + added (section_length sofar.old.layout sofar.old.layout.section) (says_of line.now.statement.says) < 2 ^ 64 }
+) -> Option<AsmKind>
+    requires before { AreWithin (2 ^ 50) before.old.layout }
+    requires after { AreWithin (2 ^ 51) (after_line (before_of whole.now.names.labels before.old) (line_value line.now)).layout }
+    requires fits { section_length before.old.layout before.old.layout.section + added (section_length before.old.layout before.old.layout.section) (says_of line.now.statement.says) < 2 ^ 64 }
+    requires front { IsFront (after_line (before_of whole.now.names.labels before.old) (line_value line.now)).labels whole.now.names.labels }
     requires out { out_of_range ≡ is_out_of_range (sofar_of whole.now) (says_of line.now.statement.says) }
-    ensures fault { IfOk result (λ kind. kind ≡ fault_of_line (sofar_of whole.now) (sofar_of sofar.old) (line_value line.now)) }
-    ensures noted { OnOk result (sofar_of sofar.new ≡ after_line (sofar_of sofar.old) (line_value line.now)) }
+    ensures fault { result ≡ fault_of_line (sofar_of whole.now) (before_of whole.now.names.labels before.old) (line_value line.now) }
+    ensures noted { before_of whole.now.names.labels before.new ≡ after_line (before_of whole.now.names.labels before.old) (line_value line.now) }
 {
-    let section = sofar.layout.section;
-    let label_twice = sofar.note(line)?;
+    let section = before.layout.section;
+    let label_twice = before.note(&whole.names, line);
     let found = Findings {
         section,
         label_twice,
         out_of_range,
-        after: sofar.layout,
+        after: before.layout,
     };
-    Ok(fault_of_line(whole, line, found))
+    fault_of_line(whole, line, found)
 }
 
 // Puts what a line adds to the section in which it stands.
@@ -159,34 +167,35 @@ fn put_content(
 }
 
 // The image of what the lines give, where it keeps what every image keeps.
-fn make_image(alloc: Global, whole: &Sofar, output: Output) -> Result<Image, AllocError>
-    requires within { AreWithin (2 ^ 50) whole.now.layout }
-    requires kept { IsImage (image_with (sofar_of whole.now) output) }
-    ensures { IfOk result (λ image. image ≡ image_with (sofar_of whole.now) output) }
+fn make_image(whole: Sofar, output: Output) -> Result<Image, AllocError>
+    requires within { AreWithin (2 ^ 50) whole.layout }
+    requires kept { IsImage (image_with (sofar_of whole) output) }
+    ensures { IfOk result (λ image. image ≡ image_with (sofar_of whole) output) }
 {
+    let Sofar { layout, names } = whole;
     let Output {
         code,
         data_bytes,
         constant_bytes,
     } = output;
-    let symbols = symbols(alloc, whole.layout, whole.names.labels())?;
+    let symbols = symbols(layout, names);
     let bytes = together(data_bytes, &constant_bytes)?;
-    let cp_at = section_start(whole.layout, Section::Constants) as u32;
+    let cp_at = section_start(layout, Section::Constants) as u32;
     Ok(Image::of(code, bytes, cp_at, symbols))
 }
 
-// The symbols of the labels.
-fn symbols(alloc: Global, whole: Layout, labels: &[Label]) -> Result<Symbols, AllocError>
+// The names as symbols, each with the address of its place.
+fn symbols(whole: Layout, names: Names) -> Symbols
     requires within { AreWithin (2 ^ 50) whole }
-    requires names { AreLabels (map (symbol_of whole) (labels_in labels.now)) }
-    requires addresses { AllByRecursion (λ (s : Symbol). s.1 < 2 ^ 32) (map (symbol_of whole) (labels_in labels.now)) }
-    ensures { IfOk result (λ symbols. symbols ≡ map (symbol_of whole) (labels_in labels.now)) }
+    requires addresses { AllByRecursion (λ (s : Symbol). s.1 < 2 ^ 32) (map (symbol_of whole) names.labels) }
+    ensures labels { result.labels ≡ map (symbol_of whole) names.labels }
+    ensures keyed { result.key ≡ names.key }
 {
-    let mut symbols = Symbols::new(alloc);
-    for label in labels {
-        symbols.define(alloc, label.name, address(whole, label.place))?;
+    let (mut symbols, places) = names.into_parts();
+    for (k, place) in places.iter().enumerate() {
+        symbols.set_address(k, address(whole, *place));
     }
-    Ok(symbols)
+    symbols
 }
 
 // The address of a place.

@@ -4,6 +4,7 @@
 mod amount;
 mod asm_error;
 mod assembler;
+mod before;
 mod contents;
 mod faults;
 mod layouts;

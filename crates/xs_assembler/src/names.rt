@@ -1,78 +1,95 @@
-ghost use Rattle.std.specs.Prelude.{◌≡◌, [], OnOk, IfOk, is_some};
+ghost use Rattle.std.specs.Prelude.{◌≡◌, [], IsTrue, OnOk, is_some, length, take};
+ghost use Rattle.xs_text.specs.Tokens.{is_name};
+ghost use Rattle.xs_instructions.specs.SourceHash.{source_key};
 ghost use Rattle.source_model.specs.Layout.{define, place_of};
-ghost use Rattle.xs_assembler.specs.Names.{labels_in};
+ghost use Rattle.xs_assembler.specs.Names.{labels_at};
 
 use source_model::Place;
 use std::alloc::{AllocError, Global};
-use std::collections::BTreeMap;
 use std::marker::Model;
-use xs_instructions::is_reserved;
+use xs_instructions::{Symbols, is_reserved};
 
-// A name and where it stands.
-#[derive(Clone, Copy)]
-pub struct Label<'a> {
-    pub name: &'a [u8],
-    pub place: Place,
-}
-
-// Labels in the order of their definition, each name once. It looks names up in an order and by no hashes, so no choice
-// of names makes it slow.
+// Labels in the order of their definition, each name once. The names are kept as the image's symbols to be, which get
+// their addresses once all lines are read.
 #[derive(Drop)]
-pub struct Names<'a> {
-    labels: Vec<Label<'a>>,
-    places: BTreeMap<&'a [u8], Place>,
+pub struct Names {
+    symbols: Symbols,
+    places: Vec<Place>,
 }
 
-impl<'a> Model for Names<'a> {
-    ghost use Rattle.std.specs.Prelude.{List};
-    ghost use Rattle.source_model.specs.Layout.{Label};
-    ghost use Rattle.xs_assembler.specs.Names.{labels_in, Finds};
+impl Model for Names {
+    ghost use Rattle.std.specs.Prelude.{◌≡◌, length};
+    ghost use Rattle.xs_assembler.specs.Names.{NameTable, labels_at};
 
-    ghost Value = { List Label };
+    ghost Value = { NameTable };
 
-    ghost view = { λ n. labels_in n.labels.items };
+    ghost view = { λ n. record { labels = labels_at n.symbols.labels n.places.items; key = n.symbols.key } };
 
-    ghost invariant = { λ n. Finds n.places (labels_in n.labels.items) };
+    ghost invariant = { λ n. length n.places.items ≡ length n.symbols.labels };
 }
 
-impl<'a> Names<'a> {
-    // No names. It takes no memory.
-    pub fn new(alloc: Global) -> Names<'a>
-        ensures { result ≡ [] }
+impl Names {
+    // No names of this source yet. It takes no memory.
+    pub fn of_source(alloc: Global, source: &[u8]) -> Names
+        ensures empty { result.labels ≡ [] }
+        ensures keyed { result.key ≡ source_key source.now }
     {
         Names {
-            labels: Vec::new(alloc),
-            places: BTreeMap::new(alloc),
+            symbols: Symbols::of_source(alloc, source),
+            places: Vec::new(alloc),
         }
     }
 
     // Where the name stands, if it does.
     pub fn find(&self, name: &[u8]) -> Option<Place>
-        ensures { result ≡ place_of self.now name.now }
+        ensures { result ≡ place_of self.now.labels name.now }
     {
-        self.places.get(name).copied()
+        match self.symbols.number(name) {
+            Some(k) => Some(self.places[k]),
+            None => None,
+        }
     }
 
-    // Puts a label at the end, if its name may be a label's and has no place, and says whether it has one.
-    pub fn define(&mut self, name: &'a [u8], place: Place) -> Result<bool, AllocError>
-        ensures twice { IfOk result (λ twice. twice ≡ is_some (place_of self.old name.now)) }
-        ensures defined { OnOk result (self.new ≡ define place name.now self.old) }
+    // How many names there are.
+    pub fn count(&self) -> usize
+        ensures { result ≡ length self.now.labels }
     {
-        if self.find(name).is_some() {
-            return Ok(true);
-        }
-        if !is_reserved(name) {
-            self.labels.reserve(1)?;
-            self.places.insert(name, place)?;
-            self.labels.push(Label { name, place })?;
-        }
-        Ok(false)
+        self.symbols.count()
     }
 
-    // The labels in order.
-    pub fn labels(&self) -> &[Label<'a>]
-        ensures { labels_in result.now ≡ self.now }
+    // Whether one of the first labels has the name.
+    pub fn is_among(&self, first: usize, name: &[u8]) -> bool
+        ensures { result ≡ is_some (place_of (take first self.now.labels) name.now) }
     {
-        &self.labels
+        match self.symbols.number(name) {
+            Some(k) => k < first,
+            None => false,
+        }
+    }
+
+    // Puts a label at the end, if its name may be a label's and has no place.
+    pub fn define(&mut self, alloc: Global, name: &[u8], place: Place) -> Result<(), AllocError>
+        requires { IsTrue (is_name name.now) }
+        ensures defined { OnOk result (self.new.labels ≡ define place name.now self.old.labels) }
+        ensures keyed { self.new.key ≡ self.old.key }
+    {
+        if is_reserved(name) {
+            return Ok(());
+        }
+        self.places.reserve(1)?;
+        if self.symbols.define(alloc, name, 0)? {
+            self.places.push(place)?;
+        }
+        Ok(())
+    }
+
+    // The names as symbols without addresses, and the place of each.
+    pub fn into_parts(self) -> (Symbols, Vec<Place>)
+        ensures labels { labels_at result.0.labels result.1.items ≡ self.labels }
+        ensures places { length result.1.items ≡ length result.0.labels }
+        ensures keyed { result.0.key ≡ self.key }
+    {
+        let Names { symbols, places } = self;
+        (symbols, places)
     }
 }

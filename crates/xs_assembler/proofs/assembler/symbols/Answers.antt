@@ -1,23 +1,45 @@
-use Rattle.std.proofs.Common.{refl}
+use Rattle.std.proofs.Common.{◌≡◌, ◌<◌, ◌^◌, List, length, map, sym, ap, ◌∙◌, subst, arith}
+use Rattle.std.specs.List.{AllByRecursion}
+use Rattle.xs_instructions.specs.Image.{Symbol}
+use Rattle.source_model.specs.declared.layout.Place.{Place}
+use Rattle.source_model.specs.Layout.{Label}
 use Rattle.source_model.specs.Source.{symbol_of}
-use Rattle.xs_assembler.proofs.Labelling.{name_at, address_at, label_next, labels_end}
+use Rattle.xs_assembler.specs.Names.{labels_at}
+use Rattle.xs_assembler.proofs.Addresses.{addressed_next, addressed-length, addressed_all, address_small}
 use Rattle.xs_assembler.proofs.assembler.symbols.Goals as goal
 
-pub loop-label-init : goal.loop-label-init
-loop-label-init c = rw c.new-symbols.ensures.empty refl
+pub address-requires-clause-small : goal.address-requires-clause-small
+address-requires-clause-small c =
+    let symbols = c.into_parts-symbols.result.0.labels in
+    let places = c.deref-place-items.result.now in
+    let is = ap (λ (ps : List Place). labels_at symbols ps) c.deref-place-items.ensures.value ∙ c.into_parts-symbols.ensures.labels in
+    let long = ap (λ (ps : List Place). length ps) c.deref-place-items.ensures.value ∙ c.into_parts-symbols.ensures.places in
+    let Small : List Label → Type 0 = λ ls. AllByRecursion (λ (s : Symbol). s.1 < 2 ^ 32) (map (symbol_of c.args.whole) ls) in
+    address_small c.args.whole c.loop-k.k symbols places _ c.loop-k-test.true long (subst Small (sym is) c.requires.addresses)
 
-pub address-requires : goal.address-requires
-address-requires c = record {
-  within = c.requires.within;
-  small = address_at (symbol_of c.args.whole) c.args.labels.now c.loop-label.label-index _ _ _ c.loop-label-test.true c.loop-label.invariant c.requires.addresses;
-}
+pub set_address-requires : goal.set_address-requires
+set_address-requires c =
+    let symbols = c.into_parts-symbols.result.0.labels in
+    let places = c.deref-place-items.result.now in
+    let long : length places ≡ length symbols = ap (λ (ps : List Place). length ps) c.deref-place-items.ensures.value ∙ c.into_parts-symbols.ensures.places in
+    omega (arith, ap (λ (ss : List Symbol). length ss) c.loop-k.invariant.0, addressed-length c.args.whole c.loop-k.k symbols places, long, c.loop-k-test.true)
 
-pub define-requires : goal.define-requires
-define-requires c = name_at (symbol_of c.args.whole) c.args.labels.now c.loop-label.label-index _ _ _ c.loop-label-test.true c.loop-label.invariant c.requires.names
+pub loop-k-preserved : goal.loop-k-preserved
+loop-k-preserved c =
+    let symbols = c.into_parts-symbols.result.0.labels in
+    let places = c.deref-place-items.result.now in
+    let long = ap (λ (ps : List Place). length ps) c.deref-place-items.ensures.value ∙ c.into_parts-symbols.ensures.places in (
+      addressed_next c.args.whole c.loop-k.k symbols places _ c.loop-k.symbols.labels c.set_address.new.self.labels c.address.result c.loop-k-test.true long
+          c.loop-k.invariant.0
+          c.address.ensures
+          c.set_address.ensures.address,
+      c.set_address.ensures.keyed ∙ c.loop-k.invariant.1,
+    )
 
-pub loop-label-preserved : goal.loop-label-preserved
-loop-label-preserved c =
-    label_next (symbol_of c.args.whole) c.args.labels.now c.loop-label.label-index _ _ _ _ _ _ c.loop-label-test.true c.loop-label.invariant c.in_ok-define.ensures.ok refl c.address.ensures
-
-pub returns : goal.returns
-returns c = labels_end (symbol_of c.args.whole) c.args.labels.now c.loop-label.label-index _ _ c.loop-label-test.false c.loop-label.invariant
+pub returns-clause-labels : goal.returns-clause-labels
+returns-clause-labels c =
+    let symbols = c.into_parts-symbols.result.0.labels in
+    let places = c.deref-place-items.result.now in
+    let is = ap (λ (ps : List Place). labels_at symbols ps) c.deref-place-items.ensures.value ∙ c.into_parts-symbols.ensures.labels in
+    let long = ap (λ (ps : List Place). length ps) c.deref-place-items.ensures.value ∙ c.into_parts-symbols.ensures.places in
+    c.loop-k.invariant.0 ∙ (addressed_all c.args.whole c.loop-k.k symbols places c.loop-k-test.false long ∙ ap (map (symbol_of c.args.whole)) is)

@@ -1,7 +1,6 @@
-use Rattle.std.proofs.Common.{◌≡◌, ◌++◌, map, drop}
-use Rattle.source_model.specs.Source.{symbol_of}
-use Rattle.xs_assembler.specs.Names.{labels_in}
+use Rattle.std.proofs.Common.{◌≡◌}
+use Rattle.xs_assembler.proofs.Addresses.{addressed}
 use Rattle.xs_assembler.proofs.assembler.symbols.Given as goal
 
-abbrev pub invariant-loop-label : goal.invariant-loop-label
-invariant-loop-label l = l.symbols ++ map (symbol_of l.whole) (labels_in (drop l.label-index l.labels)) ≡ map (symbol_of l.whole) (labels_in l.labels)
+abbrev pub invariant-loop-k : goal.invariant-loop-k
+invariant-loop-k l = (l.symbols.labels ≡ addressed l.whole l.k l.initial.symbols.labels l.place-items) × (l.symbols.key ≡ l.initial.symbols.key)

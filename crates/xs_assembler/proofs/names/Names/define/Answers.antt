@@ -1,17 +1,25 @@
-use Rattle.std.proofs.Common.{◌≡◌, ◌++◌, ◌∷◌, [], None, sym, ap, ◌∙◌}
-use Rattle.std.proofs.lemmas.Map.Text.{btree_map_updates_str}
-use Rattle.source_model.specs.Layout.{place_of}
-use Rattle.xs_assembler.specs.Names.{labels_in}
-use Rattle.xs_assembler.proofs.NameTable.{finds_more, finds_same, one_more, not_some}
+use Rattle.std.proofs.Common.{List, ◌++◌, ◌∷◌, [], sym, ap, ◌∙◌}
+use Rattle.source_model.specs.declared.layout.Place.{Place}
+use Rattle.source_model.specs.Layout.{define}
+use Rattle.xs_assembler.specs.Names.{NameTable, labels_at}
+use Rattle.xs_assembler.proofs.NameTable.{table_same, table_more}
 use Rattle.xs_assembler.proofs.names.Names.define.Goals as goal
 
-pub invariant_of-self-in-Continue-branch-3 : goal.invariant_of-self-in-Continue-branch-3
-invariant_of-self-in-Continue-branch-3 c =
-    let absent = not_some c.find.result (sym c.is_some.ensures ∙ c.if-is_some.false) in
-    let none : place_of (labels_in c.self.inside.labels.items) c.args.name.now ≡ None = cc (absent, c.find.ensures, c.self.view_is) in
-    let items = c.in_ok-push.ensures.items ∙ ap (λ ls. ls ++ record { name = c.args.name; place = c.args.place } ∷ []) c.in_ok-reserve.ensures.items in
-    finds_same c.insert.new.self _ _ (one_more c.self.inside.labels.items c.push.new.self.items (record { name = c.args.name; place = c.args.place }) items)
-    (finds_more c.self.inside.places c.insert.new.self c.args.name.now c.args.place (labels_in c.self.inside.labels.items)
-    (btree_map_updates_str c.args.name.now c.self.inside.places c.insert.new.self _ c.in_ok-insert.ensures.updates)
-    none
-    c.self.invariant)
+pub returns-in_ok-push-clause-defined : goal.returns-in_ok-push-clause-defined
+returns-in_ok-push-clause-defined c =
+    table_more c.args.name.now c.args.place 0 c.self.inside.symbols.labels c.define.new.self.labels c.self.inside.places.items c.self.invariant
+    (sym c.is_reserved.ensures.value ∙ c.if-is_reserved.false)
+    c.in_ok-define.ensures.ok
+    c.push.new.self.items
+    (c.in_ok-push.ensures.items ∙ ap (λ (ps : List Place). ps ++ c.args.place ∷ []) c.in_ok-reserve.ensures.items)
+    (sym c.if-branch.true ∙ c.in_ok-define.ensures.is_new)
+    ∙ ap (λ (t : NameTable). define c.args.place c.args.name.now t.labels) c.self.view_is
+
+pub returns-else-branch-clause-defined : goal.returns-else-branch-clause-defined
+returns-else-branch-clause-defined c =
+    ap (λ (ps : List Place). labels_at c.define.new.self.labels ps) c.in_ok-reserve.ensures.items
+    ∙ (table_same c.args.name.now c.args.place 0 c.self.inside.symbols.labels c.define.new.self.labels c.self.inside.places.items c.self.invariant
+    (sym c.is_reserved.ensures.value ∙ c.if-is_reserved.false)
+    c.in_ok-define.ensures.ok
+    (sym c.if-branch.false ∙ c.in_ok-define.ensures.is_new)
+    ∙ ap (λ (t : NameTable). define c.args.place c.args.name.now t.labels) c.self.view_is)
