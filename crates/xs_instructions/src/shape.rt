@@ -29,6 +29,12 @@ pub enum Piece {
 /// The text of an instruction: its row's name, and then its operands with the fixed words and marks between them.
 pub type Form = ArrayVec<Piece, 16>;
 
+impl Default for Shape {
+    fn default() -> Shape {
+        Shape::Num
+    }
+}
+
 impl Default for Piece {
     fn default() -> Piece {
         Piece::Num(0)
