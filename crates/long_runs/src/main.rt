@@ -1,0 +1,38 @@
+//! Runs and texts that are long: many slots, many events and large sources, which the program makes by rule, and so what is to
+//! be written. Each is given to the program's call, and the answer compared. What the rules make was worked out by hand, from
+//! docs/MACHINE.md, docs/LINKS.md, docs/ASSEMBLY.md and docs/OUTPUT.md.
+#![tactic(auto)]
+
+mod big_source;
+mod counter;
+mod stream;
+mod trial;
+
+use anyhow::Result;
+use std::alloc::AllocError;
+use trial::Trial;
+
+fn main(rt: HostRuntime) -> Result<()> {
+    let alloc = rt.alloc();
+    tell(&rt, "two nodes over 100,000 slots", stream::trial(alloc))?;
+    tell(&rt, "one node over 1,000,000 slots", counter::trial(alloc))?;
+    tell(&rt, "check of a big source", big_source::check(alloc))?;
+    tell(&rt, "run of a big source", big_source::run(alloc))?;
+    tell(
+        &rt,
+        "a fault in the last line of a big source",
+        big_source::fault(alloc),
+    )?;
+    Ok(())
+}
+
+// Tells whether the program answers as the trial says.
+fn tell(rt: &HostRuntime, name: &str, trial: Result<Trial, AllocError>) -> Result<()> {
+    let verdict = if trial?.is_as_expected(rt.alloc())? {
+        "as expected"
+    } else {
+        "differs"
+    };
+    println!(rt; "{name}: {verdict}")?;
+    Ok(())
+}
