@@ -10,10 +10,9 @@ use Rattle.source_model.specs.declared.layout.Place.{Place}
 use Rattle.source_model.specs.Statement.{Line}
 use Rattle.source_model.specs.Layout.{Label, place_of, Sofar, define, define_all, after_line, after_lines, here}
 use Rattle.source_model.specs.Source.{defines_twice}
-use Rattle.xs_assembler.specs.Lines.{names_in}
 use Rattle.xs_assembler.specs.Names.{AreNames, IsFront}
 use Rattle.xs_assembler.proofs.NameTable.{define_new}
-use Rattle.xs_assembler.proofs.DefineSteps.{Name, defined_next, twice_next}
+use Rattle.xs_assembler.proofs.LabelSteps.{defined_next, twice_next}
 
 front_split : (front labels : List Label) → IsFront front labels → labels ≡ front ++ drop (length front) labels
 front_split front labels h = sym (take-append-drop (length front) labels) ∙ ap (λ ls. ls ++ drop (length front) labels) h
@@ -73,35 +72,28 @@ define_all-cons : (place : Place) (name : List ℕ) (names : List (List ℕ)) (l
 unfolding define_all
 define_all-cons place name names labels = refl
 
-step_front : (place : Place) (xs : List Name) (i : ℕ) (d : Name) (before all labels : List Label) → i < length xs → define_all place (names_in (drop i xs)) before ≡ all → IsFront all labels
-    → IsFront (define place (get_or xs i d).now before) labels
-step_front place xs i d before all labels h is front =
-    define_all_front place (names_in (drop (i + 1) xs)) (define place (get_or xs i d).now before) labels
+step_front : (place : Place) (name : List ℕ) (before after : List (List ℕ)) (old all labels : List Label) → before ≡ name ∷ after → define_all place before old ≡ all → IsFront all labels
+    → IsFront (define place name old) labels
+step_front place name before after old all labels is inv front =
+    define_all_front place after (define place name old) labels
     (subst (λ (ls : List Label). IsFront ls labels)
-    (sym is ∙ (ap (λ l. define_all place (names_in l) before) (drop_more xs i d h) ∙ define_all-cons place (get_or xs i d).now (names_in (drop (i + 1) xs)) before))
+    (sym inv ∙ (ap (λ ns. define_all place ns old) is ∙ define_all-cons place name after old))
     front)
-
-pub name_at : (xs : List Name) (i : ℕ) (d : Name) → i < length xs → AreNames (names_in xs) → IsTrue (is_name (get_or xs i d).now)
-name_at [] i d h k = absurd (omega arith)
-name_at (x ∷ xs) zero d h k = k.0
-name_at (x ∷ xs) (suc i) d h k = let less : i < length xs = omega arith in name_at xs i d less k.1
 
 -- the same where the layout is known to be another
 
-pub step_front_at : (now start : Layout) (xs : List Name) (i : ℕ) (d : Name) (before all labels : List Label) → now ≡ start → i < length xs → define_all (here start) (names_in (drop i xs)) before ≡ all → IsFront all labels
-    → IsFront (define (here now) (get_or xs i d).now before) labels
-step_front_at now start xs i d before all labels e h is front =
-    let P : Layout → Type 0 = λ l. IsFront (define (here l) (get_or xs i d).now before) labels in
-    subst P (sym e) (step_front (here start) xs i d before all labels h is front)
+pub step_front_at : (now start : Layout) (name : List ℕ) (before after : List (List ℕ)) (old all labels : List Label) → now ≡ start → before ≡ name ∷ after → define_all (here start) before old ≡ all → IsFront all labels
+    → IsFront (define (here now) name old) labels
+step_front_at now start name before after old all labels e is inv front =
+    subst (λ (l : Layout). IsFront (define (here l) name old) labels) (sym e) (step_front (here start) name before after old all labels is inv front)
 
-pub defined_next_at : (now start : Layout) (xs : List Name) (i : ℕ) (d : Name) (old new all : List Label) → now ≡ start → i < length xs → new ≡ define (here now) (get_or xs i d).now old
-    → define_all (here start) (names_in (drop i xs)) old ≡ all → define_all (here start) (names_in (drop (i + 1) xs)) new ≡ all
-defined_next_at now start xs i d old new all e h is inv =
-    defined_next (here start) xs i d old new all h (is ∙ ap (λ (l : Layout). define (here l) (get_or xs i d).now old) e) inv
+pub defined_next_at : (now start : Layout) (name : List ℕ) (before after : List (List ℕ)) (old new all : List Label) → now ≡ start → before ≡ name ∷ after → new ≡ define (here now) name old
+    → define_all (here start) before old ≡ all → define_all (here start) after new ≡ all
+defined_next_at now start name before after old new all e is defines inv =
+    defined_next (here start) name before after old new all is (defines ∙ ap (λ (l : Layout). define (here l) name old) e) inv
 
-pub twice_next_at : (now start : Layout) (xs : List Name) (i : ℕ) (d : Name) (old new : List Label) (before found after all : Bool) → now ≡ start → i < length xs → new ≡ define (here now) (get_or xs i d).now old
-    → found ≡ is_some (place_of old (get_or xs i d).now) → after ≡ (before || found)
-    → (before || defines_twice (here start) old (names_in (drop i xs))) ≡ all
-    → (after || defines_twice (here start) new (names_in (drop (i + 1) xs))) ≡ all
-twice_next_at now start xs i d old new before found after all e h is finds joins inv =
-    twice_next (here start) xs i d old new before found after all h (is ∙ ap (λ (l : Layout). define (here l) (get_or xs i d).now old) e) finds joins inv
+pub twice_next_at : (now start : Layout) (name : List ℕ) (before after : List (List ℕ)) (old new : List Label) (twice found later all : Bool) → now ≡ start → before ≡ name ∷ after → new ≡ define (here now) name old
+    → found ≡ is_some (place_of old name) → later ≡ (twice || found)
+    → (twice || defines_twice (here start) old before) ≡ all → (later || defines_twice (here start) new after) ≡ all
+twice_next_at now start name before after old new twice found later all e is defines finds joins inv =
+    twice_next (here start) name before after old new twice found later all is (defines ∙ ap (λ (l : Layout). define (here l) name old) e) finds joins inv

@@ -1,26 +1,22 @@
 -- A line without faults adds what its content is.
 use Rattle.std.proofs.Common.{◌≡◌, ℕ, Bool, true, false, cond, List, [], ◌++◌, Option, Some, None, if◌then◌else◌, refl, sym, ap, ◌∙◌, subst}
-use Rattle.std.specs.Prelude.{is_some, not, find, IfSome}
+use Rattle.std.specs.Prelude.{find, IfSome}
 use Rattle.xs_instructions.specs.declared.instr.Instr.{Instr}
 use Rattle.source_model.specs.declared.AsmKind.{AsmKind}
 use Rattle.source_model.specs.declared.AsmKind.TheVariants.{BadByte, LabelTwice, DirectiveNotAllowed, UnknownName, WrongOperands, NumberOutOfRange}
 use Rattle.source_model.specs.declared.layout.Section.{Section}
 use Rattle.source_model.specs.declared.layout.Section.TheVariants.{Text, Data, Constants}
 use Rattle.source_model.specs.declared.layout.Layout.{Layout}
+use Rattle.source_model.specs.Statement as model
 use Rattle.source_model.specs.Statement.{Says, Line}
 use Rattle.source_model.specs.Layout.{Sofar, section_length}
 use Rattle.source_model.specs.Source.{has_kind, order, fault_of_line, is_out_of_range, code_of, bytes_of, same_section}
-use Rattle.xs_assembler.specs.declared.contents.Content.{Content}
+use Rattle.xs_assembler.specs.declared.contents.Resolved.{Resolved}
+use Rattle.xs_assembler.specs.declared.statement.Statement.{Statement}
 use Rattle.xs_assembler.specs.declared.output.Output.{Output}
 use Rattle.xs_assembler.specs.Contents.{code_in, bytes_in, Resolves}
+use Rattle.xs_assembler.specs.Lines.{says_of, statement_of}
 use Rattle.xs_assembler.specs.Output.{if_in, Grows, HasLine}
-
--- whether a value is out of range
-pub out_is : (whole : Sofar) (says : Says) (content : Option Content) (out : Bool) → is_some content ≡ not out → Resolves whole says content → out ≡ is_out_of_range whole says
-out_is whole says None true e h = sym h
-out_is whole says None false e h = cc
-out_is whole says (Some content) true e h = cc
-out_is whole says (Some content) false e h = sym h.0
 
 cond_none : {X : Type 0} (b : Bool) (x : X) (o : Option X) → cond b (Some x) o ≡ None → (b ≡ false) × (o ≡ None)
 cond_none true x o e = cc
@@ -56,21 +52,25 @@ constants_at whole layout Text says xs e = refl
 constants_at whole layout Data says xs e = refl
 constants_at whole layout Constants says xs e = e
 
-abbrev pub GrowsBy : Layout → Output → Output → Content → Type 0
-GrowsBy layout old new content = Grows layout.section (code_in (section_length layout layout.section) content) (bytes_in (section_length layout layout.section) content) old new
+abbrev pub GrowsBy : Layout → Output → Output → Resolved → Type 0
+GrowsBy layout old new resolved = Grows layout.section (code_in (section_length layout layout.section) resolved.content) (bytes_in (section_length layout layout.section) resolved.content) old new
 
 -- what was put is what the line adds
-pub has_line : (whole before : Sofar) (line : Line) (content : Option Content) (old new : Output) → Resolves whole line.statement.says content → fault_of_line whole before line ≡ None
-    → IfSome content (GrowsBy before.layout old new) → HasLine whole before line old new
-has_line whole before line None old new h e k = let f : is_out_of_range whole line.statement.says ≡ false = none_out whole before line e in cc
-has_line whole before line (Some content) old new h e k =
+has_line_of : (whole before : Sofar) (line : Line) (resolved : Option Resolved) (old new : Output) → Resolves whole line.statement.says resolved → fault_of_line whole before line ≡ None
+    → IfSome resolved (GrowsBy before.layout old new) → HasLine whole before line old new
+has_line_of whole before line None old new h e k = let f : is_out_of_range whole line.statement.says ≡ false = none_out whole before line e in cc
+has_line_of whole before line (Some resolved) old new h e k =
     let long = section_length before.layout before.layout.section in
     record {
-      code = k.code ∙ ap (λ xs. old.code.items ++ xs) (code_at whole before.layout before.layout.section line.statement.says (code_in long content) (h.1 long));
-      data_bytes = k.data_bytes ∙ ap (λ xs. old.data_bytes.items ++ xs) (data_at whole before.layout before.layout.section line.statement.says (bytes_in long content) (h.2 long));
-      constant_bytes = k.constant_bytes ∙ ap (λ xs. old.constant_bytes.items ++ xs) (constants_at whole before.layout before.layout.section line.statement.says (bytes_in long content) (h.2 long));
+      code = k.code ∙ ap (λ xs. old.code.items ++ xs) (code_at whole before.layout before.layout.section line.statement.says (code_in long resolved.content) (h.2 long));
+      data_bytes = k.data_bytes ∙ ap (λ xs. old.data_bytes.items ++ xs) (data_at whole before.layout before.layout.section line.statement.says (bytes_in long resolved.content) (h.3 long));
+      constant_bytes = k.constant_bytes ∙ ap (λ xs. old.constant_bytes.items ++ xs) (constants_at whole before.layout before.layout.section line.statement.says (bytes_in long resolved.content) (h.3 long));
     }
 
--- the same of a line that is read, by what it stands for
-pub resolves_line : (whole : Sofar) (line read : Line) (content : Option Content) → read ≡ line → Resolves whole read.statement.says content → Resolves whole line.statement.says content
-resolves_line whole line read content e h = let P : Line → Type 0 = λ l. Resolves whole l.statement.says content in subst P e h
+-- a statement that was found resolves as the line's
+pub resolves_line : (whole : Sofar) (line : Line) (statement : Statement) (resolved : Option Resolved) → statement_of statement ≡ line.statement → Resolves whole (says_of statement.says) resolved → Resolves whole line.statement.says resolved
+resolves_line whole line statement resolved e h = let P : model.Statement → Type 0 = λ s. Resolves whole s.says resolved in subst P e h
+
+pub has_line : (whole before : Sofar) (line : Line) (statement : Statement) (resolved : Option Resolved) (old new : Output) → statement_of statement ≡ line.statement → Resolves whole (says_of statement.says) resolved → None ≡ fault_of_line whole before line
+    → IfSome resolved (GrowsBy before.layout old new) → HasLine whole before line old new
+has_line whole before line statement resolved old new is h e k = has_line_of whole before line resolved old new (resolves_line whole line statement resolved is h) (sym e) k

@@ -1,46 +1,47 @@
--- Steps of the loop over the labels at the front of a line.
-use Rattle.std.proofs.Common.{◌≡◌, ℕ, ◌-◌, ◌<◌, ◌≤◌, true, false, List, [], ◌∷◌, ◌++◌, length, get_or, drop, take, Bor, refl, sym, ap, ◌∙◌, arith, length-drop}
-use Rattle.std.proofs.Math.Seq.{take-length}
-use Rattle.std.proofs.lemmas.List.{append-nil}
-use Rattle.std.proofs.lemmas.Bool.{cond-true, cond-false}
-use Rattle.source_model.specs.Statement.{begins_label, labels_first, after_labels}
-use Rattle.xs_assembler.specs.declared.pieces.Piece.{Piece}
-use Rattle.xs_assembler.specs.Parts.{read_token, tokens_in}
-use Rattle.xs_assembler.specs.Lines.{begins_with_label, names_in}
-use Rattle.xs_assembler.proofs.Steps.{pushed}
+-- Steps of the loop that defines the labels of a line.
+use Rattle.std.proofs.Common.{◌≡◌, ℕ, Bool, ◌||◌, List, [], ◌∷◌, sym, ap, ◌∙◌}
+use Rattle.std.specs.Prelude.{is_some}
+use Rattle.std.specs.List.{list_any}
+use Rattle.std.proofs.Math.Bool.{or-false, or_assoc}
+use Rattle.source_model.specs.declared.layout.Place.{Place}
+use Rattle.source_model.specs.Layout.{Label, place_of, define, define_all}
+use Rattle.source_model.specs.Source.{defines_twice}
 
-pub suffix : {A : Type 0} (n : ℕ) (xs : List A) → take (length xs - n) (drop n xs) ≡ drop n xs
-suffix n xs = ap (λ k. take k (drop n xs)) (sym (length-drop n xs)) ∙ take-length (drop n xs)
+pub defined_next : (place : Place) (name : List ℕ) (before after : List (List ℕ)) (old new all : List Label)
+    → before ≡ name ∷ after → new ≡ define place name old
+    → define_all place before old ≡ all → define_all place after new ≡ all
+unfolding define_all
+defined_next place name before after old new all is defines inv =
+    ap (λ ls. define_all place after ls) defines ∙ (ap (λ ns. define_all place ns old) (sym is) ∙ inv)
 
-abbrev name_now : Bor (List ℕ) → List ℕ
-name_now name = name.now
+pub twice_next : (place : Place) (name : List ℕ) (before after : List (List ℕ)) (old new : List Label) (twice found now all : Bool)
+    → before ≡ name ∷ after → new ≡ define place name old → found ≡ is_some (place_of old name) → now ≡ (twice || found)
+    → (twice || defines_twice place old before) ≡ all → (now || defines_twice place new after) ≡ all
+unfolding defines_twice
+twice_next place name before after old new twice found now all is defines finds joins inv =
+    let rest = defines_twice place (define place name old) after in
+    ap (λ b. b || defines_twice place new after) joins
+    ∙ (ap (λ ls. (twice || found) || defines_twice place ls after) defines
+    ∙ (or_assoc twice found rest
+    ∙ (ap (λ b. twice || (b || rest)) finds
+    ∙ (ap (λ ns. twice || defines_twice place old ns) (sym is) ∙ inv))))
 
-pub split_next : (all : List Piece) (xs : List Piece) (d : Piece) (old new : List (Bor (List ℕ)))
-    → begins_with_label (tokens_in xs) ≡ true → new ≡ old ++ (get_or xs 0 d).bytes ∷ []
-    → (names_in old ++ labels_first (tokens_in xs) ≡ labels_first (tokens_in all)) × (after_labels (tokens_in xs) ≡ after_labels (tokens_in all))
-    → (names_in new ++ labels_first (tokens_in (take (length xs - 2) (drop 2 xs))) ≡ labels_first (tokens_in all)) × (after_labels (tokens_in (take (length xs - 2) (drop 2 xs))) ≡ after_labels (tokens_in all))
-unfolding labels_first after_labels
-split_next all [] d old new e is inv = cc
-split_next all (t ∷ []) d old new e is inv = cc
-split_next all (t ∷ c ∷ rest) d old new e is inv =
-    let after = suffix 2 (t ∷ c ∷ rest) in (
-      ap (λ xs. names_in new ++ labels_first (tokens_in xs)) after
-          ∙ (ap (λ ns. names_in ns ++ labels_first (tokens_in rest)) is
-          ∙ pushed name_now old t.bytes (labels_first (tokens_in rest)) _ (ap (λ ls. names_in old ++ ls) (sym (cond-true (begins_label (read_token t) (read_token c)) _ _ e)) ∙ inv.0)),
-      ap (λ xs. after_labels (tokens_in xs)) after ∙ (sym (cond-true (begins_label (read_token t) (read_token c)) _ _ e) ∙ inv.1),
-    )
+pub any_next : (p : List ℕ → Bool) (name : List ℕ) (before after : List (List ℕ)) (some found now all : Bool)
+    → before ≡ name ∷ after → found ≡ p name → now ≡ (some || found)
+    → (some || list_any p before) ≡ all → (now || list_any p after) ≡ all
+any_next p name before after some found now all is finds joins inv =
+    ap (λ b. b || list_any p after) joins
+    ∙ (or_assoc some found (list_any p after)
+    ∙ (ap (λ b. some || (b || list_any p after)) finds
+    ∙ (ap (λ ns. some || list_any p ns) (sym is) ∙ inv)))
 
-no_label : (xs : List Piece) → begins_with_label (tokens_in xs) ≡ false → (labels_first (tokens_in xs) ≡ []) × (after_labels (tokens_in xs) ≡ tokens_in xs)
-unfolding labels_first after_labels
-no_label [] e = (refl, refl)
-no_label (t ∷ []) e = (refl, refl)
-no_label (t ∷ c ∷ rest) e = (cond-false _ _ _ e, cond-false _ _ _ e)
+pub defined_end : (place : Place) (names : List (List ℕ)) (old all : List Label) → names ≡ [] → define_all place names old ≡ all → old ≡ all
+unfolding define_all
+defined_end place names old all e inv = ap (λ ns. define_all place ns old) (sym e) ∙ inv
 
-pub split_labels_done : (all xs : List Piece) (names : List (Bor (List ℕ))) → begins_with_label (tokens_in xs) ≡ false → names_in names ++ labels_first (tokens_in xs) ≡ labels_first (tokens_in all) → names_in names ≡ labels_first (tokens_in all)
-split_labels_done all xs names e inv = sym (append-nil (names_in names)) ∙ (ap (λ ls. names_in names ++ ls) (sym (no_label xs e).0) ∙ inv)
+pub twice_end : (place : Place) (names : List (List ℕ)) (old : List Label) (twice all : Bool) → names ≡ [] → (twice || defines_twice place old names) ≡ all → twice ≡ all
+unfolding defines_twice
+twice_end place names old twice all e inv = sym (or-false twice) ∙ (ap (λ ns. twice || defines_twice place old ns) (sym e) ∙ inv)
 
-pub split_rest_done : (all xs : List Piece) → begins_with_label (tokens_in xs) ≡ false → after_labels (tokens_in xs) ≡ after_labels (tokens_in all) → tokens_in xs ≡ after_labels (tokens_in all)
-split_rest_done all xs e inv = sym (no_label xs e).1 ∙ inv
-
-pub shorter : {A : Type 0} (xs : List A) → 2 ≤ length xs → length (take (length xs - 2) (drop 2 xs)) < length xs
-shorter xs h = rw (suffix 2 xs) (omega (arith, length-drop 2 xs, h))
+pub any_end : (p : List ℕ → Bool) (names : List (List ℕ)) (some all : Bool) → names ≡ [] → (some || list_any p names) ≡ all → some ≡ all
+any_end p names some all e inv = sym (or-false some) ∙ (ap (λ ns. some || list_any p ns) (sym e) ∙ inv)

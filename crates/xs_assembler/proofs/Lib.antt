@@ -1,11 +1,9 @@
 pub mod NameTable
+pub mod Shapes
+pub mod Found
+pub mod LabelSteps
 pub mod Fronts
 pub mod Addresses
-pub mod Steps
-pub mod DefineSteps
-pub mod LabelSteps
-pub mod ValueSteps
-pub mod Loops
 pub mod Sizes
 pub mod Passing
 pub mod Judging

@@ -21,7 +21,7 @@ one_token : (b : Bool) (t : Token) → length (if b then [] else t ∷ []) ≤ 1
 one_token true t = omega arith
 one_token false t = omega arith
 
-tokens_short : (skip : ℕ) (bytes : List ℕ) → length (tokens_after skip bytes) ≤ length bytes
+pub tokens_short : (skip : ℕ) (bytes : List ℕ) → length (tokens_after skip bytes) ≤ length bytes
 unfolding tokens_after
 tokens_short skip [] = omega arith
 tokens_short zero (b ∷ rest) =

@@ -2,6 +2,7 @@ pub mod Names
 pub mod Parts
 pub mod Lines
 pub mod Sofar
+pub mod Before
 pub mod Contents
 pub mod Values
 pub mod Findings

@@ -1,29 +1,28 @@
-ghost use Rattle.std.specs.Prelude.{ℕ, ◌≡◌, ◌+◌, ◌^◌, ◌<◌, ◌≤◌, List, None, length, map, IfOk, IfErr, IfSome, OnOk};
+ghost use Rattle.std.specs.Prelude.{ℕ, ◌≡◌, ◌^◌, ◌<◌, ◌≤◌, List, None, Some, length, map, IfOk, IfErr, IfSome, OnOk};
 ghost use Rattle.std.specs.List.{AllByRecursion};
 ghost use Rattle.xs_instructions.specs.Image.{ImageRec, IsImage, Symbol};
 ghost use Rattle.xs_instructions.specs.SourceHash.{source_key};
 ghost use Rattle.source_model.specs.declared.AsmKind.{AsmKind};
-ghost use Rattle.source_model.specs.Statement.{line_of};
-ghost use Rattle.source_model.specs.Layout.{nothing_yet, whole_of, section_length, added, after_line, address_in};
-ghost use Rattle.source_model.specs.Source.{assembled, Image as ImageOf, Fault as FaultAt, first_fault, fault_of_line, is_out_of_range, bytes_together, symbol_of};
+ghost use Rattle.source_model.specs.Statement.{Line as LineOf, line_of};
+ghost use Rattle.source_model.specs.Layout.{Sofar as SomeLines, nothing_yet, whole_of, section_length, after_line, address_in};
+ghost use Rattle.source_model.specs.Source.{assembled, Image as ImageOf, Fault as FaultAt, first_fault, fault_of_line, bytes_together, symbol_of};
 ghost use Rattle.xs_assembler.specs.Assembles.{Assembles, FaultOf, FirstFault, GivesImage, GivesFault};
-ghost use Rattle.xs_assembler.specs.Contents.{code_in, bytes_in};
-ghost use Rattle.xs_assembler.specs.Lines.{line_value, says_of};
+ghost use Rattle.xs_assembler.specs.Contents.{code_in, bytes_in, Resolves};
 ghost use Rattle.xs_assembler.specs.Names.{IsFront};
 ghost use Rattle.xs_assembler.specs.Output.{Grows, HasLine, HasLines};
 ghost use Rattle.xs_assembler.specs.Passes.{source_lines, AreWithin, image_with};
-ghost use Rattle.xs_assembler.specs.Sofar.{before_of, sofar_of};
+ghost use Rattle.xs_assembler.specs.Before.{before_of, IsNoted};
+ghost use Rattle.xs_assembler.specs.Sofar.{sofar_of};
 
 use crate::asm_error::AsmError;
-use crate::before::Before;
-use crate::contents::{Content, resolve};
+use crate::before::{Before, Noted};
+use crate::contents::{Resolved, resolve};
 use crate::faults::{Findings, fault_of_line};
 use crate::layouts::{section_length, section_start};
-use crate::lines::{Line, read_line};
 use crate::names::Names;
 use crate::output::{Output, put_zeros};
 use crate::sofar::Sofar;
-use source_laws::{labels_are_names, sources_make_images};
+use source_laws::sources_make_images;
 use source_model::{AsmKind, Layout, Place, Section};
 use std::alloc::{AllocError, Global};
 use xs_instructions::{Image, Symbols};
@@ -68,10 +67,7 @@ fn note_line(alloc: Global, sofar: &mut Sofar, bytes: &[u8]) -> Result<(), Alloc
     ensures noted { OnOk result (sofar_of sofar.new ≡ after_line (sofar_of sofar.old) (line_of bytes.now)) }
     ensures keyed { sofar.new.names.key ≡ sofar.old.names.key }
 {
-    labels_are_names();
-    let line = read_line(alloc, bytes)?;
-    sofar.note(alloc, &line)?;
-    Ok(())
+    sofar.note(alloc, bytes)
 }
 
 // Code and bytes of the lines up to the first fault.
@@ -112,55 +108,62 @@ fn put_line(
     ensures noted { OnOk result (before_of whole.now.names.labels before.new ≡ after_line (before_of whole.now.names.labels before.old) (line_of bytes.now)) }
     ensures output { IfOk result (λ kind. kind ≡ None → HasLine (sofar_of whole.now) (before_of whole.now.names.labels before.old) (line_of bytes.now) output.old output.new) }
 {
-    let line = read_line(alloc, bytes)?;
-    let content = resolve(alloc, whole, &line.statement.says)?;
     let layout = before.layout;
-    if let Some(kind) = note_and_judge(whole, before, &line, content.is_none()) {
+    let Some(noted) = before.note(&whole.names, bytes) else {
+        return Ok(Some(AsmKind::BadByte));
+    };
+    let resolved = resolve(alloc, whole, noted.statement.says)?;
+    if let Some(kind) = judge(layout.section, before.layout, noted, &resolved) {
         return Ok(Some(kind));
     }
-    put_content(output, layout, &content)?;
+    put_content(output, layout, &resolved)?;
     Ok(None)
 }
 
-// Notes a line, and gives the first kind of which it has a fault, by whether a value is out of range.
-fn note_and_judge(
-    whole: &Sofar,
-    before: &mut Before,
-    line: &Line,
-    out_of_range: bool,
+// The first kind of which a line has a fault, by what was found of it.
+fn judge(
+    section: Section,
+    after: Layout,
+    noted: Noted,
+    resolved: &Option<Resolved>,
 ) -> Option<AsmKind>
-    requires before { AreWithin (2 ^ 50) before.old.layout }
-    requires after { AreWithin (2 ^ 51) (after_line (before_of whole.now.names.labels before.old) (line_value line.now)).layout }
-    requires fits { section_length before.old.layout before.old.layout.section + added (section_length before.old.layout before.old.layout.section) (says_of line.now.statement.says) < 2 ^ 64 }
-    requires front { IsFront (after_line (before_of whole.now.names.labels before.old) (line_value line.now)).labels whole.now.names.labels }
-    requires out { out_of_range ≡ is_out_of_range (sofar_of whole.now) (says_of line.now.statement.says) }
-    ensures fault { result ≡ fault_of_line (sofar_of whole.now) (before_of whole.now.names.labels before.old) (line_value line.now) }
-    ensures noted { before_of whole.now.names.labels before.new ≡ after_line (before_of whole.now.names.labels before.old) (line_value line.now) }
+    requires within { AreWithin (2 ^ 51) after }
+    ensures { (whole before : SomeLines) (line : LineOf) → before.layout.section ≡ section → IsNoted before line (Some noted.entry) → Resolves whole line.statement.says resolved.now → after ≡ (after_line before line).layout → result ≡ fault_of_line whole before line }
 {
-    let section = before.layout.section;
-    let label_twice = before.note(&whole.names, line);
-    let found = Findings {
+    fault_of_line(Findings {
         section,
-        label_twice,
-        out_of_range,
-        after: before.layout,
-    };
-    fault_of_line(whole, line, found)
+        label_twice: noted.label_twice,
+        label_reserved: noted.label_reserved,
+        statement: noted.statement,
+        out_of_range: resolved.is_none(),
+        label_missing: label_missing(resolved),
+        after,
+    })
+}
+
+// Whether a statement without a value out of range names a label that no line defines.
+fn label_missing(resolved: &Option<Resolved>) -> bool
+    ensures { IfSome resolved.now (λ r. result ≡ r.label_missing) }
+{
+    match resolved {
+        Some(resolved) => resolved.label_missing,
+        None => false,
+    }
 }
 
 // Puts what a line adds to the section in which it stands.
 fn put_content(
     output: &mut Output,
     before: Layout,
-    content: &Option<Content>,
+    resolved: &Option<Resolved>,
 ) -> Result<(), AllocError>
-    ensures { OnOk result (IfSome content.now (λ c. Grows before.section (code_in (section_length before before.section) c) (bytes_in (section_length before before.section) c) output.old output.new)) }
+    ensures { OnOk result (IfSome resolved.now (λ r. Grows before.section (code_in (section_length before before.section) r.content) (bytes_in (section_length before before.section) r.content) output.old output.new)) }
 {
-    match content {
-        Some(content) => output.put(
+    match resolved {
+        Some(resolved) => output.put(
             before.section,
             section_length(before, before.section),
-            content,
+            &resolved.content,
         ),
         None => Ok(()),
     }

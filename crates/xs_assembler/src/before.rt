@@ -1,15 +1,20 @@
-ghost use Rattle.std.specs.Prelude.{◌≡◌, ◌+◌, ◌<◌, ◌^◌, false, List, is_some, take};
+ghost use Rattle.std.specs.Prelude.{◌≡◌, ◌+◌, ◌<◌, ◌^◌, List, is_some, take};
+ghost use Rattle.std.specs.List.{list_any};
+ghost use Rattle.xs_text.specs.Tokens.{tokens_of};
+ghost use Rattle.xs_instructions.specs.Image.{is_reserved};
+ghost use Rattle.source_model.specs.Statement.{labels_first, after_labels, line_of};
 ghost use Rattle.source_model.specs.Layout.{Label, nothing_yet, section_length, added, after_line, define, define_all, here, place_of};
 ghost use Rattle.source_model.specs.Source.{defines_twice};
-ghost use Rattle.xs_assembler.specs.Lines.{line_value, names_in, says_of};
 ghost use Rattle.xs_assembler.specs.Names.{IsFront};
-ghost use Rattle.xs_assembler.specs.Sofar.{before_of};
+ghost use Rattle.xs_assembler.specs.Before.{before_of, IsNoted};
 
 use crate::layouts::{moved, no_lines};
-use crate::lines::Line;
 use crate::names::Names;
+use crate::statement::{Statement, read_statement};
+use crate::tokens::first_label;
 use source_model::Layout;
 use xs_instructions::is_reserved;
+use xs_text::all_allowed;
 
 // What the lines before one say together, where the names of all lines are known: their layout, and how many of the names
 // they define. All names stand in the order of their definition, so those of the lines before are the first.
@@ -17,6 +22,24 @@ use xs_instructions::is_reserved;
 pub struct Before {
     pub layout: Layout,
     pub labels: usize,
+}
+
+// What a line without a bad byte says, and what was found of its labels.
+#[derive(Clone, Copy)]
+pub struct Noted<'a> {
+    // Whether one was defined before.
+    pub label_twice: bool,
+    // Whether one is a reserved name.
+    pub label_reserved: bool,
+    pub statement: Statement<'a>,
+}
+
+// What was found of the labels of a line, and what comes after them.
+#[derive(Clone, Copy)]
+struct Passed<'a> {
+    twice: bool,
+    reserved: bool,
+    rest: &'a [u8],
 }
 
 impl Before {
@@ -30,35 +53,48 @@ impl Before {
         }
     }
 
-    // Notes one line more, and says whether a label of it was defined before.
-    pub fn note(&mut self, names: &Names, line: &Line) -> bool
-        requires fits { section_length self.old.layout self.old.layout.section + added (section_length self.old.layout self.old.layout.section) (says_of line.now.statement.says) < 2 ^ 64 }
-        requires front { IsFront (after_line (before_of names.now.labels self.old) (line_value line.now)).labels names.now.labels }
-        ensures twice { line.now.bad_byte ≡ false → result ≡ defines_twice (here self.old.layout) (before_of names.now.labels self.old).labels (names_in line.now.labels.items) }
-        ensures noted { before_of names.now.labels self.new ≡ after_line (before_of names.now.labels self.old) (line_value line.now) }
+    // Notes one line more, and says what it found of it; None is a line with a bad byte.
+    pub fn note<'a>(&mut self, names: &Names, bytes: &'a [u8]) -> Option<Noted<'a>>
+        requires fits { section_length self.old.layout self.old.layout.section + added (section_length self.old.layout self.old.layout.section) (line_of bytes.now).statement.says < 2 ^ 64 }
+        requires front { IsFront (after_line (before_of names.now.labels self.old) (line_of bytes.now)).labels names.now.labels }
+        ensures found { IsNoted (before_of names.now.labels self.old) (line_of bytes.now) result }
+        ensures noted { before_of names.now.labels self.new ≡ after_line (before_of names.now.labels self.old) (line_of bytes.now) }
     {
-        if line.bad_byte {
-            return false;
+        if !all_allowed(bytes) {
+            return None;
         }
-        let twice = self.pass_labels(names, &line.labels);
-        self.layout = moved(self.layout, &line.statement);
-        twice
+        let labels = self.pass_labels(names, bytes);
+        let statement = read_statement(labels.rest);
+        self.layout = moved(self.layout, &statement);
+        Some(Noted {
+            label_twice: labels.twice,
+            label_reserved: labels.reserved,
+            statement,
+        })
     }
 
-    // Counts labels that stand here, and says whether one of them was defined before.
-    fn pass_labels(&mut self, names: &Names, labels: &[&[u8]]) -> bool
-        requires { IsFront (define_all (here self.old.layout) (names_in labels.now) (take self.old.labels names.now.labels)) names.now.labels }
-        ensures twice { result ≡ defines_twice (here self.old.layout) (take self.old.labels names.now.labels) (names_in labels.now) }
-        ensures labels { take self.new.labels names.now.labels ≡ define_all (here self.old.layout) (names_in labels.now) (take self.old.labels names.now.labels) }
+    // Counts the labels at the front of a line that stands here.
+    fn pass_labels<'a>(&mut self, names: &Names, line: &'a [u8]) -> Passed<'a>
+        requires { IsFront (define_all (here self.old.layout) (labels_first (tokens_of line.now)) (take self.old.labels names.now.labels)) names.now.labels }
+        ensures twice { result.twice ≡ defines_twice (here self.old.layout) (take self.old.labels names.now.labels) (labels_first (tokens_of line.now)) }
+        ensures reserved { result.reserved ≡ list_any is_reserved (labels_first (tokens_of line.now)) }
+        ensures rest { tokens_of result.rest.now ≡ after_labels (tokens_of line.now) }
+        ensures labels { take self.new.labels names.now.labels ≡ define_all (here self.old.layout) (labels_first (tokens_of line.now)) (take self.old.labels names.now.labels) }
         ensures layout { self.new.layout ≡ self.old.layout }
     {
         let mut twice = false;
-        for name in labels {
-            if self.pass_label(names, name) {
-                twice = true;
-            }
+        let mut reserved = false;
+        let mut rest = line;
+        while let Some((name, after)) = first_label(rest) {
+            twice |= self.pass_label(names, name);
+            reserved |= is_reserved(name);
+            rest = after;
         }
-        twice
+        Passed {
+            twice,
+            reserved,
+            rest,
+        }
     }
 
     // Counts a label that stands here, unless it was defined before, and says whether it was.

@@ -1,21 +1,28 @@
-ghost use Rattle.std.specs.Prelude.{◌≡◌, ◌<◌, ◌≤◌, ◌^◌, ℕ, true, false, IfOk, MatchOption, option_map, vec_items};
+ghost use Rattle.std.specs.Prelude.{◌≡◌, ◌<◌, ◌≤◌, ◌^◌, ℕ, [], ◌∷◌, true, false, None, IfOk, MatchOption, List, map, Option, option_map, option_and_then, if◌then◌else◌};
 ghost use Rattle.std.specs.Prelude.{◌%◌};
-ghost use Rattle.std.specs.List.{list_any};
+ghost use Rattle.xs_text.specs.Tokens.{tokens_of};
 ghost use Rattle.source_model.specs.Layout.{address_in};
-ghost use Rattle.source_model.specs.Statement.{Instruction, Values};
-ghost use Rattle.source_model.specs.Source.{words_past, amount_value, target_value, offset_value, address_value, values_in, is_missing, names_missing};
-ghost use Rattle.xs_assembler.specs.Parts.{read_amount, amounts_in};
+ghost use Rattle.source_model.specs.Operands.{operands_of, amount_of, amounts_of};
+ghost use Rattle.xs_instructions.specs.Table.{values_among};
+ghost use Rattle.xs_instructions.specs.declared.rows.Part.{Part};
+ghost use Rattle.source_model.specs.Operands as model;
+ghost use Rattle.source_model.specs.Values.{listed_values};
+ghost use Rattle.source_model.specs.Statement.{Instruction, valued};
+ghost use Rattle.source_model.specs.Source.{words_past, amount_value, target_value, offset_value, address_value, is_missing};
+ghost use Rattle.xs_assembler.specs.Parts.{read_amount};
 ghost use Rattle.xs_assembler.specs.Lines.{says_of};
 ghost use Rattle.xs_assembler.specs.Sofar.{sofar_of};
-ghost use Rattle.xs_assembler.specs.Contents.{Resolves};
+ghost use Rattle.xs_assembler.specs.Contents.{Resolves, after_found, found_in, found_of};
 
 use crate::amount::Amount;
 use crate::layouts::section_start;
+use crate::operands::{Operands, amount};
 use crate::sofar::Sofar;
 use crate::statement::Says;
+use crate::values::{ValueList, next_value};
 use source_model::{Layout, Place, Section, Width};
 use std::alloc::{AllocError, Global};
-use xs_instructions::{Instr, Row};
+use xs_instructions::{Instr, Part, Row};
 
 // What a statement adds to its section, by what all lines say.
 #[derive(Drop)]
@@ -26,6 +33,20 @@ pub enum Content {
     Zeros(u32),
     // Up to a multiple of the number.
     Padding(u32),
+}
+
+// The same, and whether the statement names a label that no line defines.
+#[derive(Drop)]
+pub struct Resolved {
+    pub content: Content,
+    pub label_missing: bool,
+}
+
+// The values of some amounts, and whether no line defines the name of one of them.
+#[derive(Drop)]
+pub struct Found {
+    pub values: Vec<u32>,
+    pub label_missing: bool,
 }
 
 // The lowest 32 bits.
@@ -119,74 +140,6 @@ fn amount_value(whole: &Sofar, amount: Amount) -> Option<u32>
     }
 }
 
-// The values, None where one is out of range.
-fn values_in(
-    alloc: Global,
-    whole: &Sofar,
-    amounts: &[Amount],
-) -> Result<Option<Vec<u32>>, AllocError>
-    requires { whole.now.layout.data_bytes < 2 ^ 62 }
-    ensures { IfOk result (λ values. option_map vec_items values ≡ values_in (sofar_of whole.now) (amounts_in amounts.now)) }
-{
-    let mut values = Vec::new(alloc);
-    for amount in amounts {
-        match amount_value(whole, *amount) {
-            Some(value) => values.push(value)?,
-            None => return Ok(None),
-        }
-    }
-    Ok(Some(values))
-}
-
-// The instruction of a row, or None where a value is out of range.
-fn resolve_instruction(
-    alloc: Global,
-    whole: &Sofar,
-    row: Row,
-    amounts: &[Amount],
-) -> Result<Option<Content>, AllocError>
-    requires { whole.now.layout.data_bytes < 2 ^ 62 }
-    ensures { IfOk result (Resolves (sofar_of whole.now) (Instruction row (amounts_in amounts.now))) }
-{
-    let Some(values) = values_in(alloc, whole, amounts)? else {
-        return Ok(None);
-    };
-    match row.build(&values) {
-        Some(instruction) => Ok(Some(Content::Instruction(instruction))),
-        None => Ok(None),
-    }
-}
-
-// The values of a directive, or None where one is out of range.
-fn resolve_values(
-    alloc: Global,
-    whole: &Sofar,
-    width: Width,
-    amounts: &[Amount],
-) -> Result<Option<Content>, AllocError>
-    requires { whole.now.layout.data_bytes < 2 ^ 62 }
-    ensures { IfOk result (Resolves (sofar_of whole.now) (Values width (amounts_in amounts.now))) }
-{
-    match values_in(alloc, whole, amounts)? {
-        Some(values) => Ok(Some(Content::Values(width, values))),
-        None => Ok(None),
-    }
-}
-
-// What a statement adds, or None where a value is out of range.
-pub fn resolve(alloc: Global, whole: &Sofar, says: &Says) -> Result<Option<Content>, AllocError>
-    requires { whole.now.layout.data_bytes < 2 ^ 62 }
-    ensures { IfOk result (Resolves (sofar_of whole.now) (says_of says.now)) }
-{
-    match says {
-        Says::NoEffect | Says::Unknown | Says::Misshapen => Ok(Some(Content::Nothing)),
-        Says::Instruction(row, amounts) => resolve_instruction(alloc, whole, *row, amounts),
-        Says::Values(width, amounts) => resolve_values(alloc, whole, *width, amounts),
-        Says::Zeros(count) => Ok(count.map(Content::Zeros)),
-        Says::Align(unit) => Ok(unit.map(Content::Padding)),
-    }
-}
-
 // Whether no line defines the name of an amount.
 fn is_missing(whole: &Sofar, amount: Amount) -> bool
     ensures { result ≡ is_missing (sofar_of whole.now) (read_amount amount.entry) }
@@ -199,23 +152,153 @@ fn is_missing(whole: &Sofar, amount: Amount) -> bool
     }
 }
 
-// Whether no line defines some name of a statement.
-pub fn names_missing(whole: &Sofar, says: &Says) -> bool
-    ensures { result ≡ names_missing (sofar_of whole.now) (says_of says.now) }
+// No amounts. It takes no memory.
+fn nothing_found(alloc: Global) -> Found
+    ensures values { result.values.items ≡ [] }
+    ensures label_missing { result.label_missing ≡ false }
 {
-    match says {
-        Says::Instruction(_, amounts) | Says::Values(_, amounts) => { any_missing(whole, amounts) }
-        _ => false,
+    Found {
+        values: Vec::new(alloc),
+        label_missing: false,
     }
 }
 
-fn any_missing(whole: &Sofar, amounts: &[Amount]) -> bool
-    ensures { result ≡ list_any (is_missing (sofar_of whole.now)) (amounts_in amounts.now) }
+// Puts the value of one amount more, or answers false where it is out of range.
+fn put_amount(found: &mut Found, whole: &Sofar, amount: Amount) -> Result<bool, AllocError>
+    requires { whole.now.layout.data_bytes < 2 ^ 62 }
+    ensures { IfOk result (λ fits. (rest : List model.Amount) → after_found (sofar_of whole.now) found.old (read_amount amount.entry ∷ rest) ≡ (if fits then after_found (sofar_of whole.now) found.new rest else None)) }
 {
-    for amount in amounts {
-        if is_missing(whole, *amount) {
-            return true;
+    let Some(value) = amount_value(whole, amount) else {
+        return Ok(false);
+    };
+    if is_missing(whole, amount) {
+        found.label_missing = true;
+    }
+    found.values.push(value)?;
+    Ok(true)
+}
+
+// Puts the value of the next operand, which stands at a part of a row, if a value is written there. It answers false
+// where the value is out of range.
+fn put_operand(
+    found: &mut Found,
+    whole: &Sofar,
+    part: Part,
+    operands: &mut Operands,
+) -> Result<bool, AllocError>
+    requires { whole.now.layout.data_bytes < 2 ^ 62 }
+    ensures { IfOk result (λ fits. (parts : List Part) → after_found (sofar_of whole.now) found.old (values_among (part ∷ parts) (map amount_of operands.old)) ≡ (if fits then after_found (sofar_of whole.now) found.new (values_among parts (map amount_of operands.new)) else None)) }
+{
+    let Some(operand) = operands.next_operand() else {
+        return Ok(true);
+    };
+    if !part.takes_value() {
+        return Ok(true);
+    }
+    put_amount(found, whole, amount(operand))
+}
+
+// The values of the operands that are values of the row, None where one is out of range.
+fn row_values(
+    alloc: Global,
+    whole: &Sofar,
+    row: Row,
+    text: &[u8],
+) -> Result<Option<Found>, AllocError>
+    requires { whole.now.layout.data_bytes < 2 ^ 62 }
+    ensures { IfOk result (λ found. option_map found_of found ≡ found_in (sofar_of whole.now) (amounts_of row (operands_of (tokens_of text.now)))) }
+{
+    let mut found = nothing_found(alloc);
+    let mut operands = Operands::new(text);
+    for part in row.parts() {
+        if !put_operand(&mut found, whole, *part, &mut operands)? {
+            return Ok(None);
         }
     }
-    false
+    Ok(Some(found))
+}
+
+// The values of a list, None where one is out of range.
+fn list_values(alloc: Global, whole: &Sofar, list: ValueList) -> Result<Option<Found>, AllocError>
+    requires { whole.now.layout.data_bytes < 2 ^ 62 }
+    ensures { IfOk result (λ found. option_map found_of found ≡ option_and_then (found_in (sofar_of whole.now)) (listed_values list.entry.width (tokens_of list.entry.text.now))) }
+{
+    let mut found = nothing_found(alloc);
+    let mut left = Some(list.text);
+    while let Some(text) = left {
+        let Some((amount, rest)) = next_value(list.width, text) else {
+            return Ok(None);
+        };
+        if !put_amount(&mut found, whole, amount)? {
+            return Ok(None);
+        }
+        left = rest;
+    }
+    Ok(Some(found))
+}
+
+// The instruction of a row, or None where a value is out of range.
+fn resolve_instruction(
+    alloc: Global,
+    whole: &Sofar,
+    row: Row,
+    text: &[u8],
+) -> Result<Option<Resolved>, AllocError>
+    requires { whole.now.layout.data_bytes < 2 ^ 62 }
+    ensures { IfOk result (Resolves (sofar_of whole.now) (Instruction row (amounts_of row (operands_of (tokens_of text.now))))) }
+{
+    let Some(found) = row_values(alloc, whole, row, text)? else {
+        return Ok(None);
+    };
+    match row.build(&found.values) {
+        Some(instruction) => Ok(Some(Resolved {
+            content: Content::Instruction(instruction),
+            label_missing: found.label_missing,
+        })),
+        None => Ok(None),
+    }
+}
+
+// The values of a directive, or None where one is out of range.
+fn resolve_values(
+    alloc: Global,
+    whole: &Sofar,
+    list: ValueList,
+) -> Result<Option<Resolved>, AllocError>
+    requires { whole.now.layout.data_bytes < 2 ^ 62 }
+    ensures { IfOk result (Resolves (sofar_of whole.now) (valued list.entry.width (listed_values list.entry.width (tokens_of list.entry.text.now)))) }
+{
+    match list_values(alloc, whole, list)? {
+        Some(found) => Ok(Some(Resolved {
+            content: Content::Values(list.width, found.values),
+            label_missing: found.label_missing,
+        })),
+        None => Ok(None),
+    }
+}
+
+// A content without names.
+fn plain(content: Content) -> Resolved
+    ensures content { result.content ≡ content }
+    ensures label_missing { result.label_missing ≡ false }
+{
+    Resolved {
+        content,
+        label_missing: false,
+    }
+}
+
+// What a statement adds, or None where a value is out of range.
+pub fn resolve(alloc: Global, whole: &Sofar, says: Says) -> Result<Option<Resolved>, AllocError>
+    requires { whole.now.layout.data_bytes < 2 ^ 62 }
+    ensures { IfOk result (Resolves (sofar_of whole.now) (says_of says.entry)) }
+{
+    match says {
+        Says::NoEffect | Says::Unknown | Says::Misshapen => Ok(Some(plain(Content::Nothing))),
+        Says::Instruction(row, text) => resolve_instruction(alloc, whole, row, text),
+        Says::Values(list) => resolve_values(alloc, whole, list),
+        Says::Zeros(Some(count)) => Ok(Some(plain(Content::Zeros(count)))),
+        Says::Align(Some(unit)) => Ok(Some(plain(Content::Padding(unit)))),
+        Says::Zeros(None) | Says::Align(None) => Ok(None),
+    }
 }

@@ -72,7 +72,7 @@ fn added(long: u64, says: &Says) -> u64
 {
     match says {
         Says::Instruction(_, _) => 1,
-        Says::Values(width, amounts) => width_bytes(*width) * amounts.len() as u64,
+        Says::Values(list) => width_bytes(list.width) * list.count,
         Says::Zeros(Some(count)) => u64::from(*count),
         Says::Align(Some(unit)) => padding(long, *unit),
         Says::Zeros(None) | Says::Align(None) => 0,

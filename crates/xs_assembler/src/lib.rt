@@ -8,11 +8,9 @@ mod before;
 mod contents;
 mod faults;
 mod layouts;
-mod lines;
 mod names;
 mod operands;
 mod output;
-mod pieces;
 mod sofar;
 mod statement;
 #[cfg(test)]

@@ -1,24 +1,74 @@
-ghost use Rattle.std.specs.Prelude.{◌≡◌, IfOk, Option, option_map};
+ghost use Rattle.std.specs.Prelude.{◌≡◌, [], ◌∷◌, MatchOption, IfNone, Option, option_and_then, option_map};
 ghost use Rattle.std.specs.List.{slice_range};
-ghost use Rattle.std.specs.Prelude.{vec_items, map};
-ghost use Rattle.xs_instructions.specs.Table.{parts_of, values_among};
-ghost use Rattle.source_model.specs.Operands.{base_named, base_after, operands_of, name_shape, shape_of, shapes_of, name_amount, amount_of, amounts_of};
-ghost use Rattle.xs_instructions.specs.Table.{register_number};
-ghost use Rattle.xs_assembler.specs.Parts.{tokens_in, operand_of, operands_in, amounts_in};
-ghost use Rattle.xs_assembler.specs.Parts.{read_amount};
+ghost use Rattle.source_model.specs.Operands.{base_named, base_after, operands_of, name_shape, shape_of, shapes_of, name_amount, amount_of};
+ghost use Rattle.xs_instructions.specs.Table.{find, register_number};
+ghost use Rattle.xs_text.specs.Tokens.{tokens_of};
+ghost use Rattle.xs_assembler.specs.Parts.{operand_of, read_amount, HasShapes};
 
 use crate::amount::Amount;
-use crate::pieces::Piece;
+use crate::tokens::{Piece, first_token};
+use arrayvec::ArrayVec;
 use source_model::Section;
-use std::alloc::{AllocError, Global};
-use xs_instructions::{Row, Shape, fixed, is_reserved, register_number, same_name};
+use std::marker::Model;
+use xs_instructions::{Row, Shape, find, fixed, is_reserved, register_number, same_name};
 use xs_text::{TokKind, source_number};
+
+// The longest form of a row has fewer places.
+const MOST_SHAPES: usize = 16;
 
 // A token among the operands of an instruction, and the section that a name there counts from.
 #[derive(Clone, Copy)]
 pub struct Operand<'a> {
     pub base: Option<Section>,
     pub piece: Piece<'a>,
+}
+
+// Gives the operands in a text one by one.
+#[derive(Drop)]
+pub struct Operands<'a> {
+    // The two tokens before the next one.
+    second: &'a [u8],
+    last: &'a [u8],
+    rest: &'a [u8],
+}
+
+impl<'a> Model for Operands<'a> {
+    ghost use Rattle.std.specs.Prelude.{List};
+    ghost use Rattle.source_model.specs.Operands.{Operand, operands_after};
+    ghost use Rattle.xs_text.specs.Tokens.{tokens_of};
+
+    ghost Value = { List Operand };
+
+    ghost view = { λ o. operands_after o.second.now o.last.now (tokens_of o.rest.now) };
+}
+
+impl<'a> Operands<'a> {
+    // Those of the text after an instruction's name.
+    pub fn new(text: &'a [u8]) -> Operands<'a>
+        ensures { result ≡ operands_of (tokens_of text.now) }
+    {
+        Operands {
+            second: b"",
+            last: b"",
+            rest: text,
+        }
+    }
+
+    // The next one.
+    #[tactic(auto, unfolding(source_model::specs::Operands::operands_after))]
+    pub fn next_operand(&mut self) -> Option<Operand<'a>>
+        ensures next { MatchOption result (self.old ≡ []) (λ o. self.old ≡ operand_of o ∷ self.new) }
+        ensures end_stays { IfNone result (self.new ≡ self.old) }
+    {
+        let Some((piece, rest)) = first_token(self.rest) else {
+            return None;
+        };
+        let base = base_after(self.second, self.last);
+        self.second = self.last;
+        self.last = piece.bytes;
+        self.rest = rest;
+        Some(Operand { base, piece })
+    }
 }
 
 // The section that a base register stands for.
@@ -43,27 +93,6 @@ fn base_after(second: &[u8], last: &[u8]) -> Option<Section>
     } else {
         None
     }
-}
-
-// The tokens after an instruction's name, as operands.
-pub fn read_operands<'a>(
-    alloc: Global,
-    pieces: &[Piece<'a>],
-) -> Result<Vec<Operand<'a>>, AllocError>
-    ensures { IfOk result (λ operands. operands_in operands.items ≡ operands_of (tokens_in pieces.now)) }
-{
-    let mut operands = Vec::new(alloc);
-    let mut second: &[u8] = b"";
-    let mut last: &[u8] = b"";
-    for piece in pieces {
-        operands.push(Operand {
-            base: base_after(second, last),
-            piece: *piece,
-        })?;
-        second = last;
-        last = piece.bytes;
-    }
-    Ok(operands)
 }
 
 // The shape of a name: a register, a word of a row, or a label.
@@ -98,18 +127,32 @@ fn shape(operand: Operand) -> Option<Shape>
     }
 }
 
-// The shapes of all operands, if each has one.
-pub fn shapes(alloc: Global, operands: &[Operand]) -> Result<Option<Vec<Shape>>, AllocError>
-    ensures { IfOk result (λ shapes. option_map vec_items shapes ≡ shapes_of (operands_in operands.now)) }
+// The shapes of the operands in a text. None where one has none, or where they are more than any row has.
+fn shapes(text: &[u8]) -> Option<ArrayVec<Shape, MOST_SHAPES>>
+    ensures { HasShapes (operands_of (tokens_of text.now)) (option_map (λ v. v.items) result) }
 {
-    let mut shapes = Vec::new(alloc);
-    for operand in operands {
-        match shape(*operand) {
-            Some(shape) => shapes.push(shape)?,
-            None => return Ok(None),
+    let mut operands = Operands::new(text);
+    let mut shapes = ArrayVec::new();
+    while let Some(operand) = operands.next_operand() {
+        if shapes.is_full() {
+            return None;
+        }
+        match shape(operand) {
+            Some(shape) => shapes.push(shape),
+            None => return None,
         }
     }
-    Ok(Some(shapes))
+    Some(shapes)
+}
+
+// The row of an instruction, by its name and the text after it.
+pub fn find_row(name: &[u8], text: &[u8]) -> Option<Row>
+    ensures { result ≡ option_and_then (find name.now) (shapes_of (operands_of (tokens_of text.now))) }
+{
+    match shapes(text) {
+        Some(shapes) => find(name, &shapes),
+        None => None,
+    }
 }
 
 // The amount of a register or of a label's name.
@@ -124,7 +167,7 @@ fn name_amount<'a>(base: Option<Section>, name: &'a [u8]) -> Amount<'a>
 }
 
 // The amount of an operand. No row takes one of a mark.
-fn amount<'a>(operand: Operand<'a>) -> Amount<'a>
+pub fn amount<'a>(operand: Operand<'a>) -> Amount<'a>
     ensures { read_amount result ≡ amount_of (operand_of operand.entry) }
 {
     let bytes = operand.piece.bytes;
@@ -133,21 +176,4 @@ fn amount<'a>(operand: Operand<'a>) -> Amount<'a>
         TokKind::Number => Amount::Known(source_number(bytes, u32::MAX)),
         TokKind::Mark | TokKind::Stray => Amount::Known(None),
     }
-}
-
-// The amounts of the operands that are values of the row.
-pub fn amounts<'a>(
-    alloc: Global,
-    row: Row,
-    operands: &[Operand<'a>],
-) -> Result<Vec<Amount<'a>>, AllocError>
-    ensures { IfOk result (λ amounts. amounts_in amounts.items ≡ amounts_of row (operands_in operands.now)) }
-{
-    let mut amounts = Vec::new(alloc);
-    for (k, operand) in operands.iter().enumerate() {
-        if row.takes_value(k) {
-            amounts.push(amount(*operand))?;
-        }
-    }
-    Ok(amounts)
 }

@@ -1,32 +1,31 @@
-ghost use Rattle.std.specs.Prelude.{◌≡◌, IfOk, IsTrue, option_map, option_copied};
+ghost use Rattle.std.specs.Prelude.{◌≡◌, option_copied};
 ghost use Rattle.source_model.specs.Statement.{is_nothing, is_lone_name, lone_number, shaped, zeros, aligned, bytes_directive, directive, instruction, statement};
 ghost use Rattle.std.specs.Prelude.{option_and_then};
 ghost use Rattle.xs_text.specs.Numbers.{at_most, source_number_of};
+ghost use Rattle.xs_text.specs.Tokens.{tokens_of};
 ghost use Rattle.source_model.specs.Operands.{operands_of};
 ghost use Rattle.source_model.specs.Values.{listed_values};
 ghost use Rattle.source_model.specs.Statement.{not_zero, valued};
-ghost use Rattle.xs_assembler.specs.Parts.{read_token, tokens_in};
 ghost use Rattle.xs_assembler.specs.Lines.{says_of, statement_of};
 
-use crate::amount::Amount;
-use crate::operands::{amounts, read_operands, shapes};
-use crate::pieces::Piece;
-use crate::values::read_values;
+use crate::operands::find_row;
+use crate::tokens::first_token;
+use crate::values::{ValueList, count_values};
 use source_model::{Home, Width};
-use std::alloc::{AllocError, Global};
-use xs_instructions::{Row, find, known, same_name};
+use xs_instructions::{Row, known, same_name};
 use xs_text::{TokKind, source_number};
 
-// What a statement says.
-#[derive(Drop)]
+// What a statement says. It keeps the text of operands and values, not what they are read as: those may be many.
+#[derive(Clone, Copy)]
 pub enum Says<'a> {
     // Nothing that adds to a section.
     NoEffect,
     // An instruction whose name no row has.
     Unknown,
     Misshapen,
-    Instruction(Row, Vec<Amount<'a>>),
-    Values(Width, Vec<Amount<'a>>),
+    // A row that is built, and the text after its name.
+    Instruction(Row, &'a [u8]),
+    Values(ValueList<'a>),
     // So many zero bytes; None is a number out of range, here and below.
     Zeros(Option<u32>),
     // Up to a multiple of the number.
@@ -34,24 +33,37 @@ pub enum Says<'a> {
 }
 
 // A statement, and where it may stand.
-#[derive(Drop)]
+#[derive(Clone, Copy)]
 pub struct Statement<'a> {
     pub home: Home,
     pub says: Says<'a>,
 }
 
-fn is_lone_name(pieces: &[Piece]) -> bool
-    ensures { result ≡ is_lone_name (tokens_in pieces.now) }
+// Whether no token is left.
+fn is_nothing(rest: &[u8]) -> bool
+    ensures { result ≡ is_nothing (tokens_of rest.now) }
 {
-    pieces.len() == 1 && pieces[0].kind == TokKind::Name
+    first_token(rest).is_none()
+}
+
+fn is_lone_name(rest: &[u8]) -> bool
+    ensures { result ≡ is_lone_name (tokens_of rest.now) }
+{
+    match first_token(rest) {
+        Some((name, rest)) => name.kind == TokKind::Name && is_nothing(rest),
+        None => false,
+    }
 }
 
 // The digits of a number that stands alone.
-fn lone_number<'a>(pieces: &[Piece<'a>]) -> Option<&'a [u8]>
-    ensures { option_copied result ≡ lone_number (tokens_in pieces.now) }
+fn lone_number(rest: &[u8]) -> Option<&[u8]>
+    ensures { option_copied result ≡ lone_number (tokens_of rest.now) }
 {
-    if pieces.len() == 1 && pieces[0].kind == TokKind::Number {
-        Some(pieces[0].bytes)
+    let Some((number, rest)) = first_token(rest) else {
+        return None;
+    };
+    if number.kind == TokKind::Number && is_nothing(rest) {
+        Some(number.bytes)
     } else {
         None
     }
@@ -75,20 +87,20 @@ fn no_effect<'a>(home: Home, is_shaped: bool) -> Statement<'a>
 }
 
 // `.space`: at most 65,536.
-fn zeros<'a>(pieces: &[Piece]) -> Says<'a>
-    ensures { says_of result ≡ zeros (lone_number (tokens_in pieces.now)) }
+fn zeros<'a>(rest: &[u8]) -> Says<'a>
+    ensures { says_of result ≡ zeros (lone_number (tokens_of rest.now)) }
 {
-    match lone_number(pieces) {
+    match lone_number(rest) {
         Some(digits) => Says::Zeros(source_number(digits, 65_536)),
         None => Says::Misshapen,
     }
 }
 
 // `.align`: 1 to 1,024.
-fn aligned<'a>(pieces: &[Piece]) -> Says<'a>
-    ensures { says_of result ≡ aligned (lone_number (tokens_in pieces.now)) }
+fn aligned<'a>(rest: &[u8]) -> Says<'a>
+    ensures { says_of result ≡ aligned (lone_number (tokens_of rest.now)) }
 {
-    match lone_number(pieces) {
+    match lone_number(rest) {
         Some(digits) => Says::Align(unit(digits)),
         None => Says::Misshapen,
     }
@@ -104,117 +116,98 @@ fn unit(digits: &[u8]) -> Option<u32>
 }
 
 // The values of a directive.
-fn valued<'a>(alloc: Global, width: Width, pieces: &[Piece<'a>]) -> Result<Says<'a>, AllocError>
-    ensures { IfOk result (λ says. says_of says ≡ valued width (listed_values width (tokens_in pieces.now))) }
+fn valued(width: Width, text: &[u8]) -> Says<'_>
+    ensures { says_of result ≡ valued width (listed_values width (tokens_of text.now)) }
 {
-    match read_values(alloc, width, pieces)? {
-        Some(values) => Ok(Says::Values(width, values)),
-        None => Ok(Says::Misshapen),
+    match count_values(width, text) {
+        Some(count) => Says::Values(ValueList { width, count, text }),
+        None => Says::Misshapen,
     }
 }
 
 // The statement of a directive of bytes, and of one that there is not.
-fn read_bytes_directive<'a>(
-    alloc: Global,
-    name: &[u8],
-    rest: &[Piece<'a>],
-) -> Result<Statement<'a>, AllocError>
-    ensures { IfOk result (λ s. statement_of s ≡ bytes_directive name.now (tokens_in rest.now)) }
+fn read_bytes_directive<'a>(name: &[u8], rest: &'a [u8]) -> Statement<'a>
+    ensures { statement_of result ≡ bytes_directive name.now (tokens_of rest.now) }
 {
     let home = Home::InBytes;
     if same_name(b".word", name) {
-        let says = valued(alloc, Width::Word, rest)?;
-        Ok(Statement { home, says })
+        let says = valued(Width::Word, rest);
+        Statement { home, says }
     } else if same_name(b".short", name) {
-        let says = valued(alloc, Width::Short, rest)?;
-        Ok(Statement { home, says })
+        let says = valued(Width::Short, rest);
+        Statement { home, says }
     } else if same_name(b".byte", name) {
-        let says = valued(alloc, Width::Byte, rest)?;
-        Ok(Statement { home, says })
+        let says = valued(Width::Byte, rest);
+        Statement { home, says }
     } else if same_name(b".space", name) {
         let says = zeros(rest);
-        Ok(Statement { home, says })
+        Statement { home, says }
     } else {
-        Ok(Statement {
+        Statement {
             home: Home::Nowhere,
             says: Says::NoEffect,
-        })
+        }
     }
 }
 
 // A directive's statement.
-fn read_directive<'a>(
-    alloc: Global,
-    name: &[u8],
-    rest: &[Piece<'a>],
-) -> Result<Statement<'a>, AllocError>
-    ensures { IfOk result (λ s. statement_of s ≡ directive name.now (tokens_in rest.now)) }
+fn read_directive<'a>(name: &[u8], rest: &'a [u8]) -> Statement<'a>
+    ensures { statement_of result ≡ directive name.now (tokens_of rest.now) }
 {
     if same_name(b".text", name) {
-        Ok(no_effect(Home::InText, rest.is_empty()))
+        no_effect(Home::InText, is_nothing(rest))
     } else if same_name(b".globl", name) {
-        Ok(no_effect(Home::InText, is_lone_name(rest)))
+        no_effect(Home::InText, is_lone_name(rest))
     } else if same_name(b".align", name) {
         let says = aligned(rest);
-        Ok(Statement {
+        Statement {
             home: Home::Anywhere,
             says,
-        })
+        }
     } else if same_name(b".data", name) {
-        Ok(no_effect(Home::BeginsData, rest.is_empty()))
+        no_effect(Home::BeginsData, is_nothing(rest))
     } else if same_name(b".cp", name) {
-        Ok(no_effect(Home::BeginsConstants, rest.is_empty()))
+        no_effect(Home::BeginsConstants, is_nothing(rest))
     } else {
-        read_bytes_directive(alloc, name, rest)
+        read_bytes_directive(name, rest)
     }
 }
 
-// An instruction by its name and the tokens after it.
-fn read_instruction<'a>(
-    alloc: Global,
-    name: &[u8],
-    rest: &[Piece<'a>],
-) -> Result<Says<'a>, AllocError>
-    ensures { IfOk result (λ says. says_of says ≡ instruction name.now (operands_of (tokens_in rest.now))) }
+// An instruction by its name and the text after it.
+fn read_instruction<'a>(name: &[u8], rest: &'a [u8]) -> Says<'a>
+    ensures { says_of result ≡ instruction name.now (operands_of (tokens_of rest.now)) }
 {
     if !known(name) {
-        return Ok(Says::Unknown);
+        return Says::Unknown;
     }
-    let operands = read_operands(alloc, rest)?;
-    let Some(shapes) = shapes(alloc, &operands)? else {
-        return Ok(Says::Misshapen);
-    };
-    match find(name, &shapes) {
-        None => Ok(Says::Misshapen),
-        Some(row) if row.is_built() => {
-            Ok(Says::Instruction(row, amounts(alloc, row, &operands)?))
-        }
-        Some(_) => Ok(Says::Unknown),
+    match find_row(name, rest) {
+        None => Says::Misshapen,
+        Some(row) if row.is_built() => Says::Instruction(row, rest),
+        Some(_) => Says::Unknown,
     }
 }
 
 // What comes after the labels.
-pub fn read_statement<'a>(alloc: Global, pieces: &[Piece<'a>]) -> Result<Statement<'a>, AllocError>
-    ensures { IfOk result (λ s. statement_of s ≡ statement (tokens_in pieces.now)) }
+pub fn read_statement(text: &[u8]) -> Statement<'_>
+    ensures { statement_of result ≡ statement (tokens_of text.now) }
 {
-    if pieces.is_empty() {
-        return Ok(Statement {
+    let Some((first, rest)) = first_token(text) else {
+        return Statement {
             home: Home::Anywhere,
             says: Says::NoEffect,
-        });
-    }
-    let first = pieces[0];
+        };
+    };
     if first.kind != TokKind::Name {
-        return Ok(Statement {
+        return Statement {
             home: Home::Anywhere,
             says: Says::Misshapen,
-        });
+        };
     }
     if first.bytes.first() == Some(&b'.') {
-        return read_directive(alloc, first.bytes, &pieces[1..]);
+        return read_directive(first.bytes, rest);
     }
-    Ok(Statement {
+    Statement {
         home: Home::InText,
-        says: read_instruction(alloc, first.bytes, &pieces[1..])?,
-    })
+        says: read_instruction(first.bytes, rest),
+    }
 }

@@ -1,15 +1,24 @@
-ghost use Rattle.std.specs.Prelude.{◌≡◌, ◌≤◌, IfOk, IfSome, option_map, vec_items, List, ◌∷◌};
-ghost use Rattle.source_model.specs.Values.{width_bytes, greatest_value, greatest_negative, negated, label_value, plain_value, signed_value, values_from, listed_values};
-ghost use Rattle.xs_assembler.specs.Parts.{read_amount, amounts_in, read_token, tokens_in};
-ghost use Rattle.xs_assembler.specs.Values.{next_of, after_step};
-ghost use Rattle.xs_text.specs.Tokens.{Token};
+ghost use Rattle.std.specs.Prelude.{◌≡◌, ◌+◌, ◌<◌, ◌≤◌, None, Some, length, IfSome, MatchOption, option_map};
+ghost use Rattle.source_model.specs.Each.{put_first};
+ghost use Rattle.source_model.specs.Values.{width_bytes, greatest_value, greatest_negative, negated, label_value, plain_value, signed_value, values_from, ValueNext, CommaNext, listed_values};
+ghost use Rattle.xs_text.specs.Tokens.{tokens_of};
+ghost use Rattle.xs_assembler.specs.Parts.{read_amount};
+ghost use Rattle.xs_assembler.specs.Values.{left_length, values_left};
 
 use crate::amount::Amount;
-use crate::pieces::Piece;
+use crate::tokens::{Piece, first_token};
 use source_model::Width;
-use std::alloc::{AllocError, Global};
 use xs_instructions::{is_reserved, same_name};
 use xs_text::{TokKind, source_number};
+
+// Values of a directive, in the text after its name.
+#[derive(Clone, Copy)]
+pub struct ValueList<'a> {
+    pub width: Width,
+    pub count: u64,
+    pub text: &'a [u8],
+    ghost counted: { option_map length (listed_values width (tokens_of text.now)) ≡ Some count },
+}
 
 // The bytes of a value.
 pub fn width_bytes(width: Width) -> u64
@@ -91,56 +100,59 @@ fn signed_value<'a>(piece: Piece<'a>, width: Width) -> Option<Amount<'a>>
     }
 }
 
-// What may come next in a list of values.
-#[derive(Clone, Copy)]
-pub enum Next {
-    Value,
-    Digits,
-    Comma,
-}
-
-// The values of a directive: one or more with commas between, each with a sign or none. None where the shape is
-// another.
-pub fn read_values<'a>(
-    alloc: Global,
-    width: Width,
-    pieces: &[Piece<'a>],
-) -> Result<Option<Vec<Amount<'a>>>, AllocError>
-    ensures { IfOk result (λ values. option_map (λ v. amounts_in v.items) values ≡ listed_values width (tokens_in pieces.now)) }
-{
-    let mut values = Vec::new(alloc);
-    let mut next = Next::Value;
-    for piece in pieces {
-        let Some((value, after)) = value_step(*piece, width, next) else {
-            return Ok(None);
-        };
-        if let Some(value) = value {
-            values.push(value)?;
-        }
-        next = after;
-    }
-    match next {
-        Next::Comma => Ok(Some(values)),
-        _ => Ok(None),
-    }
-}
-
-// The value that the token ends, if it does, and what may come next. None where the token may not come here.
+// The value at the front, with a sign or none, and what is left then. None where there is none.
 #[tactic(auto, unfolding(source_model::specs::Values::values_from))]
-fn value_step<'a>(piece: Piece<'a>, width: Width, next: Next) -> Option<(Option<Amount<'a>>, Next)>
-    ensures { (rest : List Token) → values_from (next_of next) width (read_token piece.entry ∷ rest) ≡ after_step width rest result }
+fn first_value(width: Width, list: &[u8]) -> Option<(Amount<'_>, &[u8])>
+    ensures value { MatchOption result (values_from ValueNext width (tokens_of list.now) ≡ None) (λ v. values_from ValueNext width (tokens_of list.now) ≡ put_first (Some (read_amount v.0)) (values_from CommaNext width (tokens_of v.1.now))) }
+    ensures shorter { IfSome result (λ v. length (tokens_of v.1.now) < length (tokens_of list.now)) }
 {
-    match next {
-        Next::Value if same_name(b"-", piece.bytes) => Some((None, Next::Digits)),
-        Next::Value => {
-            let value = plain_value(piece, width)?;
-            Some((Some(value), Next::Comma))
-        }
-        Next::Digits => {
-            let value = signed_value(piece, width)?;
-            Some((Some(value), Next::Comma))
-        }
-        Next::Comma if same_name(b",", piece.bytes) => Some((None, Next::Value)),
-        Next::Comma => None,
+    let Some((first, rest)) = first_token(list) else {
+        return None;
+    };
+    if !same_name(b"-", first.bytes) {
+        return match plain_value(first, width) {
+            Some(value) => Some((value, rest)),
+            None => None,
+        };
     }
+    let Some((digits, rest)) = first_token(rest) else {
+        return None;
+    };
+    match signed_value(digits, width) {
+        Some(value) => Some((value, rest)),
+        None => None,
+    }
+}
+
+// The first value of a list, and the list after its comma, if there is one. None where no value or something else than
+// a comma comes.
+#[tactic(auto, unfolding(source_model::specs::Values::values_from))]
+pub fn next_value(width: Width, list: &[u8]) -> Option<(Amount<'_>, Option<&[u8]>)>
+    ensures value { MatchOption result (listed_values width (tokens_of list.now) ≡ None) (λ v. listed_values width (tokens_of list.now) ≡ put_first (Some (read_amount v.0)) (values_left width v.1)) }
+    ensures shorter { IfSome result (λ v. left_length v.1 < 1 + length (tokens_of list.now)) }
+{
+    let Some((value, rest)) = first_value(width, list) else {
+        return None;
+    };
+    match first_token(rest) {
+        None => Some((value, None)),
+        Some((comma, rest)) if same_name(b",", comma.bytes) => Some((value, Some(rest))),
+        Some(_) => None,
+    }
+}
+
+// How many values a list has: one or more with commas between. None where the shape is another.
+pub fn count_values(width: Width, list: &[u8]) -> Option<u64>
+    ensures { result ≡ option_map length (listed_values width (tokens_of list.now)) }
+{
+    let mut count = 0;
+    let mut left = Some(list);
+    while let Some(text) = left {
+        let Some((_, rest)) = next_value(width, text) else {
+            return None;
+        };
+        count += 1;
+        left = rest;
+    }
+    Some(count)
 }

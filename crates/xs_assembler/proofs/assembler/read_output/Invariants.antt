@@ -1,5 +1,6 @@
 use Rattle.std.proofs.Common.{◌-◌, length}
-use Rattle.xs_assembler.specs.Sofar.{before_of, sofar_of}
+use Rattle.xs_assembler.specs.Before.{before_of}
+use Rattle.xs_assembler.specs.Sofar.{sofar_of}
 use Rattle.xs_assembler.proofs.Passing.{OutputSoFar}
 use Rattle.xs_assembler.proofs.assembler.read_output.Given as goal
 
