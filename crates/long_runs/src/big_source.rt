@@ -1,4 +1,4 @@
-//! A source with as many instructions as there may be, and 4,000 words of data, each with a label: about 550 KB.
+//! A source with as many instructions as there may be, and 4,000 words of data, each with a label: 582,397 bytes.
 
 ghost use Rattle.std.specs.Prelude.{◌<◌};
 
