@@ -1,12 +1,12 @@
 -- Steps of the loop over the operands of an instruction.
-use Rattle.std.proofs.Common.{◌≡◌, ℕ, ◌<◌, ◌≤◌, Bool, true, false, ◌&&◌, List, [], ◌∷◌, ◌++◌, length, Option, Some, None, refl, sym, ap, ◌∙◌, arith, append_assoc, length-append}
-use Rattle.std.specs.Prelude.{nat_le, option_and_then, if◌then◌else◌}
-use Rattle.std.specs.List.{list_all}
+use Rattle.std.proofs.Common.{◌≡◌, ℕ, ◌<◌, ◌≤◌, Bool, true, false, ◌&&◌, ◌||◌, List, [], ◌∷◌, ◌++◌, length, Option, Some, None, refl, sym, ap, ◌∙◌, arith, append_assoc, length-append}
+use Rattle.std.specs.Prelude.{nat_le, option_and_then, if◌then◌else◌, IfSome}
+use Rattle.std.specs.List.{list_all, list_any}
 use Rattle.std.proofs.lemmas.List.{append-nil}
 use Rattle.std.proofs.lemmas.Bool.{leb-true}
 use Rattle.xs_instructions.specs.Table.{parts_of, name_of}
 use Rattle.xs_instructions.specs.Image.{same_name}
-use Rattle.xs_instructions.specs.Find.{shape_fits, have_form, first_row, find}
+use Rattle.xs_instructions.specs.Find.{shape_fits, have_form, first_row, find, known}
 use Rattle.xs_instructions.specs.declared.rows.Part.{Part}
 use Rattle.xs_instructions.specs.declared.rows.Row.{Row}
 use Rattle.xs_instructions.specs.declared.rows.TheConstants.{ROWS}
@@ -109,3 +109,22 @@ unfolding all_some
 shapes_full old rest operands operand ys e h inv = λ name.
     ap (λ o. option_and_then (find name) o) (sym inv)
     ∙ (ap (λ l. option_and_then (find name) (before_all ys (all_some shape_of l))) e ∙ too_many name ys (shape_of operand) (all_some shape_of rest) h)
+
+-- a name with which a row is found is known
+
+known_step : (a b : Bool) (first row : Row) (o : Option Row) (later : Bool) → (if a && b then Some first else o) ≡ Some row → (o ≡ Some row → later ≡ true) → (a || later) ≡ true
+known_step true b first row o later e h = refl
+known_step false b first row o later e h = h e
+
+first_row_known : (rows : List Row) (name : List ℕ) (shapes : List Shape) (row : Row) → first_row rows name shapes ≡ Some row → list_any (λ r. same_name (name_of r) name) rows ≡ true
+first_row_known [] name shapes row e = cc
+first_row_known (first ∷ rows) name shapes row e =
+    known_step (same_name (name_of first) name) (have_form (parts_of first) shapes) first row (first_row rows name shapes) _ e (first_row_known rows name shapes row)
+
+found_name : (name : List ℕ) (shapes : List Shape) (row : Row) → find name shapes ≡ Some row → known name ≡ true
+unfolding find known
+found_name name shapes row e = first_row_known ROWS name shapes row e
+
+pub found_is_known : (name : List ℕ) (shapes : List Shape) (found : Option Row) → found ≡ find name shapes → IfSome found (λ row. known name ≡ true)
+found_is_known name shapes None e = tt
+found_is_known name shapes (Some row) e = found_name name shapes row (sym e)

@@ -1,7 +1,7 @@
-ghost use Rattle.std.specs.Prelude.{◌≡◌, [], ◌∷◌, MatchOption, IfNone, Option, option_and_then, option_map};
+ghost use Rattle.std.specs.Prelude.{◌≡◌, [], ◌∷◌, MatchOption, IfNone, IfSome, true, Option, option_and_then, option_map};
 ghost use Rattle.std.specs.List.{slice_range};
 ghost use Rattle.source_model.specs.Operands.{base_named, base_after, operands_of, name_shape, shape_of, shapes_of, name_amount, amount_of};
-ghost use Rattle.xs_instructions.specs.Table.{find, register_number};
+ghost use Rattle.xs_instructions.specs.Table.{find, known, register_number};
 ghost use Rattle.xs_text.specs.Tokens.{tokens_of};
 ghost use Rattle.xs_assembler.specs.Parts.{operand_of, read_amount, HasShapes};
 
@@ -10,7 +10,7 @@ use crate::tokens::{Piece, first_token};
 use arrayvec::ArrayVec;
 use source_model::Section;
 use std::marker::Model;
-use xs_instructions::{Row, Shape, find, fixed, is_reserved, register_number, same_name};
+use xs_instructions::{Row, Shape, find, fixed, is_reserved, register_number};
 use xs_text::{TokKind, source_number};
 
 // The longest form of a row has fewer places.
@@ -75,12 +75,10 @@ impl<'a> Operands<'a> {
 fn base_named(name: &[u8]) -> Option<Section>
     ensures { result ≡ base_named name.now }
 {
-    if same_name(b"dp", name) {
-        Some(Section::Data)
-    } else if same_name(b"cp", name) {
-        Some(Section::Constants)
-    } else {
-        None
+    match name {
+        b"dp" => Some(Section::Data),
+        b"cp" => Some(Section::Constants),
+        _ => None,
     }
 }
 
@@ -88,10 +86,9 @@ fn base_named(name: &[u8]) -> Option<Section>
 fn base_after(second: &[u8], last: &[u8]) -> Option<Section>
     ensures { result ≡ base_after second.now last.now }
 {
-    if same_name(b"[", last) {
-        base_named(second)
-    } else {
-        None
+    match last {
+        b"[" => base_named(second),
+        _ => None,
     }
 }
 
@@ -147,7 +144,8 @@ fn shapes(text: &[u8]) -> Option<ArrayVec<Shape, MOST_SHAPES>>
 
 // The row of an instruction, by its name and the text after it.
 pub fn find_row(name: &[u8], text: &[u8]) -> Option<Row>
-    ensures { result ≡ option_and_then (find name.now) (shapes_of (operands_of (tokens_of text.now))) }
+    ensures row { result ≡ option_and_then (find name.now) (shapes_of (operands_of (tokens_of text.now))) }
+    ensures known { IfSome result (λ _. known name.now ≡ true) }
 {
     match shapes(text) {
         Some(shapes) => find(name, &shapes),

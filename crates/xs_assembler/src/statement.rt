@@ -173,17 +173,15 @@ fn read_directive<'a>(name: &[u8], rest: &'a [u8]) -> Statement<'a>
     }
 }
 
-// An instruction by its name and the text after it.
+// An instruction by its name and the text after it. Most names are known, so that is asked only where no row is found.
 fn read_instruction<'a>(name: &[u8], rest: &'a [u8]) -> Says<'a>
     ensures { says_of result ≡ instruction name.now (operands_of (tokens_of rest.now)) }
 {
-    if !known(name) {
-        return Says::Unknown;
-    }
     match find_row(name, rest) {
-        None => Says::Misshapen,
         Some(row) if row.is_built() => Says::Instruction(row, rest),
         Some(_) => Says::Unknown,
+        None if known(name) => Says::Misshapen,
+        None => Says::Unknown,
     }
 }
 

@@ -3,7 +3,6 @@ ghost use Rattle.xs_text.specs.Tokens.{tokens_of, is_name, HasForm};
 ghost use Rattle.source_model.specs.Statement.{labels_first, after_labels};
 ghost use Rattle.xs_assembler.specs.Parts.{read_token};
 
-use xs_instructions::same_name;
 use xs_text::{Line, TokKind, next_tok};
 
 // A token with its text.
@@ -45,9 +44,8 @@ pub fn first_label(line: &[u8]) -> Option<(&[u8], &[u8])>
     let Some((colon, rest)) = first_token(rest) else {
         return None;
     };
-    if name.kind == TokKind::Name && same_name(b":", colon.bytes) {
-        Some((name.bytes, rest))
-    } else {
-        None
+    match colon.bytes {
+        b":" if name.kind == TokKind::Name => Some((name.bytes, rest)),
+        _ => None,
     }
 }
