@@ -24,6 +24,7 @@ pub mod Sound
 pub mod Fine
 pub mod Lengths
 pub mod Labels
+pub mod LabelPlaces
 pub mod Targets
 pub mod GoodCode
 pub mod IsImage

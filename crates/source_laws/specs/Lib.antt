@@ -1,4 +1,5 @@
 pub mod Faults
 pub mod LabelOrder
+pub mod LabelPlaces
 pub mod LabelValues
 pub mod TextStandsFor
