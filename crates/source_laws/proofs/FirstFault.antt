@@ -1,15 +1,15 @@
 -- The recursion over the lines gives the least faulty line and the first kind of its faults.
-use Rattle.std.proofs.Common.{◌≡◌, ℕ, zero, suc, ◌+◌, ◌<◌, Bool, true, false, cond, List, [], ◌∷◌, Option, Some, None, refl, ap, ◌∙◌, subst, arith, map, add-zero}
+use Rattle.std.proofs.Common.{◌≡◌, ℕ, zero, suc, ◌+◌, Bool, true, false, cond, List, [], ◌∷◌, Option, Some, None, refl, sym, ap, ◌∙◌, map, get_or}
 use Rattle.std.specs.Prelude.{find}
-use Rattle.std.proofs.lemmas.Bool.{cond-false}
 use Rattle.source_model.specs.declared.AsmKind.{AsmKind}
 use Rattle.source_model.specs.declared.AsmKind.TheVariants.{BadByte, UnknownName, WrongOperands, NumberOutOfRange, LabelTwice, LabelMissing, DirectiveNotAllowed, TooManyInstructions, TooManyBytes}
 use Rattle.xs_text.specs.Lines.{lines_of}
 use Rattle.xs_instructions.specs.Image.{ImageRec}
 use Rattle.source_model.specs.Statement.{Line, line_of}
 use Rattle.source_model.specs.Layout.{Sofar, nothing_yet, after_line, whole_of}
-use Rattle.source_model.specs.Source.{has_kind, order, fault_of_line, or_fault, first_fault, Image, Fault, outcome, assembled}
-use Rattle.source_laws.specs.Faults.{has_fault_after, has_fault, IsFirstSourceFault, HasNoSourceFault, image_of_text}
+use Rattle.source_model.specs.Source.{order, fault_of_line, or_fault, first_fault, Image, Fault, outcome, assembled}
+use Rattle.source_model.proofs.LeastLine.{first_in, fault_in, Tells, first_is_least, least_is_first, none_has_none, no_fault_none}
+use Rattle.source_laws.specs.Faults.{has_fault_after, has_fault_in, IsFirstSourceFault, HasNoSourceFault, image_of_text}
 
 cond_none : {X : Type 0} (b : Bool) (x : X) (o : Option X) → cond b (Some x) o ≡ None → (b ≡ false) × (o ≡ None)
 cond_none true x o e = cc
@@ -39,86 +39,35 @@ none_at p e k =
       | TooManyBytes ↦ j.0
     ]
 
-find_none : {X : Type 0} (p : X → Bool) → ((x : X) → p x ≡ false) → (xs : List X) → find p xs ≡ None
-find_none p h [] = refl
-find_none p h (x ∷ xs) = cond-false (p x) _ _ (h x) ∙ find_none p h xs
+-- what each line has
+unfoldable faults_of : Sofar → Sofar → List Line → List (Option AsmKind)
+faults_of whole before [] = []
+faults_of whole before (line ∷ lines) = fault_of_line whole before line ∷ faults_of whole (after_line before line) lines
 
--- the line with the number i, from 0, is the least with a fault, and k its first kind
-pub record FirstAt (whole before : Sofar) (i : ℕ) (lines : List Line) (k : AsmKind) : Type 0 where
-  pub first : find (λ j. has_fault_after j whole before i lines) order ≡ Some k
-  pub least : (m : ℕ) → m < i → (j : AsmKind) → has_fault_after j whole before m lines ≡ false
+-- the recursion over the lines gives the first of those
+first_of_all : (whole before : Sofar) (number : ℕ) (lines : List Line) → first_fault whole before number lines ≡ first_in number (faults_of whole before lines)
+unfolding first_fault faults_of
+first_of_all whole before number [] = refl
+first_of_all whole before number (line ∷ lines) = step number (first_fault whole (after_line before line) (number + 1) lines) (faults_of whole (after_line before line) lines) (fault_of_line whole before line) (first_of_all whole (after_line before line) (number + 1) lines) where
+  step : (number : ℕ) (later : Option (ℕ × AsmKind)) (faults : List (Option AsmKind)) (fault : Option AsmKind) → later ≡ first_in (number + 1) faults → or_fault number fault later ≡ first_in number (fault ∷ faults)
+  step number later faults (Some kind) e = refl
+  step number later faults None e = e
 
-abbrev pub Found : Sofar → Sofar → ℕ → List Line → ℕ × AsmKind → Type 0
-Found whole before number lines fault = (i : ℕ) × (fault.0 ≡ number + i) × FirstAt whole before i lines fault.1
+first_kind : (whole before : Sofar) (i : ℕ) (lines : List Line) → find (λ k. has_fault_after k whole before i lines) order ≡ get_or (faults_of whole before lines) i None
+unfolding has_fault_after faults_of
+first_kind whole before i [] = refl
+first_kind whole before zero (line ∷ lines) = refl
+first_kind whole before (suc i) (line ∷ lines) = first_kind whole (after_line before line) i lines
 
-at_first : (whole before : Sofar) (line : Line) (lines : List Line) (k : AsmKind) → fault_of_line whole before line ≡ Some k → FirstAt whole before 0 (line ∷ lines) k
-unfolding has_fault_after
-at_first whole before line lines k e = record { first = e; least = λ m h j. absurd (omega (arith, h)) }
+first_kind_in : (lines : List Line) (n : ℕ) → find (λ k. has_fault_in k n lines) order ≡ fault_in n (faults_of (whole_of lines) nothing_yet lines)
+first_kind_in lines zero = refl
+first_kind_in lines (suc i) = first_kind (whole_of lines) nothing_yet i lines
 
-none_before : (whole before : Sofar) (line : Line) (lines : List Line) (i : ℕ) → fault_of_line whole before line ≡ None
-    → ((m : ℕ) → m < i → (j : AsmKind) → has_fault_after j whole (after_line before line) m lines ≡ false)
-    → (m : ℕ) → m < suc i → (j : AsmKind) → has_fault_after j whole before m (line ∷ lines) ≡ false
-unfolding has_fault_after
-none_before whole before line lines i e h zero k j = none_at (λ j. has_kind j whole before line) e j
-none_before whole before line lines i e h (suc m) k j = h m (omega (arith, k)) j
+tells : (lines : List Line) → Tells (λ k n. has_fault_in k n lines) order (faults_of (whole_of lines) nothing_yet lines)
+tells lines = record { first = first_kind_in lines; complete = λ n e. none_at (λ k. has_fault_in k n lines) e }
 
-at_next : (whole before : Sofar) (line : Line) (lines : List Line) (i : ℕ) (k : AsmKind) → fault_of_line whole before line ≡ None → FirstAt whole (after_line before line) i lines k → FirstAt whole before (suc i) (line ∷ lines) k
-unfolding has_fault_after
-at_next whole before line lines i k e h = record { first = h.first; least = none_before whole before line lines i e h.least }
-
-found_step : (whole before : Sofar) (number : ℕ) (line : Line) (lines : List Line) (fault : ℕ × AsmKind) (o : Option AsmKind) → fault_of_line whole before line ≡ o
-    → (first_fault whole (after_line before line) (number + 1) lines ≡ Some fault → Found whole (after_line before line) (number + 1) lines fault)
-    → or_fault number o (first_fault whole (after_line before line) (number + 1) lines) ≡ Some fault → Found whole before number (line ∷ lines) fault
-found_step whole before number line lines fault (Some k) e next h =
-    let is : (number, k) ≡ fault = cc in
-    subst (Found whole before number (line ∷ lines)) is (0, omega arith, at_first whole before line lines k e)
-found_step whole before number line lines fault None e next h =
-    let f = next h in (suc f.0, omega (arith, f.1), at_next whole before line lines f.0 fault.1 e f.2)
-
-pub found : (whole before : Sofar) (number : ℕ) (lines : List Line) (fault : ℕ × AsmKind) → first_fault whole before number lines ≡ Some fault → Found whole before number lines fault
-unfolding first_fault
-found whole before number [] fault h = cc
-found whole before number (line ∷ lines) fault h =
-    found_step whole before number line lines fault (fault_of_line whole before line) refl (found whole (after_line before line) (number + 1) lines fault) h
-
-absent_step : (whole before : Sofar) (number : ℕ) (line : Line) (lines : List Line) (o : Option AsmKind) → fault_of_line whole before line ≡ o
-    → (first_fault whole (after_line before line) (number + 1) lines ≡ None → (m : ℕ) (j : AsmKind) → has_fault_after j whole (after_line before line) m lines ≡ false)
-    → or_fault number o (first_fault whole (after_line before line) (number + 1) lines) ≡ None → (m : ℕ) (j : AsmKind) → has_fault_after j whole before m (line ∷ lines) ≡ false
-unfolding has_fault_after
-absent_step whole before number line lines (Some k) e next h m j = cc
-absent_step whole before number line lines None e next h zero j = none_at (λ j. has_kind j whole before line) e j
-absent_step whole before number line lines None e next h (suc m) j = next h m j
-
-pub absent : (whole before : Sofar) (number : ℕ) (lines : List Line) → first_fault whole before number lines ≡ None → (m : ℕ) (j : AsmKind) → has_fault_after j whole before m lines ≡ false
-unfolding first_fault has_fault_after
-absent whole before number [] h m j = refl
-absent whole before number (line ∷ lines) h m j =
-    absent_step whole before number line lines (fault_of_line whole before line) refl (absent whole (after_line before line) (number + 1) lines) h m j
-
-none_of_line : (whole before : Sofar) (line : Line) (lines : List Line) → ((j : AsmKind) → has_fault_after j whole before 0 (line ∷ lines) ≡ false) → fault_of_line whole before line ≡ None
-unfolding has_fault_after
-none_of_line whole before line lines h = find_none _ h order
-
-nothing_found : (whole before : Sofar) (i : ℕ) (k : AsmKind) → find (λ j. has_fault_after j whole before i []) order ≡ Some k → ⊥
-unfolding has_fault_after
-nothing_found whole before i k e = cc
-
-pub finds : (whole before : Sofar) (number i : ℕ) (lines : List Line) (k : AsmKind) → FirstAt whole before i lines k → first_fault whole before number lines ≡ Some (number + i, k)
-unfolding first_fault has_fault_after
-finds whole before number i [] k h = absurd (nothing_found whole before i k h.first)
-finds whole before number zero (line ∷ lines) k h = rw add-zero (ap (λ o. or_fault number o (first_fault whole (after_line before line) (number + 1) lines)) h.first)
-finds whole before number (suc i) (line ∷ lines) k h =
-    let none = none_of_line whole before line lines (h.least 0 (omega arith)) in
-    let next = finds whole (after_line before line) (number + 1) i lines k (record { first = h.first; least = λ m l j. h.least (suc m) (omega (arith, l)) j }) in
-    ap (λ o. or_fault number o (first_fault whole (after_line before line) (number + 1) lines)) none
-    ∙ (next ∙ ap (λ n. Some (n, k)) (omega arith))
-
-pub finds_none : (whole before : Sofar) (number : ℕ) (lines : List Line) → ((m : ℕ) (j : AsmKind) → has_fault_after j whole before m lines ≡ false) → first_fault whole before number lines ≡ None
-unfolding first_fault has_fault_after
-finds_none whole before number [] h = refl
-finds_none whole before number (line ∷ lines) h =
-    ap (λ o. or_fault number o (first_fault whole (after_line before line) (number + 1) lines)) (none_of_line whole before line lines (h 0))
-    ∙ finds_none whole (after_line before line) (number + 1) lines (λ m j. h (suc m) j)
+pub absent : (lines : List Line) → first_fault (whole_of lines) nothing_yet 1 lines ≡ None → (m : ℕ) (j : AsmKind) → has_fault_after j (whole_of lines) nothing_yet m lines ≡ false
+absent lines h m j = none_has_none _ _ _ (tells lines) (sym (first_of_all (whole_of lines) nothing_yet 1 lines) ∙ h) (suc m) j
 
 -- the same of a text
 outcome_fault : (o : Option (ℕ × AsmKind)) (image : ImageRec) (line : ℕ) (kind : AsmKind) → outcome o image ≡ Fault line kind → o ≡ Some (line, kind)
@@ -135,33 +84,17 @@ outcome_image (Some fault) image taken e = cc
 abbrev lines_in : List ℕ → List Line
 lines_in text = map line_of (lines_of text)
 
-least_of : (text : List ℕ) (i : ℕ) (kind : AsmKind) → FirstAt (whole_of (lines_in text)) nothing_yet i (lines_in text) kind → (n : ℕ) → n < suc i → (k : AsmKind) → has_fault k n text ≡ false
-least_of text i kind h zero l k = refl
-least_of text i kind h (suc n) l k = h.least n (omega (arith, l)) k
-
-first_of_found : (text : List ℕ) (line : ℕ) (kind : AsmKind) → Found (whole_of (lines_in text)) nothing_yet 1 (lines_in text) (line, kind) → IsFirstSourceFault text line kind
-first_of_found text line kind h =
-    let is : suc h.0 ≡ line = omega (arith, h.1) in
-    let first : IsFirstSourceFault text (suc h.0) kind = record { first = h.2.first; least = least_of text h.0 kind h.2 } in
-    subst (λ n. IsFirstSourceFault text n kind) is first
+first_of_text : (text : List ℕ) → first_fault (whole_of (lines_in text)) nothing_yet 1 (lines_in text) ≡ first_in 1 (faults_of (whole_of (lines_in text)) nothing_yet (lines_in text))
+first_of_text text = first_of_all (whole_of (lines_in text)) nothing_yet 1 (lines_in text)
 
 pub refused_at : (text : List ℕ) (line : ℕ) (kind : AsmKind) → assembled text ≡ Fault line kind → IsFirstSourceFault text line kind
-refused_at text line kind e =
-    first_of_found text line kind (found (whole_of (lines_in text)) nothing_yet 1 (lines_in text) (line, kind) (outcome_fault _ _ line kind e))
-
-no_line_0 : (kind : AsmKind) → find (λ (k : AsmKind). false) order ≡ Some kind → ⊥
-no_line_0 kind e = cc
+refused_at text line kind e = first_is_least _ _ _ (tells (lines_in text)) line kind (sym (first_of_text text) ∙ outcome_fault _ _ line kind e)
 
 pub faulty_at : (text : List ℕ) (line : ℕ) (kind : AsmKind) → IsFirstSourceFault text line kind → assembled text ≡ Fault line kind
-faulty_at text zero kind h = absurd (no_line_0 kind h.first)
-faulty_at text (suc i) kind h =
-    let at : FirstAt (whole_of (lines_in text)) nothing_yet i (lines_in text) kind = record { first = h.first; least = λ m l j. h.least (suc m) (omega (arith, l)) j } in
-    ap (λ o. outcome o (image_of_text text)) (finds (whole_of (lines_in text)) nothing_yet 1 i (lines_in text) kind at)
-    ∙ ap (λ n. Fault n kind) (omega arith)
+faulty_at text line kind h = ap (λ o. outcome o (image_of_text text)) (first_of_text text ∙ least_is_first _ _ _ (tells (lines_in text)) line kind h)
 
 pub taken_at : (text : List ℕ) (image : ImageRec) → assembled text ≡ Image image → HasNoSourceFault text
-taken_at text image e zero k = refl
-taken_at text image e (suc n) k = absent (whole_of (lines_in text)) nothing_yet 1 (lines_in text) (outcome_image _ _ image e) n k
+taken_at text image e = none_has_none _ _ _ (tells (lines_in text)) (sym (first_of_text text) ∙ outcome_image _ _ image e)
 
 pub faultless_at : (text : List ℕ) → HasNoSourceFault text → assembled text ≡ Image (image_of_text text)
-faultless_at text h = ap (λ o. outcome o (image_of_text text)) (finds_none (whole_of (lines_in text)) nothing_yet 1 (lines_in text) (λ m j. h (suc m) j))
+faultless_at text h = ap (λ o. outcome o (image_of_text text)) (first_of_text text ∙ no_fault_none _ _ _ (tells (lines_in text)) h)

@@ -76,7 +76,7 @@ module _ (lines : List Line) (fine : AreFine (whole_of lines) nothing_yet lines)
 pub faultless_lines : (ls : List (List ℕ)) → first_fault (whole_of (map line_of ls)) nothing_yet 1 (map line_of ls) ≡ None → IsImage (image_of (whole_of (map line_of ls)) (map line_of ls))
 faultless_lines ls h =
     let lines = map line_of ls in
-    lines_image lines (all_fine (whole_of lines) nothing_yet lines (all_sound ls) (absent (whole_of lines) nothing_yet 1 lines h))
+    lines_image lines (all_fine (whole_of lines) nothing_yet lines (all_sound ls) (absent lines h))
 
 outcome_none : (o : Option (ℕ × AsmKind)) (image taken : ImageRec) → outcome o image ≡ Image taken → (o ≡ None) × (image ≡ taken)
 outcome_none None image taken h = let is : image ≡ taken = cc in (refl, is)

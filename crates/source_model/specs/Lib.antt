@@ -1,4 +1,5 @@
 pub mod Each
+pub mod LeastLine
 pub mod Operands
 pub mod Values
 pub mod Statement

@@ -1,6 +1,6 @@
 -- The frame of a system text: all its lines but those of the sources. Each line is tested by what the lines before it
 -- have given, and the first line that has a fault refuses the text.
-use Rattle.std.specs.Prelude.{ℕ, ◌+◌, Bool, true, false, not, ◌&&◌, ◌||◌, ◌==◌, nat_lt, if◌then◌else◌, Option, Some, None, option_map, option_to_list, List, [], ◌∷◌, ◌++◌, length, find}
+use Rattle.std.specs.Prelude.{ℕ, ◌+◌, Bool, true, false, not, ◌&&◌, ◌||◌, ◌==◌, nat_lt, if◌then◌else◌, Option, Some, None, option_map, option_to_list, List, [], ◌∷◌, ◌++◌, length, map, find}
 use Rattle.std.specs.List.{list_any, list_all}
 use Rattle.xs_text.specs.Bytes.{all_allowed}
 use Rattle.xs_text.specs.Words.{words_of_line}
@@ -138,19 +138,28 @@ is_bit_twice given (Form (Bit bit)) =
     list_any (λ (other : BitLine). (other.node == bit.node) && (other.bit == bit.bit)) given.bits
 is_bit_twice given _ = false
 
--- the tests of a line by whether its bytes are allowed and by what it says, in the order in which they refuse
+-- the test of each kind, by what is given, whether a line's bytes are allowed, and what it says; the other kinds are of no
+-- line by itself
+abbrev pub has_frame_kind : SysKind → Given → Bool → FrameSays → Bool
+has_frame_kind FirstLine given allowed said = is_other_first_line said
+has_frame_kind BadLine given allowed said = (is_of_the_frame said && not allowed) || has_no_form given said
+has_frame_kind NumberOutOfRange given allowed said = has_frame_number_out_of_range said
+has_frame_kind NoSuchNode given allowed said = names_none given said
+has_frame_kind GivenTwice given allowed said = is_given_twice given said
+has_frame_kind IdTwice given allowed said = is_id_twice given said
+has_frame_kind LinkToItself given allowed said = is_link_to_itself said
+has_frame_kind LinkEndTwice given allowed said = is_link_end_twice given said
+has_frame_kind BitTwice given allowed said = is_bit_twice given said
+has_frame_kind _ given allowed said = false
+
+-- the order that decides within a line
+abbrev pub frame_order : List SysKind
+frame_order =
+    FirstLine ∷ BadLine ∷ NumberOutOfRange ∷ NoSuchNode ∷ GivenTwice ∷ IdTwice ∷ LinkToItself ∷ LinkEndTwice ∷ BitTwice ∷ []
+
+-- the tests of a line in that order
 abbrev pub tests : Given → Bool → FrameSays → List (SysKind × Bool)
-tests given allowed said =
-    (FirstLine, is_other_first_line said)
-    ∷ (BadLine, (is_of_the_frame said && not allowed) || has_no_form given said)
-    ∷ (NumberOutOfRange, has_frame_number_out_of_range said)
-    ∷ (NoSuchNode, names_none given said)
-    ∷ (GivenTwice, is_given_twice given said)
-    ∷ (IdTwice, is_id_twice given said)
-    ∷ (LinkToItself, is_link_to_itself said)
-    ∷ (LinkEndTwice, is_link_end_twice given said)
-    ∷ (BitTwice, is_bit_twice given said)
-    ∷ []
+tests given allowed said = map (λ kind. (kind, has_frame_kind kind given allowed said)) frame_order
 
 -- the kind of the first test that holds
 abbrev pub first_that_holds : List (SysKind × Bool) → Option SysKind
