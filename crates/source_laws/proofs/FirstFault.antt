@@ -1,5 +1,5 @@
 -- The recursion over the lines gives the least faulty line and the first kind of its faults.
-use Rattle.std.proofs.Common.{◌≡◌, ℕ, zero, suc, ◌+◌, Bool, true, false, cond, List, [], ◌∷◌, Option, Some, None, refl, sym, ap, ◌∙◌, map, get_or}
+use Rattle.std.proofs.Common.{◌≡◌, ℕ, zero, suc, ◌+◌, Bool, false, List, [], ◌∷◌, Option, Some, None, refl, sym, ap, ◌∙◌, map, get_or}
 use Rattle.std.specs.Prelude.{find}
 use Rattle.source_model.specs.declared.AsmKind.{AsmKind}
 use Rattle.source_model.specs.declared.AsmKind.TheVariants.{BadByte, UnknownName, WrongOperands, NumberOutOfRange, LabelTwice, LabelMissing, DirectiveNotAllowed, TooManyInstructions, TooManyBytes}
@@ -8,35 +8,23 @@ use Rattle.xs_instructions.specs.Image.{ImageRec}
 use Rattle.source_model.specs.Statement.{Line, line_of}
 use Rattle.source_model.specs.Layout.{Sofar, nothing_yet, after_line, whole_of}
 use Rattle.source_model.specs.Source.{order, fault_of_line, or_fault, first_fault, Image, Fault, outcome, assembled}
-use Rattle.source_model.proofs.LeastLine.{first_in, fault_in, Tells, first_is_least, least_is_first, none_has_none, no_fault_none}
+use Rattle.source_model.proofs.LeastLine.{none_of_each, first_in, fault_in, Tells, first_is_least, least_is_first, none_has_none, no_fault_none}
 use Rattle.source_laws.specs.Faults.{has_fault_after, has_fault_in, IsFirstSourceFault, HasNoSourceFault, image_of_text}
-
-cond_none : {X : Type 0} (b : Bool) (x : X) (o : Option X) → cond b (Some x) o ≡ None → (b ≡ false) × (o ≡ None)
-cond_none true x o e = cc
-cond_none false x o e = (refl, e)
 
 -- of no kind in the order, so of none
 none_at : (p : AsmKind → Bool) → find p order ≡ None → (k : AsmKind) → p k ≡ false
 none_at p e k =
-    let a = cond_none _ _ _ e in
-    let b = cond_none _ _ _ a.1 in
-    let c = cond_none _ _ _ b.1 in
-    let d = cond_none _ _ _ c.1 in
-    let f = cond_none _ _ _ d.1 in
-    let g = cond_none _ _ _ f.1 in
-    let h = cond_none _ _ _ g.1 in
-    let i = cond_none _ _ _ h.1 in
-    let j = cond_none _ _ _ i.1 in
+    let all = none_of_each p order e in
     elim k as (λ k. p k ≡ false) [
-      | BadByte ↦ a.0
-      | UnknownName ↦ d.0
-      | WrongOperands ↦ f.0
-      | NumberOutOfRange ↦ g.0
-      | LabelTwice ↦ b.0
-      | LabelMissing ↦ h.0
-      | DirectiveNotAllowed ↦ c.0
-      | TooManyInstructions ↦ i.0
-      | TooManyBytes ↦ j.0
+      | BadByte ↦ all.0
+      | UnknownName ↦ all.1.1.1.0
+      | WrongOperands ↦ all.1.1.1.1.0
+      | NumberOutOfRange ↦ all.1.1.1.1.1.0
+      | LabelTwice ↦ all.1.0
+      | LabelMissing ↦ all.1.1.1.1.1.1.0
+      | DirectiveNotAllowed ↦ all.1.1.0
+      | TooManyInstructions ↦ all.1.1.1.1.1.1.1.0
+      | TooManyBytes ↦ all.1.1.1.1.1.1.1.1.0
     ]
 
 -- what each line has

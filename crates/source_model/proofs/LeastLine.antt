@@ -1,12 +1,21 @@
 -- Walking lines from the first on finds the fault of the least line that has one.
-use Rattle.std.proofs.Common.{◌≡◌, ℕ, zero, suc, ◌+◌, ◌<◌, Bool, false, List, [], ◌∷◌, Option, Some, None, refl, sym, ap, ◌∙◌, subst, arith, get_or, add-zero}
+use Rattle.std.proofs.Common.{◌≡◌, ℕ, zero, suc, ◌+◌, ◌<◌, Bool, true, false, cond, List, [], ◌∷◌, Option, Some, None, refl, sym, ap, ◌∙◌, subst, arith, get_or, add-zero}
 use Rattle.std.specs.Prelude.{find}
+use Rattle.std.specs.List.{AllByRecursion}
 use Rattle.std.proofs.lemmas.Bool.{cond-false}
 use Rattle.source_model.specs.LeastLine.{IsFirstFault, HasNoFault}
 
 pub find_none : {X : Type 0} (p : X → Bool) → ((x : X) → p x ≡ false) → (xs : List X) → find p xs ≡ None
 find_none p h [] = refl
 find_none p h (x ∷ xs) = cond-false (p x) _ _ (h x) ∙ find_none p h xs
+
+cond_none : {X : Type 0} (b : Bool) (x : X) (o : Option X) → cond b (Some x) o ≡ None → (b ≡ false) × (o ≡ None)
+cond_none true x o e = cc
+cond_none false x o e = (refl, e)
+
+pub none_of_each : {X : Type 0} (p : X → Bool) (xs : List X) → find p xs ≡ None → AllByRecursion (λ x. p x ≡ false) xs
+none_of_each p [] e = tt
+none_of_each p (x ∷ xs) e = let parts = cond_none (p x) x (find p xs) e in (parts.0, none_of_each p xs parts.1)
 
 module _ {Kind : Type 0} where
   abbrev or_fault : ℕ → Option Kind → Option (ℕ × Kind) → Option (ℕ × Kind)

@@ -1,43 +1,31 @@
 -- The least line with a fault decides.
-use Rattle.std.proofs.Common.{◌≡◌, ℕ, zero, suc, ◌+◌, Bool, true, false, cond, List, [], ◌∷◌, Option, Some, None, get_or, refl, sym, ap, ◌∙◌, inl, inr}
+use Rattle.std.proofs.Common.{◌≡◌, ℕ, zero, suc, ◌+◌, Bool, true, false, List, [], ◌∷◌, Option, Some, None, get_or, refl, sym, ap, ◌∙◌, inl, inr}
 use Rattle.std.specs.Prelude.{find, ◌⊎◌}
 use Rattle.std.proofs.lemmas.Bool.{cases_Bool, cond-true, cond-false}
 use Rattle.xs_text.specs.Bytes.{all_allowed}
-use Rattle.source_model.proofs.LeastLine.{first_in, fault_in, Tells, first_is_least, least_is_first, none_has_none, no_fault_none}
+use Rattle.source_model.proofs.LeastLine.{none_of_each, first_in, fault_in, Tells, first_is_least, least_is_first, none_has_none, no_fault_none}
 use Rattle.system_model.specs.declared.SysKind.{SysKind}
 use Rattle.system_model.specs.declared.SysKind.TheVariants.{FirstLine, BadLine, GivenTwice, IdTwice, LinkEndTwice, LinkToItself, NumberOutOfRange, NodeWithoutSource, SectionNotEnded, TooLong, BitTwice, NoSuchNode}
 use Rattle.system_model.specs.Frame.{Given, Framed, Refused, Whole, nothing_given, given_after, says, has_frame_kind, frame_order, fault_of, unless_faulty, at_the_end, frame_from, framed, have_no_words}
 use Rattle.system_model.specs.FirstFault.{has_frame_fault_after, has_frame_fault, IsFirstFrameFault, HasNoFrameFault, given_after_lines, decided_at_the_end}
 
-cond_none : {X : Type 0} (b : Bool) (x : X) (o : Option X) → cond b (Some x) o ≡ None → (b ≡ false) × (o ≡ None)
-cond_none true x o e = cc
-cond_none false x o e = (refl, e)
-
 -- of no kind in the order, so of none, where the other kinds are none
 none_at : (p : SysKind → Bool) → p NodeWithoutSource ≡ false → p SectionNotEnded ≡ false → p TooLong ≡ false → find p frame_order ≡ None → (k : SysKind) → p k ≡ false
 none_at p no_source no_end too_long e k =
-    let a = cond_none _ _ _ e in
-    let b = cond_none _ _ _ a.1 in
-    let c = cond_none _ _ _ b.1 in
-    let d = cond_none _ _ _ c.1 in
-    let f = cond_none _ _ _ d.1 in
-    let g = cond_none _ _ _ f.1 in
-    let h = cond_none _ _ _ g.1 in
-    let i = cond_none _ _ _ h.1 in
-    let j = cond_none _ _ _ i.1 in
+    let all = none_of_each p frame_order e in
     elim k as (λ k. p k ≡ false) [
-      | FirstLine ↦ a.0
-      | BadLine ↦ b.0
-      | GivenTwice ↦ f.0
-      | IdTwice ↦ g.0
-      | LinkEndTwice ↦ i.0
-      | LinkToItself ↦ h.0
-      | NumberOutOfRange ↦ c.0
+      | FirstLine ↦ all.0
+      | BadLine ↦ all.1.0
+      | GivenTwice ↦ all.1.1.1.1.0
+      | IdTwice ↦ all.1.1.1.1.1.0
+      | LinkEndTwice ↦ all.1.1.1.1.1.1.1.0
+      | LinkToItself ↦ all.1.1.1.1.1.1.0
+      | NumberOutOfRange ↦ all.1.1.0
       | NodeWithoutSource ↦ no_source
       | SectionNotEnded ↦ no_end
       | TooLong ↦ too_long
-      | BitTwice ↦ j.0
-      | NoSuchNode ↦ d.0
+      | BitTwice ↦ all.1.1.1.1.1.1.1.1.0
+      | NoSuchNode ↦ all.1.1.1.0
     ]
 
 -- the kinds that no line has a fault of
