@@ -20,7 +20,7 @@ fn node(alloc: Global, number: u8) -> NodePlan
             Vec::new(alloc),
             Vec::new(alloc),
             0x0001_0000,
-            Symbols::new(alloc),
+            Symbols::of_source(alloc, b""),
         ),
         ways: [0; 16],
     }

@@ -91,6 +91,6 @@ abbrev pub EndsWhere : (System → Type 0) → Status → List (List ℕ) → Op
 EndsWhere IsOfKind wanted words left status =
     IsSome (form_of_words words) → IfSome left (λ input. IsOfKind (system_of input) → status ≡ wanted)
 
--- no fault was counted
+-- no fault was counted, and none could be: a count that stands at its last value, 2^64 - 1, tells nothing
 abbrev pub IsCalm : ℕ → ℕ → Type 0
 IsCalm before after = ¬ HasRisen before after

@@ -46,8 +46,9 @@ impl From<AllocError> for ReadError {
 }
 
 /// Reads until the input ends, a read fails, or 4,194,305 bytes are taken, which is one more than an input may
-/// have. No more than that is ever taken, and no read is made after it. No read has an empty buffer. `ReadError::Failed` comes only where the source's count of faults has
-/// risen, and `ReadError::Memory` where memory was wanting; the bytes taken till then are lost.
+/// have. No more than that is ever taken, and no read is made after it. No read has an empty buffer.
+/// `ReadError::Failed` comes only where the source's count of faults has risen, and `ReadError::Memory` where memory
+/// was wanting; the bytes taken till then are lost.
 pub fn read_all<S: Source>(alloc: Global, source: &mut S) -> Result<Vec<u8>, ReadError>
     ensures taken { IfOk result (λ bytes. Consumes (S.left source.old) (S.left source.new) bytes.items) }
     ensures front { IfOk result (λ bytes. IfSome (S.left source.old) (λ left. bytes.items ≡ take (longest_input + 1) left)) }

@@ -10,7 +10,7 @@ use Rattle.source_model.specs.declared.layout.Place.{Place}
 use Rattle.source_model.specs.Statement.{Line}
 use Rattle.source_model.specs.Layout.{Label, place_of, Sofar, define, define_all, after_line, after_lines, here}
 use Rattle.source_model.specs.Source.{defines_twice}
-use Rattle.xs_assembler.specs.Names.{AreNames, IsFront}
+use Rattle.xs_assembler.specs.Names.{IsFront}
 use Rattle.xs_assembler.proofs.NameTable.{define_new}
 use Rattle.xs_assembler.proofs.LabelSteps.{defined_next, twice_next}
 

@@ -15,7 +15,7 @@ use Rattle.xs_assembler.specs.declared.contents.Resolved.{Resolved}
 use Rattle.xs_assembler.specs.declared.statement.Statement.{Statement}
 use Rattle.xs_assembler.specs.declared.output.Output.{Output}
 use Rattle.xs_assembler.specs.Contents.{code_in, bytes_in, Resolves}
-use Rattle.xs_assembler.specs.Lines.{says_of, statement_of}
+use Rattle.xs_assembler.specs.Statements.{says_of, statement_of}
 use Rattle.xs_assembler.specs.Output.{if_in, Grows, HasLine}
 
 cond_none : {X : Type 0} (b : Bool) (x : X) (o : Option X) → cond b (Some x) o ≡ None → (b ≡ false) × (o ≡ None)

@@ -8,7 +8,7 @@ use Rattle.source_model.specs.Layout.{here}
 use Rattle.source_model.specs.Source.{defines_twice}
 use Rattle.xs_assembler.specs.declared.before.Before.{Before}
 use Rattle.xs_assembler.specs.declared.before.Noted.{Noted}
-use Rattle.xs_assembler.specs.Lines.{statement_of}
+use Rattle.xs_assembler.specs.Statements.{statement_of}
 
 -- the lines before one, by the labels of all lines
 abbrev pub before_of : List model.Label → Before → model.Sofar

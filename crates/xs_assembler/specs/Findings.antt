@@ -6,7 +6,7 @@ use Rattle.source_model.specs.Statement.{Line}
 use Rattle.source_model.specs.Layout.{Sofar, after_line}
 use Rattle.source_model.specs.Source.{has_label_twice, is_out_of_range, names_missing}
 use Rattle.xs_assembler.specs.declared.faults.Findings.{Findings}
-use Rattle.xs_assembler.specs.Lines.{statement_of}
+use Rattle.xs_assembler.specs.Statements.{statement_of}
 
 -- The findings are those of the line after the lines before it.
 pub record AreFindings (whole before : Sofar) (line : Line) (found : Findings) : Type 0 where

@@ -1,6 +1,6 @@
 pub mod Names
 pub mod Parts
-pub mod Lines
+pub mod Statements
 pub mod Sofar
 pub mod Before
 pub mod Contents

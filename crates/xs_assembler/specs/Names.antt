@@ -20,7 +20,3 @@ labels_at (s ∷ symbols) (place ∷ places) = (s.0, place) ∷ labels_at symbol
 -- the labels that stand in front of others
 abbrev pub IsFront : List Label → List Label → Type 0
 IsFront front labels = take (length front) labels ≡ front
-
--- names that labels may have, unless they are reserved
-abbrev pub AreNames : List (List ℕ) → Type 0
-AreNames names = AllByRecursion (λ (name : List ℕ). IsTrue (is_name name)) names

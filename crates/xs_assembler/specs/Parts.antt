@@ -5,12 +5,12 @@ use Rattle.xs_instructions.specs.declared.shape.Shape.{Shape}
 use Rattle.xs_instructions.specs.Table.{find}
 use Rattle.source_model.specs.Operands as model
 use Rattle.source_model.specs.Operands.{Known, Target, Address, Offset, shapes_of}
-use Rattle.xs_assembler.specs.declared.tokens.Piece.{Piece}
+use Rattle.xs_assembler.specs.declared.tokens.ReadToken.{ReadToken}
 use Rattle.xs_assembler.specs.declared.operands.Operand.{Operand}
 use Rattle.xs_assembler.specs.declared.amount.Amount.{Amount}
 use Rattle.xs_assembler.specs.declared.amount.Amount.TheVariants as read
 
-abbrev pub read_token : Piece → Token
+abbrev pub read_token : ReadToken → Token
 read_token piece = record { kind = piece.kind; bytes = piece.bytes.now }
 
 abbrev pub operand_of : Operand → model.Operand

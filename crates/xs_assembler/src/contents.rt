@@ -1,5 +1,4 @@
-ghost use Rattle.std.specs.Prelude.{◌≡◌, ◌<◌, ◌≤◌, ◌^◌, ℕ, [], ◌∷◌, true, false, None, IfOk, MatchOption, List, map, Option, option_map, option_and_then, if◌then◌else◌};
-ghost use Rattle.std.specs.Prelude.{◌%◌};
+ghost use Rattle.std.specs.Prelude.{◌≡◌, ◌<◌, ◌≤◌, ◌^◌, ◌%◌, ℕ, [], ◌∷◌, true, false, None, IfOk, MatchOption, List, map, Option, option_map, option_and_then, if◌then◌else◌};
 ghost use Rattle.xs_text.specs.Tokens.{tokens_of};
 ghost use Rattle.source_model.specs.Layout.{address_in};
 ghost use Rattle.source_model.specs.Operands.{operands_of, amount_of, amounts_of};
@@ -10,7 +9,7 @@ ghost use Rattle.source_model.specs.Values.{listed_values};
 ghost use Rattle.source_model.specs.Statement.{Instruction, valued};
 ghost use Rattle.source_model.specs.Source.{words_past, amount_value, target_value, offset_value, address_value, is_missing};
 ghost use Rattle.xs_assembler.specs.Parts.{read_amount};
-ghost use Rattle.xs_assembler.specs.Lines.{says_of};
+ghost use Rattle.xs_assembler.specs.Statements.{says_of};
 ghost use Rattle.xs_assembler.specs.Sofar.{sofar_of};
 ghost use Rattle.xs_assembler.specs.Contents.{Resolves, after_found, found_in, found_of};
 

@@ -4,7 +4,7 @@ ghost use Rattle.source_model.specs.Layout.{Sofar as SomeLines};
 ghost use Rattle.source_model.specs.Statement.{Line};
 ghost use Rattle.source_model.specs.Source.{fault_of_line, is_unknown, is_misshapen};
 ghost use Rattle.xs_assembler.specs.Findings.{AreFindings};
-ghost use Rattle.xs_assembler.specs.Lines.{says_of};
+ghost use Rattle.xs_assembler.specs.Statements.{says_of};
 
 use crate::layouts::{bytes_length, may_stand};
 use crate::statement::{Says, Statement};

@@ -1,6 +1,6 @@
 ghost use Rattle.std.specs.Prelude.{◌≡◌, ◌+◌, ◌<◌, ◌≤◌, ◌^◌};
 ghost use Rattle.source_model.specs.Layout.{nothing_yet, section_length, here, may_stand, padding, added, longer, section_after, moved, round_up_to_word, section_start, bytes_length};
-ghost use Rattle.xs_assembler.specs.Lines.{says_of, statement_of};
+ghost use Rattle.xs_assembler.specs.Statements.{says_of, statement_of};
 
 use crate::statement::{Says, Statement};
 use crate::values::width_bytes;

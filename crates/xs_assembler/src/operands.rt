@@ -6,7 +6,7 @@ ghost use Rattle.xs_text.specs.Tokens.{tokens_of};
 ghost use Rattle.xs_assembler.specs.Parts.{operand_of, read_amount, HasShapes};
 
 use crate::amount::Amount;
-use crate::tokens::{Piece, first_token};
+use crate::tokens::{ReadToken, first_token};
 use arrayvec::ArrayVec;
 use source_model::Section;
 use std::marker::Model;
@@ -20,7 +20,7 @@ const MOST_SHAPES: usize = 16;
 #[derive(Clone, Copy)]
 pub struct Operand<'a> {
     pub base: Option<Section>,
-    pub piece: Piece<'a>,
+    pub piece: ReadToken<'a>,
 }
 
 // Gives the operands in a text one by one.

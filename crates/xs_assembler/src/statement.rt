@@ -1,12 +1,10 @@
-ghost use Rattle.std.specs.Prelude.{◌≡◌, option_copied};
-ghost use Rattle.source_model.specs.Statement.{is_nothing, is_lone_name, lone_number, shaped, zeros, aligned, bytes_directive, directive, instruction, statement};
-ghost use Rattle.std.specs.Prelude.{option_and_then};
+ghost use Rattle.std.specs.Prelude.{◌≡◌, option_and_then, option_copied};
+ghost use Rattle.source_model.specs.Statement.{is_nothing, is_lone_name, lone_number, shaped, zeros, aligned, bytes_directive, directive, instruction, not_zero, statement, valued};
 ghost use Rattle.xs_text.specs.Numbers.{at_most, source_number_of};
 ghost use Rattle.xs_text.specs.Tokens.{tokens_of};
 ghost use Rattle.source_model.specs.Operands.{operands_of};
 ghost use Rattle.source_model.specs.Values.{listed_values};
-ghost use Rattle.source_model.specs.Statement.{not_zero, valued};
-ghost use Rattle.xs_assembler.specs.Lines.{says_of, statement_of};
+ghost use Rattle.xs_assembler.specs.Statements.{says_of, statement_of};
 
 use crate::operands::find_row;
 use crate::tokens::first_token;

@@ -7,13 +7,13 @@ use xs_text::{Line, TokKind, next_tok};
 
 // A token with its text.
 #[derive(Clone, Copy)]
-pub struct Piece<'a> {
+pub struct ReadToken<'a> {
     pub kind: TokKind,
     pub bytes: &'a [u8],
 }
 
 // The first token of what is left of a line, and what is left then.
-pub fn first_token(line: &[u8]) -> Option<(Piece<'_>, &[u8])>
+pub fn first_token(line: &[u8]) -> Option<(ReadToken<'_>, &[u8])>
     ensures token { MatchOption result (tokens_of line.now ≡ []) (λ t. tokens_of line.now ≡ read_token t.0 ∷ tokens_of t.1.now) }
     ensures well_formed { IfSome result (λ t. HasForm (read_token t.0)) }
 {
@@ -23,7 +23,7 @@ pub fn first_token(line: &[u8]) -> Option<(Piece<'_>, &[u8])>
         to: line.len(),
     };
     let tok = next_tok(line, whole, 0)?;
-    let piece = Piece {
+    let piece = ReadToken {
         kind: tok.kind,
         bytes: &line[tok.from..tok.to],
     };

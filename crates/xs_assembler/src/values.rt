@@ -6,7 +6,7 @@ ghost use Rattle.xs_assembler.specs.Parts.{read_amount};
 ghost use Rattle.xs_assembler.specs.Values.{left_length, values_left};
 
 use crate::amount::Amount;
-use crate::tokens::{Piece, first_token};
+use crate::tokens::{ReadToken, first_token};
 use source_model::Width;
 use xs_instructions::{is_reserved, same_name};
 use xs_text::{TokKind, source_number};
@@ -62,7 +62,7 @@ fn negated(n: u32) -> u32
 }
 
 // A value without a sign, or None where the token is none.
-fn plain_value<'a>(piece: Piece<'a>, width: Width) -> Option<Amount<'a>>
+fn plain_value<'a>(piece: ReadToken<'a>, width: Width) -> Option<Amount<'a>>
     ensures { option_map read_amount result ≡ plain_value piece.entry.kind width piece.entry.bytes.now }
 {
     match piece.kind {
@@ -88,7 +88,7 @@ fn label_value<'a>(name: &'a [u8], width: Width) -> Option<Amount<'a>>
 }
 
 // A value after a sign, or None where the token is none.
-fn signed_value<'a>(piece: Piece<'a>, width: Width) -> Option<Amount<'a>>
+fn signed_value<'a>(piece: ReadToken<'a>, width: Width) -> Option<Amount<'a>>
     ensures { option_map read_amount result ≡ signed_value piece.entry.kind width piece.entry.bytes.now }
 {
     match piece.kind {

@@ -5,8 +5,8 @@ ghost use Rattle.xs_instructions.specs.SourceHash.{source_key};
 
 use std::hash::{BuildHasher, DefaultHasher, Hasher};
 
-// A hash of names that first takes a number hashed from a whole source: whoever chooses names that fall together changes
-// the number.
+// A hash of names that first takes a number hashed from a whole source: whoever changes a name changes the number too, so
+// names that fall together are found only by trying whole sources.
 #[derive(Clone, Copy, Debug, PartialEq, Eq)]
 pub struct SourceHash {
     key: u64,

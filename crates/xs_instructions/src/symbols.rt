@@ -28,7 +28,7 @@ impl Model for Symbols {
 
 impl Symbols {
     /// No labels of this source yet. Names are found by a hash that first takes a number hashed from the whole source, so
-    /// that no choice of names is slow. It takes no memory.
+    /// that names which fall together are found only by trying whole sources. It takes no memory.
     pub fn of_source(alloc: Global, source: &[u8]) -> Symbols
         ensures empty { result.labels ≡ [] }
         ensures keyed { result.key ≡ source_key source.now }
@@ -65,8 +65,7 @@ impl Symbols {
         self.labels[k] = at;
     }
 
-    /// The address of the label with this name, or None exactly where there is none. Any bytes may be asked for. It takes
-    /// no longer for more labels.
+    /// The address of the label with this name, or None exactly where there is none. Any bytes may be asked for.
     pub fn address(&self, name: &[u8]) -> Option<u32>
         ensures value { result ≡ address_of self.now.labels name.now }
     {
@@ -77,7 +76,7 @@ impl Symbols {
     }
 
     /// The number of the label with this name in the order of definition, from 0, or None exactly where there is none. Any
-    /// bytes may be asked for. It takes no longer for more labels.
+    /// bytes may be asked for.
     pub fn number(&self, name: &[u8]) -> Option<usize>
         ensures value { result ≡ number_of self.now.labels name.now }
         ensures within { IfSome result (λ k. k < length self.now.labels) }
