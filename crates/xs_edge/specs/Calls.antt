@@ -4,6 +4,7 @@ use Rattle.std.specs.Prelude.{ℕ, ◌≡◌, ◌≢◌, ◌<◌, ◌⊎◌, ◌
 use Rattle.std.specs.IoError.{error_kind}
 use Rattle.std.specs.declared.io.Error.{Error}
 use Rattle.std.specs.declared.io.ErrorKind.TheVariants.{Interrupted}
+use Rattle.xs_edge.specs.Edge.{HasRisen}
 use Rattle.xs_edge.specs.declared.Failed.{Failed}
 
 -- What one call may answer and leave behind, by what it is given: a read by the length of its buffer, a write by its piece.
@@ -44,3 +45,8 @@ TellsRead gives from room answered to = Tells gives ToldOfRead from room answere
 -- the answer of a sink over a writer
 abbrev pub TellsWrite : {W : Type 0} → Gives W (List ℕ) → W → List ℕ → Result ℕ Failed → W → Type 0
 TellsWrite gives from piece answered to = Tells gives (ToldOfWrite piece) from piece answered to
+
+-- a call raises the count of calls, but for one that a signal cut short, which leaves it
+abbrev pub CountsCall : ℕ → Result ℕ Error → ℕ → Type 0
+CountsCall old (Ok _) new = HasRisen old new
+CountsCall old (Err error) new = (error_kind error ≡ Interrupted → new ≡ old) × (error_kind error ≢ Interrupted → HasRisen old new)

@@ -1,6 +1,6 @@
 //! The edge of the program: a source that a text is read from, a sink that one is written to, and a
-//! gate that threads pass. Here are the three traits and sources and sinks over memory, over standard
-//! input and output, and ones that fail on purpose.
+//! gate that threads pass. Here are the three traits and sources and sinks over memory, over any reader
+//! and writer of std, and ones that fail on purpose.
 #![tactic(auto)]
 
 ghost use Rattle.std.specs.Prelude.{◌≡◌, ◌<◌, ◌≤◌, ◌↔◌, ◌+◌, ◌-◌, ◌^◌, ℕ, min, List, [], Option, Result, length, take, IfOk, OnOk, OnErr, IfSome};
@@ -8,6 +8,7 @@ ghost use Rattle.std.specs.Io.KnownBytes.{Keeps, Consumes, Appends};
 ghost use Rattle.xs_edge.specs.declared.Failed.{Failed};
 ghost use Rattle.xs_edge.specs.Edge.{HasRisen, AppendsPart};
 
+mod counted;
 mod counting;
 mod failing;
 mod lists;
@@ -15,6 +16,7 @@ mod streams;
 #[cfg(test)]
 mod tests;
 
+pub use counted::{Counted, read_makes_one_call};
 pub use counting::CountingSource;
 pub use failing::{FailingSink, FailingSource};
 pub use lists::{ListSink, ListSource};

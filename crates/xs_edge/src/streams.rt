@@ -49,7 +49,7 @@ impl<R: Read> FollowedRead for Plain<R> {
     ghost reads = { λ _ _ _ _. Unit {0} };
 
     fn read_once(&mut self, buf: &mut [u8]) -> io::Result<usize> {
-        self.0.read(buf)
+        self.read(buf)
     }
 }
 
@@ -69,7 +69,7 @@ impl<W: Write> FollowedWrite for Plain<W> {
     ghost writes = { λ _ _ _ _. Unit {0} };
 
     fn write_once(&mut self, piece: &[u8]) -> io::Result<usize> {
-        self.0.write(piece)
+        self.write(piece)
     }
 }
 

@@ -204,6 +204,26 @@ fn writes_short_and_again_and_fails(rt: HostRuntime) {
 }
 
 #[test]
+fn counts_calls_that_no_signal_cut_short(rt: HostRuntime) {
+    let turns = &[
+        Turn::Fails(ErrorKind::Interrupted),
+        Turn::Moves(2),
+        Turn::Fails(ErrorKind::Other),
+    ];
+    let stream = Fake { turns };
+    let mut source = StreamSource::over(Counted { stream, calls: 0 });
+    let stream = Fake { turns };
+    let mut sink = StreamSink::over(Counted { stream, calls: 0 });
+    let mut buf = [b'.'; 3];
+    for answer in [Ok(2), Err(Failed)] {
+        assert_eq!(rt; read_makes_one_call(&mut source, &mut buf), answer);
+        assert_eq!(rt; sink.put(&buf), answer);
+    }
+    assert_eq!(rt; source.into_inner().calls, 2);
+    assert_eq!(rt; sink.into_inner().calls, 2);
+}
+
+#[test]
 fn tells_what_its_streams_tell(rt: HostRuntime) -> Result<(), Fail> {
     let mut source = StreamSource::new(b"abcde".as_slice());
     let mut sink = StreamSink::new(Vec::new(rt.alloc()));
