@@ -19,13 +19,13 @@ most_risen old new h =
 
 counted_row : (most n taken : ℕ) (from to : Counting) → TookReads Counts most n taken from to → to.reads ≤ from.reads + n
 counted_row most zero taken from to (e, same) = omega (arith, ap (λ source. source.reads) same)
-counted_row most (suc n) taken from to (before, mid, reads, count, some, e, (room, open_room, fits, read)) =
+counted_row most (suc n) taken from to (before, mid, reads, count, some, e, (room, some_room, fits, within, read)) =
     omega (arith, counted_row most n before from mid reads, most_risen mid.reads to.reads read)
 
 counted_last : (most taken : ℕ) (from to : Counting) → MaybeOneRead Counts most taken from to → to.reads ≤ from.reads + 1
 counted_last most taken from to (inl same) = omega (arith, ap (λ source. source.reads) same)
-counted_last most taken from to (inr (answered, (room, open_room, fits, read))) = most_risen from.reads to.reads read
+counted_last most taken from to (inr (answered, (room, some_room, fits, within, read))) = most_risen from.reads to.reads read
 
-pub counted_reads : (limit most : ℕ) (from to : Counting) → ReadsAtMost Counts limit most from to → to.reads ≤ from.reads + limit
-counted_reads limit most from to (n, few, taken, mid, reads, last) =
+pub counted_reads : (most : ℕ) (from to : Counting) → ReadsAtMost Counts most from to → to.reads ≤ from.reads + most
+counted_reads most from to (n, few, taken, mid, reads, last) =
     omega (arith, few, counted_row most n taken from mid reads, counted_last most taken mid to last)

@@ -1,5 +1,5 @@
 -- Reads in a row, and one more.
-use Rattle.std.proofs.Common.{ℕ, suc, ◌+◌, ◌<◌, ◌≤◌, ◌≡◌, Result, Ok, arith, refl, inl, inr}
+use Rattle.std.proofs.Common.{ℕ, zero, suc, ◌+◌, ◌<◌, ◌≤◌, ◌≡◌, Result, Ok, arith, refl, inl, inr}
 use Rattle.xs_edge.specs.declared.Failed.{Failed}
 use Rattle.xs1_top.specs.Reads.{ReadGives, OneRead, TookReads, ReadsAtMost}
 
@@ -15,11 +15,14 @@ pub Reading-more : {S : Type 0} (gives : ReadGives S) (most taken count longer :
 Reading-more gives most taken count longer from mid to (n, few, reads) some e read =
     (suc n, omega arith, (taken, mid, reads, count, some, e, read))
 
--- no more reads
-pub ReadsAtMost-end : {S : Type 0} (gives : ReadGives S) (limit most taken : ℕ) (from to : S) → Reading gives most taken from to → taken < limit → ReadsAtMost gives limit most from to
-ReadsAtMost-end gives limit most taken from to (n, few, reads) h = (n, omega arith, taken, to, reads, inl refl)
+-- no more reads: the last that took bytes is the one more
+pub ReadsAtMost-end : {S : Type 0} (gives : ReadGives S) (most taken : ℕ) (from to : S) → Reading gives most taken from to → taken ≤ most → 0 < most → ReadsAtMost gives most from to
+ReadsAtMost-end gives most taken from to (zero, few, reads) h some = (zero, some, taken, to, reads, inl refl)
+ReadsAtMost-end gives most taken from to (suc n, few, (before, mid, reads, count, took, e, read)) h some =
+    (n, omega (arith, few, h), before, mid, reads, inr (Ok count, read))
 
 -- one more read
-pub ReadsAtMost-last : {S : Type 0} (gives : ReadGives S) (limit most taken : ℕ) (from mid to : S) (answered : Result ℕ Failed)
-    → Reading gives most taken from mid → taken < limit → OneRead gives most taken mid answered to → ReadsAtMost gives limit most from to
-ReadsAtMost-last gives limit most taken from mid to answered (n, few, reads) h read = (n, omega arith, taken, mid, reads, inr (answered, read))
+pub ReadsAtMost-last : {S : Type 0} (gives : ReadGives S) (most taken : ℕ) (from mid to : S) (answered : Result ℕ Failed)
+    → Reading gives most taken from mid → OneRead gives most taken mid answered to → ReadsAtMost gives most from to
+ReadsAtMost-last gives most taken from mid to answered (n, few, reads) (room, some, fits, within, read) =
+    (n, omega (arith, few, some, fits), taken, mid, reads, inr (answered, (room, some, fits, within, read)))

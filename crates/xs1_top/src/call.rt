@@ -51,7 +51,7 @@ pub fn top<S: Source, K: Sink, G: Gate>(
     ensures part { result ≡ Status.WriteFault → AnswersInPart (map string_bytes words.now) (S.left source.old) (K.written sink.old) (K.written sink.new) }
     ensures silent { IsSilent result → sink.new ≡ sink.old }
     ensures left { IsRead result → TookInput (map string_bytes words.now) (S.left source.old) (S.left source.new) }
-    ensures reads { ReadsAtMost S.read_gives (longest_input + 2) (longest_input + 1) source.old source.new }
+    ensures reads { ReadsAtMost S.read_gives (longest_input + 1) source.old source.new }
 
     // Where reads and writes fail.
     ensures read_fault { result ≡ Status.ReadFault → HasRisen (S.faults source.old) (S.faults source.new) }

@@ -56,7 +56,7 @@ pub fn read_all<S: Source>(alloc: Global, source: &mut S) -> Result<Vec<u8>, Rea
     ensures calm { OnOk result (S.faults source.new ≡ S.faults source.old) }
     ensures failed { IsErrOf result ReadError.Failed → HasRisen (S.faults source.old) (S.faults source.new) }
     ensures memory { IsErrOf result ReadError.Memory → S.faults source.new ≡ S.faults source.old }
-    ensures reads { ReadsAtMost S.read_gives (longest_input + 2) (longest_input + 1) source.old source.new }
+    ensures reads { ReadsAtMost S.read_gives (longest_input + 1) source.old source.new }
 {
     let mut buffer = make_buffer(alloc)?;
     read_through(alloc, source, &mut buffer)
@@ -81,7 +81,7 @@ fn read_through<S: Source>(
     ensures calm { OnOk result (S.faults source.new ≡ S.faults source.old) }
     ensures failed { IsErrOf result ReadError.Failed → HasRisen (S.faults source.old) (S.faults source.new) }
     ensures memory { IsErrOf result ReadError.Memory → S.faults source.new ≡ S.faults source.old }
-    ensures reads { ReadsAtMost S.read_gives (longest_input + 2) (longest_input + 1) source.old source.new }
+    ensures reads { ReadsAtMost S.read_gives (longest_input + 1) source.old source.new }
 {
     let mut bytes = Vec::new(alloc);
     while bytes.len() < MOST_TAKEN {

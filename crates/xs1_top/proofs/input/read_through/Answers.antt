@@ -22,7 +22,7 @@ loop-bytes-preserved g c =
     let some : 0 < length c.read.new.buf = omega (arith, c.read.auto.buf, c.in_ok-count.ensures.fits, length-take c.min-most.result c.loop-bytes.buffer) in
     let fits : vec_len c.loop-bytes.bytes + length c.read.new.buf ≤ longest_input + 1 =
     omega (arith, c.read.auto.buf, length-take c.min-most.result c.loop-bytes.buffer) in
-    let reads = Reading-more g.S.Source.read_gives (longest_input + 1) (vec_len c.loop-bytes.bytes) c.in_ok-count.count (vec_len c.extend_from_slice.new.self) _ _ _ had.3 (omega arith) longer (length c.read.new.buf, some, fits, c.in_ok-count.ensures.gives) in
+    let reads = Reading-more g.S.Source.read_gives (longest_input + 1) (vec_len c.loop-bytes.bytes) c.in_ok-count.count (vec_len c.extend_from_slice.new.self) _ _ _ had.3 (omega arith) longer (length c.read.new.buf, some, fits, c.in_ok-count.ensures.fits, c.in_ok-count.ensures.gives) in
     (omega (arith, c.in_ok-count.ensures.fits, length-take c.min-most.result c.loop-bytes.buffer), took, c.in_ok-count.ensures.calm ∙ had.2, reads)
 
 pub returns-clause-front : goal.returns-clause-front
