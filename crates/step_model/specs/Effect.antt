@@ -4,7 +4,7 @@ use Rattle.xs_base.specs.Numbers.{Slot, Word, Register, ThreadNumber, ChanNumber
 use Rattle.xs_model.specs.declared.event.Happen.{Happen}
 use Rattle.xs_model.specs.declared.thread.Thread.{Thread}
 use Rattle.xs_model.specs.declared.thread.Wait.{Wait}
-use Rattle.xs_model.specs.Words.{word_sum}
+use Rattle.xs_base.specs.Words.{word_sum}
 use Rattle.xs_model.specs.Threads.{register, with_register}
 use Rattle.xs_model.specs.Record.{CoreRec, thread_of, with_thread}
 

@@ -3,7 +3,7 @@ use Rattle.std.specs.Prelude.{ℕ, ◌*◌, Option, Some, None, List, []}
 use Rattle.xs_base.specs.Numbers.{Word, Register, ThreadNumber}
 use Rattle.xs_model.specs.declared.thread.Thread.{Thread}
 use Rattle.xs_model.specs.declared.traps.TheConstants.{LOAD_STORE}
-use Rattle.xs_model.specs.Words.{word_sum}
+use Rattle.xs_base.specs.Words.{word_sum}
 use Rattle.xs_model.specs.Memory.{load_word, store_word}
 use Rattle.xs_model.specs.Record.{CoreRec, thread_of}
 use Rattle.xs_instructions.specs.declared.instr.MemIns.{MemIns}

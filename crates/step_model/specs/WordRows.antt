@@ -1,7 +1,7 @@
 -- The rows on words.
 use Rattle.std.specs.Prelude.{◌==◌, []}
 use Rattle.xs_base.specs.Numbers.{ThreadNumber}
-use Rattle.xs_model.specs.Words.{word_sum, word_difference, truth}
+use Rattle.xs_base.specs.Words.{word_sum, word_difference, truth}
 use Rattle.xs_model.specs.Record.{CoreRec}
 use Rattle.xs_instructions.specs.declared.instr.WordIns.{WordIns}
 use Rattle.xs_instructions.specs.declared.instr.WordIns.TheVariants as words

@@ -10,9 +10,11 @@ pub mod numbers;
 mod tests;
 mod text;
 mod token;
+mod words;
 
 pub use batch::Batch;
 pub use entry::{Entry, What};
 pub use ids::{chan_id, port_id, port_named, port_of, port_width, res_id};
 pub use text::Text;
 pub use token::Token;
+pub use words::shl;

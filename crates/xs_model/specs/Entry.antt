@@ -5,7 +5,7 @@ use Rattle.xs_model.specs.declared.thread.Status.{Status}
 use Rattle.xs_model.specs.declared.thread.Thread.{Thread}
 use Rattle.xs_model.specs.declared.thread.TheConstants.{INK, KEPT_IN_A_TRAP}
 use Rattle.xs_model.specs.declared.traps.TheConstants.{KERNEL_CALL}
-use Rattle.xs_model.specs.Words.{word_sum}
+use Rattle.xs_base.specs.Words.{word_sum}
 
 -- in the trap's handler, with eeble, ieble and waiting cleared
 abbrev pub status_in_trap : Status → Status

@@ -1,4 +1,3 @@
-pub mod Words
 pub mod Threads
 pub mod Memory
 pub mod Record
