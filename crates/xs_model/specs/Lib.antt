@@ -1,3 +1,4 @@
+pub mod Status
 pub mod Threads
 pub mod Memory
 pub mod Record

@@ -3,8 +3,8 @@ use Rattle.std.specs.Prelude.{if◌then◌else◌, ◌==◌, slice_index, slice_
 use Rattle.xs_base.specs.Numbers.{Register, Word}
 use Rattle.xs_base.specs.declared.numbers.TheConstants.{MEMORY_START}
 use Rattle.xs_model.specs.declared.thread.Thread.{Thread}
-use Rattle.xs_model.specs.declared.thread.Status.{Status}
 use Rattle.xs_model.specs.declared.thread.Run.TheVariants.{Unstarted, Going}
+use Rattle.xs_model.specs.Status.{no_status}
 
 -- 0 to 11 are r0 to r11, then cp, dp, sp and lr
 abbrev pub register : Thread → Register → Word
@@ -22,9 +22,6 @@ with_register th g v =
     else (if g == 14 then record th { sp = v }
     else (if g == 15 then record th { lr = v }
     else record th { r = slice_set th.r g v })))
-
-abbrev pub no_status : Status
-no_status = record { bits = 0 }
 
 -- a thread that was just got: unstarted, all registers 0
 abbrev pub fresh_thread : Thread

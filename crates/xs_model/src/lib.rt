@@ -4,13 +4,12 @@
 
 mod event;
 mod outside;
+mod status;
 mod thread;
 pub mod traps;
 
 pub use event::{Event, Happen};
 pub use outside::{Arrivals, PinView};
-pub use thread::{
-    EEBLE, FAST, IEBLE, INENB, ININT, INK, KEPT_IN_A_TRAP, Outcome, Run, Status, Thing, Thread,
-    WAITING, Wait,
-};
+pub use status::{EEBLE, FAST, IEBLE, INENB, ININT, INK, STATUS_BITS, Status, WAITING};
+pub use thread::{Outcome, Run, Thing, Thread, Wait};
 pub use xs_base::Token;

@@ -1,37 +1,9 @@
 ghost use Rattle.std.specs.Prelude.{◌≡◌, ◌<◌, ◌≤◌};
 ghost use Rattle.xs_model.specs.Threads.{register, with_register, first_thread, fresh_thread};
 
+use crate::status::Status;
+use bitflags::Flags;
 use xs_base::numbers::MEMORY_START;
-
-/// Events may be taken.
-pub const EEBLE: u8 = 0x01;
-
-/// Interrupts may be taken.
-pub const IEBLE: u8 = 0x02;
-
-/// Set by a program alone; it has no effect here.
-pub const INENB: u8 = 0x04;
-
-/// The thread is in an interrupt's handler.
-pub const ININT: u8 = 0x08;
-
-/// The thread is in a trap's handler.
-pub const INK: u8 = 0x10;
-
-/// The thread waits for an event.
-pub const WAITING: u8 = 0x40;
-
-/// Set by a program alone; it has no effect here.
-pub const FAST: u8 = 0x80;
-
-/// What a trap leaves of the status: all but EEBLE, IEBLE and WAITING.
-pub const KEPT_IN_A_TRAP: u8 = 0x9C;
-
-/// The status register: a set of the seven bits above.
-#[derive(Clone, Copy, PartialEq, Eq)]
-pub struct Status {
-    pub bits: u8,
-}
 
 /// What a paused thread waits for.
 #[derive(Clone, Copy)]
@@ -119,9 +91,9 @@ impl Thread {
             sp: 0,
             lr: 0,
             pc: 0,
-            sr: Status { bits: 0 },
+            sr: Status::empty(),
             spc: 0,
-            ssr: Status { bits: 0 },
+            ssr: Status::empty(),
             et: 0,
             ed: 0,
             sed: 0,
