@@ -1,10 +1,10 @@
 -- How the issue of an instruction ends.
-use Rattle.std.specs.Prelude.{ℕ, Bool, List, []}
+use Rattle.std.specs.Prelude.{ℕ, Bool, List, [], if◌then◌else◌}
 use Rattle.xs_base.specs.Numbers.{Slot, Word, Register, ThreadNumber, ChanNumber, NodeId}
+use Rattle.xs_base.specs.Words.{word_sum}
 use Rattle.xs_model.specs.declared.event.Happen.{Happen}
 use Rattle.xs_model.specs.declared.thread.Thread.{Thread}
 use Rattle.xs_model.specs.declared.thread.Wait.{Wait}
-use Rattle.xs_base.specs.Words.{word_sum}
 use Rattle.xs_model.specs.Threads.{register, with_register}
 use Rattle.xs_model.specs.Record.{CoreRec, thread_of, with_thread}
 
@@ -27,21 +27,50 @@ pub data Effect : Type 0 where
   -- a row that is not built: no image has one, and no core shows it
   Unbuilt : Effect
 
--- a register of the thread that issues
-abbrev pub reg : CoreRec → ThreadNumber → Register → Word
-reg core k g = register (thread_of core k) g
+-- ---- Rows that work on a part of the core alone
+
+-- what such a row leaves of its part, or how it traps; then nothing changes
+pub data Leaving (A : Type 0) : Type 0 where
+  Leaves : (after : A) → Leaving A
+  Traps : (number : ℕ) (value : Word) → Leaving A
+  NotBuilt : Leaving A
+
+-- a row that traps where something holds, and else leaves this
+abbrev pub traps_where : {A : Type 0} → Bool → ℕ → Word → A → Leaving A
+traps_where holds number value after = if holds then Traps number value else Leaves after
+
+-- the thread that issues, and the memory
+pub record Local : Type 0 where
+  pub thread : Thread
+  pub memory : List ℕ
+
+abbrev pub local_of : CoreRec → ThreadNumber → Local
+local_of core k = record { thread = thread_of core k; memory = core.memory }
+
+abbrev pub with_local : CoreRec → ThreadNumber → Local → CoreRec
+with_local core k l = record (with_thread core k l.thread) { memory = l.memory }
+
+-- what a row on the thread and the memory does to the core
+abbrev pub on_local : CoreRec → ThreadNumber → Leaving Local → Effect
+on_local core k (Leaves l) = Done (with_local core k l) []
+on_local core k (Traps number value) = Trap number value
+on_local core k NotBuilt = Unbuilt
+
+-- ---- The thread that issues
 
 abbrev pub after_it : Thread → Thread
 after_it th = record th { pc = word_sum th.pc 4 }
 
--- the thread goes on to its next instruction
-abbrev pub goes_on : CoreRec → ThreadNumber → CoreRec
-goes_on core k = with_thread core k (after_it (thread_of core k))
+-- what a row on the thread's registers alone does to the core: the thread goes on to its next instruction
+abbrev pub on_registers : CoreRec → ThreadNumber → Leaving Thread → Effect
+on_registers core k (Leaves th) = Done (with_thread core k (after_it th)) []
+on_registers core k (Traps number value) = Trap number value
+on_registers core k NotBuilt = Unbuilt
 
--- and with this word in a register
+-- a register of the thread that issues
+abbrev pub reg : CoreRec → ThreadNumber → Register → Word
+reg core k g = register (thread_of core k) g
+
+-- the thread goes on with this word in a register
 abbrev pub goes_on_with : CoreRec → ThreadNumber → Register → Word → CoreRec
 goes_on_with core k g word = with_thread core k (after_it (with_register (thread_of core k) g word))
-
--- a row that sets one register
-abbrev pub sets : CoreRec → ThreadNumber → Register → Word → Effect
-sets core k g word = Done (goes_on_with core k g word) []

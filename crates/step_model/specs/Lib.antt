@@ -1,5 +1,6 @@
 pub mod Fixed
 pub mod Effect
+pub mod Outcomes
 pub mod WordRows
 pub mod MemoryRows
 pub mod FlowRows

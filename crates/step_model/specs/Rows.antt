@@ -1,9 +1,9 @@
 -- What each instruction does to the core: one case for each row of the instruction table, by the parts of the table.
 use Rattle.xs_base.specs.Numbers.{ThreadNumber}
-use Rattle.xs_model.specs.Record.{CoreRec}
+use Rattle.xs_model.specs.Record.{CoreRec, thread_of}
 use Rattle.xs_instructions.specs.declared.instr.Instr.{Instr}
 use Rattle.xs_instructions.specs.declared.instr.Instr.TheVariants.{Words, Memory, Flow, Kernel, Threads, Resources}
-use Rattle.step_model.specs.Effect.{Setting, Effect}
+use Rattle.step_model.specs.Effect.{Setting, Effect, Leaving, NotBuilt, Local, local_of, on_local, on_registers}
 use Rattle.step_model.specs.WordRows.{words_row}
 use Rattle.step_model.specs.MemoryRows.{memory_row}
 use Rattle.step_model.specs.FlowRows.{flow_row}
@@ -11,11 +11,18 @@ use Rattle.step_model.specs.KernelRows.{kernel_row}
 use Rattle.step_model.specs.ThreadRows.{threads_row}
 use Rattle.step_model.specs.ResourceRows.{resources_row}
 
+-- what a row on memory, on the flow of control or on the kernel leaves of its thread, which has the number k, and of the memory
+abbrev pub local_row : ThreadNumber → Local → Instr → Leaving Local
+local_row k l (Memory ins) = memory_row l ins
+local_row k l (Flow ins) = flow_row l ins
+local_row k l (Kernel ins) = kernel_row k l ins
+local_row k l _ = NotBuilt
+
 -- what an instruction does where thread k issues it
 abbrev pub effect : Setting → CoreRec → ThreadNumber → Instr → Effect
-effect here core k (Words ins) = words_row core k ins
-effect here core k (Memory ins) = memory_row core k ins
-effect here core k (Flow ins) = flow_row core k ins
-effect here core k (Kernel ins) = kernel_row core k ins
+effect here core k (Words ins) = on_registers core k (words_row (thread_of core k) ins)
+effect here core k (Memory ins) = on_local core k (memory_row (local_of core k) ins)
+effect here core k (Flow ins) = on_local core k (flow_row (local_of core k) ins)
+effect here core k (Kernel ins) = on_local core k (kernel_row k (local_of core k) ins)
 effect here core k (Threads ins) = threads_row here core k ins
 effect here core k (Resources ins) = resources_row here core k ins

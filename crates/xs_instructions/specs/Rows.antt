@@ -1,5 +1,5 @@
 -- The instruction table: for each row its name and what stands at each place of its form, by the lists of the program.
-use Rattle.std.specs.Prelude.{ℕ, zero, suc, Bool, true, false, List, [], ◌∷◌}
+use Rattle.std.specs.Prelude.{ℕ, zero, suc, Bool, true, false, nat_lt, List, [], ◌∷◌}
 use Rattle.xs_instructions.specs.declared.rows.Part.{Part}
 use Rattle.xs_instructions.specs.declared.rows.Row.{Row}
 use Rattle.xs_instructions.specs.declared.rows.Row.TheVariants as row
@@ -177,21 +177,17 @@ name_of r = shown (λ name. name.now) NAMES (row_number r)
 abbrev pub parts_of : Row → List Part
 parts_of r = shown (λ parts. parts.now) PARTS (row_number r)
 
--- the rows that are built so far
+-- whether a row is of the parts on words, memory, the flow of control and the kernel
+abbrev pub is_of_one_thread : Row → Bool
+is_of_one_thread r = nat_lt (row_number r) (row_number row.Getst)
+
+-- the rows that are built so far: those of one thread but two, and five others
 abbrev pub is_built : Row → Bool
-is_built row.Add = true
-is_built row.Sub = true
-is_built row.Eq = true
-is_built row.Ldc = true
-is_built row.Nop = true
-is_built row.LdwDp = true
-is_built row.StwDp = true
-is_built row.Bt = true
-is_built row.Bf = true
-is_built row.Bu = true
+is_built row.Setsr = false
+is_built row.Clrsr = false
 is_built row.Freet = true
 is_built row.Getr = true
 is_built row.OutctImm = true
 is_built row.ChkctImm = true
 is_built row.Setd = true
-is_built _ = false
+is_built r = is_of_one_thread r

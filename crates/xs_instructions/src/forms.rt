@@ -103,24 +103,11 @@ impl Row {
     pub fn is_built(self) -> bool
         ensures value { result ≡ is_built self }
     {
-        matches!(
-            self,
-            Row::Add
-                | Row::Sub
-                | Row::Eq
-                | Row::Ldc
-                | Row::Nop
-                | Row::LdwDp
-                | Row::StwDp
-                | Row::Bt
-                | Row::Bf
-                | Row::Bu
-                | Row::Freet
-                | Row::Getr
-                | Row::Setd
-                | Row::OutctImm
-                | Row::ChkctImm
-        )
+        match self {
+            Row::Setsr | Row::Clrsr => false,
+            Row::Freet | Row::Getr | Row::Setd | Row::OutctImm | Row::ChkctImm => true,
+            _ => (self as usize) < Row::Getst as usize,
+        }
     }
 }
 

@@ -1,0 +1,2 @@
+//! The rows on words. See docs/INSTRUCTIONS.md.
+#![tactic(auto)]

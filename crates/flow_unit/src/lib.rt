@@ -1,0 +1,2 @@
+//! The rows on memory, on the flow of control and on the kernel. See docs/INSTRUCTIONS.md.
+#![tactic(auto)]
