@@ -17,4 +17,7 @@ pub use entry::{Entry, What};
 pub use ids::{chan_id, port_id, port_named, port_of, port_width, res_id};
 pub use text::Text;
 pub use token::Token;
-pub use words::{add_carry, ashr, byterev, div_long, mkmsk, mul_long, shl, shr, sub_borrow, zext};
+pub use words::{
+    add_carry, ashr, bitrev, byterev, clz, div_long, mkmsk, mul_long, sext, shl, shr, sub_borrow,
+    zext,
+};
