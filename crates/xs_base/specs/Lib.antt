@@ -1,4 +1,5 @@
 pub mod Numbers
 pub mod Words
+pub mod WorkedWords
 pub mod Ids
 pub mod Batch
