@@ -49,3 +49,170 @@ fn a_batch_grows(rt: HostRuntime) -> Result<(), Fail> {
     assert_eq!(rt; Token::default(), Token::Byte(0));
     Ok(())
 }
+
+/// A word and a number of bits, in hexadecimal digits, and what `shl`, `shr`, `ashr`, `zext` and `sext` give.
+const SHIFTS: &str = "\
+12345678 0 12345678 12345678 12345678 12345678 12345678
+80000001 1 2 40000000 c0000000 1 ffffffff
+7fffffff 1 fffffffe 3fffffff 3fffffff 1 ffffffff
+ffffffff 1 fffffffe 7fffffff ffffffff 1 ffffffff
+80 8 8000 0 0 80 ffffff80
+ffff7f7f 8 ff7f7f00 ffff7f ffffff7f 7f 7f
+89abcdef 10 cdef0000 89ab ffff89ab cdef ffffcdef
+c0000001 1e 40000000 3 ffffffff 1 1
+40000000 1f 0 0 0 40000000 c0000000
+bfffffff 1f 80000000 1 ffffffff 3fffffff 3fffffff
+80000001 1f 80000000 1 ffffffff 1 1
+80000000 20 0 0 ffffffff 80000000 80000000
+7fffffff 20 0 0 0 7fffffff 7fffffff
+80000000 21 0 0 ffffffff 80000000 80000000
+80000000 28 0 0 ffffffff 80000000 80000000
+9abcdef0 40 0 0 ffffffff 9abcdef0 9abcdef0
+80000000 80000000 0 0 ffffffff 80000000 80000000
+fffffffe ffffffff 0 0 ffffffff fffffffe fffffffe
+7fffffff ffffffff 0 0 0 7fffffff 7fffffff";
+
+/// A word, and what `mkmsk`, `clz`, `bitrev` and `byterev` give.
+const ORDERS: &str = "\
+0 0 20 0 0
+1 1 1f 80000000 1000000
+2 3 1e 40000000 2000000
+3 7 1e c0000000 3000000
+7 7f 1d e0000000 7000000
+8 ff 1c 10000000 8000000
+10 ffff 1b 8000000 10000000
+1f 7fffffff 1b f8000000 1f000000
+20 ffffffff 1a 4000000 20000000
+21 ffffffff 1a 84000000 21000000
+ff ffffffff 18 ff000000 ff000000
+ffff ffffffff 10 ffff0000 ffff0000
+12345678 ffffffff 3 1e6a2c48 78563412
+40000000 ffffffff 1 2 40
+7fffffff ffffffff 1 fffffffe ffffff7f
+80000000 ffffffff 0 1 80
+80000001 ffffffff 0 80000001 1000080
+deadbeef ffffffff 0 f77db57b efbeadde
+fffffffe ffffffff 0 7fffffff feffffff
+ffffffff ffffffff 0 ffffffff ffffffff";
+
+/// Three words, and what `add_carry` and `sub_borrow` give.
+const SUMS: &str = "\
+0 0 0 0 0 0 0
+0 0 1 0 1 1 ffffffff
+0 0 2 0 0 0 0
+0 0 ffffffff 0 1 1 ffffffff
+0 1 0 0 1 1 ffffffff
+5 5 0 0 a 0 0
+5 5 1 0 b 1 ffffffff
+5 4 1 0 a 0 0
+ffffffff 0 1 1 0 0 fffffffe
+ffffffff 1 0 1 0 0 fffffffe
+7fffffff 80000000 0 0 ffffffff 1 ffffffff
+7fffffff 80000000 1 1 0 1 fffffffe
+80000000 80000000 0 1 0 0 0
+0 ffffffff 0 0 ffffffff 1 1
+0 ffffffff 1 1 0 1 0
+ffffffff ffffffff 0 1 fffffffe 0 0
+ffffffff ffffffff 3 1 ffffffff 1 ffffffff
+ffffffff 0 ffffffff 1 0 0 fffffffe
+89abcdef 12345678 10 0 9be02467 0 77777777";
+
+/// Four words, and what `mul_long` gives.
+const PRODUCTS: &str = "\
+0 0 0 0 0 0
+0 ffffffff 1 2 0 3
+1 ffffffff 0 0 0 ffffffff
+1 ffffffff 1 0 1 0
+ffffffff 1 ffffffff 0 1 fffffffe
+10000 10000 0 0 1 0
+10000 10000 ffffffff ffffffff 2 fffffffe
+ffff 10001 0 0 0 ffffffff
+ffff 10001 1 0 1 0
+ffffffff ffffffff 0 0 fffffffe 1
+ffffffff ffffffff ffffffff 0 ffffffff 0
+ffffffff ffffffff ffffffff ffffffff ffffffff ffffffff
+80000000 2 0 0 1 0
+12345678 9abcdef0 deadbeef 7 b00ea4f 2dadf76";
+
+/// Three words, and what `div_long` gives.
+const QUOTIENTS: &str = "\
+0 0 1 0 0
+0 7 2 3 1
+0 6 7 0 6
+0 ffffffff 1 ffffffff 0
+1 0 2 80000000 0
+1 ffffffff 2 ffffffff 1
+0 ffffffff ffffffff 1 0
+fffffffe ffffffff ffffffff ffffffff fffffffe
+0 ffffffff 10000 ffff ffff
+12345678 9abcdef0 12345679 fffffffa 7f6e5c6
+7fffffff ffffffff 80000000 ffffffff 7fffffff";
+
+/// Three words for which `div_long` gives None.
+const NO_QUOTIENTS: [[u32; 3]; 8] = [
+    [0, 0, 0],
+    [1, 0, 1],
+    [2, 0, 2],
+    [3, 0, 2],
+    [0xffff_ffff, 0, 0xffff_ffff],
+    [0xffff_ffff, 0xffff_ffff, 0xffff_ffff],
+    [0x1234_5678, 0x9abc_def0, 0x1234_5678],
+    [5, 0, 0],
+];
+
+fn word(digits: Option<&str>) -> u32 {
+    digits
+        .and_then(|d| u32::from_str_radix(d, 16).ok())
+        .unwrap_or(0)
+}
+
+// 0 stands for what a line does not have.
+fn seven(line: &str) -> [u32; 7] {
+    let mut words = line.split(' ');
+    let a = word(words.next());
+    let b = word(words.next());
+    let c = word(words.next());
+    let d = word(words.next());
+    let e = word(words.next());
+    let f = word(words.next());
+    let g = word(words.next());
+    [a, b, c, d, e, f, g]
+}
+
+// The lines were made by another program, with whole numbers and with texts of binary digits.
+#[test]
+fn words(rt: HostRuntime) {
+    for line in SHIFTS.lines() {
+        let [a, n, left, right, signed, zeros, signs] = seven(line);
+        assert_eq!(rt;
+            [shl(a, n), shr(a, n), ashr(a, n)],
+            [left, right, signed],
+            "{line}"
+        );
+        assert_eq!(rt; [zext(a, n), sext(a, n)], [zeros, signs], "{line}");
+    }
+    for line in ORDERS.lines() {
+        let [a, mask, zeros, bits, bytes, ..] = seven(line);
+        assert_eq!(rt;
+            [mkmsk(a), clz(a), bitrev(a), byterev(a)],
+            [mask, zeros, bits, bytes],
+            "{line}"
+        );
+    }
+    for line in SUMS.lines() {
+        let [a, b, c, carry, sum, borrow, difference] = seven(line);
+        assert_eq!(rt; add_carry(a, b, c), (carry, sum), "{line}");
+        assert_eq!(rt; sub_borrow(a, b, c), (borrow, difference), "{line}");
+    }
+    for line in PRODUCTS.lines() {
+        let [a, b, c, d, high, low, _] = seven(line);
+        assert_eq!(rt; mul_long(a, b, c, d), (high, low), "{line}");
+    }
+    for line in QUOTIENTS.lines() {
+        let [high, low, by, quotient, rest, ..] = seven(line);
+        assert_eq!(rt; div_long(high, low, by), Some((quotient, rest)), "{line}");
+    }
+    for [high, low, by] in NO_QUOTIENTS {
+        assert_eq!(rt; div_long(high, low, by), None, "{high} by {by}");
+    }
+}
