@@ -1,20 +1,17 @@
 //! The node's memory: 65,536 bytes from 0x00010000 on, little-endian. See docs/MACHINE.md.
 #![tactic(auto)]
 
-ghost use Rattle.std.specs.Prelude.{◌≡◌, ◌^◌, ◌<◌, ◌≤◌, ◌↔◌, false, Some, None, length, slice_index, IfOk, OnOk, OnErr, IsErr, MatchOption, MatchResult};
+ghost use Rattle.std.specs.Prelude.{◌≡◌, ◌+◌, ◌<◌, ◌≤◌, ◌↔◌, false, Some, None, length, drop, IfOk, OnOk, OnErr, IsErr, MatchOption, MatchResult};
 ghost use Rattle.std.specs.Result.{result_ok};
 ghost use Rattle.xs_base.specs.declared.numbers.TheConstants.{MEMORY_BYTES};
-ghost use Rattle.xs_model.specs.Memory.{is_word_address, load_word, store_word, bytes_of_word, first_memory};
-ghost use Rattle.core_memory.specs.Bytes.{bytes_of_words};
-ghost use Rattle.core_memory.specs.Places.{IsPlaceOf, four_bytes};
+ghost use Rattle.xs_base.specs.Words.{sext};
+ghost use Rattle.xs_model.specs.Memory.{is_word_address, is_half_address, is_byte_address, is_address_of, word_here, half_here, byte_here, bytes_of_word, bytes_of_half, low_byte, load_word, load_half, load_byte, store_word, store_half, store_byte, first_memory};
+ghost use Rattle.core_memory.specs.Places.{IsPlaceOf, with_bytes_at};
 ghost use Rattle.core_memory.specs.Order.{WordsInOrder, NextWord, NoWordsLeft};
 
 use std::alloc::{AllocError, Global};
 use std::marker::Model;
 use xs_base::numbers::{MEMORY_BYTES, MEMORY_START};
-
-/// How many words the memory has.
-const MEMORY_WORDS: usize = 16384;
 
 /// An access that the memory refuses: its address is outside the memory, or no multiple of the access's size.
 #[derive(Clone, Copy, PartialEq, Eq, Debug)]
@@ -23,18 +20,18 @@ pub struct BadAddress;
 /// The memory of a node. Contracts see the list of its 65,536 bytes. See docs/MACHINE.md.
 #[derive(Drop)]
 pub struct Ram {
-    words: Vec<u32>,
+    bytes: Vec<u8>,
 }
 
 impl Model for Ram {
     ghost use Rattle.std.specs.Prelude.{◌≡◌, List, ℕ, length};
-    ghost use Rattle.core_memory.specs.Bytes.{bytes_of_words};
+    ghost use Rattle.xs_base.specs.declared.numbers.TheConstants.{MEMORY_BYTES};
 
     ghost Value = { List ℕ };
 
-    ghost view = { λ ram. bytes_of_words ram.words.items };
+    ghost view = { λ ram. ram.bytes.items };
 
-    ghost invariant = { λ ram. length ram.words.items ≡ 16384 };
+    ghost invariant = { λ ram. length ram.bytes.items ≡ MEMORY_BYTES };
 }
 
 impl Ram {
@@ -45,8 +42,10 @@ impl Ram {
         ensures image { IfOk result (λ ram. ram ≡ first_memory bytes.now) }
         ensures size { IfOk result (λ ram. length ram ≡ MEMORY_BYTES) }
     {
-        let words = words_of_image(alloc, bytes)?;
-        Ok(Ram { words })
+        let mut memory = Vec::with_capacity(alloc, MEMORY_BYTES as usize)?;
+        memory.extend_from_slice(bytes)?;
+        memory.resize(MEMORY_BYTES as usize, 0)?;
+        Ok(Ram { bytes: memory })
     }
 
     /// The word at an address. `BadAddress` comes exactly where the address is outside the memory or no multiple
@@ -57,11 +56,41 @@ impl Ram {
         ensures err { IsErr result ↔ is_word_address at ≡ false }
         ensures size { length self.now ≡ MEMORY_BYTES }
     {
-        let words = self.words.as_slice();
-        let Some(place) = word_place(at) else {
+        let bytes = self.bytes.as_slice();
+        let Some(place) = place_of(at, 4) else {
             return Err(BadAddress);
         };
-        Ok(word_of(words, place))
+        Ok(word_at(bytes, place))
+    }
+
+    /// The half at an address, extended by its sign. `BadAddress` comes exactly where the address is outside the
+    /// memory or no multiple of 2. See docs/MACHINE.md.
+    pub fn load16s(&self, at: u32) -> Result<u32, BadAddress>
+        ensures value { result_ok result ≡ load_half self.now at }
+        ensures cases { MatchResult result (λ w. load_half self.now at ≡ Some w) (λ _. load_half self.now at ≡ None) }
+        ensures err { IsErr result ↔ is_half_address at ≡ false }
+        ensures size { length self.now ≡ MEMORY_BYTES }
+    {
+        let bytes = self.bytes.as_slice();
+        let Some(place) = place_of(at, 2) else {
+            return Err(BadAddress);
+        };
+        Ok(signed_half_at(bytes, place))
+    }
+
+    /// The byte at an address, extended by zeros. `BadAddress` comes exactly where the address is outside the
+    /// memory. See docs/MACHINE.md.
+    pub fn load8u(&self, at: u32) -> Result<u32, BadAddress>
+        ensures value { result_ok result ≡ load_byte self.now at }
+        ensures cases { MatchResult result (λ w. load_byte self.now at ≡ Some w) (λ _. load_byte self.now at ≡ None) }
+        ensures err { IsErr result ↔ is_byte_address at ≡ false }
+        ensures size { length self.now ≡ MEMORY_BYTES }
+    {
+        let bytes = self.bytes.as_slice();
+        let Some(place) = place_of(at, 1) else {
+            return Err(BadAddress);
+        };
+        Ok(byte_at(bytes, place))
     }
 
     /// Puts a word at an address. `BadAddress` comes exactly where the address is outside the memory or no
@@ -73,9 +102,45 @@ impl Ram {
         ensures err { IsErr result ↔ is_word_address at ≡ false }
         ensures size { length self.new ≡ MEMORY_BYTES }
     {
-        match word_place(at) {
+        match place_of(at, 4) {
             Some(place) => {
-                self.words[place] = v;
+                put_word(&mut self.bytes, place, v);
+                Ok(())
+            }
+            None => Err(BadAddress),
+        }
+    }
+
+    /// Puts the low 16 bits of a word at an address. `BadAddress` comes exactly where the address is outside the
+    /// memory or no multiple of 2, and leaves the memory as it was. See docs/MACHINE.md.
+    pub fn store16(&mut self, at: u32, v: u32) -> Result<(), BadAddress>
+        ensures ok { OnOk result (store_half self.old at v ≡ Some self.new) }
+        ensures refused { OnErr result (store_half self.old at v ≡ None) }
+        ensures unchanged { OnErr result (self.new ≡ self.old) }
+        ensures err { IsErr result ↔ is_half_address at ≡ false }
+        ensures size { length self.new ≡ MEMORY_BYTES }
+    {
+        match place_of(at, 2) {
+            Some(place) => {
+                put_half(&mut self.bytes, place, v);
+                Ok(())
+            }
+            None => Err(BadAddress),
+        }
+    }
+
+    /// Puts the low 8 bits of a word at an address. `BadAddress` comes exactly where the address is outside the
+    /// memory, and leaves the memory as it was. See docs/MACHINE.md.
+    pub fn store8(&mut self, at: u32, v: u32) -> Result<(), BadAddress>
+        ensures ok { OnOk result (store_byte self.old at v ≡ Some self.new) }
+        ensures refused { OnErr result (store_byte self.old at v ≡ None) }
+        ensures unchanged { OnErr result (self.new ≡ self.old) }
+        ensures err { IsErr result ↔ is_byte_address at ≡ false }
+        ensures size { length self.new ≡ MEMORY_BYTES }
+    {
+        match place_of(at, 1) {
+            Some(place) => {
+                put_byte(&mut self.bytes, place, v);
                 Ok(())
             }
             None => Err(BadAddress),
@@ -83,63 +148,86 @@ impl Ram {
     }
 }
 
-/// Which word of the memory an address is the address of: `None` where it is outside the memory or no multiple
-/// of 4.
+/// Where in the memory an access of `size` bytes at an address begins: `None` where the address is outside the
+/// memory or no multiple of `size`.
 #[inline]
-fn word_place(at: u32) -> Option<usize>
-    ensures { MatchOption result (is_word_address at ≡ false) (IsPlaceOf at) }
+fn place_of(at: u32, size: u32) -> Option<usize>
+    requires { 0 < size }
+    ensures { MatchOption result (is_address_of size at ≡ false) (IsPlaceOf size at) }
 {
     let offset = at.wrapping_sub(MEMORY_START);
-    if offset < MEMORY_BYTES && offset % 4 == 0 {
-        Some((offset / 4) as usize)
+    if offset < MEMORY_BYTES && at % size == 0 {
+        Some(offset as usize)
     } else {
         None
     }
 }
 
-/// The word at a place.
+/// The word whose first byte stands at a place.
 #[inline]
-fn word_of(words: &[u32], place: usize) -> u32
-    requires { place < length words.now }
-    ensures value { result ≡ slice_index words.now place }
-    ensures range { result < 2 ^ 32 }
+fn word_at(bytes: &[u8], place: usize) -> u32
+    requires { place + 4 ≤ length bytes.now }
+    ensures { result ≡ word_here (drop place bytes.now) }
 {
-    words[place]
+    u32::from_le_bytes([
+        bytes[place],
+        bytes[place + 1],
+        bytes[place + 2],
+        bytes[place + 3],
+    ])
 }
 
-/// The words that the memory starts with. The error is want of memory.
-fn words_of_image(alloc: Global, bytes: &[u8]) -> Result<Vec<u32>, AllocError>
-    requires { length bytes.now ≤ 65536 }
-    ensures count { IfOk result (λ words. length words.items ≡ 16384) }
-    ensures image { IfOk result (λ words. bytes_of_words words.items ≡ first_memory bytes.now) }
+/// The half whose first byte stands at a place, extended by its sign.
+#[inline]
+fn signed_half_at(bytes: &[u8], place: usize) -> u32
+    requires { place + 2 ≤ length bytes.now }
+    ensures { result ≡ sext (half_here (drop place bytes.now)) 16 }
 {
-    let mut words = Vec::with_capacity(alloc, MEMORY_WORDS)?;
-    for k in 0..MEMORY_WORDS {
-        words.push(word_at_place(bytes, 4 * k))?;
-    }
-    Ok(words)
+    let half = i16::from_le_bytes([bytes[place], bytes[place + 1]]);
+    i32::from(half).cast_unsigned()
 }
 
-/// The word that four bytes of an image make, the least significant first.
-fn word_at_place(bytes: &[u8], first: usize) -> u32
-    requires { first < 65536 }
-    ensures { bytes_of_word result ≡ four_bytes bytes.now first }
-{
-    let low = byte_at(bytes, first) + 256 * byte_at(bytes, first + 1);
-    let high = byte_at(bytes, first + 2) + 256 * byte_at(bytes, first + 3);
-    low + 65536 * high
-}
-
-/// The byte of an image, or 0 past its end.
+/// The byte at a place.
+#[inline]
 fn byte_at(bytes: &[u8], place: usize) -> u32
-    ensures value { result ≡ slice_index bytes.now place }
-    ensures range { result < 256 }
+    requires { place + 1 ≤ length bytes.now }
+    ensures { result ≡ byte_here (drop place bytes.now) }
 {
-    if place < bytes.len() {
-        u32::from(bytes[place])
-    } else {
-        0
-    }
+    u32::from(bytes[place])
+}
+
+/// Puts the four bytes of a word at a place, the least significant first.
+#[inline]
+fn put_word(bytes: &mut [u8], place: usize, v: u32)
+    requires { place + 4 ≤ length bytes.old }
+    ensures { bytes.new ≡ with_bytes_at bytes.old place (bytes_of_word v) }
+{
+    let [a, b, c, d] = v.to_le_bytes();
+    bytes[place] = a;
+    bytes[place + 1] = b;
+    bytes[place + 2] = c;
+    bytes[place + 3] = d;
+}
+
+/// Puts the two low bytes of a word at a place, the least significant first.
+#[inline]
+fn put_half(bytes: &mut [u8], place: usize, v: u32)
+    requires { place + 2 ≤ length bytes.old }
+    ensures { bytes.new ≡ with_bytes_at bytes.old place (bytes_of_half v) }
+{
+    let [a, b, _, _] = v.to_le_bytes();
+    bytes[place] = a;
+    bytes[place + 1] = b;
+}
+
+/// Puts the low byte of a word at a place.
+#[inline]
+fn put_byte(bytes: &mut [u8], place: usize, v: u32)
+    requires { place + 1 ≤ length bytes.old }
+    ensures { bytes.new ≡ with_bytes_at bytes.old place (low_byte v) }
+{
+    let [a, _, _, _] = v.to_le_bytes();
+    bytes[place] = a;
 }
 
 /// Laws of the words of a memory, for one that reads them with addresses that rise by 4: the word at
@@ -184,6 +272,32 @@ mod tests {
     }
 
     #[test]
+    fn halves_and_bytes_stand_least_significant_first(rt: HostRuntime) -> Result<(), Fail> {
+        let ram = Ram::new(rt.alloc(), &[0x01, 0x02, 0xff, 0x7f, 0x00, 0x80, 0xfe])?;
+        assert_eq!(rt; ram.load16s(0x00010000)?, 0x0201);
+        assert_eq!(rt; ram.load16s(0x00010002)?, 0x7fff);
+        assert_eq!(rt; ram.load16s(0x00010004)?, 0xffff8000);
+        assert_eq!(rt; ram.load8u(0x00010003)?, 0x7f);
+        assert_eq!(rt; ram.load8u(0x00010006)?, 0xfe);
+        assert_eq!(rt; ram.load8u(0x0001ffff)?, 0);
+        Ok(())
+    }
+
+    #[test]
+    fn a_store_of_a_half_or_a_byte_keeps_its_neighbours(rt: HostRuntime) -> Result<(), Fail> {
+        let mut ram = Ram::new(rt.alloc(), &[0x11, 0x22, 0x33, 0x44, 0x55, 0x66])?;
+        ram.store16(0x00010002, 0x89abcdef)?;
+        assert_eq!(rt; ram.load32(0x00010000)?, 0xcdef2211);
+        assert_eq!(rt; ram.load32(0x00010004)?, 0x00006655);
+        ram.store8(0x00010001, 0x89abcdef)?;
+        assert_eq!(rt; ram.load32(0x00010000)?, 0xcdefef11);
+        ram.store8(0x0001ffff, 0x80)?;
+        assert_eq!(rt; ram.load32(0x0001fffc)?, 0x80000000);
+        assert_eq!(rt; ram.load8u(0x0001ffff)?, 0x80);
+        Ok(())
+    }
+
+    #[test]
     fn bad_addresses_are_refused(rt: HostRuntime) -> Result<(), Fail> {
         let mut ram = Ram::new(rt.alloc(), &[1, 2, 3, 4])?;
         for at in [
@@ -191,6 +305,15 @@ mod tests {
         ] {
             assert_eq!(rt; ram.load32(at), Err(BadAddress));
             assert_eq!(rt; ram.store32(at, 7), Err(BadAddress));
+        }
+        assert_eq!(rt; ram.store32(0x0001fffe, 1), Err(BadAddress));
+        for at in [0x00010003, 0x0000fffe, 0x0001ffff, 0x00020000] {
+            assert_eq!(rt; ram.load16s(at), Err(BadAddress));
+            assert_eq!(rt; ram.store16(at, 7), Err(BadAddress));
+        }
+        for at in [0x0000ffff, 0x00020000, 0] {
+            assert_eq!(rt; ram.load8u(at), Err(BadAddress));
+            assert_eq!(rt; ram.store8(at, 7), Err(BadAddress));
         }
         assert_eq!(rt; ram.load32(0x00010000)?, 0x04030201);
         Ok(())
