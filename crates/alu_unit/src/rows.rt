@@ -2,6 +2,8 @@
 ghost use Rattle.std.specs.Prelude.{◌≡◌, ◌<◌, ℕ, Bool, Some, None, if◌then◌else◌};
 ghost use Rattle.xs_instructions.specs.Instr.{WordsInRange};
 ghost use Rattle.step_model.specs.Outcomes.{EndsAs};
+ghost use Rattle.xs_model.specs.Threads.{register};
+ghost use Rattle.alu_unit.specs.Ends.{EndsWithin};
 ghost use Rattle.step_model.specs.WordRows.{words_row, sets, sets_two, divides, divides_long};
 
 use crate::words::{divs, divu, lss, maccs, maccu, rems, remu};
@@ -13,119 +15,129 @@ use xs_base::{
 use xs_instructions::WordIns;
 use xs_model::traps::ARITHMETIC;
 
+// How a row ends that divides where there is no quotient.
+const NO_QUOTIENT: Outcome = Outcome::Trap {
+    et: ARITHMETIC,
+    ed: 0,
+};
+
 /// Does a row on words: reads its operands, and then writes its result, of two results the left one first. It traps, and changes
 /// nothing, where it divides and there is no quotient. pc is left to the caller. See docs/INSTRUCTIONS.md.
 pub fn alu(thread: &mut Thread, ins: WordIns) -> Outcome
     requires range { WordsInRange ins }
     ensures row { EndsAs result thread.old thread.new (words_row thread.old ins) }
+    ensures ends { EndsWithin result thread.old thread.new }
 {
     match ins {
-        WordIns::Add(d, x, y) => set(thread, d, thread.reg(x).wrapping_add(thread.reg(y))),
-        WordIns::AddImm(d, x, i) => set(thread, d, thread.reg(x).wrapping_add(u32::from(i))),
-        WordIns::Sub(d, x, y) => set(thread, d, thread.reg(x).wrapping_sub(thread.reg(y))),
-        WordIns::SubImm(d, x, i) => set(thread, d, thread.reg(x).wrapping_sub(u32::from(i))),
-        WordIns::Neg(d, x) => set(thread, d, 0_u32.wrapping_sub(thread.reg(x))),
-        WordIns::Not(d, x) => set(thread, d, !thread.reg(x)),
-        WordIns::And(d, x, y) => set(thread, d, thread.reg(x) & thread.reg(y)),
-        WordIns::Or(d, x, y) => set(thread, d, thread.reg(x) | thread.reg(y)),
-        WordIns::Xor(d, x, y) => set(thread, d, thread.reg(x) ^ thread.reg(y)),
-        WordIns::AndNot(d, x) => set(thread, d, thread.reg(d) & !thread.reg(x)),
-        WordIns::Eq(d, x, y) => set(thread, d, u32::from(thread.reg(x) == thread.reg(y))),
-        WordIns::EqImm(d, x, i) => set(thread, d, u32::from(thread.reg(x) == u32::from(i))),
-        WordIns::Lss(d, x, y) => set(thread, d, lss(thread.reg(x), thread.reg(y))),
-        WordIns::Lsu(d, x, y) => set(thread, d, u32::from(thread.reg(x) < thread.reg(y))),
-        WordIns::Shl(d, x, y) => set(thread, d, shl(thread.reg(x), thread.reg(y))),
-        WordIns::ShlImm(d, x, b) => set(thread, d, shl(thread.reg(x), u32::from(b))),
-        WordIns::Shr(d, x, y) => set(thread, d, shr(thread.reg(x), thread.reg(y))),
-        WordIns::ShrImm(d, x, b) => set(thread, d, shr(thread.reg(x), u32::from(b))),
-        WordIns::Ashr(d, x, y) => set(thread, d, ashr(thread.reg(x), thread.reg(y))),
-        WordIns::AshrImm(d, x, b) => set(thread, d, ashr(thread.reg(x), u32::from(b))),
-        WordIns::Mul(d, x, y) => set(thread, d, thread.reg(x).wrapping_mul(thread.reg(y))),
-        WordIns::Divu(d, x, y) => divide(thread, d, divu(thread.reg(x), thread.reg(y))),
-        WordIns::Remu(d, x, y) => divide(thread, d, remu(thread.reg(x), thread.reg(y))),
-        WordIns::Divs(d, x, y) => divide(thread, d, divs(thread.reg(x), thread.reg(y))),
-        WordIns::Rems(d, x, y) => divide(thread, d, rems(thread.reg(x), thread.reg(y))),
-        WordIns::Mkmsk(d, x) => set(thread, d, mkmsk(thread.reg(x))),
+        WordIns::Add(d, x, y) => set(thread, d, get(thread, x).wrapping_add(get(thread, y))),
+        WordIns::AddImm(d, x, i) => set(thread, d, get(thread, x).wrapping_add(u32::from(i))),
+        WordIns::Sub(d, x, y) => set(thread, d, get(thread, x).wrapping_sub(get(thread, y))),
+        WordIns::SubImm(d, x, i) => set(thread, d, get(thread, x).wrapping_sub(u32::from(i))),
+        WordIns::Neg(d, x) => set(thread, d, 0_u32.wrapping_sub(get(thread, x))),
+        WordIns::Not(d, x) => set(thread, d, !get(thread, x)),
+        WordIns::And(d, x, y) => set(thread, d, get(thread, x) & get(thread, y)),
+        WordIns::Or(d, x, y) => set(thread, d, get(thread, x) | get(thread, y)),
+        WordIns::Xor(d, x, y) => set(thread, d, get(thread, x) ^ get(thread, y)),
+        WordIns::AndNot(d, x) => set(thread, d, get(thread, d) & !get(thread, x)),
+        WordIns::Eq(d, x, y) => set(thread, d, u32::from(get(thread, x) == get(thread, y))),
+        WordIns::EqImm(d, x, i) => set(thread, d, u32::from(get(thread, x) == u32::from(i))),
+        WordIns::Lss(d, x, y) => set(thread, d, lss(get(thread, x), get(thread, y))),
+        WordIns::Lsu(d, x, y) => set(thread, d, u32::from(get(thread, x) < get(thread, y))),
+        WordIns::Shl(d, x, y) => set(thread, d, shl(get(thread, x), get(thread, y))),
+        WordIns::ShlImm(d, x, b) => set(thread, d, shl(get(thread, x), u32::from(b))),
+        WordIns::Shr(d, x, y) => set(thread, d, shr(get(thread, x), get(thread, y))),
+        WordIns::ShrImm(d, x, b) => set(thread, d, shr(get(thread, x), u32::from(b))),
+        WordIns::Ashr(d, x, y) => set(thread, d, ashr(get(thread, x), get(thread, y))),
+        WordIns::AshrImm(d, x, b) => set(thread, d, ashr(get(thread, x), u32::from(b))),
+        WordIns::Mul(d, x, y) => set(thread, d, get(thread, x).wrapping_mul(get(thread, y))),
+        WordIns::Divu(d, x, y) => divide(thread, d, divu(get(thread, x), get(thread, y))),
+        WordIns::Remu(d, x, y) => divide(thread, d, remu(get(thread, x), get(thread, y))),
+        WordIns::Divs(d, x, y) => divide(thread, d, divs(get(thread, x), get(thread, y))),
+        WordIns::Rems(d, x, y) => divide(thread, d, rems(get(thread, x), get(thread, y))),
+        WordIns::Mkmsk(d, x) => set(thread, d, mkmsk(get(thread, x))),
         WordIns::MkmskImm(d, b) => set(thread, d, mkmsk(u32::from(b))),
-        WordIns::Sext(d, x) => set(thread, d, sext(thread.reg(d), thread.reg(x))),
-        WordIns::SextImm(d, b) => set(thread, d, sext(thread.reg(d), u32::from(b))),
-        WordIns::Zext(d, x) => set(thread, d, zext(thread.reg(d), thread.reg(x))),
-        WordIns::ZextImm(d, b) => set(thread, d, zext(thread.reg(d), u32::from(b))),
-        WordIns::Bitrev(d, x) => set(thread, d, bitrev(thread.reg(x))),
-        WordIns::Byterev(d, x) => set(thread, d, byterev(thread.reg(x))),
-        WordIns::Clz(d, x) => set(thread, d, clz(thread.reg(x))),
-        WordIns::Ladd(d, e, x, y, v) => set_two(
-            thread,
-            d,
-            e,
-            add_carry(thread.reg(x), thread.reg(y), thread.reg(v)),
-        ),
-        WordIns::Lsub(d, e, x, y, v) => set_two(
-            thread,
-            d,
-            e,
-            sub_borrow(thread.reg(x), thread.reg(y), thread.reg(v)),
-        ),
-        WordIns::Lmul(d, e, x, y, v, w) => set_two(
-            thread,
-            d,
-            e,
-            mul_long(thread.reg(x), thread.reg(y), thread.reg(v), thread.reg(w)),
-        ),
-        WordIns::Ldivu(d, e, x, y, v) => divide_long(
-            thread,
-            d,
-            e,
-            div_long(thread.reg(x), thread.reg(y), thread.reg(v)),
-        ),
-        WordIns::Maccu(d, e, x, y) => set_two(
-            thread,
-            d,
-            e,
-            maccu(thread.reg(d), thread.reg(e), thread.reg(x), thread.reg(y)),
-        ),
-        WordIns::Maccs(d, e, x, y) => set_two(
-            thread,
-            d,
-            e,
-            maccs(thread.reg(d), thread.reg(e), thread.reg(x), thread.reg(y)),
-        ),
+        WordIns::Sext(d, x) => set(thread, d, sext(get(thread, d), get(thread, x))),
+        WordIns::SextImm(d, b) => set(thread, d, sext(get(thread, d), u32::from(b))),
+        WordIns::Zext(d, x) => set(thread, d, zext(get(thread, d), get(thread, x))),
+        WordIns::ZextImm(d, b) => set(thread, d, zext(get(thread, d), u32::from(b))),
+        WordIns::Bitrev(d, x) => set(thread, d, bitrev(get(thread, x))),
+        WordIns::Byterev(d, x) => set(thread, d, byterev(get(thread, x))),
+        WordIns::Clz(d, x) => set(thread, d, clz(get(thread, x))),
+        WordIns::Ladd(d, e, x, y, v) => {
+            let both = add_carry(get(thread, x), get(thread, y), get(thread, v));
+            set_two(thread, d, e, both)
+        }
+        WordIns::Lsub(d, e, x, y, v) => {
+            let both = sub_borrow(get(thread, x), get(thread, y), get(thread, v));
+            set_two(thread, d, e, both)
+        }
+        WordIns::Lmul(d, e, x, y, v, w) => {
+            let (v, w) = (get(thread, v), get(thread, w));
+            let both = mul_long(get(thread, x), get(thread, y), v, w);
+            set_two(thread, d, e, both)
+        }
+        WordIns::Ldivu(d, e, x, y, v) => {
+            let both = div_long(get(thread, x), get(thread, y), get(thread, v));
+            divide_long(thread, d, e, both)
+        }
+        WordIns::Maccu(d, e, x, y) => {
+            let (high, low) = (get(thread, d), get(thread, e));
+            let both = maccu(high, low, get(thread, x), get(thread, y));
+            set_two(thread, d, e, both)
+        }
+        WordIns::Maccs(d, e, x, y) => {
+            let (high, low) = (get(thread, d), get(thread, e));
+            let both = maccs(high, low, get(thread, x), get(thread, y));
+            set_two(thread, d, e, both)
+        }
         WordIns::Ldc(d, u) => set(thread, d, u32::from(u)),
         WordIns::Nop => Outcome::Done,
     }
 }
 
+// What an operand's register holds.
+#[inline]
+fn get(thread: &Thread, x: u8) -> u32
+    requires { x < 12 }
+    ensures value { result ≡ register thread.now x }
+{
+    thread.r[x as usize]
+}
+
 // A row with one result.
 #[inline]
 fn set(thread: &mut Thread, d: u8, word: u32) -> Outcome
-    requires { d < 16 }
+    requires { d < 12 }
     ensures row { EndsAs result thread.old thread.new (sets thread.old d word) }
+    ensures ends { EndsWithin result thread.old thread.new }
 {
-    thread.set_reg(d, word);
+    thread.r[d as usize] = word;
     Outcome::Done
 }
 
 // A row with two results, of which the left one is written first.
 #[inline]
 fn set_two(thread: &mut Thread, d: u8, e: u8, both: (u32, u32)) -> Outcome
-    requires left { d < 16 }
-    requires right { e < 16 }
+    requires left { d < 12 }
+    requires right { e < 12 }
     ensures row { EndsAs result thread.old thread.new (sets_two thread.old d e both) }
+    ensures ends { EndsWithin result thread.old thread.new }
 {
-    thread.set_reg(d, both.0);
-    thread.set_reg(e, both.1);
+    thread.r[d as usize] = both.0;
+    thread.r[e as usize] = both.1;
     Outcome::Done
 }
 
 // A row that divides: with no quotient it traps.
 #[inline]
 fn divide(thread: &mut Thread, d: u8, quotient: Option<u32>) -> Outcome
-    requires { d < 16 }
+    requires { d < 12 }
     ensures row { (fails : Bool) → (word : ℕ) → quotient ≡ (if fails then None else Some word)
         → EndsAs result thread.old thread.new (divides thread.old d fails word) }
+    ensures ends { EndsWithin result thread.old thread.new }
 {
     match quotient {
-        None => arithmetic_trap(),
+        None => NO_QUOTIENT,
         Some(word) => set(thread, d, word),
     }
 }
@@ -133,22 +145,13 @@ fn divide(thread: &mut Thread, d: u8, quotient: Option<u32>) -> Outcome
 // A long division: with no quotient it traps.
 #[inline]
 fn divide_long(thread: &mut Thread, d: u8, e: u8, both: Option<(u32, u32)>) -> Outcome
-    requires left { d < 16 }
-    requires right { e < 16 }
+    requires left { d < 12 }
+    requires right { e < 12 }
     ensures row { EndsAs result thread.old thread.new (divides_long thread.old d e both) }
+    ensures ends { EndsWithin result thread.old thread.new }
 {
     match both {
-        None => arithmetic_trap(),
+        None => NO_QUOTIENT,
         Some(both) => set_two(thread, d, e, both),
-    }
-}
-
-#[inline]
-fn arithmetic_trap() -> Outcome
-    ensures value { result ≡ Outcome.Trap ARITHMETIC 0 }
-{
-    Outcome::Trap {
-        et: ARITHMETIC,
-        ed: 0,
     }
 }
