@@ -2,6 +2,8 @@
 #![tactic(auto)]
 
 mod rows;
+#[cfg(test)]
+mod tests;
 mod words;
 
 pub use rows::alu;

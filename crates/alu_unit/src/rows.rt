@@ -3,7 +3,7 @@ ghost use Rattle.std.specs.Prelude.{◌≡◌, ◌<◌, ℕ, Bool, Some, None, i
 ghost use Rattle.xs_instructions.specs.Instr.{WordsInRange};
 ghost use Rattle.step_model.specs.Outcomes.{EndsAs};
 ghost use Rattle.xs_model.specs.Threads.{register};
-ghost use Rattle.alu_unit.specs.Ends.{EndsWithin};
+ghost use Rattle.alu_unit.specs.Ends.{IsDoneOrTraps};
 ghost use Rattle.step_model.specs.WordRows.{words_row, sets, sets_two, divides, divides_long};
 
 use crate::words::{divs, divu, lss, maccs, maccu, rems, remu};
@@ -26,7 +26,8 @@ const NO_QUOTIENT: Outcome = Outcome::Trap {
 pub fn alu(thread: &mut Thread, ins: WordIns) -> Outcome
     requires range { WordsInRange ins }
     ensures row { EndsAs result thread.old thread.new (words_row thread.old ins) }
-    ensures ends { EndsWithin result thread.old thread.new }
+    ensures ends { IsDoneOrTraps result thread.old thread.new }
+    ensures stays { thread.new ≡ record thread.old { r = thread.new.r } }
 {
     match ins {
         WordIns::Add(d, x, y) => set(thread, d, get(thread, x).wrapping_add(get(thread, y))),
@@ -109,7 +110,8 @@ fn get(thread: &Thread, x: u8) -> u32
 fn set(thread: &mut Thread, d: u8, word: u32) -> Outcome
     requires { d < 12 }
     ensures row { EndsAs result thread.old thread.new (sets thread.old d word) }
-    ensures ends { EndsWithin result thread.old thread.new }
+    ensures ends { IsDoneOrTraps result thread.old thread.new }
+    ensures stays { thread.new ≡ record thread.old { r = thread.new.r } }
 {
     thread.r[d as usize] = word;
     Outcome::Done
@@ -121,7 +123,8 @@ fn set_two(thread: &mut Thread, d: u8, e: u8, both: (u32, u32)) -> Outcome
     requires left { d < 12 }
     requires right { e < 12 }
     ensures row { EndsAs result thread.old thread.new (sets_two thread.old d e both) }
-    ensures ends { EndsWithin result thread.old thread.new }
+    ensures ends { IsDoneOrTraps result thread.old thread.new }
+    ensures stays { thread.new ≡ record thread.old { r = thread.new.r } }
 {
     thread.r[d as usize] = both.0;
     thread.r[e as usize] = both.1;
@@ -134,7 +137,8 @@ fn divide(thread: &mut Thread, d: u8, quotient: Option<u32>) -> Outcome
     requires { d < 12 }
     ensures row { (fails : Bool) → (word : ℕ) → quotient ≡ (if fails then None else Some word)
         → EndsAs result thread.old thread.new (divides thread.old d fails word) }
-    ensures ends { EndsWithin result thread.old thread.new }
+    ensures ends { IsDoneOrTraps result thread.old thread.new }
+    ensures stays { thread.new ≡ record thread.old { r = thread.new.r } }
 {
     match quotient {
         None => NO_QUOTIENT,
@@ -148,7 +152,8 @@ fn divide_long(thread: &mut Thread, d: u8, e: u8, both: Option<(u32, u32)>) -> O
     requires left { d < 12 }
     requires right { e < 12 }
     ensures row { EndsAs result thread.old thread.new (divides_long thread.old d e both) }
-    ensures ends { EndsWithin result thread.old thread.new }
+    ensures ends { IsDoneOrTraps result thread.old thread.new }
+    ensures stays { thread.new ≡ record thread.old { r = thread.new.r } }
 {
     match both {
         None => NO_QUOTIENT,
