@@ -1,2 +1,37 @@
 //! The rows on memory, on the flow of control and on the kernel. See docs/INSTRUCTIONS.md.
 #![tactic(auto)]
+
+ghost use Rattle.std.specs.Prelude.{◌≡◌, IsTrue};
+ghost use Rattle.xs_instructions.specs.Instr.{InRange, built};
+ghost use Rattle.step_model.specs.Outcomes.{EndsAs};
+ghost use Rattle.step_model.specs.Rows.{local_row};
+ghost use Rattle.flow_unit.specs.Local.{local, is_local};
+
+mod access;
+mod address;
+mod control;
+mod kernel;
+mod memory;
+
+use core_memory::Ram;
+use core_state::{Outcome, Thread};
+use xs_instructions::Instr;
+
+/// Does an instruction on memory, on the flow of control or on the kernel, other than `kret`: thread number `id`, 0 to 7,
+/// issues it. The answer is `Done`, with the thread's pc where the row says; or `Trap`, and then thread and memory are as
+/// they were. `kcall` answers `Trap` with 15 and its operand. See docs/INSTRUCTIONS.md.
+#[inline]
+pub fn flow(thread: &mut Thread, id: u8, ram: &mut Ram, ins: Instr) -> Outcome
+    requires part { IsTrue (is_local ins) }
+    requires range { InRange ins }
+    requires built { IsTrue (built ins) }
+    ensures row { EndsAs result (local thread.old ram.old) (local thread.new ram.new) (local_row id (local thread.old ram.old) ins) }
+    ensures run { thread.new.run ≡ thread.old.run }
+{
+    match ins {
+        Instr::Memory(ins) => memory::memory(thread, ram, ins),
+        Instr::Flow(ins) => control::control(thread, ram, ins),
+        Instr::Kernel(ins) => kernel::kernel(thread, id, ram, ins),
+        _ => unreachable!(),
+    }
+}
