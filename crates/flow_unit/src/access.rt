@@ -2,7 +2,7 @@
 ghost use Rattle.std.specs.Prelude.{◌≡◌, ◌<◌};
 ghost use Rattle.xs_model.specs.declared.traps.TheConstants.{LOAD_STORE};
 ghost use Rattle.step_model.specs.Effect.{after_it};
-ghost use Rattle.step_model.specs.MemoryRows.{stores, loads_word, stores_word};
+ghost use Rattle.step_model.specs.MemoryRows.{stores, loads_word, loads_half, loads_byte, stores_word, stores_half, stores_byte};
 ghost use Rattle.step_model.specs.Outcomes.{EndsAs};
 ghost use Rattle.xs_model.specs.Threads.{with_register};
 ghost use Rattle.xs_model.specs.Memory.{store_word};
@@ -74,6 +74,58 @@ pub(crate) fn put_word(word: u32, at: u32, thread: &mut Thread, ram: &mut Ram) -
     ensures run { thread.new.run ≡ thread.old.run }
 {
     match ram.store32(at, word) {
+        Ok(()) => go_on(thread),
+        Err(_) => refused(at),
+    }
+}
+
+/// Loads the half at an address, signed, into register g.
+#[inline]
+pub(crate) fn load_half(g: u8, at: u32, thread: &mut Thread, ram: &Ram) -> Outcome
+    requires { g < 16 }
+    ensures row { EndsAs result (local thread.old ram.now) (local thread.new ram.now) (loads_half (local thread.old ram.now) g at) }
+    ensures run { thread.new.run ≡ thread.old.run }
+{
+    match ram.load16s(at) {
+        Ok(half) => set(g, half, thread),
+        Err(_) => refused(at),
+    }
+}
+
+/// Loads the byte at an address into register g.
+#[inline]
+pub(crate) fn load_byte(g: u8, at: u32, thread: &mut Thread, ram: &Ram) -> Outcome
+    requires { g < 16 }
+    ensures row { EndsAs result (local thread.old ram.now) (local thread.new ram.now) (loads_byte (local thread.old ram.now) g at) }
+    ensures run { thread.new.run ≡ thread.old.run }
+{
+    match ram.load8u(at) {
+        Ok(byte) => set(g, byte, thread),
+        Err(_) => refused(at),
+    }
+}
+
+/// Stores the low half of register g at an address.
+#[inline]
+pub(crate) fn store_half(g: u8, at: u32, thread: &mut Thread, ram: &mut Ram) -> Outcome
+    requires { g < 16 }
+    ensures row { EndsAs result (local thread.old ram.old) (local thread.new ram.new) (stores_half (local thread.old ram.old) g at) }
+    ensures run { thread.new.run ≡ thread.old.run }
+{
+    match ram.store16(at, thread.reg(g)) {
+        Ok(()) => go_on(thread),
+        Err(_) => refused(at),
+    }
+}
+
+/// Stores the low byte of register g at an address.
+#[inline]
+pub(crate) fn store_byte(g: u8, at: u32, thread: &mut Thread, ram: &mut Ram) -> Outcome
+    requires { g < 16 }
+    ensures row { EndsAs result (local thread.old ram.old) (local thread.new ram.new) (stores_byte (local thread.old ram.old) g at) }
+    ensures run { thread.new.run ≡ thread.old.run }
+{
+    match ram.store8(at, thread.reg(g)) {
         Ok(()) => go_on(thread),
         Err(_) => refused(at),
     }

@@ -7,7 +7,7 @@ use xs_base::numbers::CODE_START;
 
 /// The address that lies `n` accesses of a size above a base.
 #[inline]
-#[tactic(auto, using(std::proofs::Math::Nat::add_mod_mod))]
+#[tactic(auto, using(crate::proofs::Addresses::up_by))]
 pub(crate) fn up(base: u32, size: u32, n: u32) -> u32
     ensures value { result ≡ up base size n }
 {

@@ -5,7 +5,7 @@ ghost use Rattle.step_model.specs.MemoryRows.{memory_row};
 ghost use Rattle.step_model.specs.Outcomes.{EndsAs};
 ghost use Rattle.flow_unit.specs.Local.{local};
 
-use crate::access::{load_word, set, store_word};
+use crate::access::{load_byte, load_half, load_word, set, store_byte, store_half, store_word};
 use crate::address::{down, place_address, up};
 use core_memory::Ram;
 use core_state::{Outcome, Thread};
