@@ -11,5 +11,9 @@ pub mod Rows
 pub mod Start
 pub mod Step
 pub mod Worked
+pub mod WorkedWords
+pub mod WorkedMemory
+pub mod WorkedFlow
+pub mod WorkedKernel
 pub mod WorkedChannels
 pub mod WorkedWaits

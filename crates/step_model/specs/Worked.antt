@@ -1,5 +1,5 @@
 -- Slots worked out by hand: what a node keeps after its first slots, for small code.
-use Rattle.std.specs.Prelude.{ℕ, zero, suc, ◌≡◌, false, Some, None, List, [], ◌∷◌, take, drop, replicate}
+use Rattle.std.specs.Prelude.{ℕ, zero, suc, ◌≡◌, false, Some, None, List, [], ◌∷◌, replicate}
 use Rattle.xs_model.specs.declared.thread.Thread.{Thread}
 use Rattle.xs_model.specs.declared.thread.Run.TheVariants.{Free, Paused, Halted}
 use Rattle.xs_model.specs.declared.thread.Wait.TheVariants.{Tokens, Choice}
@@ -11,14 +11,12 @@ use Rattle.xs_model.specs.Threads.{first_thread}
 use Rattle.xs_model.specs.Record.{NodeRec, first_node, free_thread, thread_of, with_thread, with_slave}
 use Rattle.xs_model.specs.Outside.{emitted_events, in_slot, low_pins}
 use Rattle.xs_instructions.specs.declared.instr.Instr.{Instr}
-use Rattle.xs_instructions.specs.declared.instr.Instr.TheVariants.{Words, Memory, Flow, Threads}
+use Rattle.xs_instructions.specs.declared.instr.Instr.TheVariants.{Words, Memory, Threads}
 use Rattle.xs_instructions.specs.declared.instr.WordIns.TheVariants as words
 use Rattle.xs_instructions.specs.declared.instr.MemIns.TheVariants as memory
-use Rattle.xs_instructions.specs.declared.instr.FlowIns.{FlowIns}
-use Rattle.xs_instructions.specs.declared.instr.FlowIns.TheVariants as flow
 use Rattle.xs_instructions.specs.declared.instr.ThreadIns.TheVariants as threads
 use Rattle.step_model.specs.Fixed.{Fixed}
-use Rattle.step_model.specs.Step.{Stepped, Issued, trap, node_step}
+use Rattle.step_model.specs.Step.{Stepped, node_step}
 
 -- a node of this code, with no network
 abbrev pub node_of_code : List Instr → Fixed
@@ -95,55 +93,6 @@ pub record WorkedIssues : Type 0 where
   pub pause_for_event : slot_of constants (start_as (record first { run = Paused Choice })) 0 ≡ idle (start_as (record first { run = Paused Choice }))
   pub no_operation : thread_after (Words words.Nop ∷ []) start 1 ≡ record first { pc = 0x00040004 }
 
--- what one instruction at 0x00040000 makes of r0 to r2
-abbrev pub three_after : Instr → ℕ → ℕ → ℕ → List ℕ
-three_after ins a b c = (thread_after (ins ∷ []) (start_as (with_three a b c)) 1).r
-
-pub record WorkedWords : Type 0 where
-  pub add : three_after (Words (words.Add 2 0 1)) 5 7 9 ≡ three_and_zeros 5 7 12
-  pub add_wraps : three_after (Words (words.Add 2 0 1)) 0xffffffff 3 9 ≡ three_and_zeros 0xffffffff 3 2
-  pub add_to_itself : three_after (Words (words.Add 0 0 0)) 0x80000001 7 9 ≡ three_and_zeros 2 7 9
-  pub sub : three_after (Words (words.Sub 2 0 1)) 7 5 9 ≡ three_and_zeros 7 5 2
-  pub sub_wraps : three_after (Words (words.Sub 2 0 1)) 0 1 9 ≡ three_and_zeros 0 1 0xffffffff
-  pub sub_of_zero : three_after (Words (words.Sub 0 1 2)) 9 7 0 ≡ three_and_zeros 7 7 0
-  pub equal : three_after (Words (words.Eq 2 0 1)) 7 7 9 ≡ three_and_zeros 7 7 1
-  pub not_equal : three_after (Words (words.Eq 2 0 1)) 7 8 9 ≡ three_and_zeros 7 8 0
-  pub next : (thread_after (Words (words.Eq 2 0 1) ∷ []) start 1).pc ≡ 0x00040004
-
--- where thread 0 is after one instruction at 0x00040000, with this in r0
-abbrev pub place_after : FlowIns → ℕ → ℕ
-place_after ins a = (thread_after (Flow ins ∷ []) (start_as (with_three a 0 0)) 1).pc
-
-pub record WorkedBranches : Type 0 where
-  pub bt_taken : place_after (flow.Bt 0 5) 0x80000000 ≡ 0x00040014
-  pub bt_not_taken : place_after (flow.Bt 0 5) 0 ≡ 0x00040004
-  pub bf_taken : place_after (flow.Bf 0 5) 0 ≡ 0x00040014
-  pub bf_not_taken : place_after (flow.Bf 0 5) 1 ≡ 0x00040004
-  pub bu : place_after (flow.Bu 16383) 7 ≡ 0x0004fffc
-  pub bu_to_itself : place_after (flow.Bu 0) 7 ≡ 0x00040000
-  -- a branch changes pc alone
-  pub registers : thread_after (Flow (flow.Bt 1 2) ∷ []) (start_as (with_three 5 7 9)) 1 ≡ record first { r = three_and_zeros 5 7 9; pc = 0x00040008 }
-
--- so many bytes of the memory from a place on, after so many slots
-abbrev pub bytes_after : List Instr → NodeRec → ℕ → ℕ → ℕ → List ℕ
-bytes_after code rec slots place count = take count (drop place (after_slots code rec slots).core.memory)
-
-abbrev pub store_and_load : List Instr
-store_and_load = Memory (memory.StwDp 0 1) ∷ Memory (memory.LdwDp 2 1) ∷ Memory (memory.LdwDp 14 0) ∷ []
-
-pub record WorkedMemory : Type 0 where
-  -- the least significant byte stands first
-  pub stored : bytes_after store_and_load (start_as (with_three 0x04030201 7 9)) 1 0 12 ≡ 0 ∷ 0 ∷ 0 ∷ 0 ∷ 1 ∷ 2 ∷ 3 ∷ 4 ∷ 0 ∷ 0 ∷ 0 ∷ 0 ∷ []
-  pub store_goes_on : thread_after store_and_load (start_as (with_three 0x04030201 7 9)) 1 ≡ record (with_three 0x04030201 7 9) { pc = 0x00040004 }
-  pub loaded : thread_after store_and_load (start_as (with_three 0x04030201 7 9)) 5 ≡ record (with_three 0x04030201 7 0x04030201) { pc = 0x00040008 }
-  -- register 14 is sp
-  pub loaded_sp : thread_after store_and_load (start_as (with_three 0x04030201 7 9)) 9 ≡ record (with_three 0x04030201 7 0x04030201) { sp = 0; pc = 0x0004000c }
-  -- register 12 is cp
-  pub stored_cp : bytes_after (Memory (memory.StwDp 12 0) ∷ []) start 1 0 4 ≡ 0 ∷ 0 ∷ 1 ∷ 0 ∷ []
-  pub first_bytes : (thread_after (Memory (memory.LdwDp 0 0) ∷ []) (first_node 0x00040000 0x00010000 (0xdd ∷ 0xcc ∷ 0xbb ∷ 0xaa ∷ [])) 1).r ≡ 0xaabbccdd ∷ replicate 11 0
-  -- dp[16383] is the memory's last word
-  pub last_word : bytes_after (Memory (memory.StwDp 0 16383) ∷ []) (start_as (with_three 1 0 0)) 1 65532 5 ≡ 1 ∷ 0 ∷ 0 ∷ 0 ∷ []
-
 -- thread 0 halted in a trap at pc 0x00040000
 abbrev pub halted : Thread → ℕ → ℕ → Thread
 halted th number value = record th {
@@ -176,10 +125,6 @@ store_at_1 = Memory (memory.StwDp 3 1) ∷ []
 abbrev pub dp_at : ℕ → Thread
 dp_at at = record first { dp = at }
 
--- thread 0 traps with a kernel call at the first of so many instructions; its handlers begin at the first one
-abbrev pub kernel_call_of : ℕ → Issued
-kernel_call_of count = trap (replicate count (Words words.Nop)) (start_as (record first { kep = 0x00040000 })).core 0 15 3
-
 pub record WorkedTraps : Type 0 where
   pub no_code : after_slots [] start 1 ≡ record (start_as (halted first 2 0x00040000)) { core = record (start_as (halted first 2 0x00040000)).core { last = Some 0 ∷ replicate 7 None } }
   pub no_code_events : (slot_of [] start 0).emitted ≡ emitted_events (trap_and_halt 2 0x00040000)
@@ -197,11 +142,6 @@ pub record WorkedTraps : Type 0 where
   pub handler_goes_on : (thread_after one_nop (start_as handled) 5).pc ≡ 0x00040004
   -- an address between two instructions is no place of one
   pub between : events_of (Words words.Nop ∷ one_nop) (start_as (record first { pc = 0x00040002 })) 0 ≡ in_slot 0 (happen.Trap 0 2 0x00040002 0x00040002) ∷ in_slot 0 (happen.Halt 0) ∷ []
-  -- a kernel call returns to the next instruction, and its handler stands 64 bytes after the others: the seventeenth
-  -- instruction. With sixteen the thread halts.
-  pub kernel_call : thread_of (kernel_call_of 17).core 0 ≡ record first { kep = 0x00040000; spc = 0x00040004; et = 15; ed = 3; sr = record { bits = 0x10 }; pc = 0x00040040 }
-  pub kernel_call_told : (kernel_call_of 17).happened ≡ happen.Trap 0 15 0x00040004 3 ∷ []
-  pub kernel_call_halts : (kernel_call_of 16).happened ≡ happen.Trap 0 15 0x00040004 3 ∷ happen.Halt 0 ∷ []
   -- in the slot in which it happens
   pub in_slot_4 : events_of one_nop start 4 ≡ in_slot 4 (happen.Trap 0 2 0x00040004 0x00040004) ∷ in_slot 4 (happen.Halt 0) ∷ []
 

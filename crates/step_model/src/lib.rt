@@ -1,7 +1,11 @@
 //! What each instruction does, and one slot of a node: definitions alone. See docs/DEFINITIONS.md.
 #![tactic(auto)]
 
-ghost use Rattle.step_model.specs.Worked.{WorkedIssues, WorkedWords, WorkedBranches, WorkedMemory, WorkedTraps, WorkedEnd};
+ghost use Rattle.step_model.specs.Worked.{WorkedIssues, WorkedTraps, WorkedEnd};
+ghost use Rattle.step_model.specs.WorkedWords.{WorkedWords};
+ghost use Rattle.step_model.specs.WorkedMemory.{WorkedMemory};
+ghost use Rattle.step_model.specs.WorkedFlow.{WorkedFlow};
+ghost use Rattle.step_model.specs.WorkedKernel.{WorkedKernel};
 ghost use Rattle.step_model.specs.WorkedChannels.{WorkedChannels};
 ghost use Rattle.step_model.specs.WorkedWaits.{WorkedWaits, WorkedThings, WorkedLevels};
 
@@ -9,8 +13,9 @@ ghost use Rattle.step_model.specs.WorkedWaits.{WorkedWaits, WorkedThings, Worked
 pub fn worked_slots()
     ensures issues { WorkedIssues }
     ensures words { WorkedWords }
-    ensures branches { WorkedBranches }
     ensures memory { WorkedMemory }
+    ensures flow { WorkedFlow }
+    ensures kernel { WorkedKernel }
     ensures traps { WorkedTraps }
     ensures end { WorkedEnd }
     ensures channels { WorkedChannels }

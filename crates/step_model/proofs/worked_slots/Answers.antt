@@ -1,4 +1,5 @@
 use Rattle.std.proofs.Common.{refl}
+use Rattle.xs_base.specs.Words.{reversed, leading_zeros}
 use Rattle.xs_model.specs.Picks.{best_from}
 use Rattle.xs_model.specs.Record.{with_slave}
 use Rattle.net_model.specs.Chans.{free_chan}
@@ -29,41 +30,455 @@ returns-clause-issues c = record {
 }
 
 pub returns-clause-words : goal.returns-clause-words
-unfolding moves_from links_after_arrivals node_step best_from
+unfolding moves_from links_after_arrivals node_step best_from reversed leading_zeros
 returns-clause-words c = record {
-  add = refl;
-  add_wraps = refl;
-  add_to_itself = refl;
-  sub = refl;
-  sub_wraps = refl;
-  sub_of_zero = refl;
-  equal = refl;
-  not_equal = refl;
-  next = refl;
-}
-
-pub returns-clause-branches : goal.returns-clause-branches
-unfolding moves_from links_after_arrivals node_step best_from
-returns-clause-branches c = record {
-  bt_taken = refl;
-  bt_not_taken = refl;
-  bf_taken = refl;
-  bf_not_taken = refl;
-  bu = refl;
-  bu_to_itself = refl;
-  registers = refl;
+  sums = record {
+    add = refl;
+    add_wraps = refl;
+    add_to_itself = refl;
+    add_number = refl;
+    add_greatest_number = refl;
+    add_zero = refl;
+    sub = refl;
+    sub_wraps = refl;
+    sub_of_zero = refl;
+    sub_from_itself = refl;
+    sub_number = refl;
+    sub_equal_number = refl;
+    neg = refl;
+    neg_of_zero = refl;
+    neg_of_least = refl;
+    mul = refl;
+    mul_of_minus_one = refl;
+    square = refl;
+    greatest_constant = refl;
+    constant_zero = refl;
+    nop = refl;
+  };
+  bits = record {
+    inverted = refl;
+    inverted_zero = refl;
+    both = refl;
+    either = refl;
+    differing = refl;
+    xor_with_itself = refl;
+    andnot = refl;
+    andnot_itself = refl;
+    bits_reversed = refl;
+    bits_reversed_in_place = refl;
+    bytes_reversed = refl;
+    zeros_of_zero = refl;
+    zeros_of_one = refl;
+    zeros_of_a_byte_less = refl;
+    zeros_of_negative = refl;
+  };
+  tests = record {
+    equal = refl;
+    not_equal = refl;
+    equal_to_number = refl;
+    not_equal_to_number = refl;
+    equal_to_zero = refl;
+    signed_less = refl;
+    signed_more = refl;
+    least_and_greatest = refl;
+    greatest_and_least = refl;
+    both_negative = refl;
+    signed_equal = refl;
+    unsigned_less = refl;
+    unsigned_more = refl;
+    unsigned_equal = refl;
+  };
+  shifts = record {
+    shl_by_0 = refl;
+    shl_by_1 = refl;
+    shl_by_31 = refl;
+    shl_by_32 = refl;
+    shl_by_33 = refl;
+    shl_by_most = refl;
+    shl_by_itself = refl;
+    shl_by_8_bits = refl;
+    shl_by_32_bits = refl;
+    shr_by_0 = refl;
+    shr_by_1 = refl;
+    shr_by_31 = refl;
+    shr_by_32 = refl;
+    shr_by_33 = refl;
+    shr_by_24_bits = refl;
+    shr_by_32_bits = refl;
+    ashr_by_0 = refl;
+    ashr_by_1 = refl;
+    ashr_by_31 = refl;
+    ashr_by_32 = refl;
+    ashr_by_most = refl;
+    ashr_of_positive = refl;
+    ashr_of_positive_by_40 = refl;
+    ashr_by_8_bits = refl;
+    ashr_by_32_bits = refl;
+    ashr_of_positive_by_32_bits = refl;
+  };
+  parts = record {
+    mask_0 = refl;
+    mask_1 = refl;
+    mask_31 = refl;
+    mask_32 = refl;
+    mask_33 = refl;
+    mask_24_bits = refl;
+    mask_32_bits = refl;
+    sext_negative = refl;
+    sext_positive = refl;
+    sext_1 = refl;
+    sext_31 = refl;
+    sext_0 = refl;
+    sext_32 = refl;
+    sext_33 = refl;
+    sext_by_itself = refl;
+    sext_16_bits = refl;
+    sext_32_bits = refl;
+    zext = refl;
+    zext_1 = refl;
+    zext_31 = refl;
+    zext_0 = refl;
+    zext_32 = refl;
+    zext_33 = refl;
+    zext_16_bits = refl;
+    zext_32_bits = refl;
+  };
+  divisions = record {
+    divu = refl;
+    divu_of_greatest = refl;
+    divu_by_greater = refl;
+    divu_by_0 = refl;
+    remu = refl;
+    remu_of_greatest = refl;
+    remu_by_0 = refl;
+    divs_of_negative = refl;
+    divs_by_negative = refl;
+    divs_of_two_negative = refl;
+    divs_below_one = refl;
+    divs_of_least = refl;
+    divs_by_minus_one = refl;
+    divs_of_least_by_minus_one = refl;
+    divs_by_0 = refl;
+    rems_of_negative = refl;
+    rems_by_negative = refl;
+    rems_of_two_negative = refl;
+    rems_of_least = refl;
+    rems_without_rest = refl;
+    rems_of_least_by_minus_one = refl;
+    rems_by_0 = refl;
+  };
+  long_sums = record {
+    ladd = refl;
+    ladd_without_carry_in = refl;
+    ladd_of_greatest = refl;
+    ladd_carry_by_carry_in = refl;
+    ladd_in_order = refl;
+    ladd_same = refl;
+    lsub = refl;
+    lsub_without_borrow_in = refl;
+    lsub_borrows = refl;
+    lsub_borrows_by_borrow_in = refl;
+    lsub_of_most = refl;
+    lsub_of_most_from_most = refl;
+    lsub_in_order = refl;
+    lsub_same = refl;
+  };
+  long_products = record {
+    lmul = refl;
+    lmul_high = refl;
+    lmul_of_greatest = refl;
+    lmul_reads_first = refl;
+    lmul_same = refl;
+    maccu = refl;
+    maccu_wraps = refl;
+    maccu_unsigned = refl;
+    maccu_reads_first = refl;
+    maccu_same = refl;
+    maccs_negative = refl;
+    maccs_two_negative = refl;
+    maccs_borrows = refl;
+    maccs_wraps = refl;
+    maccs_of_least = refl;
+    maccs_of_least_and_greatest = refl;
+    maccs_same = refl;
+  };
+  long_divisions = record {
+    ldivu = refl;
+    ldivu_in_order = refl;
+    ldivu_of_greatest = refl;
+    ldivu_too_great = refl;
+    ldivu_by_0 = refl;
+    ldivu_same = refl;
+  };
+  slots = record {
+    one_register = refl;
+    two_registers = refl;
+    no_register = refl;
+    no_event = refl;
+    division_by_0 = refl;
+    division_by_0_told = refl;
+    long_division = refl;
+    handled_division = refl;
+  };
 }
 
 pub returns-clause-memory : goal.returns-clause-memory
 unfolding moves_from links_after_arrivals node_step best_from
 returns-clause-memory c = record {
-  stored = refl;
-  store_goes_on = refl;
-  loaded = refl;
-  loaded_sp = refl;
-  stored_cp = refl;
-  first_bytes = refl;
-  last_word = refl;
+  loads = record {
+    word = refl;
+    next_word = refl;
+    farthest = refl;
+    over_its_base = refl;
+    at_index = refl;
+    at_index_below = refl;
+    at_index_beyond = refl;
+    over_its_index = refl;
+    from_dp = refl;
+    over_dp = refl;
+    from_sp = refl;
+    over_sp = refl;
+    from_cp = refl;
+    from_far = refl;
+    half = refl;
+    negative_half = refl;
+    half_beyond = refl;
+    byte = refl;
+    high_byte = refl;
+    byte_below = refl;
+  };
+  bad_loads = record {
+    one_above = refl;
+    two_above = refl;
+    three_above = refl;
+    below = refl;
+    above = refl;
+    wrapped = refl;
+    at_index = refl;
+    at_code = refl;
+    from_dp = refl;
+    from_sp = refl;
+    from_cp = refl;
+    odd_half = refl;
+    half_below = refl;
+    half_above = refl;
+    byte_below = refl;
+    byte_above = refl;
+  };
+  stores = record {
+    word = refl;
+    farthest = refl;
+    its_base = refl;
+    at_index = refl;
+    at_index_below = refl;
+    to_dp = refl;
+    sp_to_sp = refl;
+    half = refl;
+    first_half = refl;
+    byte = refl;
+    first_byte = refl;
+  };
+  bad_stores = record {
+    unaligned = refl;
+    at_the_end = refl;
+    above = refl;
+    wrapped = refl;
+    to_dp = refl;
+    to_sp = refl;
+    at_code = refl;
+    odd_half = refl;
+    half_above = refl;
+    byte_below = refl;
+    byte_above = refl;
+  };
+  addresses = record {
+    words_up = refl;
+    words_up_wraps = refl;
+    words_up_far = refl;
+    words_down = refl;
+    words_down_wraps = refl;
+    words_down_far = refl;
+    no_words_down = refl;
+    number_up = refl;
+    no_number_up = refl;
+    number_down = refl;
+    number_down_wraps = refl;
+    no_number_down = refl;
+    from_dp = refl;
+    from_sp = refl;
+    from_cp = refl;
+    halves_up = refl;
+    halves_up_wraps = refl;
+    no_halves_up = refl;
+    halves_down = refl;
+    halves_down_far = refl;
+    of_code = refl;
+    at_codes_end = refl;
+  };
+  slots = record {
+    stored = refl;
+    store_goes_on = refl;
+    loaded = refl;
+    loaded_sp = refl;
+    stored_cp = refl;
+    first_bytes = refl;
+    last_word = refl;
+    last_word_loaded = refl;
+    last_half_loaded = refl;
+    last_byte_loaded = refl;
+    last_word_stored = refl;
+    last_half_stored = refl;
+    last_byte_stored = refl;
+  };
+}
+
+pub returns-clause-flow : goal.returns-clause-flow
+unfolding moves_from links_after_arrivals node_step best_from
+returns-clause-flow c = record {
+  branches = record {
+    bt_taken = refl;
+    bt_not_taken = refl;
+    bf_taken = refl;
+    bf_not_taken = refl;
+    bu = refl;
+    bu_to_itself = refl;
+    bru_next = refl;
+    bru_over_two = refl;
+    bru_to_itself = refl;
+    bru_back = refl;
+    bru_beyond = refl;
+    bau = refl;
+    bau_anywhere = refl;
+    registers = refl;
+    relative_registers = refl;
+    absolute_registers = refl;
+  };
+  calls = record {
+    bl = refl;
+    bl_to_itself = refl;
+    bla = refl;
+    bla_anywhere = refl;
+    bla_cp = refl;
+    bla_cp_far = refl;
+    bla_cp_unaligned = refl;
+    bla_cp_outside = refl;
+  };
+  frames = record {
+    entsp = refl;
+    entsp_most = refl;
+    entsp_0 = refl;
+    entsp_0_anywhere = refl;
+    entsp_unaligned = refl;
+    entsp_above = refl;
+    retsp = refl;
+    retsp_most = refl;
+    retsp_0 = refl;
+    retsp_0_anywhere = refl;
+    retsp_unaligned = refl;
+    retsp_above = refl;
+    extsp = refl;
+    extsp_0 = refl;
+    extsp_wraps = refl;
+    extdp = refl;
+    extdp_wraps = refl;
+    set_sp = refl;
+    set_dp = refl;
+    set_cp = refl;
+  };
+  slots = record {
+    called = refl;
+    entered = refl;
+    kept = refl;
+    returned = refl;
+    bad_entry = refl;
+    bad_return = refl;
+    bad_return_told = refl;
+    bad_call = refl;
+    branched_away = refl;
+    no_code_there = refl;
+  };
+}
+
+pub returns-clause-kernel : goal.returns-clause-kernel
+unfolding moves_from links_after_arrivals node_step best_from
+returns-clause-kernel c = record {
+  calls = record {
+    kcall_greatest = refl;
+    kcall_0 = refl;
+    kcall_of_register = refl;
+    ecallt = refl;
+    ecallt_of_0 = refl;
+    ecallf = refl;
+    ecallf_of_0 = refl;
+    kret = refl;
+  };
+  stack = record {
+    kentsp = refl;
+    kentsp_0 = refl;
+    kentsp_most = refl;
+    kentsp_unaligned = refl;
+    kentsp_outside = refl;
+    krestsp = refl;
+    krestsp_0 = refl;
+    krestsp_most = refl;
+    krestsp_unaligned = refl;
+    krestsp_above = refl;
+  };
+  registers = record {
+    set_kep = refl;
+    set_kep_below = refl;
+    set_kep_whole = refl;
+    get_kep = refl;
+    get_ksp = refl;
+    get_ed = refl;
+    get_et = refl;
+    get_id = refl;
+    getsr_all = refl;
+    getsr_some = refl;
+    getsr_none = refl;
+    ldw_spc = refl;
+    ldw_sed = refl;
+    ldw_et = refl;
+    ldw_ssr_all = refl;
+    ldw_ssr_some = refl;
+    ldw_ssr_none = refl;
+    stw_spc = refl;
+    stw_ssr = refl;
+    stw_sed = refl;
+    stw_et = refl;
+  };
+  bad_words = record {
+    ldw_spc = refl;
+    ldw_ssr = refl;
+    ldw_sed = refl;
+    ldw_et = refl;
+    stw_spc = refl;
+    stw_ssr = refl;
+    stw_sed = refl;
+    stw_et = refl;
+  };
+  entries = record {
+    event = refl;
+    event_clears = refl;
+    event_sets_nothing = refl;
+    interrupt = refl;
+    interrupt_clears = refl;
+    interrupt_sets = refl;
+  };
+  slots = record {
+    kernel_call = refl;
+    kernel_call_told = refl;
+    kernel_call_halts = refl;
+    halt_told = refl;
+    returned = refl;
+    return_tells_nothing = refl;
+    exception = refl;
+    exception_told = refl;
+    second_trap = refl;
+    second_trap_told = refl;
+    id_of_thread_1 = refl;
+    stacks = refl;
+  };
 }
 
 pub returns-clause-traps : goal.returns-clause-traps
@@ -82,9 +497,6 @@ returns-clause-traps c = record {
   handler_event = refl;
   handler_goes_on = refl;
   between = refl;
-  kernel_call = refl;
-  kernel_call_told = refl;
-  kernel_call_halts = refl;
   in_slot_4 = refl;
 }
 
