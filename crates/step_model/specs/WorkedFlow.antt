@@ -9,13 +9,13 @@ use Rattle.xs_instructions.specs.declared.instr.WordIns.TheVariants as words
 use Rattle.xs_instructions.specs.declared.instr.FlowIns.{FlowIns}
 use Rattle.xs_instructions.specs.declared.instr.FlowIns.TheVariants as flow
 use Rattle.step_model.specs.Effect.{Leaving, Leaves, Traps, Local}
-use Rattle.step_model.specs.FlowRows.{flow_row}
+use Rattle.step_model.specs.Rows.{local_row}
 use Rattle.step_model.specs.Worked.{first, with_three, start_as, thread_after, events_of, halted, trap_and_halt}
-use Rattle.step_model.specs.WorkedMemory.{with_memory, twelve, stores, with_bases, bytes_after}
+use Rattle.step_model.specs.WorkedMemory.{with_memory, first_four, next_four, last_four, twelve, stores, lr_four, with_bases, bytes_after}
 
--- what a row makes of a thread and the bytes 0x11, 0x22 .. 0xcc
+-- what a row makes of a thread and the bytes 0x11, 0x22 to 0xcc
 abbrev pub row_of : FlowIns → Thread → Leaving Local
-row_of ins th = flow_row (with_memory th twelve) ins
+row_of ins th = local_row 0 (with_memory th twelve) (Flow ins)
 
 -- the thread is this, and the memory is as before
 abbrev pub leaves : Thread → Leaving Local
@@ -59,9 +59,9 @@ pub record WorkedCalls : Type 0 where
 
 pub record WorkedFrames : Type 0 where
   -- lr is stored at the old sp
-  pub entsp : row_of (flow.Entsp 1) (with_bases 1 2 0x00010004 0x04030201) ≡ stores (with_bases 1 2 0x00010000 0x04030201) (0x11 ∷ 0x22 ∷ 0x33 ∷ 0x44 ∷ 1 ∷ 2 ∷ 3 ∷ 4 ∷ 0x99 ∷ 0xaa ∷ 0xbb ∷ 0xcc ∷ [])
+  pub entsp : row_of (flow.Entsp 1) (with_bases 1 2 0x00010004 0x04030201) ≡ stores (with_bases 1 2 0x00010000 0x04030201) first_four lr_four last_four
   -- 0x00010008 - 4 * 65535
-  pub entsp_most : row_of (flow.Entsp 65535) (with_bases 1 2 0x00010008 0x04030201) ≡ stores (with_bases 1 2 0xfffd000c 0x04030201) (0x11 ∷ 0x22 ∷ 0x33 ∷ 0x44 ∷ 0x55 ∷ 0x66 ∷ 0x77 ∷ 0x88 ∷ 1 ∷ 2 ∷ 3 ∷ 4 ∷ [])
+  pub entsp_most : row_of (flow.Entsp 65535) (with_bases 1 2 0x00010008 0x04030201) ≡ stores (with_bases 1 2 0xfffd000c 0x04030201) first_four next_four lr_four
   -- without a frame nothing is stored, so sp may be no address
   pub entsp_0 : row_of (flow.Entsp 0) (with_bases 1 2 0x00010004 4) ≡ leaves (record (with_bases 1 2 0x00010004 4) { pc = 0x00040004 })
   pub entsp_0_anywhere : row_of (flow.Entsp 0) (with_bases 1 2 3 4) ≡ leaves (record (with_bases 1 2 3 4) { pc = 0x00040004 })

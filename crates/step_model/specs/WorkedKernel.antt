@@ -14,17 +14,13 @@ use Rattle.xs_instructions.specs.declared.instr.WordIns.TheVariants as words
 use Rattle.xs_instructions.specs.declared.instr.KernelIns.{KernelIns}
 use Rattle.xs_instructions.specs.declared.instr.KernelIns.TheVariants as kernel
 use Rattle.step_model.specs.Effect.{Leaving, Leaves, Traps, Local}
-use Rattle.step_model.specs.KernelRows.{kernel_row}
+use Rattle.step_model.specs.Rows.{local_row}
 use Rattle.step_model.specs.Worked.{first, with_three, start_as, start_two, after_slots, thread_after, events_of}
-use Rattle.step_model.specs.WorkedMemory.{with_memory, twelve, stores, with_r11}
+use Rattle.step_model.specs.WorkedMemory.{with_memory, first_four, next_four, last_four, twelve, goes_on, stores, stored_four, with_r11}
 
--- what a row makes of a thread, with the number 5, and the bytes 0x11, 0x22 .. 0xcc
+-- what a row makes of a thread, with the number 5, and the bytes 0x11, 0x22 to 0xcc
 abbrev pub row_of : KernelIns → Thread → Leaving Local
-row_of ins th = kernel_row 5 (with_memory th twelve) ins
-
--- the thread is at its next instruction, and the memory is as before
-abbrev pub goes_on : Thread → Leaving Local
-goes_on th = Leaves (with_memory (record th { pc = 0x00040004 }) twelve)
+row_of ins th = local_row 5 (with_memory th twelve) (Kernel ins)
 
 -- a thread whose registers of traps are all different
 abbrev pub busy : Thread
@@ -51,15 +47,15 @@ pub record WorkedKernelCalls : Type 0 where
   -- all bits of ssr come back, waiting and in-kernel too
   pub kret : row_of kernel.Kret busy ≡ Leaves (with_memory (record busy { pc = 0x00040abc; sr = status 0xdf; ed = 33 }) twelve)
 
--- a thread at the kernel's stack
+-- thread 0 with these in sp and ksp
 abbrev pub with_stacks : ℕ → ℕ → Thread
 with_stacks sp ksp = record first { sp = sp; ksp = ksp }
 
 pub record WorkedKernelStack : Type 0 where
-  pub kentsp : row_of (kernel.Kentsp 2) (with_stacks 0x0001fffc 0x00010004) ≡ stores (with_stacks 0x0000fffc 0x00010004) (0x11 ∷ 0x22 ∷ 0x33 ∷ 0x44 ∷ 0xfc ∷ 0xff ∷ 1 ∷ 0 ∷ 0x99 ∷ 0xaa ∷ 0xbb ∷ 0xcc ∷ [])
+  pub kentsp : row_of (kernel.Kentsp 2) (with_stacks 0x0001fffc 0x00010004) ≡ stores (with_stacks 0x0000fffc 0x00010004) first_four (0xfc ∷ 0xff ∷ 1 ∷ 0 ∷ []) last_four
   -- without a frame sp is stored all the same
-  pub kentsp_0 : row_of (kernel.Kentsp 0) (with_stacks 3 0x00010004) ≡ stores (with_stacks 0x00010004 0x00010004) (0x11 ∷ 0x22 ∷ 0x33 ∷ 0x44 ∷ 3 ∷ 0 ∷ 0 ∷ 0 ∷ 0x99 ∷ 0xaa ∷ 0xbb ∷ 0xcc ∷ [])
-  pub kentsp_most : row_of (kernel.Kentsp 65535) (with_stacks 3 0x00010008) ≡ stores (with_stacks 0xfffd000c 0x00010008) (0x11 ∷ 0x22 ∷ 0x33 ∷ 0x44 ∷ 0x55 ∷ 0x66 ∷ 0x77 ∷ 0x88 ∷ 3 ∷ 0 ∷ 0 ∷ 0 ∷ [])
+  pub kentsp_0 : row_of (kernel.Kentsp 0) (with_stacks 3 0x00010004) ≡ stores (with_stacks 0x00010004 0x00010004) first_four (3 ∷ 0 ∷ 0 ∷ 0 ∷ []) last_four
+  pub kentsp_most : row_of (kernel.Kentsp 65535) (with_stacks 3 0x00010008) ≡ stores (with_stacks 0xfffd000c 0x00010008) first_four next_four (3 ∷ 0 ∷ 0 ∷ 0 ∷ [])
   pub kentsp_unaligned : row_of (kernel.Kentsp 1) (with_stacks 0x0001fffc 0x00010002) ≡ Traps 5 0x00010002
   pub kentsp_outside : row_of (kernel.Kentsp 0) first ≡ Traps 5 0
   -- sp is loaded at the new ksp
@@ -69,17 +65,17 @@ pub record WorkedKernelStack : Type 0 where
   pub krestsp_unaligned : row_of (kernel.Krestsp 1) (with_stacks 0x00010002 7) ≡ Traps 5 0x00010006
   pub krestsp_above : row_of (kernel.Krestsp 1) first ≡ Traps 5 0x00020000
 
--- after a row that sets r11 of `busy`
+-- `busy` after a row that sets its r11
 abbrev pub gives : ℕ → Leaving Local
 gives word = goes_on (record busy { r = replicate 11 3 ++ word ∷ [] })
 
--- the thread whose sp is this
+-- the same thread with this in sp
 abbrev pub busy_at : ℕ → Thread
 busy_at sp = record busy { sp = sp }
 
 -- what `ldw ssr, sp[2]` leaves where the word there has these bytes
 abbrev pub ssr_from : List ℕ → Leaving Local
-ssr_from bytes = kernel_row 5 (with_memory (busy_at 0x0000fff8) bytes) kernel.LdwSsr
+ssr_from bytes = local_row 5 (with_memory (busy_at 0x0000fff8) bytes) (Kernel kernel.LdwSsr)
 
 -- the thread with this ssr, at its next instruction
 abbrev pub has_ssr : List ℕ → ℕ → Leaving Local
@@ -105,10 +101,10 @@ pub record WorkedKernelRegisters : Type 0 where
   pub ldw_ssr_all : ssr_from (replicate 4 0xff) ≡ has_ssr (replicate 4 0xff) 0xdf
   pub ldw_ssr_some : ssr_from (0xa5 ∷ 1 ∷ 2 ∷ 3 ∷ []) ≡ has_ssr (0xa5 ∷ 1 ∷ 2 ∷ 3 ∷ []) 0x85
   pub ldw_ssr_none : ssr_from (0x20 ∷ 0xff ∷ 0xff ∷ 0xff ∷ []) ≡ has_ssr (0x20 ∷ 0xff ∷ 0xff ∷ 0xff ∷ []) 0
-  pub stw_spc : row_of kernel.StwSpc (busy_at 0x00010000) ≡ stores (busy_at 0x00010000) (0x11 ∷ 0x22 ∷ 0x33 ∷ 0x44 ∷ 0xbc ∷ 0x0a ∷ 4 ∷ 0 ∷ 0x99 ∷ 0xaa ∷ 0xbb ∷ 0xcc ∷ [])
-  pub stw_ssr : row_of kernel.StwSsr (busy_at 0x00010000) ≡ stores (busy_at 0x00010000) (0x11 ∷ 0x22 ∷ 0x33 ∷ 0x44 ∷ 0x55 ∷ 0x66 ∷ 0x77 ∷ 0x88 ∷ 0xdf ∷ 0 ∷ 0 ∷ 0 ∷ [])
-  pub stw_sed : row_of kernel.StwSed (busy_at 0x0000fff8) ≡ stores (busy_at 0x0000fff8) (0x11 ∷ 0x22 ∷ 0x33 ∷ 0x44 ∷ 33 ∷ 0 ∷ 0 ∷ 0 ∷ 0x99 ∷ 0xaa ∷ 0xbb ∷ 0xcc ∷ [])
-  pub stw_et : row_of kernel.StwEt (busy_at 0x0000fff8) ≡ stores (busy_at 0x0000fff8) (0x11 ∷ 0x22 ∷ 0x33 ∷ 0x44 ∷ 0x55 ∷ 0x66 ∷ 0x77 ∷ 0x88 ∷ 0xa1 ∷ 0xa2 ∷ 0xa3 ∷ 0xa4 ∷ [])
+  pub stw_spc : row_of kernel.StwSpc (busy_at 0x00010000) ≡ stores (busy_at 0x00010000) first_four (0xbc ∷ 0x0a ∷ 4 ∷ 0 ∷ []) last_four
+  pub stw_ssr : row_of kernel.StwSsr (busy_at 0x00010000) ≡ stores (busy_at 0x00010000) first_four next_four (0xdf ∷ 0 ∷ 0 ∷ 0 ∷ [])
+  pub stw_sed : row_of kernel.StwSed (busy_at 0x0000fff8) ≡ stores (busy_at 0x0000fff8) first_four (33 ∷ 0 ∷ 0 ∷ 0 ∷ []) last_four
+  pub stw_et : row_of kernel.StwEt (busy_at 0x0000fff8) ≡ stores (busy_at 0x0000fff8) first_four next_four stored_four
 
 -- loads and stores of the registers of traps above the last word of the memory, and between words
 pub record WorkedBadKernelWords : Type 0 where

@@ -7,7 +7,7 @@ use Rattle.xs_instructions.specs.declared.instr.Instr.TheVariants.{Memory}
 use Rattle.xs_instructions.specs.declared.instr.MemIns.{MemIns}
 use Rattle.xs_instructions.specs.declared.instr.MemIns.TheVariants as memory
 use Rattle.step_model.specs.Effect.{Leaving, Leaves, Traps, Local}
-use Rattle.step_model.specs.MemoryRows.{memory_row}
+use Rattle.step_model.specs.Rows.{local_row}
 use Rattle.step_model.specs.Worked.{first, with_three, start, start_as, after_slots, thread_after}
 
 -- a thread with this memory
@@ -15,12 +15,21 @@ abbrev pub with_memory : Thread → List ℕ → Local
 with_memory th bytes = record { thread = th; memory = bytes }
 
 -- a memory's first twelve bytes: the rows see no more of it here
+abbrev pub first_four : List ℕ
+first_four = 0x11 ∷ 0x22 ∷ 0x33 ∷ 0x44 ∷ []
+
+abbrev pub next_four : List ℕ
+next_four = 0x55 ∷ 0x66 ∷ 0x77 ∷ 0x88 ∷ []
+
+abbrev pub last_four : List ℕ
+last_four = 0x99 ∷ 0xaa ∷ 0xbb ∷ 0xcc ∷ []
+
 abbrev pub twelve : List ℕ
-twelve = 0x11 ∷ 0x22 ∷ 0x33 ∷ 0x44 ∷ 0x55 ∷ 0x66 ∷ 0x77 ∷ 0x88 ∷ 0x99 ∷ 0xaa ∷ 0xbb ∷ 0xcc ∷ []
+twelve = first_four ++ (next_four ++ last_four)
 
 -- what a row makes of a thread and these bytes
 abbrev pub row_of : MemIns → Thread → Leaving Local
-row_of ins th = memory_row (with_memory th twelve) ins
+row_of ins th = local_row 0 (with_memory th twelve) (Memory ins)
 
 abbrev pub row : MemIns → ℕ → ℕ → ℕ → Leaving Local
 row ins a b c = row_of ins (with_three a b c)
@@ -33,8 +42,16 @@ abbrev pub leaves : ℕ → ℕ → ℕ → Leaving Local
 leaves a b c = goes_on (with_three a b c)
 
 -- the thread is at its next instruction, and the memory's bytes are these
-abbrev pub stores : Thread → List ℕ → Leaving Local
-stores th bytes = Leaves (with_memory (record th { pc = 0x00040004 }) bytes)
+abbrev pub stores : Thread → List ℕ → List ℕ → List ℕ → Leaving Local
+stores th a b c = Leaves (with_memory (record th { pc = 0x00040004 }) (a ++ (b ++ c)))
+
+-- the bytes of 0xa4a3a2a1
+abbrev pub stored_four : List ℕ
+stored_four = 0xa1 ∷ 0xa2 ∷ 0xa3 ∷ 0xa4 ∷ []
+
+-- and of 0x04030201
+abbrev pub lr_four : List ℕ
+lr_four = 1 ∷ 2 ∷ 3 ∷ 4 ∷ []
 
 -- thread 0 with these in cp, dp, sp and lr
 abbrev pub with_bases : ℕ → ℕ → ℕ → ℕ → Thread
@@ -86,18 +103,18 @@ pub record WorkedBadLoads : Type 0 where
   pub byte_above : row (memory.Ld8u 2 0 1) 0x0001ffff 1 9 ≡ Traps 5 0x00020000
 
 pub record WorkedStores : Type 0 where
-  pub word : row (memory.StwImm 2 0 1) 0x00010000 7 0xa4a3a2a1 ≡ stores (with_three 0x00010000 7 0xa4a3a2a1) (0x11 ∷ 0x22 ∷ 0x33 ∷ 0x44 ∷ 0xa1 ∷ 0xa2 ∷ 0xa3 ∷ 0xa4 ∷ 0x99 ∷ 0xaa ∷ 0xbb ∷ 0xcc ∷ [])
-  pub farthest : row (memory.StwImm 2 0 11) 0x0000ffd4 7 0xa4a3a2a1 ≡ stores (with_three 0x0000ffd4 7 0xa4a3a2a1) (0xa1 ∷ 0xa2 ∷ 0xa3 ∷ 0xa4 ∷ 0x55 ∷ 0x66 ∷ 0x77 ∷ 0x88 ∷ 0x99 ∷ 0xaa ∷ 0xbb ∷ 0xcc ∷ [])
-  pub its_base : row (memory.StwImm 0 0 0) 0x00010000 7 9 ≡ stores (with_three 0x00010000 7 9) (0 ∷ 0 ∷ 1 ∷ 0 ∷ 0x55 ∷ 0x66 ∷ 0x77 ∷ 0x88 ∷ 0x99 ∷ 0xaa ∷ 0xbb ∷ 0xcc ∷ [])
-  pub at_index : row (memory.Stw 2 0 1) 0x00010000 2 0xa4a3a2a1 ≡ stores (with_three 0x00010000 2 0xa4a3a2a1) (0x11 ∷ 0x22 ∷ 0x33 ∷ 0x44 ∷ 0x55 ∷ 0x66 ∷ 0x77 ∷ 0x88 ∷ 0xa1 ∷ 0xa2 ∷ 0xa3 ∷ 0xa4 ∷ [])
-  pub at_index_below : row (memory.Stw 2 0 1) 0x00010008 0xffffffff 0xa4a3a2a1 ≡ stores (with_three 0x00010008 0xffffffff 0xa4a3a2a1) (0x11 ∷ 0x22 ∷ 0x33 ∷ 0x44 ∷ 0xa1 ∷ 0xa2 ∷ 0xa3 ∷ 0xa4 ∷ 0x99 ∷ 0xaa ∷ 0xbb ∷ 0xcc ∷ [])
-  pub to_dp : row_of (memory.StwDp 15 1) (with_bases 1 0x00010000 3 0x04030201) ≡ stores (with_bases 1 0x00010000 3 0x04030201) (0x11 ∷ 0x22 ∷ 0x33 ∷ 0x44 ∷ 1 ∷ 2 ∷ 3 ∷ 4 ∷ 0x99 ∷ 0xaa ∷ 0xbb ∷ 0xcc ∷ [])
-  pub sp_to_sp : row_of (memory.StwSp 14 2) (with_bases 1 2 0x00010000 4) ≡ stores (with_bases 1 2 0x00010000 4) (0x11 ∷ 0x22 ∷ 0x33 ∷ 0x44 ∷ 0x55 ∷ 0x66 ∷ 0x77 ∷ 0x88 ∷ 0 ∷ 0 ∷ 1 ∷ 0 ∷ [])
+  pub word : row (memory.StwImm 2 0 1) 0x00010000 7 0xa4a3a2a1 ≡ stores (with_three 0x00010000 7 0xa4a3a2a1) first_four stored_four last_four
+  pub farthest : row (memory.StwImm 2 0 11) 0x0000ffd4 7 0xa4a3a2a1 ≡ stores (with_three 0x0000ffd4 7 0xa4a3a2a1) stored_four next_four last_four
+  pub its_base : row (memory.StwImm 0 0 0) 0x00010000 7 9 ≡ stores (with_three 0x00010000 7 9) (0 ∷ 0 ∷ 1 ∷ 0 ∷ []) next_four last_four
+  pub at_index : row (memory.Stw 2 0 1) 0x00010000 2 0xa4a3a2a1 ≡ stores (with_three 0x00010000 2 0xa4a3a2a1) first_four next_four stored_four
+  pub at_index_below : row (memory.Stw 2 0 1) 0x00010008 0xffffffff 0xa4a3a2a1 ≡ stores (with_three 0x00010008 0xffffffff 0xa4a3a2a1) first_four stored_four last_four
+  pub to_dp : row_of (memory.StwDp 15 1) (with_bases 1 0x00010000 3 0x04030201) ≡ stores (with_bases 1 0x00010000 3 0x04030201) first_four lr_four last_four
+  pub sp_to_sp : row_of (memory.StwSp 14 2) (with_bases 1 2 0x00010000 4) ≡ stores (with_bases 1 2 0x00010000 4) first_four next_four (0 ∷ 0 ∷ 1 ∷ 0 ∷ [])
   -- the low 16 bits, and the low 8
-  pub half : row (memory.St16 2 0 1) 0x00010000 3 0xa4a3a2a1 ≡ stores (with_three 0x00010000 3 0xa4a3a2a1) (0x11 ∷ 0x22 ∷ 0x33 ∷ 0x44 ∷ 0x55 ∷ 0x66 ∷ 0xa1 ∷ 0xa2 ∷ 0x99 ∷ 0xaa ∷ 0xbb ∷ 0xcc ∷ [])
-  pub first_half : row (memory.St16 2 0 1) 0x00010002 0xffffffff 0xa4a3a2a1 ≡ stores (with_three 0x00010002 0xffffffff 0xa4a3a2a1) (0xa1 ∷ 0xa2 ∷ 0x33 ∷ 0x44 ∷ 0x55 ∷ 0x66 ∷ 0x77 ∷ 0x88 ∷ 0x99 ∷ 0xaa ∷ 0xbb ∷ 0xcc ∷ [])
-  pub byte : row (memory.St8 2 0 1) 0x00010000 6 0xa4a3a2a1 ≡ stores (with_three 0x00010000 6 0xa4a3a2a1) (0x11 ∷ 0x22 ∷ 0x33 ∷ 0x44 ∷ 0x55 ∷ 0x66 ∷ 0xa1 ∷ 0x88 ∷ 0x99 ∷ 0xaa ∷ 0xbb ∷ 0xcc ∷ [])
-  pub first_byte : row (memory.St8 2 0 1) 0x00010001 0xffffffff 0xa4a3a2a1 ≡ stores (with_three 0x00010001 0xffffffff 0xa4a3a2a1) (0xa1 ∷ 0x22 ∷ 0x33 ∷ 0x44 ∷ 0x55 ∷ 0x66 ∷ 0x77 ∷ 0x88 ∷ 0x99 ∷ 0xaa ∷ 0xbb ∷ 0xcc ∷ [])
+  pub half : row (memory.St16 2 0 1) 0x00010000 3 0xa4a3a2a1 ≡ stores (with_three 0x00010000 3 0xa4a3a2a1) first_four (0x55 ∷ 0x66 ∷ 0xa1 ∷ 0xa2 ∷ []) last_four
+  pub first_half : row (memory.St16 2 0 1) 0x00010002 0xffffffff 0xa4a3a2a1 ≡ stores (with_three 0x00010002 0xffffffff 0xa4a3a2a1) (0xa1 ∷ 0xa2 ∷ 0x33 ∷ 0x44 ∷ []) next_four last_four
+  pub byte : row (memory.St8 2 0 1) 0x00010000 6 0xa4a3a2a1 ≡ stores (with_three 0x00010000 6 0xa4a3a2a1) first_four (0x55 ∷ 0x66 ∷ 0xa1 ∷ 0x88 ∷ []) last_four
+  pub first_byte : row (memory.St8 2 0 1) 0x00010001 0xffffffff 0xa4a3a2a1 ≡ stores (with_three 0x00010001 0xffffffff 0xa4a3a2a1) (0xa1 ∷ 0x22 ∷ 0x33 ∷ 0x44 ∷ []) next_four last_four
 
 pub record WorkedBadStores : Type 0 where
   pub unaligned : row (memory.StwImm 2 0 0) 0x00010002 7 9 ≡ Traps 5 0x00010002
