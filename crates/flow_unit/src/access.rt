@@ -1,11 +1,11 @@
 //! What the rows are made of: going on, loads into a register and stores.
 ghost use Rattle.std.specs.Prelude.{◌≡◌, ◌<◌};
 ghost use Rattle.xs_model.specs.declared.traps.TheConstants.{LOAD_STORE};
+ghost use Rattle.xs_model.specs.Threads.{with_register};
+ghost use Rattle.xs_model.specs.Memory.{store_word};
 ghost use Rattle.step_model.specs.Effect.{after_it};
 ghost use Rattle.step_model.specs.MemoryRows.{stores, loads_word, loads_half, loads_byte, stores_word, stores_half, stores_byte};
 ghost use Rattle.step_model.specs.Outcomes.{EndsAs};
-ghost use Rattle.xs_model.specs.Threads.{with_register};
-ghost use Rattle.xs_model.specs.Memory.{store_word};
 ghost use Rattle.flow_unit.specs.Local.{local};
 
 use core_memory::Ram;

@@ -1,7 +1,7 @@
 //! Addresses, modulo 2^32.
 ghost use Rattle.std.specs.Prelude.{◌≡◌, ◌+◌};
-ghost use Rattle.step_model.specs.MemoryRows.{up, down};
 ghost use Rattle.xs_instructions.specs.Code.{place_address};
+ghost use Rattle.step_model.specs.MemoryRows.{up, down};
 
 use xs_base::numbers::CODE_START;
 

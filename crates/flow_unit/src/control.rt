@@ -1,10 +1,10 @@
 //! The rows on the flow of control.
-ghost use Rattle.std.specs.Prelude.{◌≡◌, ◌<◌, IsTrue};
+ghost use Rattle.std.specs.Prelude.{◌≡◌};
+ghost use Rattle.xs_model.specs.Memory.{load_word};
 ghost use Rattle.xs_instructions.specs.Instr.{FlowInRange};
 ghost use Rattle.step_model.specs.Effect.{after_it};
-ghost use Rattle.xs_model.specs.Memory.{load_word};
-ghost use Rattle.step_model.specs.FlowRows.{flow_row, after_branch, called, enters, returns};
 ghost use Rattle.step_model.specs.MemoryRows.{loads};
+ghost use Rattle.step_model.specs.FlowRows.{flow_row, after_branch, called, enters, returns};
 ghost use Rattle.step_model.specs.Outcomes.{EndsAs};
 ghost use Rattle.flow_unit.specs.Local.{local};
 
