@@ -5,6 +5,7 @@ ghost use Rattle.std.specs.Prelude.{◌≡◌, IsTrue};
 ghost use Rattle.xs_instructions.specs.Instr.{InRange, built};
 ghost use Rattle.step_model.specs.Outcomes.{EndsAs};
 ghost use Rattle.step_model.specs.Rows.{local_row};
+ghost use Rattle.flow_unit.specs.Ends.{IsDoneOrTraps};
 ghost use Rattle.flow_unit.specs.Local.{local, is_local};
 
 mod access;
@@ -23,11 +24,13 @@ use xs_instructions::Instr;
 /// issues it. The answer is `Done`, with the thread's pc where the row says; or `Trap`, and then thread and memory are as
 /// they were. `kcall` answers `Trap` with 15 and its operand. See docs/INSTRUCTIONS.md.
 #[inline]
+#[tactic(auto, using(crate::proofs::Ends::done_or_traps))]
 pub fn flow(thread: &mut Thread, id: u8, ram: &mut Ram, ins: Instr) -> Outcome
     requires part { IsTrue (is_local ins) }
     requires range { InRange ins }
     requires built { IsTrue (built ins) }
     ensures row { EndsAs result (local thread.old ram.old) (local thread.new ram.new) (local_row id (local thread.old ram.old) ins) }
+    ensures ends { IsDoneOrTraps result (local thread.old ram.old) (local thread.new ram.new) }
     ensures run { thread.new.run ≡ thread.old.run }
 {
     match ins {
