@@ -2,3 +2,4 @@ pub mod Still
 pub mod AsBuilt
 pub mod FirstChan
 pub mod Settles
+pub mod Parts

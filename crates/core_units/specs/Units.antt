@@ -13,7 +13,7 @@ use Rattle.xs_model.specs.Record.{CoreRec, core_with, thread_of}
 use Rattle.xs_model.specs.Outside.{Emitted, in_slot}
 use Rattle.xs_instructions.specs.declared.instr.Instr.{Instr}
 use Rattle.xs_instructions.specs.declared.instr.Instr.TheVariants.{Resources}
-use Rattle.step_model.specs.Effect.{Effect, Done, Pause, Trap, Gone, Unbuilt}
+use Rattle.step_model.specs.Effect.{Effect, Done, Pause, Trap, Gone, Unbuilt, after_it}
 use Rattle.core_units.specs.declared.units.Units.TheInside.{Inside}
 
 -- a thread that neither goes nor is paused
@@ -49,6 +49,11 @@ Ends (outcome.Trap et ed) old new (Trap number value) = (et ≡ number) × (ed �
 Ends (outcome.Trap et ed) old new _ = ⊥
 Ends outcome.Gone old new (Gone after []) = new ≡ after
 Ends outcome.Gone old new _ = ⊥
+
+-- a thread after its row on words, which goes on where the row was done
+abbrev pub gone_on : Outcome → Thread → Thread
+gone_on outcome.Done th = after_it th
+gone_on _ th = th
 
 -- the effect of an outcome, when these are the units after it
 abbrev pub effect_of : Outcome → CoreRec → Effect

@@ -2,7 +2,6 @@
 ghost use Rattle.std.specs.Prelude.{◌≡◌, ◌<◌, ◌≤◌, ◌+◌, false, Some, None, length, IsTrue};
 ghost use Rattle.xs_base.specs.declared.numbers.TheConstants.{THREADS, EVENT_ROOM, ISSUE_EVENTS};
 ghost use Rattle.xs_model.specs.Record.{thread_of};
-ghost use Rattle.xs_model.specs.Entry.{trapped, return_address, handler_address};
 ghost use Rattle.xs_instructions.specs.Instr.{InRange, built};
 ghost use Rattle.step_model.specs.Effect.{Setting};
 ghost use Rattle.step_model.specs.Rows.{effect};
@@ -12,9 +11,10 @@ ghost use Rattle.core_units.specs.Units.{Ends, Goes, effect_of, and_happened, is
 use crate::program::Program;
 use crate::units::Units;
 use trace_lines::Emissions;
-use xs_instructions::Instr;
-use xs_model::traps::{ILLEGAL_PC, KERNEL_CALL};
-use xs_model::{Event, Happen, INK, KEPT_IN_A_TRAP, Outcome, Run, Status, Thread};
+use trap_unit::{enter_trap, return_address};
+use xs_instructions::{Instr, KernelIns};
+use xs_model::traps::ILLEGAL_PC;
+use xs_model::{Event, Happen, Outcome, Run};
 
 impl Units {
     /// At most one issue, by the thread that is picked in a slot. What happens is put after the events of `out`.
@@ -92,9 +92,11 @@ impl Units {
     {
         match ins {
             Instr::Words(ins) => self.words(k, ins),
-            Instr::Memory(ins) => self.memory(k, ins),
-            Instr::Flow(ins) => self.flow(k, ins),
-            Instr::Kernel(_) => unreachable!(),
+            Instr::Kernel(KernelIns::Kret) => {
+                self.kret(k);
+                Outcome::Done
+            }
+            Instr::Memory(_) | Instr::Flow(_) | Instr::Kernel(_) => self.local(k, ins),
             Instr::Threads(ins) => self.on_threads(k, ins),
             Instr::Resources(ins) => self.resources(id, k, ins),
         }
@@ -151,42 +153,4 @@ fn is_on_resources(ins: Instr) -> bool
     ensures { result ≡ is_on_resources ins }
 {
     matches!(ins, Instr::Resources(_))
-}
-
-// The pc that a trap with this number returns to: a kernel call's is the next one.
-fn return_address(thread: &Thread, et: u32) -> u32
-    ensures { result ≡ return_address et thread.now }
-{
-    if et == KERNEL_CALL {
-        thread.pc.wrapping_add(4)
-    } else {
-        thread.pc
-    }
-}
-
-// Where the handler of a trap with this number stands.
-fn handler_address(thread: &Thread, et: u32) -> u32
-    ensures { result ≡ handler_address et thread.now }
-{
-    if et == KERNEL_CALL {
-        thread.kep.wrapping_add(64)
-    } else {
-        thread.kep
-    }
-}
-
-// The thread enters its handler for a trap, to return to `next`.
-fn enter_trap(thread: &mut Thread, et: u32, ed: u32, next: u32)
-    ensures { thread.new ≡ trapped thread.old et ed next }
-{
-    let handler = handler_address(thread, et);
-    thread.spc = next;
-    thread.ssr = thread.sr;
-    thread.sed = thread.ed;
-    thread.et = et;
-    thread.ed = ed;
-    thread.sr = Status {
-        bits: thread.sr.bits & KEPT_IN_A_TRAP | INK,
-    };
-    thread.pc = handler;
 }

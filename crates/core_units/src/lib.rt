@@ -2,15 +2,13 @@
 //! issue in a slot. See docs/MACHINE.md and docs/INSTRUCTIONS.md.
 #![tactic(auto)]
 
-mod flow;
 mod issue;
-mod memory;
 mod program;
 mod resources;
+mod rows;
 mod threads;
 mod units;
 mod waits;
-mod words;
 
 pub use core_memory::{BadAddress, Ram};
 pub use program::Program;
