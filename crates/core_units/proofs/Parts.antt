@@ -1,7 +1,7 @@
 -- What an outcome says of a row on a part of the core is what it says of the core.
-use Rattle.std.proofs.Common.{◌≡◌, ℕ, ap, ◌∙◌, false, true}
-use Rattle.std.specs.Prelude.{IsTrue, List}
-use Rattle.std.proofs.lemmas.List.{set-get_or}
+use Rattle.std.proofs.Common.{◌≡◌, ℕ, ◌<◌, List, length, get_or, ap, ◌∙◌, subst}
+use Rattle.std.specs.Prelude.{IsTrue}
+use Rattle.std.proofs.lemmas.List.{set-get_or, get_or_default}
 use Rattle.xs_model.specs.declared.thread.Thread.{Thread}
 use Rattle.xs_model.specs.declared.thread.Outcome.{Outcome}
 use Rattle.xs_model.specs.declared.thread.Outcome.TheVariants as outcome
@@ -12,7 +12,7 @@ use Rattle.xs_instructions.specs.declared.instr.Instr.TheVariants.{Words, Memory
 use Rattle.step_model.specs.Effect.{Setting, Leaving, Leaves, Traps, NotBuilt, Local, local_of, with_local, on_registers, on_local, after_it}
 use Rattle.step_model.specs.Rows.{effect, local_row}
 use Rattle.step_model.specs.Outcomes.{EndsAs}
-use Rattle.flow_unit.specs.Local.{is_local}
+use Rattle.flow_unit.specs.Local.{is_local, local}
 use Rattle.core_units.specs.Units.{Ends, gone_on}
 
 -- a thread that is put back changes nothing
@@ -44,6 +44,11 @@ module _ (core : CoreRec) (k : ℕ) where
   local_end here (Memory ins) o after part is = part_end o after (local_row k (local_of core k) (Memory ins)) is
   local_end here (Flow ins) o after part is = part_end o after (local_row k (local_of core k) (Flow ins)) is
   local_end here (Kernel ins) o after part is = part_end o after (local_row k (local_of core k) (Kernel ins)) is
-  local_end here (Words ins) o after part is = absurd part
-  local_end here (Threads ins) o after part is = absurd part
-  local_end here (Resources ins) o after part is = absurd part
+  local_end here (Words ins) o after part is = cc
+  local_end here (Threads ins) o after part is = cc
+  local_end here (Resources ins) o after part is = cc
+
+  -- the same of a thread that was read with another default
+  pub local_end_of : (here : Setting) (ins : Instr) (o : Outcome) (default : Thread) (after : Local) → k < length core.threads → IsTrue (is_local ins) → EndsAs o (local (get_or core.threads k default) core.memory) after (local_row k (local (get_or core.threads k default) core.memory) ins) → Ends o core (with_local core k after) (effect here core k ins)
+  local_end_of here ins o default after within part is = local_end here ins o after part
+      (subst (λ (th : Thread). EndsAs o (local th core.memory) after (local_row k (local th core.memory) ins)) (get_or_default core.threads k default fresh_thread within) is)

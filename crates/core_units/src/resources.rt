@@ -8,8 +8,8 @@ ghost use Rattle.xs_instructions.specs.Operands.{row_of_resources};
 ghost use Rattle.xs_instructions.specs.Instr.{ResourcesInRange};
 ghost use Rattle.net_model.specs.Chans.{chan_named, free_chan, put_token, check_token, take_dest};
 ghost use Rattle.chan_ends.specs.Ends.{with_got};
-ghost use Rattle.step_model.specs.Effect.{Setting, Effect, Pause, Trap};
-ghost use Rattle.step_model.specs.Effect.{goes_on};
+ghost use Rattle.xs_model.specs.Record.{thread_of, with_thread};
+ghost use Rattle.step_model.specs.Effect.{Setting, Effect, Pause, Trap, after_it};
 ghost use Rattle.step_model.specs.ResourceRows.{resources_row, resource_got, on_named, room, tokens, no_wait, takes_nothing, built_of_kind};
 ghost use Rattle.core_units.specs.Units.{Ends, Goes};
 ghost use Rattle.core_units.specs.Found.{name_of_got};
@@ -59,7 +59,7 @@ impl Units {
     fn go_on(&mut self, k: u8)
         requires thread { k < THREADS }
         requires goes { Goes self.old k }
-        ensures { self.new ≡ goes_on self.old k }
+        ensures { self.new ≡ with_thread self.old k (after_it (thread_of self.old k)) }
     {
         go_on(&mut self.threads[k as usize]);
     }

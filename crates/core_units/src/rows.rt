@@ -36,7 +36,7 @@ impl Units {
 
     // A row on memory, on the flow of control or on the kernel, but for the return.
     #[inline]
-    #[tactic(auto, using(crate::proofs::Still::still_set, crate::proofs::Parts::local_end))]
+    #[tactic(auto, using(crate::proofs::Still::still_set))]
     pub(crate) fn local(&mut self, k: u8, ins: Instr) -> Outcome
         requires thread { k < THREADS }
         requires goes { Goes self.old k }
@@ -46,7 +46,8 @@ impl Units {
         ensures row { (here : Setting) → Ends result self.old self.new (effect here self.old k ins) }
         ensures chans { self.new.chans ≡ self.old.chans }
     {
-        flow(&mut self.threads[k as usize], k, &mut self.ram, ins)
+        let thread = &mut self.threads[k as usize];
+        flow(thread, k, &mut self.ram, ins)
     }
 
     // The return from a trap or an interrupt.

@@ -25,3 +25,6 @@ its_issue c here id slot =
 
 pub returns-in-Some-clause-units : goal.returns-in-Some-clause-units
 returns-in-Some-clause-units c = λ here id slot. c.settle.ensures.units ∙ ap (λ (i : Issued). i.core) (its_issue c here id slot)
+
+pub returns-in-Some-clause-events : goal.returns-in-Some-clause-events
+returns-in-Some-clause-events c = λ here id slot. c.settle.ensures.events ∙ ap (λ (i : Issued). and_happened c.args.out.now c.args.slot i.happened) (its_issue c here id slot)

@@ -1,0 +1,15 @@
+use Rattle.std.proofs.Common.{subst, arith}
+use Rattle.xs_model.specs.Record.{CoreRec}
+use Rattle.step_model.specs.Effect.{Local, with_local}
+use Rattle.step_model.specs.Rows.{effect}
+use Rattle.flow_unit.specs.Local.{local}
+use Rattle.core_units.specs.Units.{Ends, units_of}
+use Rattle.core_units.proofs.Parts.{local_end_of}
+use Rattle.core_units.proofs.units.Units.local.Goals as goal
+
+pub returns-clause-row : goal.returns-clause-row
+returns-clause-row c = λ here.
+    let old = units_of c.self.inside in
+    let after = local c.flow.new.thread c.flow.new.ram in
+    subst (λ (core : CoreRec). Ends c.flow.result core (with_local old c.args.k after) (effect here core c.args.k c.args.ins)) c.self.view_is
+    (local_end_of old c.args.k here c.args.ins c.flow.result _ after (omega arith) c.requires.part c.flow.ensures.row)
