@@ -4,10 +4,11 @@ use Rattle.xs_text.specs.Lines.{lines_of}
 use Rattle.xs_text.specs.Tokens.{tokens_of}
 use Rattle.xs_instructions.specs.Image.{ImageRec, Symbol}
 use Rattle.xs_instructions.specs.declared.instr.Instr.{Instr}
-use Rattle.xs_instructions.specs.declared.instr.Instr.TheVariants.{Words, Memory, Flow, Resources}
-use Rattle.xs_instructions.specs.declared.instr.WordIns.TheVariants.{Ldc, Nop}
-use Rattle.xs_instructions.specs.declared.instr.MemIns.TheVariants.{LdwDp, LdwCp, StwDp}
-use Rattle.xs_instructions.specs.declared.instr.FlowIns.TheVariants.{Bu, Bt}
+use Rattle.xs_instructions.specs.declared.instr.Instr.TheVariants.{Words, Memory, Flow, Kernel, Resources}
+use Rattle.xs_instructions.specs.declared.instr.WordIns.TheVariants.{AddImm, ShlImm, Mul, Ldc, Nop}
+use Rattle.xs_instructions.specs.declared.instr.MemIns.TheVariants.{LdwDp, LdwCp, StwDp, LdawBack}
+use Rattle.xs_instructions.specs.declared.instr.FlowIns.TheVariants.{Bu, Bt, Bl}
+use Rattle.xs_instructions.specs.declared.instr.KernelIns.TheVariants.{KcallImm, LdwSpc}
 use Rattle.xs_instructions.specs.declared.instr.ResIns.TheVariants.{OutctImm}
 use Rattle.xs_instructions.specs.declared.rows.Row.TheVariants as row
 use Rattle.source_model.specs.declared.AsmKind.TheVariants.{BadByte, UnknownName, WrongOperands, NumberOutOfRange, LabelTwice, LabelMissing, DirectiveNotAllowed, TooManyInstructions, TooManyBytes}
@@ -59,14 +60,18 @@ pub record WorkedUnknownNames : Type 0 where
   pub after_a_reserved_label : assembled (codes "r0: foo") ≡ Fault 1 UnknownName
   pub malformed_number : assembled (codes "foo 12ab") ≡ Fault 1 UnknownName
   -- a row that is not built is as no row
-  pub not_built : assembled (codes "mul r0, r1, r2") ≡ Fault 1 UnknownName
-  pub not_built_out_of_range : assembled (codes "shl r0, r1, 9") ≡ Fault 1 UnknownName
-  pub not_built_misshapen : assembled (codes "mul r0, r1") ≡ Fault 1 WrongOperands
+  pub not_built : assembled (codes "out res[r0], r1") ≡ Fault 1 UnknownName
+  pub not_built_out_of_range : assembled (codes "setsr 65536") ≡ Fault 1 UnknownName
+  pub not_built_misshapen : assembled (codes "out res[r0]") ≡ Fault 1 WrongOperands
+  -- of two rows with a name one may be built
+  pub not_built_beside_one : assembled (codes "outct res[r0], 1\noutct res[r0], r1") ≡ Fault 2 UnknownName
 
 -- shapes
 pub record WorkedShapes : Type 0 where
   pub operand_missing : assembled (codes "add r0, r1") ≡ Fault 1 WrongOperands
   pub operand_more : assembled (codes "add r0, r1, r2 r3") ≡ Fault 1 WrongOperands
+  pub operand_missing_in_a_product : assembled (codes "mul r0, r1") ≡ Fault 1 WrongOperands
+  pub product : code_of_source (codes "mul r0, r1, r2") ≡ Some (Words (Mul 0 1 2) ∷ [])
   pub commas_missing : assembled (codes "add r0 r1 r2") ≡ Fault 1 WrongOperands
   pub no_name : assembled (codes "5") ≡ Fault 1 WrongOperands
   pub no_label_name : assembled (codes ": nop") ≡ Fault 1 WrongOperands
@@ -79,6 +84,7 @@ pub record WorkedShapes : Type 0 where
   pub two_tokens : assembled (codes "ldc r0, 1_0") ≡ Fault 1 WrongOperands
   pub signed_number : assembled (codes "ldc r0, -1") ≡ Fault 1 WrongOperands
   pub register_outside : assembled (codes "ldc sp, 1") ≡ Fault 1 WrongOperands
+  pub other_register : assembled (codes "set kep, r10") ≡ Fault 1 WrongOperands
   pub no_register : assembled (codes "ldc r12, 1") ≡ Fault 1 WrongOperands
   pub status_register : assembled (codes "bu sr") ≡ Fault 1 WrongOperands
   pub word_for_label : assembled (codes "bu pc") ≡ Fault 1 WrongOperands
@@ -88,6 +94,7 @@ pub record WorkedShapes : Type 0 where
   pub name_in_stack : assembled (codes "x: ldw r0, sp[x]") ≡ Fault 1 WrongOperands
   pub reserved_in_brackets : assembled (codes "ldw r0, dp[sr]") ≡ Fault 1 WrongOperands
   pub register_in_brackets : assembled (codes "ldw r0, dp[r1]") ≡ Fault 1 WrongOperands
+  pub sign_in_brackets : code_of_source (codes "ldaw r0, r1[-r2]") ≡ Some (Memory (LdawBack 0 1 2) ∷ [])
   pub blanks : code_of_source (codes "x : ldw r0 , dp [ 1 ]") ≡ Some (Memory (LdwDp 0 1) ∷ [])
   pub reserved_label : assembled (codes "r0: nop") ≡ Fault 1 WrongOperands
   pub reserved_label_twice : assembled (codes "r0: r0:") ≡ Fault 1 WrongOperands
@@ -118,6 +125,15 @@ pub record WorkedRanges : Type 0 where
   pub zeros_in_front : code_of_source (codes "ldc r0, 0b00000000000000000000000000000000000000000000000101") ≡ Some (Words (Ldc 0 5) ∷ [])
   pub small_last : code_of_source (codes "outct res[r0], 0xB") ≡ Some (Resources (OutctImm 0 11) ∷ [])
   pub small_past : assembled (codes "outct res[r0], 12") ≡ Fault 1 NumberOutOfRange
+  pub addend_last : code_of_source (codes "add r0, r1, 11") ≡ Some (Words (AddImm 0 1 11) ∷ [])
+  pub addend_past : assembled (codes "add r0, r1, 12") ≡ Fault 1 NumberOutOfRange
+  pub bits_last : code_of_source (codes "shl r0, r1, 32") ≡ Some (Words (ShlImm 0 1 32) ∷ [])
+  pub bits_between : assembled (codes "shl r0, r1, 9") ≡ Fault 1 NumberOutOfRange
+  pub bits_none : assembled (codes "shl r0, r1, 0") ≡ Fault 1 NumberOutOfRange
+  pub fixed_number : code_of_source (codes "ldw spc, sp[1]") ≡ Some (Kernel LdwSpc ∷ [])
+  pub other_fixed_number : assembled (codes "ldw spc, sp[2]") ≡ Fault 1 NumberOutOfRange
+  pub call_last : code_of_source (codes "kcall 65535") ≡ Some (Kernel (KcallImm 65535) ∷ [])
+  pub call_past : assembled (codes "kcall 65536") ≡ Fault 1 NumberOutOfRange
   pub offset_past : assembled (codes "ldw r0, dp[65536]") ≡ Fault 1 NumberOutOfRange
   pub align_0 : assembled (codes ".align 0") ≡ Fault 1 NumberOutOfRange
   pub align_1025 : assembled (codes ".align 1025") ≡ Fault 1 NumberOutOfRange
@@ -134,6 +150,7 @@ pub record WorkedRanges : Type 0 where
   pub before_missing : assembled (codes ".data\n.word 99999999999, gone") ≡ Fault 2 NumberOutOfRange
   -- a label of the data is no place of the code
   pub data_target : assembled (codes "bu x\n.data\nx:") ≡ Fault 1 NumberOutOfRange
+  pub data_address : assembled (codes "ldap r11, x\n.data\nx:") ≡ Fault 1 NumberOutOfRange
   pub code_offset : code_of_source (codes "main: ldw r0, dp[main]") ≡ Some (Memory (LdwDp 0 49152) ∷ [])
   pub offsets : code_of_source (codes "ldw r0, dp[y]\nstw lr, dp[z]\n.data\n.word 1\ny: .byte 1, 2\n.cp\nz:") ≡ Some (Memory (LdwDp 0 1) ∷ Memory (StwDp 15 2) ∷ [])
   pub offset_uneven : assembled (codes "ldw r0, dp[y]\n.data\n.byte 1\ny:") ≡ Fault 1 NumberOutOfRange
@@ -150,6 +167,7 @@ pub record WorkedLabels : Type 0 where
   pub many : symbols_of_source (codes "a: b:\nc: nop\nd:") ≡ Some ((codes "a", 262144) ∷ (codes "b", 262144) ∷ (codes "c", 262144) ∷ (codes "d", 262148) ∷ [])
   pub names_of_statements : symbols_of_source (codes "add: nop\n.word: nop") ≡ Some ((codes "add", 262144) ∷ (codes ".word", 262148) ∷ [])
   pub at_the_end : code_of_source (codes "bu end\nend:") ≡ Some (Flow (Bu 1) ∷ [])
+  pub call_at_the_end : code_of_source (codes "nop\nbl end\nend:") ≡ Some (nop ∷ Flow (Bl 2) ∷ [])
   pub reserved_between : assembled (codes "bu y\nx: r0: y: nop") ≡ Fault 2 WrongOperands
   -- a faulty line defines the labels before its statement
   pub before_a_fault : assembled (codes "bu x\nx: 5 y: nop") ≡ Fault 2 WrongOperands
@@ -242,7 +260,7 @@ pub record WorkedOrder : Type 0 where
 abbrev pub said_by : List ℕ → Sofar
 said_by text = whole_of (map line_of (lines_of text))
 
--- the amounts of operands of `ldw d, cp[u]`, and the instruction in a text: the row is not built
+-- the amounts of operands of `ldw d, cp[u]`, and the instruction in a text
 abbrev pub constant_amounts : List ℕ → List Amount
 constant_amounts operands = amounts_of row.LdwCp (operands_of (tokens_of operands))
 
@@ -269,8 +287,11 @@ pub record WorkedOffsets : Type 0 where
   pub number_past : constant_load with_constants (codes "r3, cp[65536]") ≡ None
   pub missing : map (is_missing (said_by with_constants)) (constant_amounts (codes "r3, cp[gone]")) ≡ false ∷ true ∷ []
   pub not_missing : map (is_missing (said_by with_constants)) (constant_amounts (codes "r3, cp[x]")) ≡ false ∷ false ∷ []
-  -- the row is not built
-  pub not_built : assembled (codes "ldw r3, cp[x]\nx:") ≡ Fault 1 UnknownName
+  -- in whole sources: without data `cp_at` is 0x00010000, and the instruction after the first is 0x00030004 past it
+  pub whole : code_of_source (codes "ldw r3, cp[x]\nx:") ≡ Some (Memory (LdwCp 3 49153) ∷ [])
+  pub whole_missing : assembled (codes "ldw r3, cp[gone]") ≡ Fault 1 LabelMissing
+  pub whole_uneven : assembled (codes "ldw r3, cp[z]\n.cp\n.byte 1\nz:") ≡ Fault 1 NumberOutOfRange
+  pub whole_below : assembled (codes "ldw r3, cp[d]\n.data\nd: .byte 1") ≡ Fault 1 NumberOutOfRange
   pub reserved : assembled (codes "ldw r3, cp[sr]") ≡ Fault 1 WrongOperands
   -- the last word that a name may stand for, and the first that is too far
   pub last_word : of_source (λ image. take 1 image.code) (assembled (codes "ldw r0, dp[x]\n" ++ (blocks 15 ++ codes ".align 381\nnop\n.align 381\nnop\n.align 381\nx:"))) ≡ Some (Memory (LdwDp 0 65535) ∷ [])
