@@ -3,4 +3,5 @@ pub mod Top
 pub mod Worked
 pub mod WorkedEdges
 pub mod WorkedPairs
+pub mod WorkedPrograms
 pub mod StatusNumber

@@ -7,6 +7,7 @@ ghost use Rattle.answer_model.specs.StatusNumber.{number_of_status, WorkedStatus
 ghost use Rattle.answer_model.specs.Worked.{WorkedAnswers, WorkedChecks};
 ghost use Rattle.answer_model.specs.WorkedEdges.{WorkedFrames, WorkedSources, WorkedRuns};
 ghost use Rattle.answer_model.specs.WorkedPairs.{WorkedPairs};
+ghost use Rattle.answer_model.specs.WorkedPrograms.{WorkedPrograms, WorkedCalls};
 
 use xs_base::Text;
 
@@ -84,6 +85,16 @@ pub fn worked_runs()
 /// The same at runs of two nodes.
 pub fn worked_pairs()
     ensures { WorkedPairs }
+{}
+
+/// The same at programs of one thread.
+pub fn worked_programs()
+    ensures { WorkedPrograms }
+{}
+
+/// The same at a program that calls itself.
+pub fn worked_calls()
+    ensures { WorkedCalls }
 {}
 
 /// The numbers of all statuses.

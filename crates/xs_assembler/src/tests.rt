@@ -6,7 +6,7 @@ use crate::{AsmError, AsmKind, assemble};
 use std::alloc::Global;
 use std::process::Abort;
 use std::test::Fail;
-use xs_instructions::{FlowIns, Instr, MemIns, ResIns, ThreadIns, WordIns};
+use xs_instructions::{FlowIns, Instr, KernelIns, MemIns, ResIns, ThreadIns, WordIns};
 
 // Asserts that the source is refused at the line for the kind.
 fn expect_fault(rt: &impl Abort, alloc: Global, text: &[u8], line: u32, kind: AsmKind) {
@@ -47,7 +47,9 @@ fn refused(rt: HostRuntime) {
         // Names.
         (b"ADD r0, r1, r2", 1, UnknownName),
         (b"sr", 1, UnknownName),
-        (b"mul r0, r1, r2", 1, UnknownName),
+        (b"out res[r0], r1", 1, UnknownName),
+        (b"setsr 65536", 1, UnknownName),
+        (b"out res[r0]", 1, WrongOperands),
         (b"mul r0, r1", 1, WrongOperands),
         (b"5", 1, WrongOperands),
         (b": nop", 1, WrongOperands),
@@ -81,6 +83,8 @@ fn refused(rt: HostRuntime) {
             NumberOutOfRange,
         ),
         (b"outct res[r0], 12", 1, NumberOutOfRange),
+        (b"shl r0, r1, 9", 1, NumberOutOfRange),
+        (b"ldw spc, sp[2]", 1, NumberOutOfRange),
         (b".align 0", 1, NumberOutOfRange),
         (b".align 1025", 1, NumberOutOfRange),
         (b".data\n.space 65537", 2, NumberOutOfRange),
@@ -92,8 +96,12 @@ fn refused(rt: HostRuntime) {
         (b"a: nop\na: nop", 2, LabelTwice),
         (b"a: b: a: nop", 1, LabelTwice),
         (b"ldw r0, dp[gone]", 1, LabelMissing),
+        (b"ldw r0, cp[gone]", 1, LabelMissing),
+        (b"bl gone", 1, LabelMissing),
         (b"bu x\n.data\nx:", 1, NumberOutOfRange),
         (b"ldw r0, dp[y]\n.data\n.byte 1\ny:", 1, NumberOutOfRange),
+        (b"ldw r0, cp[y]\n.data\ny: .byte 1", 1, NumberOutOfRange),
+        (b"ldap r11, x\n.data\nx:", 1, NumberOutOfRange),
         // What faulty lines still say.
         (b"bu x\nx: 5 y: nop", 2, WrongOperands),
         (b"bu y\nx: 5 y: nop", 1, LabelMissing),
@@ -203,5 +211,20 @@ fn bytes(rt: HostRuntime) -> Result<(), Fail> {
         .as_slice()
     );
     assert_eq!(rt; image.cp_at(), 0x0001_0014);
+    Ok(())
+}
+
+#[test]
+fn rows_of_one_thread(rt: HostRuntime) -> Result<(), Fail> {
+    let text =
+        b"lmul r0, r1, r2, r3, r4, r5\nldw r3, cp[z]\nldaw r0, r1[ - 2 ]\nbl end\nldw spc, sp[1]\nend:\n.data\n.byte 1\n.cp\n.word 0\nz: .byte 2";
+    let image = assemble(rt.alloc(), text)?;
+    let code = image.code();
+    assert_eq!(rt; code.len(), 5);
+    assert!(rt; matches!(code[0], Instr::Words(WordIns::Lmul(0, 1, 2, 3, 4, 5))));
+    assert!(rt; matches!(code[1], Instr::Memory(MemIns::LdwCp(3, 1))));
+    assert!(rt; matches!(code[2], Instr::Memory(MemIns::LdawBackImm(0, 1, 2))));
+    assert!(rt; matches!(code[3], Instr::Flow(FlowIns::Bl(5))));
+    assert!(rt; matches!(code[4], Instr::Kernel(KernelIns::LdwSpc)));
     Ok(())
 }
