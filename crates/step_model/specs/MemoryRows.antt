@@ -1,6 +1,7 @@
 -- The rows on memory.
 use Rattle.std.specs.Prelude.{ℕ, ◌+◌, ◌-◌, ◌*◌, ◌%◌, ◌^◌, Option, Some, None, List}
 use Rattle.xs_base.specs.Numbers.{Word, Register}
+use Rattle.xs_base.specs.Words.{word_sum, word_difference}
 use Rattle.xs_model.specs.declared.thread.Thread.{Thread}
 use Rattle.xs_model.specs.declared.traps.TheConstants.{LOAD_STORE}
 use Rattle.xs_model.specs.Threads.{register, with_register}
@@ -12,11 +13,11 @@ use Rattle.step_model.specs.Effect.{Leaving, Leaves, Traps, Local, after_it}
 
 -- the address that lies n accesses of this size above a base, modulo 2 ^ 32
 abbrev pub up : Word → ℕ → ℕ → Word
-up base size n = (base + size * n) % 2 ^ 32
+up base size n = word_sum base (size * n)
 
 -- and below it
 abbrev pub down : Word → ℕ → ℕ → Word
-down base size n = (base + (2 ^ 32 - size * n % 2 ^ 32)) % 2 ^ 32
+down base size n = word_difference base (size * n % 2 ^ 32)
 
 -- the thread of a row becomes this; the memory stays
 abbrev pub becomes : Local → Thread → Leaving Local

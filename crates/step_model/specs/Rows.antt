@@ -21,8 +21,8 @@ local_row k l _ = NotBuilt
 -- what an instruction does where thread k issues it
 abbrev pub effect : Setting → CoreRec → ThreadNumber → Instr → Effect
 effect here core k (Words ins) = on_registers core k (words_row (thread_of core k) ins)
-effect here core k (Memory ins) = on_local core k (memory_row (local_of core k) ins)
-effect here core k (Flow ins) = on_local core k (flow_row (local_of core k) ins)
-effect here core k (Kernel ins) = on_local core k (kernel_row k (local_of core k) ins)
+effect here core k (Memory ins) = on_local core k (local_row k (local_of core k) (Memory ins))
+effect here core k (Flow ins) = on_local core k (local_row k (local_of core k) (Flow ins))
+effect here core k (Kernel ins) = on_local core k (local_row k (local_of core k) (Kernel ins))
 effect here core k (Threads ins) = threads_row here core k ins
 effect here core k (Resources ins) = resources_row here core k ins
