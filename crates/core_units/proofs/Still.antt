@@ -3,7 +3,6 @@ use Rattle.std.proofs.Common.{ℕ, ◌≡◌, List, get_or, subst, sym}
 use Rattle.std.specs.Prelude.{◌≢◌, slice_set, slice_index_or}
 use Rattle.std.proofs.lemmas.List.{get_or-set_other}
 use Rattle.xs_model.specs.declared.thread.Thread.{Thread}
-use Rattle.xs_model.specs.declared.thread.Run.{Run}
 use Rattle.xs_model.specs.declared.thread.Run.TheVariants.{Going}
 use Rattle.xs_model.specs.Threads.{fresh_thread}
 use Rattle.core_units.specs.Units.{IsStill, AreStillFrom}

@@ -13,7 +13,7 @@ use Rattle.xs_model.specs.Record.{CoreRec, core_with, thread_of}
 use Rattle.xs_model.specs.Outside.{Emitted, in_slot}
 use Rattle.xs_instructions.specs.declared.instr.Instr.{Instr}
 use Rattle.xs_instructions.specs.declared.instr.Instr.TheVariants.{Resources}
-use Rattle.step_model.specs.Effect.{Effect, Done, Pause, Trap, Gone, Unbuilt, after_it}
+use Rattle.step_model.specs.Effect.{Effect, Done, Pause, Trap, Gone, after_it}
 use Rattle.core_units.specs.declared.units.Units.TheInside.{Inside}
 
 -- a thread that neither goes nor is paused

@@ -1,7 +1,7 @@
-use Rattle.std.proofs.Common.{◌≡◌, false}
+use Rattle.std.proofs.Common.{◌≡◌}
 use Rattle.std.specs.Prelude.{drop}
 use Rattle.std.specs.List.{list_any}
-use Rattle.xs_model.specs.Waits.{thing_of, waits_at}
+use Rattle.xs_model.specs.Waits.{waits_at}
 use Rattle.core_units.proofs.units.Units.is_waited_at.Given as goal
 
 -- nobody among the threads before this one is paused there

@@ -1,11 +1,10 @@
-use Rattle.std.proofs.Common.{◌≡◌, ℕ, Option, Some, ap, sym, ◌∙◌, subst}
+use Rattle.std.proofs.Common.{◌≡◌, ap, sym, ◌∙◌}
 use Rattle.xs_model.specs.Record.{CoreRec, thread_of}
-use Rattle.xs_instructions.specs.declared.instr.Instr.{Instr}
 use Rattle.xs_instructions.specs.Code.{code_at}
 use Rattle.step_model.specs.Effect.{Setting}
 use Rattle.step_model.specs.Step.{Issued, issue_begins, executed, settled}
 use Rattle.step_model.specs.Rows.{effect}
-use Rattle.core_units.specs.Units.{Ends, and_happened, effect_of}
+use Rattle.core_units.specs.Units.{and_happened, effect_of}
 use Rattle.core_units.proofs.Settles.{same_settled}
 use Rattle.core_units.proofs.units.Units.issue_by.Goals as goal
 use Rattle.core_units.proofs.units.Units.issue_by.Goals.{After-is_on_resources}

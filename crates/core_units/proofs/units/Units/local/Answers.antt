@@ -1,6 +1,6 @@
 use Rattle.std.proofs.Common.{subst, arith}
 use Rattle.xs_model.specs.Record.{CoreRec}
-use Rattle.step_model.specs.Effect.{Local, with_local}
+use Rattle.step_model.specs.Effect.{with_local}
 use Rattle.step_model.specs.Rows.{effect}
 use Rattle.flow_unit.specs.Local.{local}
 use Rattle.core_units.specs.Units.{Ends, units_of}
