@@ -6,10 +6,6 @@ use Rattle.std.proofs.lemmas.Nat.Bits.{bit_at-zero}
 use Rattle.xs_model.specs.Picks.{is_rested, is_earlier, earliest, best_from, number_of_best, pick}
 use Rattle.thread_slots.specs.Able.{in_mask, may_pick, best_with}
 
-pub best_from_none : (may : ℕ → Bool) (k : ℕ) (lasts : List (Option ℕ)) → length lasts ≤ k → best_from may k (drop k lasts) ≡ None
-unfolding best_from
-best_from_none may k lasts h = ap (λ l. best_from may k l) (drop_all k lasts h)
-
 pub best_from_more : (may : ℕ → Bool) (k : ℕ) (lasts : List (Option ℕ)) → k < length lasts → best_from may k (drop k lasts) ≡ best_with (may k) k (get_or lasts k None) (best_from may (k + 1) (drop (k + 1) lasts))
 unfolding best_from
 best_from_more may k lasts h =
@@ -27,18 +23,15 @@ same_best_from may other k (last ∷ rest) h =
     ap (λ m. best_with m k last (best_from may (suc k) rest)) here ∙ ap (λ o. best_with (other k) k last o) others
 
 -- where no thread from k on may be picked, none is
-pub no_best_from : (may : ℕ → Bool) (k : ℕ) (lasts : List (Option ℕ)) → ((j : ℕ) → may j ≡ false) → best_from may k lasts ≡ None
+pub no_best_from : (may : ℕ → Bool) (k : ℕ) (lasts : List (Option ℕ)) → ((j : ℕ) → k ≤ j → may j ≡ false) → best_from may k lasts ≡ None
 unfolding best_from
 no_best_from may k [] h = refl
 no_best_from may k (last ∷ rest) h =
-    let others : best_from may (suc k) rest ≡ None = no_best_from may (suc k) rest h in
-    ap (λ m. best_with m k last (best_from may (suc k) rest)) (h k) ∙ others
+    let others : best_from may (suc k) rest ≡ None = no_best_from may (suc k) rest (λ j le. h j (omega arith)) in
+    ap (λ m. best_with m k last (best_from may (suc k) rest)) (h k (omega arith)) ∙ others
 
 pub none_in_mask : (mask : ℕ) → mask ≡ 0 → (k : ℕ) → in_mask mask k ≡ false
 none_in_mask mask e k = ap (λ m. in_mask m k) e ∙ ap (λ b. eqb b 1) (bit_at-zero k)
-
-pub none_may : (mask slot : ℕ) (lasts : List (Option ℕ)) → mask ≡ 0 → (k : ℕ) → may_pick mask lasts slot k ≡ false
-none_may mask slot lasts e k = ap (λ b. b && is_rested (get_or lasts k None) slot) (none_in_mask mask e k)
 
 -- last issues as numbers: never is 0
 abbrev rank : Option ℕ → ℕ

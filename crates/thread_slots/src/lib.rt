@@ -2,7 +2,7 @@
 //! See docs/MACHINE.md.
 #![tactic(auto)]
 
-ghost use Rattle.std.specs.Prelude.{◌≡◌, ◌≢◌, ◌<◌, ◌↔◌, ◌&&◌, ℕ, Bool, true, false, List, Option, Some, None, length, replicate, slice_index_or, slice_set, IfSome};
+ghost use Rattle.std.specs.Prelude.{◌≡◌, ◌≢◌, ◌<◌, ◌≤◌, ◌↔◌, ◌&&◌, ℕ, Bool, true, false, List, Option, Some, None, length, replicate, slice_index_or, slice_set, IfSome};
 ghost use Rattle.xs_base.specs.declared.numbers.TheConstants.{THREADS};
 ghost use Rattle.xs_model.specs.Picks.{is_rested, is_earlier, pick, best_from};
 ghost use Rattle.thread_slots.specs.Able.{in_mask, may_pick, best_with};
@@ -93,27 +93,24 @@ pub fn with_able(able: u8, th: u8) -> u8
     able | (1 << th)
 }
 
-/// The best of the threads that are able and rested, with its last issue.
-#[inline]
+/// The best of the threads that are able and rested, with its last issue: no thread past the last able one is looked at.
 fn best_of(issues: &[Option<u32>; 8], able: u8, slot: u32) -> Option<(u8, Option<u32>)>
     ensures { result ≡ best_from (may_pick able issues.now slot) 0 issues.now }
 {
-    if able == 0 {
-        None
-    } else {
-        best_of_eight(issues, able, slot)
-    }
-}
-
-/// The same, by a look at each of the eight.
-fn best_of_eight(issues: &[Option<u32>; 8], able: u8, slot: u32) -> Option<(u8, Option<u32>)>
-    ensures { result ≡ best_from (may_pick able issues.now slot) 0 issues.now }
-{
     let mut best = None;
-    for k in (0..THREADS).rev() {
+    for k in (0..end_of(able)).rev() {
         best = best_with(k, issues[k as usize], able, slot, best);
     }
     best
+}
+
+/// The number after that of the last thread in a mask, 0 where there is none.
+#[inline]
+fn end_of(able: u8) -> u8
+    ensures within { result ≤ THREADS }
+    ensures past { (k : ℕ) → result ≤ k → in_mask able k ≡ false }
+{
+    (u8::BITS - able.leading_zeros()) as u8
 }
 
 /// The best of a thread and of those after it.
