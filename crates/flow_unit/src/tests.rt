@@ -60,8 +60,7 @@ fn a_function_is_called_entered_and_left(rt: HostRuntime) -> Result<(), Fail> {
             trap_of(flow(&mut thread, 0, &mut ram, Instr::Flow(ins))),
             None
         );
-        assert_eq!(rt; thread.pc, pc);
-        assert_eq!(rt; thread.sp, sp);
+        assert_eq!(rt; [thread.pc, thread.sp], [pc, sp]);
     }
     assert_eq!(rt; ram.load32(0x0001_fffc)?, 0x0004_0004);
     Ok(())
@@ -84,8 +83,7 @@ fn the_kernels_stack_is_entered_and_left(rt: HostRuntime) -> Result<(), Fail> {
         );
         assert_eq!(rt; thread.sp, sp);
     }
-    assert_eq!(rt; thread.r[11], 5);
-    assert_eq!(rt; thread.ksp, 0x0001_8000);
+    assert_eq!(rt; [thread.r[11], thread.ksp], [5, 0x0001_8000]);
     assert_eq!(rt; ram.load32(0x0001_8000)?, 0x0001_fffc);
     let call = flow(
         &mut thread,
@@ -112,10 +110,8 @@ fn a_row_that_traps_changes_nothing(rt: HostRuntime) -> Result<(), Fail> {
     ];
     for (ins, at) in rows {
         assert_eq!(rt; trap_of(flow(&mut thread, 0, &mut ram, ins)), Some((5, at)));
-        assert_eq!(rt; thread.sp, 0x0001_0002);
-        assert_eq!(rt; thread.ksp, 0x0002_0000);
-        assert_eq!(rt; thread.lr, 0);
-        assert_eq!(rt; thread.pc, 0x0004_0000);
+        let kept = [thread.sp, thread.ksp, thread.lr, thread.pc];
+        assert_eq!(rt; kept, [0x0001_0002, 0x0002_0000, 0, 0x0004_0000]);
         assert_eq!(rt; ram.load32(0x0001_0000)?, 0x0403_0201);
     }
     Ok(())
