@@ -50,6 +50,7 @@ impl Ram {
 
     /// The word at an address. `BadAddress` comes exactly where the address is outside the memory or no multiple
     /// of 4. See docs/MACHINE.md.
+    #[inline]
     pub fn load32(&self, at: u32) -> Result<u32, BadAddress>
         ensures value { result_ok result ≡ load_word self.now at }
         ensures cases { MatchResult result (λ w. load_word self.now at ≡ Some w) (λ _. load_word self.now at ≡ None) }
@@ -65,6 +66,7 @@ impl Ram {
 
     /// The half at an address, extended by its sign. `BadAddress` comes exactly where the address is outside the
     /// memory or no multiple of 2. See docs/MACHINE.md.
+    #[inline]
     pub fn load16s(&self, at: u32) -> Result<u32, BadAddress>
         ensures value { result_ok result ≡ load_half self.now at }
         ensures cases { MatchResult result (λ w. load_half self.now at ≡ Some w) (λ _. load_half self.now at ≡ None) }
@@ -80,6 +82,7 @@ impl Ram {
 
     /// The byte at an address, extended by zeros. `BadAddress` comes exactly where the address is outside the
     /// memory. See docs/MACHINE.md.
+    #[inline]
     pub fn load8u(&self, at: u32) -> Result<u32, BadAddress>
         ensures value { result_ok result ≡ load_byte self.now at }
         ensures cases { MatchResult result (λ w. load_byte self.now at ≡ Some w) (λ _. load_byte self.now at ≡ None) }
@@ -95,6 +98,7 @@ impl Ram {
 
     /// Puts a word at an address. `BadAddress` comes exactly where the address is outside the memory or no
     /// multiple of 4, and leaves the memory as it was. See docs/MACHINE.md.
+    #[inline]
     pub fn store32(&mut self, at: u32, v: u32) -> Result<(), BadAddress>
         ensures ok { OnOk result (store_word self.old at v ≡ Some self.new) }
         ensures refused { OnErr result (store_word self.old at v ≡ None) }
@@ -113,6 +117,7 @@ impl Ram {
 
     /// Puts the low 16 bits of a word at an address. `BadAddress` comes exactly where the address is outside the
     /// memory or no multiple of 2, and leaves the memory as it was. See docs/MACHINE.md.
+    #[inline]
     pub fn store16(&mut self, at: u32, v: u32) -> Result<(), BadAddress>
         ensures ok { OnOk result (store_half self.old at v ≡ Some self.new) }
         ensures refused { OnErr result (store_half self.old at v ≡ None) }
@@ -131,6 +136,7 @@ impl Ram {
 
     /// Puts the low 8 bits of a word at an address. `BadAddress` comes exactly where the address is outside the
     /// memory, and leaves the memory as it was. See docs/MACHINE.md.
+    #[inline]
     pub fn store8(&mut self, at: u32, v: u32) -> Result<(), BadAddress>
         ensures ok { OnOk result (store_byte self.old at v ≡ Some self.new) }
         ensures refused { OnErr result (store_byte self.old at v ≡ None) }

@@ -91,6 +91,7 @@ impl Flags for Status {
 
 impl Status {
     /// The status bits of a word; the register keeps none of its other bits.
+    #[inline]
     pub fn of_word(word: u32) -> Status
         ensures value { result ≡ status_of word }
     {

@@ -117,6 +117,7 @@ impl Thread {
     }
 
     /// The register with the number `g`: 0 to 11 are r0 to r11, 12 is cp, 13 dp, 14 sp and 15 lr.
+    #[inline]
     pub fn reg(&self, g: u8) -> u32
         requires { g < 16 }
         ensures value { result ≡ register self.now g }
@@ -131,6 +132,7 @@ impl Thread {
     }
 
     /// Sets the register with the number `g`, as `reg` counts them.
+    #[inline]
     pub fn set_reg(&mut self, g: u8, v: u32)
         requires { g < 16 }
         ensures value { self.new ≡ with_register self.old g v }
