@@ -2,4 +2,4 @@
 //! definitions stand in xs_model. See docs/MACHINE.md.
 #![tactic(auto)]
 
-pub use xs_model::{Outcome, Run, Status, Thread, Wait};
+pub use xs_model::{Entry0, Outcome, Run, Status, Thread, Wait};

@@ -1,5 +1,5 @@
 -- What arrives by the link ends and what the switch does, as the network and its channel ends show it.
-use Rattle.std.proofs.Common.{◌≡◌, ℕ, List, Option, refl, ap, sym, ◌∙◌, subst}
+use Rattle.std.proofs.Common.{◌≡◌, ℕ, List, Option, ap, sym, ◌∙◌, subst}
 use Rattle.xs_model.specs.declared.outside.Arrivals.{Arrivals}
 use Rattle.xs_model.specs.Record.{NodeRec, ChanRec, InputRec, LinkRec}
 use Rattle.xs_model.specs.Outside.{Emitted}
@@ -7,9 +7,9 @@ use Rattle.xs_model.specs.AtWork.{AtWork, emitted_in}
 use Rattle.net_model.specs.Links.{arrive, links_after_arrivals}
 use Rattle.net_model.specs.Switch.{Routes, moves}
 use Rattle.link_ends.specs.Counts.{EndCounts}
-use Rattle.switch_routes.specs.Rows.{AllCountsOf, CreditedBy, end_gaps}
-use Rattle.switch_routes.specs.Switch.{SwitchRec, StandsIn, known_routes, with_parts}
-use Rattle.core_step.specs.Network.{NetworkRec, NetworkStands, Brings, arrived_and_moved}
+use Rattle.switch_routes.specs.Rows.{AllCountsOf, CreditedBy}
+use Rattle.switch_routes.specs.Switch.{SwitchRec, StandsIn, with_parts}
+use Rattle.core_step.specs.Network.{NetworkRec, NetworkStands, Brings}
 
 -- Phase 1: what arrives by the link ends leaves the inputs and the channel ends.
 pub arrives : (slot : ℕ) (arrivals : Arrivals) (switch : SwitchRec) (chans : List ChanRec) (row after : List (Option EndCounts)) (m : AtWork)

@@ -1,6 +1,6 @@
 -- One slot of a core: the network, and then an issue.
 use Rattle.std.proofs.Common.{◌≡◌, ℕ, ◌+◌, ◌<◌, ◌≤◌, List, [], ◌∷◌, Option, Some, None, refl, ap, sym, ◌∙◌, arith, subst}
-use Rattle.std.specs.Prelude.{IfSome, ◌++◌, map}
+use Rattle.std.specs.Prelude.{IfSome}
 use Rattle.std.specs.List.{AllByRecursion}
 use Rattle.std.proofs.lemmas.List.{map-append}
 use Rattle.xs_model.specs.declared.outside.Arrivals.{Arrivals}
@@ -8,15 +8,15 @@ use Rattle.xs_model.specs.declared.outside.PinView.{PinView}
 use Rattle.xs_model.specs.declared.event.Event.{Event}
 use Rattle.xs_model.specs.Record.{CoreRec, NodeRec, LinkRec, ChanRec}
 use Rattle.xs_model.specs.Outside.{Emitted, emitted_events, in_slot}
-use Rattle.xs_model.specs.AtWork.{AtWork, slot_begins, emitted_in}
+use Rattle.xs_model.specs.AtWork.{AtWork, slot_begins}
 use Rattle.net_model.specs.Links.{latest}
 use Rattle.link_ends.specs.Counts.{EndCounts, CountsOf, NeverFall}
-use Rattle.switch_routes.specs.Rows.{IsCountsOf, AllCountsOf, CreditedBy, SentBy}
+use Rattle.switch_routes.specs.Rows.{AllCountsOf, CreditedBy, SentBy}
 use Rattle.step_model.specs.Fixed.{Fixed}
 use Rattle.step_model.specs.Effect.{Setting}
 use Rattle.step_model.specs.Step.{Issued, node_step, issued, setting_of}
 use Rattle.core_units.specs.Units.{and_happened}
-use Rattle.core_step.specs.Core.{CoreValue, StandsFor, StandsAt, SentBefore, IsLinkBefore}
+use Rattle.core_step.specs.Core.{CoreValue, StandsAt, SentBefore, IsLinkBefore}
 use Rattle.core_step.specs.Network.{NetworkRec, NetworkStands, Brings, arrived_and_moved}
 
 -- ---- The slots that link ends keep

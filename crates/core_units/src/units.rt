@@ -11,7 +11,7 @@ use chan_ends::ChanEnds;
 use core_memory::{BadAddress, Ram};
 use std::marker::Model;
 use thread_slots::Slots;
-use xs_model::{Run, Thread};
+use xs_model::{Entry0, Run, Thread};
 
 /// A core's threads with their last issues, its memory and its channel ends. Contracts see the core record. See
 /// docs/MACHINE.md.
@@ -44,7 +44,7 @@ impl Units {
         ensures value { result ≡ first_core pc cp ram }
     {
         let mut threads = [free_thread(); 8];
-        threads[0] = Thread::first(pc, cp);
+        threads[0] = Thread::first(&Entry0 { pc, cp });
         Units {
             threads,
             reach: 1,

@@ -1,7 +1,7 @@
 //! What no clause says: that rows are done, and that a row that traps leaves all as it was.
 use crate::flow;
 use core_memory::Ram;
-use core_state::{Outcome, Thread};
+use core_state::{Entry0, Outcome, Thread};
 use std::test::Fail;
 use xs_instructions::{FlowIns, Instr, KernelIns, MemIns};
 
@@ -15,7 +15,10 @@ fn trap_of(outcome: Outcome) -> Option<(u32, u32)> {
 
 // Thread 0 as it starts, with the constant pool at the memory's beginning.
 fn first_thread() -> Thread {
-    Thread::first(0x0004_0000, 0x0001_0000)
+    Thread::first(&Entry0 {
+        pc: 0x0004_0000,
+        cp: 0x0001_0000,
+    })
 }
 
 #[test]

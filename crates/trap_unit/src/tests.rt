@@ -1,9 +1,13 @@
 use super::*;
+use core_state::Entry0;
 use xs_model::FAST;
 
 // A thread in whose registers each word is another one.
 fn some_thread(bits: u8) -> Thread {
-    let mut thread = Thread::first(0x0004_0010, 0x0001_0000);
+    let mut thread = Thread::first(&Entry0 {
+        pc: 0x0004_0010,
+        cp: 0x0001_0000,
+    });
     thread.sr = Status { bits };
     thread.spc = 0x0004_0020;
     thread.ssr = Status { bits: FAST };

@@ -11,5 +11,5 @@ pub mod traps;
 pub use event::{Event, Happen};
 pub use outside::{Arrivals, PinView};
 pub use status::{EEBLE, FAST, IEBLE, INENB, ININT, INK, STATUS_BITS, Status, WAITING};
-pub use thread::{Outcome, Run, Thing, Thread, Wait};
+pub use thread::{Entry0, Outcome, Run, Thing, Thread, Wait};
 pub use xs_base::Token;

@@ -59,6 +59,13 @@ pub enum Outcome {
     Gone,
 }
 
+/// Where thread 0 starts: the address of an image's first instruction to issue, and that of its constant pool.
+#[derive(Clone, Copy)]
+pub struct Entry0 {
+    pub pc: u32,
+    pub cp: u32,
+}
+
 /// A thread's registers, and what it does.
 #[derive(Clone, Copy)]
 pub struct Thread {
@@ -103,13 +110,13 @@ impl Thread {
         }
     }
 
-    /// Thread 0 as a node starts: going, at the entry `pc`, with the constant pool at `cp`.
-    pub fn first(pc: u32, cp: u32) -> Thread
-        ensures value { result ≡ first_thread pc cp }
+    /// Thread 0 as a node starts: going at its image's entry.
+    pub fn first(image: &Entry0) -> Thread
+        ensures value { result ≡ first_thread image.now.pc image.now.cp }
     {
         let mut thread = Thread::fresh();
-        thread.pc = pc;
-        thread.cp = cp;
+        thread.pc = image.pc;
+        thread.cp = image.cp;
         thread.dp = MEMORY_START;
         thread.sp = 0x0001_FFFC;
         thread.run = Run::Going;

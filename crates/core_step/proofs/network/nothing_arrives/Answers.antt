@@ -1,6 +1,5 @@
 use Rattle.std.proofs.Common.{List, Option, ap}
 use Rattle.xs_model.specs.Record.{LinkRec}
-use Rattle.xs_model.specs.AtWork.{AtWork}
 use Rattle.core_step.proofs.Arriving.{links_stay}
 use Rattle.core_step.proofs.network.nothing_arrives.Goals as goal
 
