@@ -31,7 +31,8 @@ impl Units {
         }
     }
 
-    // Thread k issues.
+    // Thread k issues. It stands apart, so that slots in which nobody issues are quick.
+    #[inline(never)]
     fn issue_by(&mut self, k: u8, program: &Program, slot: u32, out: &mut Emissions) -> bool
         requires thread { k < THREADS }
         requires room { length out.old.events + ISSUE_EVENTS ≤ EVENT_ROOM }
