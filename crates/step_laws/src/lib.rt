@@ -1,0 +1,12 @@
+//! What every issue keeps: laws about the definitions of a node's step. See docs/MACHINE.md.
+#![tactic(auto)]
+
+ghost use Rattle.step_laws.specs.StatusBits.{FirstIsKnown, IssueStaysKnown, SlotStaysKnown};
+
+/// The status registers of every thread have the seven status bits and no others, whatever program runs: as a core
+/// starts, after each issue, and after each slot of a node. It does nothing.
+pub fn status_has_no_other_bit()
+    ensures first { FirstIsKnown }
+    ensures issue { IssueStaysKnown }
+    ensures slot { SlotStaysKnown }
+{}
