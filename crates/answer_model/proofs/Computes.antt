@@ -20,7 +20,7 @@ use Rattle.xs_model.specs.Picks.{best_from}
 use Rattle.xs_model.specs.Memory.{words_of}
 use Rattle.net_model.specs.Ways.{first_difference}
 use Rattle.net_model.specs.Links.{links_after_arrivals}
-use Rattle.net_model.specs.Chans.{free_chan}
+use Rattle.xs_model.specs.Free.{lowest_free}
 use Rattle.net_model.specs.Switch.{free_end, moves_from}
 use Rattle.step_model.specs.Step.{node_step}
 use Rattle.serial_model.specs.Serial.{serial}
@@ -30,5 +30,5 @@ use Rattle.trace_model.specs.Trace.{halted_lines, memory_lines, by_position, eve
 
 -- names them all on its own line, so that they unfold where it does
 unfoldable pub computes : Type 0
-unfolding digits without_comment parted lines_of tokens_after node_line node_of_end link_line bit_line source_line frame_line frame_from framed node_plans system_of form_of_words answer register_number fixed find known behind_labels first_name_at all_some operands_after values_from labels_first after_labels place_of define_all after_lines defines_twice first_fault code_of_lines bytes_of_lines best_from words_of first_difference links_after_arrivals free_chan free_end moves_from node_step serial hex_word merged halted_lines memory_lines by_position events_in_order trace_text
+unfolding digits without_comment parted lines_of tokens_after node_line node_of_end link_line bit_line source_line frame_line frame_from framed node_plans system_of form_of_words answer register_number fixed find known behind_labels first_name_at all_some operands_after values_from labels_first after_labels place_of define_all after_lines defines_twice first_fault code_of_lines bytes_of_lines best_from words_of first_difference links_after_arrivals lowest_free free_end moves_from node_step serial hex_word merged halted_lines memory_lines by_position events_in_order trace_text
 computes = Unit {0}

@@ -6,6 +6,7 @@ use Rattle.xs_base.specs.declared.token.Token.{Token}
 use Rattle.xs_base.specs.declared.token.Token.TheVariants.{Byte, Ctrl}
 use Rattle.xs_base.specs.Ids.{chan_id}
 use Rattle.xs_model.specs.Record.{ChanRec, unused_chan}
+use Rattle.xs_model.specs.Free.{lowest_free}
 use Rattle.xs_model.specs.Waits.{has_room}
 use Rattle.net_model.specs.Ways.{chan_of_dest}
 
@@ -15,9 +16,8 @@ chan_named node id =
     if (id == chan_id node (chan_of_dest id)) && nat_lt (chan_of_dest id) CHAN_ENDS then Some (chan_of_dest id) else None
 
 -- the lowest channel end of a list, whose first has number n, that is not in use
-unfoldable pub free_chan : List ChanRec → ChanNumber → Option ChanNumber
-free_chan [] n = None
-free_chan (chan ∷ chans) n = if chan.used then free_chan chans (n + 1) else Some n
+abbrev pub free_chan : List ChanRec → ChanNumber → Option ChanNumber
+free_chan chans n = lowest_free (λ chan. chan.used) chans n
 
 -- a channel end that was just got: its buffers are empty, and it has no destination
 abbrev pub got_chan : ChanRec

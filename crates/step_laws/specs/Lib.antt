@@ -1,1 +1,2 @@
 pub mod StatusBits
+pub mod EightSlots

@@ -1,10 +1,11 @@
 -- How the issue of an instruction ends.
 use Rattle.std.specs.Prelude.{ℕ, Bool, List, [], if◌then◌else◌}
-use Rattle.xs_base.specs.Numbers.{Slot, Word, Register, ThreadNumber, ChanNumber, NodeId}
+use Rattle.xs_base.specs.Numbers.{Slot, Word, Register, ThreadNumber, ChanNumber, NodeId, Identifier}
 use Rattle.xs_base.specs.Words.{word_sum}
 use Rattle.xs_model.specs.declared.event.Happen.{Happen}
 use Rattle.xs_model.specs.declared.thread.Thread.{Thread}
 use Rattle.xs_model.specs.declared.thread.Wait.{Wait}
+use Rattle.xs_model.specs.declared.traps.TheConstants.{ILLEGAL_RESOURCE}
 use Rattle.xs_model.specs.Threads.{register, with_register}
 use Rattle.xs_model.specs.Record.{CoreRec, thread_of, with_thread}
 
@@ -26,6 +27,10 @@ pub data Effect : Type 0 where
   Gone : (core : CoreRec) (happened : List Happen) → Effect
   -- a row that is not built: no image has one, and no core shows it
   Unbuilt : Effect
+
+-- the thread goes on where something holds, and is refused what a word names where it does not
+abbrev pub allowed_where : Bool → Identifier → CoreRec → Effect
+allowed_where holds name after = if holds then Done after [] else Trap ILLEGAL_RESOURCE name
 
 -- ---- Rows that work on a part of the core alone
 
@@ -70,6 +75,10 @@ on_registers core k NotBuilt = Unbuilt
 -- a register of the thread that issues
 abbrev pub reg : CoreRec → ThreadNumber → Register → Word
 reg core k g = register (thread_of core k) g
+
+-- the thread goes on
+abbrev pub goes_on : CoreRec → ThreadNumber → CoreRec
+goes_on core k = with_thread core k (after_it (thread_of core k))
 
 -- the thread goes on with this word in a register
 abbrev pub goes_on_with : CoreRec → ThreadNumber → Register → Word → CoreRec

@@ -5,6 +5,7 @@ pub mod WordRows
 pub mod MemoryRows
 pub mod FlowRows
 pub mod KernelRows
+pub mod Named
 pub mod ThreadRows
 pub mod ResourceRows
 pub mod Rows

@@ -1,39 +1,98 @@
 -- The rows on resources.
-use Rattle.std.specs.Prelude.{ℕ, ◌==◌, if◌then◌else◌, Option, Some, None, [], take}
-use Rattle.xs_base.specs.Numbers.{Word, Register, ThreadNumber, ChanNumber, NodeId, Kind, Identifier}
-use Rattle.xs_base.specs.Ids.{chan_id}
-use Rattle.xs_base.specs.declared.numbers.TheConstants.{CHAN_END_KIND}
+use Rattle.std.specs.Prelude.{ℕ, Bool, ◌&&◌, not, ◌==◌, if◌then◌else◌, Option, Some, None, [], length, take}
+use Rattle.xs_base.specs.Numbers.{Slot, Word, Register, ThreadNumber, ChanNumber, NodeId, Kind, Identifier}
+use Rattle.xs_base.specs.Ids.{chan_id, res_id}
+use Rattle.xs_base.specs.declared.numbers.TheConstants.{CHAN_END_KIND, SYNCHRONISER_KIND, THREAD_KIND, LOCK_KIND}
 use Rattle.xs_base.specs.declared.token.Token.TheVariants.{Ctrl}
 use Rattle.xs_model.specs.declared.thread.Thread.{Thread}
 use Rattle.xs_model.specs.declared.thread.Wait.{Wait}
 use Rattle.xs_model.specs.declared.thread.Wait.TheVariants.{Room, Tokens, Choice}
+use Rattle.xs_model.specs.declared.thread.Wait.TheVariants as wait
 use Rattle.xs_model.specs.declared.traps.TheConstants.{ILLEGAL_RESOURCE, RESOURCE_DEPENDENCY}
-use Rattle.xs_model.specs.Record.{CoreRec, ChanRec, thread_of, with_thread, chan_of, with_chan}
-use Rattle.xs_model.specs.Waits.{is_waited_at}
+use Rattle.xs_model.specs.declared.resource.Resource.{Resource}
+use Rattle.xs_model.specs.declared.resource.Resource.TheVariants as resource
+use Rattle.xs_model.specs.Record.{CoreRec, ChanRec, SyncRec, LockRec, unused_chan, thread_of, chan_of, sync_of, lock_of, with_thread, with_chan, with_sync, with_lock}
+use Rattle.xs_model.specs.Free.{lowest_free}
+use Rattle.xs_model.specs.Syncs.{is_sync_used, got_sync, freed_sync, free_lock, Claimed, Owns, IsHeld, IsRefused, claimed, released, freed_lock}
+use Rattle.xs_model.specs.Waits.{is_waited_at, is_paused_on}
 use Rattle.xs_instructions.specs.declared.instr.ResIns.{ResIns}
 use Rattle.xs_instructions.specs.declared.instr.ResIns.TheVariants as resources
 use Rattle.net_model.specs.Chans.{Found, Got, Waits, Refused, got_chan, free_chan, chan_named, found_at, put_token, check_token, take_dest}
-use Rattle.step_model.specs.Effect.{Setting, Effect, Done, Pause, Trap, Unbuilt, reg, after_it, goes_on_with}
+use Rattle.step_model.specs.Effect.{Setting, Effect, Done, Pause, Trap, Unbuilt, reg, after_it, goes_on, goes_on_with}
+use Rattle.step_model.specs.Named.{resource_named}
+use Rattle.step_model.specs.ThreadRows.{thread_id, thread_to_get, with_got_thread}
 
 -- ---- Getting a resource
 
--- how many resources of a kind programs may get: of a kind that is not built, none
-abbrev pub built_of_kind : Kind → ℕ
-built_of_kind kind = if kind == CHAN_END_KIND then 1 else 0
+-- how many channel ends programs may get so far
+abbrev pub chans_built : ℕ
+chans_built = 1
 
--- the lowest channel end that is free, of so many
-abbrev pub chan_to_get : ℕ → CoreRec → Option ChanNumber
-chan_to_get count core = free_chan (take count core.chans) 0
+-- the lowest channel end that is free, of those
+abbrev pub chan_to_get : CoreRec → Option ChanNumber
+chan_to_get core = free_chan (take chans_built core.chans) 0
 
 -- register d takes the identifier of the channel end that was got, or 0 where none is free
 abbrev pub chan_was_got : NodeId → CoreRec → ThreadNumber → Register → Option ChanNumber → CoreRec
 chan_was_got id core k d None = goes_on_with core k d 0
 chan_was_got id core k d (Some c) = goes_on_with (with_chan core c got_chan) k d (chan_id id c)
 
--- the lowest free resource of a kind is got, where there is one
-abbrev pub resource_got : NodeId → CoreRec → ThreadNumber → Register → Kind → CoreRec
-resource_got id core k d kind =
-    if kind == CHAN_END_KIND then chan_was_got id core k d (chan_to_get (built_of_kind kind) core) else goes_on_with core k d 0
+-- the same for a synchroniser, whose master is the thread; for a thread, whose last issue is the slot; and for a lock
+abbrev pub sync_was_got : CoreRec → ThreadNumber → Register → Option ℕ → CoreRec
+sync_was_got core k d None = goes_on_with core k d 0
+sync_was_got core k d (Some n) = goes_on_with (with_sync core n (got_sync k)) k d (res_id n SYNCHRONISER_KIND)
+
+abbrev pub thread_was_got : Slot → CoreRec → ThreadNumber → Register → Option ThreadNumber → CoreRec
+thread_was_got slot core k d None = goes_on_with core k d 0
+thread_was_got slot core k d (Some j) = goes_on_with (with_got_thread core j slot) k d (thread_id j)
+
+abbrev pub lock_was_got : CoreRec → ThreadNumber → Register → Option ℕ → CoreRec
+lock_was_got core k d None = goes_on_with core k d 0
+lock_was_got core k d (Some n) = goes_on_with (with_lock core n free_lock) k d (res_id n LOCK_KIND)
+
+-- the lowest free resource of a kind is got, where there is one: of the kinds that are not built there is none
+abbrev pub resource_got : Setting → CoreRec → ThreadNumber → Register → Kind → CoreRec
+resource_got here core k d kind =
+    if kind == CHAN_END_KIND then chan_was_got here.id core k d (chan_to_get core)
+    else (if kind == SYNCHRONISER_KIND then sync_was_got core k d (lowest_free is_sync_used core.syncs 0)
+    else (if kind == THREAD_KIND then thread_was_got here.slot core k d (thread_to_get core)
+    else (if kind == LOCK_KIND then lock_was_got core k d (lowest_free (λ lock. lock.used) core.locks 0)
+    else goes_on_with core k d 0)))
+
+-- ---- Freeing a resource, on which no thread may be paused
+
+-- a channel end may be freed where it is in use, its buffers are empty, and the switch is not at work with it
+abbrev pub freed_chan : Bool → ChanRec → Option ChanRec
+freed_chan is_busy chan =
+    if chan.used && (length chan.output == 0) && (length chan.input == 0) && not is_busy then Some unused_chan else None
+
+-- the core without a resource: None where it may not be freed by thread k
+abbrev pub without_chan : CoreRec → ChanNumber → Option ChanRec → Option CoreRec
+without_chan core c None = None
+without_chan core c (Some chan) = Some (with_chan core c chan)
+
+abbrev pub without_sync : CoreRec → ℕ → Option SyncRec → Option CoreRec
+without_sync core n None = None
+without_sync core n (Some sync) = Some (with_sync core n sync)
+
+abbrev pub without_lock : CoreRec → ℕ → Option LockRec → Option CoreRec
+without_lock core n None = None
+without_lock core n (Some lock) = Some (with_lock core n lock)
+
+abbrev pub without : Setting → CoreRec → ThreadNumber → Resource → Option CoreRec
+without here core k (resource.Chan c) = without_chan core c (freed_chan (here.is_busy c) (chan_of core c))
+without here core k (resource.Sync n) = without_sync core n (freed_sync k (sync_of core n))
+without here core k (resource.Lock n) = without_lock core n (freed_lock (lock_of core n))
+without here core k (resource.Thread j) = None
+
+-- the thread goes on with the core that was left, or it is refused
+abbrev pub goes_on_in : ThreadNumber → Identifier → Option CoreRec → Effect
+goes_on_in k name None = Trap ILLEGAL_RESOURCE name
+goes_on_in k name (Some after) = Done (goes_on after k) []
+
+abbrev pub freed : Setting → CoreRec → ThreadNumber → Identifier → Option Resource → Effect
+freed here core k name None = Trap ILLEGAL_RESOURCE name
+freed here core k name (Some r) = if is_paused_on core r then Trap ILLEGAL_RESOURCE name else goes_on_in k name (without here core k r)
 
 -- ---- Rows on a channel end
 
@@ -68,8 +127,34 @@ on_named core k name wait does takes (Some c) = found_there core k name c (wait 
 abbrev pub on_chan : Setting → CoreRec → ThreadNumber → Register → (ChanNumber → Wait) → (ChanRec → Found) → (Word → Thread → Thread) → Effect
 on_chan here core k s wait does takes = on_named core k (reg core k s) wait does takes (chan_named here.id (reg core k s))
 
+-- ---- Rows on a lock. On a channel end `in` and `out` are not built yet.
+
+-- the thread owns the lock and takes its identifier, or waits until nobody owns it
+abbrev pub claimed_there : CoreRec → ThreadNumber → Register → Identifier → ℕ → Claimed → Effect
+claimed_there core k d name n (Owns lock) = Done (goes_on_with (with_lock core n lock) k d name) []
+claimed_there core k d name n IsHeld = Pause core (wait.Lock n) []
+claimed_there core k d name n IsRefused = Trap ILLEGAL_RESOURCE name
+
+abbrev pub takes_in : CoreRec → ThreadNumber → Register → Identifier → Option Resource → Effect
+takes_in core k d name (Some (resource.Lock n)) = claimed_there core k d name n (claimed k (lock_of core n))
+takes_in core k d name _ = Trap ILLEGAL_RESOURCE name
+
+-- the thread gives the lock up
+abbrev pub puts_out : CoreRec → ThreadNumber → Identifier → Option Resource → Effect
+puts_out core k name (Some (resource.Lock n)) = goes_on_in k name (without_lock core n (released k (lock_of core n)))
+puts_out core k name _ = Trap ILLEGAL_RESOURCE name
+
+-- what register s names
+abbrev pub named_in : Setting → CoreRec → ThreadNumber → Register → Option Resource
+named_in here core k s = resource_named here.id (reg core k s)
+
+-- ---- The rows
+
 abbrev pub resources_row : Setting → CoreRec → ThreadNumber → ResIns → Effect
-resources_row here core k (resources.Getr d i) = Done (resource_got here.id core k d i) []
+resources_row here core k (resources.Getr d i) = Done (resource_got here core k d i) []
+resources_row here core k (resources.Freer s) = freed here core k (reg core k s) (named_in here core k s)
+resources_row here core k (resources.Out s x) = puts_out core k (reg core k s) (named_in here core k s)
+resources_row here core k (resources.In d s) = takes_in core k d (reg core k s) (named_in here core k s)
 resources_row here core k (resources.Setd s x) = on_chan here core k s no_wait (take_dest (reg core k x)) takes_nothing
 resources_row here core k (resources.OutctImm s i) = on_chan here core k s (room 1) (put_token (Ctrl i)) takes_nothing
 resources_row here core k (resources.ChkctImm s i) = on_chan here core k s (tokens 1) (check_token i) takes_nothing

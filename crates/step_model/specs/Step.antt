@@ -1,5 +1,5 @@
 -- One slot of a node.
-use Rattle.std.specs.Prelude.{ℕ, Bool, if◌then◌else◌, Option, Some, None, List, [], ◌∷◌, ◌++◌, slice_set}
+use Rattle.std.specs.Prelude.{ℕ, Bool, if◌then◌else◌, Option, Some, None, List, [], ◌∷◌, ◌++◌}
 use Rattle.xs_base.specs.Numbers.{Slot, Word, ThreadNumber}
 use Rattle.xs_model.specs.declared.thread.Thread.{Thread}
 use Rattle.xs_model.specs.declared.thread.Run.{Run}
@@ -9,7 +9,7 @@ use Rattle.xs_model.specs.declared.event.Happen.{Happen}
 use Rattle.xs_model.specs.declared.event.Happen.TheVariants as happen
 use Rattle.xs_model.specs.declared.outside.Arrivals.{Arrivals}
 use Rattle.xs_model.specs.declared.outside.PinView.{PinView}
-use Rattle.xs_model.specs.Record.{CoreRec, NodeRec, PortRec, thread_of, with_thread}
+use Rattle.xs_model.specs.Record.{CoreRec, NodeRec, PortRec, thread_of, with_thread, with_run, with_last}
 use Rattle.xs_model.specs.Outside.{Emitted}
 use Rattle.xs_model.specs.AtWork.{AtWork, slot_begins, emitted_in}
 use Rattle.xs_model.specs.Picks.{picked}
@@ -46,10 +46,6 @@ trap code core k number value =
     let th = trapped (thread_of core k) number value next in
     halt_unless (is_code_place code th.pc) k th (happen.Trap k number next value ∷ []) core
 
--- what thread k does from now on
-abbrev pub with_run : CoreRec → ThreadNumber → Run → CoreRec
-with_run core k run = with_thread core k (record (thread_of core k) { run = run })
-
 -- what the issue by thread k leaves, from what its instruction does
 abbrev pub settled : List Instr → CoreRec → ThreadNumber → Effect → Issued
 settled code core k (Done after happened) = record { core = after; happened = happened }
@@ -65,7 +61,7 @@ executed code here core k (Some ins) = settled code core k (effect here core k i
 
 -- the slot is thread k's last issue now, and it goes: its pause, if it was paused, is over
 abbrev pub issue_begins : CoreRec → Slot → ThreadNumber → CoreRec
-issue_begins core slot k = with_run (record core { last = slice_set core.last k (Some slot) }) k Going
+issue_begins core slot k = with_run (with_last core k slot) k Going
 
 abbrev pub issued_by : List Instr → Setting → CoreRec → Option ThreadNumber → Issued
 issued_by code here core None = quietly core
@@ -112,10 +108,13 @@ levels_of _ _ = []
 abbrev pub note_levels : PinView → AtWork → AtWork
 note_levels pins m = record m { rec = record m.rec { levels = levels_of m.rec.core.ports pins.level } }
 
+-- the node in a slot before its issue, after the three other phases
+abbrev pub before_issue : Fixed → NodeRec → Slot → Arrivals → PinView → AtWork
+before_issue fixed rec slot arrivals pins = moves fixed.routes slot (ports_step slot pins (arrive slot arrivals (slot_begins rec)))
+
 -- the node in a slot, after its four phases
 abbrev pub after_phases : Fixed → NodeRec → Slot → Arrivals → PinView → AtWork
-after_phases fixed rec slot arrivals pins =
-    note_levels pins (issue fixed slot pins (moves fixed.routes slot (ports_step slot pins (arrive slot arrivals (slot_begins rec)))))
+after_phases fixed rec slot arrivals pins = note_levels pins (issue fixed slot pins (before_issue fixed rec slot arrivals pins))
 
 -- a node after a slot, and what the slot gave to the outside
 pub record Stepped : Type 0 where

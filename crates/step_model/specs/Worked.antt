@@ -8,7 +8,8 @@ use Rattle.xs_model.specs.declared.event.Happen.TheVariants as happen
 use Rattle.xs_model.specs.declared.outside.Arrivals.{Arrivals}
 use Rattle.xs_model.specs.declared.outside.PinView.{PinView}
 use Rattle.xs_model.specs.Threads.{first_thread}
-use Rattle.xs_model.specs.Record.{NodeRec, first_node, free_thread, thread_of, with_thread, with_slave}
+use Rattle.xs_model.specs.Record.{NodeRec, first_node, free_thread, thread_of, with_thread}
+use Rattle.xs_model.specs.Syncs.{with_slave}
 use Rattle.xs_model.specs.Outside.{emitted_events, in_slot, low_pins}
 use Rattle.xs_instructions.specs.declared.instr.Instr.{Instr}
 use Rattle.xs_instructions.specs.declared.instr.Instr.TheVariants.{Words, Memory, Threads}

@@ -16,6 +16,12 @@ pub const THREADS: u8 = 8;
 /// How many channel ends a core has.
 pub const CHAN_ENDS: u8 = 32;
 
+/// How many synchronisers a core has.
+pub const SYNCHRONISERS: u8 = 7;
+
+/// How many locks a core has.
+pub const LOCKS: u8 = 4;
+
 /// How many link ends a node may have.
 pub const LINK_ENDS: u8 = 8;
 

@@ -177,17 +177,19 @@ name_of r = shown (λ name. name.now) NAMES (row_number r)
 abbrev pub parts_of : Row → List Part
 parts_of r = shown (λ parts. parts.now) PARTS (row_number r)
 
--- whether a row is of the parts on words, memory, the flow of control and the kernel
-abbrev pub is_of_one_thread : Row → Bool
-is_of_one_thread r = nat_lt (row_number r) (row_number row.Getst)
+-- whether a row is of the parts before that on resources: words, memory, the flow of control, the kernel and threads
+abbrev pub is_before_resources : Row → Bool
+is_before_resources r = nat_lt (row_number r) (row_number row.Getr)
 
--- the rows that are built so far: those of one thread but two, and five others
+-- the rows that are built so far: those before the part on resources but two, and seven of that part
 abbrev pub is_built : Row → Bool
 is_built row.Setsr = false
 is_built row.Clrsr = false
-is_built row.Freet = true
 is_built row.Getr = true
+is_built row.Freer = true
+is_built row.Out = true
 is_built row.OutctImm = true
+is_built row.In = true
 is_built row.ChkctImm = true
 is_built row.Setd = true
-is_built r = is_of_one_thread r
+is_built r = is_before_resources r

@@ -105,8 +105,9 @@ impl Row {
     {
         match self {
             Row::Setsr | Row::Clrsr => false,
-            Row::Freet | Row::Getr | Row::Setd | Row::OutctImm | Row::ChkctImm => true,
-            _ => (self as usize) < Row::Getst as usize,
+            Row::Getr | Row::Freer | Row::Out | Row::OutctImm | Row::In | Row::ChkctImm => true,
+            Row::Setd => true,
+            _ => (self as usize) < Row::Getr as usize,
         }
     }
 }

@@ -306,7 +306,9 @@ fn knows_names(rt: HostRuntime) {
     assert_eq!(rt; fixed(b"-"), Some(15));
     assert_eq!(rt; fixed(b"sr"), None);
     assert!(rt; built(Instr::Threads(ThreadIns::Freet)));
-    assert!(rt; !built(Instr::Threads(ThreadIns::Ssync)));
+    assert!(rt; built(Instr::Threads(ThreadIns::Ssync)));
+    assert!(rt; built(Instr::Resources(ResIns::In(0, 1))));
+    assert!(rt; !built(Instr::Resources(ResIns::Int(0, 1))));
     assert!(rt; built(Instr::Words(WordIns::AddImm(0, 1, 11))));
     assert!(rt; built(Instr::Kernel(KernelIns::StwEt)));
     assert!(rt; !built(Instr::Kernel(KernelIns::Setsr(1))));

@@ -2,6 +2,8 @@ pub mod Status
 pub mod Threads
 pub mod Memory
 pub mod Record
+pub mod Free
+pub mod Syncs
 pub mod Outside
 pub mod AtWork
 pub mod Waits

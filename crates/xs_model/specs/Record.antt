@@ -1,8 +1,9 @@
 -- The node record: all that a node keeps from slot to slot, as plain data.
-use Rattle.std.specs.Prelude.{ℕ, Bool, false, nat_lt, if◌then◌else◌, List, [], ◌∷◌, Option, None, replicate, slice_index_or, slice_set}
+use Rattle.std.specs.Prelude.{ℕ, Bool, false, List, [], ◌∷◌, Option, Some, None, replicate, slice_index_or, slice_set}
 use Rattle.xs_base.specs.Numbers.{Slot, Word, ThreadNumber, ChanNumber, EndNumber, PortNumber, Identifier}
 use Rattle.xs_base.specs.declared.token.Token.{Token}
 use Rattle.xs_model.specs.declared.thread.Thread.{Thread}
+use Rattle.xs_model.specs.declared.thread.Run.{Run}
 use Rattle.xs_model.specs.declared.thread.Run.TheVariants.{Free}
 use Rattle.xs_model.specs.Threads.{fresh_thread, first_thread}
 use Rattle.xs_model.specs.Memory.{first_memory}
@@ -41,11 +42,6 @@ pub record SyncRec : Type 0 where
 
 abbrev pub unused_sync : SyncRec
 unused_sync = record { master = None; slaves = [] }
-
--- slaves with one that is bound to their synchroniser as well
-unfoldable pub with_slave : ThreadNumber → List ThreadNumber → List ThreadNumber
-with_slave k [] = k ∷ []
-with_slave k (slave ∷ slaves) = if nat_lt k slave then k ∷ slave ∷ slaves else slave ∷ with_slave k slaves
 
 pub record LockRec : Type 0 where
   pub used : Bool
@@ -214,5 +210,19 @@ port_of core n = slice_index_or core.ports n off_port
 abbrev pub with_thread : CoreRec → ThreadNumber → Thread → CoreRec
 with_thread core k th = record core { threads = slice_set core.threads k th }
 
+-- what a thread does from now on
+abbrev pub with_run : CoreRec → ThreadNumber → Run → CoreRec
+with_run core k run = with_thread core k (record (thread_of core k) { run = run })
+
+-- a slot is a thread's last issue now
+abbrev pub with_last : CoreRec → ThreadNumber → Slot → CoreRec
+with_last core k slot = record core { last = slice_set core.last k (Some slot) }
+
 abbrev pub with_chan : CoreRec → ChanNumber → ChanRec → CoreRec
 with_chan core c chan = record core { chans = slice_set core.chans c chan }
+
+abbrev pub with_sync : CoreRec → ℕ → SyncRec → CoreRec
+with_sync core n sync = record core { syncs = slice_set core.syncs n sync }
+
+abbrev pub with_lock : CoreRec → ℕ → LockRec → CoreRec
+with_lock core n lock = record core { locks = slice_set core.locks n lock }

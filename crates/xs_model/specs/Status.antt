@@ -1,5 +1,5 @@
 -- The status register: a set of seven bits, as a number.
-use Rattle.std.specs.Prelude.{ℕ, ◌-◌, ◌%◌, bit_and, bit_or}
+use Rattle.std.specs.Prelude.{ℕ, ◌≡◌, ◌-◌, ◌%◌, bit_and, bit_or}
 use Rattle.xs_model.specs.declared.status.Status.{Status}
 use Rattle.xs_model.specs.declared.status.TheConstants.{STATUS_BITS}
 
@@ -20,3 +20,7 @@ without_bits sr bits = status (bit_and sr.bits (255 - bits))
 -- the status bits of a word, which are among its low eight: the register has no others
 abbrev pub status_of : ℕ → Status
 status_of word = status (bit_and (word % 256) STATUS_BITS)
+
+-- all bits of a status are among the seven
+abbrev pub IsKnown : Status → Type 0
+IsKnown sr = bit_and sr.bits STATUS_BITS ≡ sr.bits

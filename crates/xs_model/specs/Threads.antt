@@ -4,7 +4,7 @@ use Rattle.xs_base.specs.Numbers.{Register, Word}
 use Rattle.xs_base.specs.declared.numbers.TheConstants.{MEMORY_START}
 use Rattle.xs_model.specs.declared.thread.Thread.{Thread}
 use Rattle.xs_model.specs.declared.thread.Run.TheVariants.{Unstarted, Going}
-use Rattle.xs_model.specs.Status.{no_status}
+use Rattle.xs_model.specs.Status.{no_status, IsKnown}
 
 -- 0 to 11 are r0 to r11, then cp, dp, sp and lr
 abbrev pub register : Thread → Register → Word
@@ -46,3 +46,8 @@ fresh_thread = record {
 -- thread 0 as its node starts: going at the entry, dp at the memory's beginning, sp at its last word
 abbrev pub first_thread : Word → Word → Thread
 first_thread entry cp_at = record fresh_thread { pc = entry; cp = cp_at; dp = MEMORY_START; sp = 0x0001fffc; run = Going }
+
+-- the bits of a thread's status are among the seven, and those of the one to which it returns
+pub record HasKnownBits (th : Thread) : Type 0 where
+  pub sr : IsKnown th.sr
+  pub ssr : IsKnown th.ssr

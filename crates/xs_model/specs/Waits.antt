@@ -11,6 +11,8 @@ use Rattle.xs_model.specs.declared.thread.Thing.{Thing}
 use Rattle.xs_model.specs.declared.thread.Thing.TheVariants as thing
 use Rattle.xs_model.specs.declared.thread.Wait.{Wait}
 use Rattle.xs_model.specs.declared.thread.Wait.TheVariants.{Room, Tokens, PortFull, PortEmpty, PortIdle, Timer, Lock, Slaves, Choice}
+use Rattle.xs_model.specs.declared.resource.Resource.{Resource}
+use Rattle.xs_model.specs.declared.resource.Resource.TheVariants as resource
 use Rattle.xs_model.specs.Record.{CoreRec, thread_of, chan_of, timer_of, sync_of, lock_of, port_of}
 
 -- whether so many tokens more fit into a buffer
@@ -39,6 +41,10 @@ is_in Unstarted = true
 is_in AtSync = true
 is_in _ = false
 
+-- whether all slaves of a synchroniser are
+abbrev pub all_in : CoreRec → ℕ → Bool
+all_in core n = list_all (λ k. is_in (thread_of core k).run) (sync_of core n).slaves
+
 -- whether what pauses a thread holds
 abbrev pub holds : CoreRec → Slot → Wait → Bool
 holds core slot (Room chan count) = has_room count (chan_of core chan).output
@@ -49,7 +55,7 @@ holds core slot (PortIdle port) =
     not ((port_of core port).output && (is_some (port_of core port).transfer || nat_lt 0 (length (port_of core port).shift)))
 holds core slot (Timer timer) = not (timer_of core timer).after || is_after (timer_of core timer).value (time_at slot)
 holds core slot (Lock lock) = is_none (lock_of core lock).owner
-holds core slot (Slaves sync) = list_all (λ k. is_in (thread_of core k).run) (sync_of core sync).slaves
+holds core slot (Slaves sync) = all_in core sync
 holds core slot Choice = false
 
 -- at which thing a thread waits, where at most one may wait there: the three waits on a port are at one thing
@@ -83,3 +89,19 @@ waits_at thing _ = false
 -- over.
 abbrev pub is_waited_at : CoreRec → Wait → Bool
 is_waited_at core wait = list_any (λ th. waits_at (thing_of wait) th.run) core.threads
+
+-- whether a wait names a resource
+abbrev pub is_on : Resource → Wait → Bool
+is_on (resource.Chan c) (Room chan count) = chan == c
+is_on (resource.Chan c) (Tokens chan count) = chan == c
+is_on (resource.Sync n) (Slaves sync) = sync == n
+is_on (resource.Lock n) (Lock lock) = lock == n
+is_on _ _ = false
+
+abbrev pub pauses_on : Resource → Run → Bool
+pauses_on r (Paused wait) = is_on r wait
+pauses_on r _ = false
+
+-- whether a thread is paused on a resource
+abbrev pub is_paused_on : CoreRec → Resource → Bool
+is_paused_on core r = list_any (λ th. pauses_on r th.run) core.threads

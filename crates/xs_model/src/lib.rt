@@ -4,12 +4,14 @@
 
 mod event;
 mod outside;
+mod resource;
 mod status;
 mod thread;
 pub mod traps;
 
 pub use event::{Event, Happen};
 pub use outside::{Arrivals, PinView};
+pub use resource::Resource;
 pub use status::{EEBLE, FAST, IEBLE, INENB, ININT, INK, STATUS_BITS, Status, WAITING};
 pub use thread::{Entry0, Outcome, Run, Thing, Thread, Wait};
 pub use xs_base::Token;

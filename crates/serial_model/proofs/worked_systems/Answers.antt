@@ -1,7 +1,7 @@
 use Rattle.std.proofs.Common.{refl}
 use Rattle.xs_model.specs.Picks.{best_from}
 use Rattle.net_model.specs.Ways.{first_difference}
-use Rattle.net_model.specs.Chans.{free_chan}
+use Rattle.xs_model.specs.Free.{lowest_free}
 use Rattle.net_model.specs.Links.{links_after_arrivals}
 use Rattle.net_model.specs.Switch.{moves_from, free_end}
 use Rattle.step_model.specs.Step.{node_step}
@@ -19,7 +19,7 @@ returns-clause-small c = record {
 }
 
 pub returns-clause-pair : goal.returns-clause-pair
-unfolding best_from first_difference free_chan links_after_arrivals moves_from free_end node_step serial
+unfolding best_from first_difference lowest_free links_after_arrivals moves_from free_end node_step serial
 returns-clause-pair c = record {
   nothing_sent = refl;
   before_arrival = refl;
@@ -38,5 +38,5 @@ pub returns-clause-order : goal.returns-clause-order
 returns-clause-order c = record { token_first = refl; other_end = refl }
 
 pub returns-clause-lost : goal.returns-clause-lost
-unfolding best_from first_difference free_chan links_after_arrivals moves_from free_end node_step serial
+unfolding best_from first_difference lowest_free links_after_arrivals moves_from free_end node_step serial
 returns-clause-lost c = record { events = refl; not_yet = refl; histories = refl }

@@ -1,8 +1,8 @@
 use Rattle.std.proofs.Common.{refl}
 use Rattle.xs_base.specs.Words.{reversed, leading_zeros}
 use Rattle.xs_model.specs.Picks.{best_from}
-use Rattle.xs_model.specs.Record.{with_slave}
-use Rattle.net_model.specs.Chans.{free_chan}
+use Rattle.xs_model.specs.Syncs.{with_slave}
+use Rattle.xs_model.specs.Free.{lowest_free}
 use Rattle.net_model.specs.Ways.{first_difference}
 use Rattle.net_model.specs.Links.{links_after_arrivals}
 use Rattle.net_model.specs.Switch.{moves_from, free_end}
@@ -512,7 +512,7 @@ returns-clause-end c = record {
 }
 
 pub returns-clause-channels : goal.returns-clause-channels
-unfolding moves_from links_after_arrivals node_step best_from free_chan free_end first_difference
+unfolding moves_from links_after_arrivals node_step best_from lowest_free free_end first_difference
 returns-clause-channels c = record {
   getr = record {
     first_got = refl;

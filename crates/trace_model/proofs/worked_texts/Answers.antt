@@ -3,7 +3,7 @@ use Rattle.std.specs.Fmt.{digits}
 use Rattle.xs_model.specs.Memory.{words_of}
 use Rattle.xs_model.specs.Picks.{best_from}
 use Rattle.net_model.specs.Ways.{first_difference}
-use Rattle.net_model.specs.Chans.{free_chan}
+use Rattle.xs_model.specs.Free.{lowest_free}
 use Rattle.net_model.specs.Links.{links_after_arrivals}
 use Rattle.net_model.specs.Switch.{moves_from, free_end}
 use Rattle.step_model.specs.Step.{node_step}
@@ -22,7 +22,7 @@ unfolding digits merged
 returns-clause-order c = record { in_order = refl; some_left_out = refl; none_left_out = refl }
 
 pub returns-clause-traces : goal.returns-clause-traces
-unfolding digits words_of best_from first_difference free_chan links_after_arrivals moves_from free_end node_step serial hex_word merged halted_lines memory_lines by_position events_in_order trace_text
+unfolding digits words_of best_from first_difference lowest_free links_after_arrivals moves_from free_end node_step serial hex_word merged halted_lines memory_lines by_position events_in_order trace_text
 returns-clause-traces c = record { delivered = refl; cut = refl; lost = refl; halted = refl }
 
 pub returns-clause-links : goal.returns-clause-links

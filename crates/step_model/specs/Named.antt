@@ -1,0 +1,28 @@
+-- What of a core a word names, by its kind and its number.
+use Rattle.std.specs.Prelude.{ℕ, ◌/◌, ◌%◌, ◌==◌, nat_lt, if◌then◌else◌, Option, Some, None}
+use Rattle.xs_base.specs.Numbers.{ChanNumber, NodeId, Kind, Identifier}
+use Rattle.xs_base.specs.declared.numbers.TheConstants.{THREADS, SYNCHRONISERS, LOCKS, CHAN_END_KIND, SYNCHRONISER_KIND, THREAD_KIND, LOCK_KIND}
+use Rattle.xs_model.specs.declared.resource.Resource.{Resource}
+use Rattle.xs_model.specs.declared.resource.Resource.TheVariants as resource
+use Rattle.net_model.specs.Chans.{chan_named}
+
+-- a number that the word's kind has, of so many
+abbrev pub numbered : (ℕ → Resource) → ℕ → ℕ → Option Resource
+numbered of_number count number = if nat_lt number count then Some (of_number number) else None
+
+abbrev pub chan_resource : Option ChanNumber → Option Resource
+chan_resource None = None
+chan_resource (Some c) = Some (resource.Chan c)
+
+-- the identifiers of synchronisers, threads and locks are a number above the kind, which is the low byte
+abbrev pub of_kind : NodeId → Identifier → Kind → ℕ → Option Resource
+of_kind id name kind number =
+    if kind == CHAN_END_KIND then chan_resource (chan_named id name)
+    else (if kind == SYNCHRONISER_KIND then numbered resource.Sync SYNCHRONISERS number
+    else (if kind == THREAD_KIND then numbered resource.Thread THREADS number
+    else (if kind == LOCK_KIND then numbered resource.Lock LOCKS number
+    else None)))
+
+-- what a word names on the node with this id, whether it is in use or not
+abbrev pub resource_named : NodeId → Identifier → Option Resource
+resource_named id name = of_kind id name (name % 256) (name / 256)
