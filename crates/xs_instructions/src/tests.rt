@@ -312,5 +312,4 @@ fn knows_names(rt: HostRuntime) {
     assert!(rt; built(Instr::Words(WordIns::AddImm(0, 1, 11))));
     assert!(rt; built(Instr::Kernel(KernelIns::StwEt)));
     assert!(rt; !built(Instr::Kernel(KernelIns::Setsr(1))));
-    assert!(rt; !built(Instr::Resources(ResIns::Out(0, 1))));
 }
