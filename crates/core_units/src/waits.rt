@@ -6,7 +6,8 @@ ghost use Rattle.xs_base.specs.declared.numbers.TheConstants.{THREADS};
 ghost use Rattle.xs_model.specs.Threads.{fresh_thread};
 ghost use Rattle.xs_model.specs.Waits.{thing_of, waits_at, are_same, is_same_thing, is_waited_at};
 ghost use Rattle.xs_model.specs.Picks.{is_able, picked};
-ghost use Rattle.thread_slots.specs.Able.{in_mask};
+ghost use Rattle.xs_model.specs.Masks.{in_mask};
+
 ghost use Rattle.core_units.specs.Units.{AreStillFrom};
 ghost use Rattle.core_units.specs.Waits.{holds_by, able_by};
 

@@ -4,7 +4,8 @@ use Rattle.std.proofs.lemmas.List.{drop_more, drop_all}
 use Rattle.std.proofs.lemmas.Bool.{and_parts, and_from, ltb-true, ltb-false, lt-ltb, le-ltb, both_ways}
 use Rattle.std.proofs.lemmas.Nat.Bits.{bit_at-zero}
 use Rattle.xs_model.specs.Picks.{is_rested, is_earlier, earliest, best_from, number_of_best, pick}
-use Rattle.thread_slots.specs.Able.{in_mask, may_pick, best_with}
+use Rattle.xs_model.specs.Masks.{in_mask}
+use Rattle.thread_slots.specs.Able.{may_pick, best_with}
 
 pub best_from_more : (may : ℕ → Bool) (k : ℕ) (lasts : List (Option ℕ)) → k < length lasts → best_from may k (drop k lasts) ≡ best_with (may k) k (get_or lasts k None) (best_from may (k + 1) (drop (k + 1) lasts))
 unfolding best_from

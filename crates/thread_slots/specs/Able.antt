@@ -1,12 +1,8 @@
--- The threads of a mask, and which of them may be picked.
-use Rattle.std.specs.Prelude.{ℕ, Bool, ◌&&◌, ◌==◌, if◌then◌else◌, Option, Some, None, List, slice_index_or}
-use Rattle.std.specs.Int.{bit_at}
+-- Which threads of a mask may be picked.
+use Rattle.std.specs.Prelude.{ℕ, Bool, ◌&&◌, if◌then◌else◌, Option, Some, None, List, slice_index_or}
 use Rattle.xs_base.specs.Numbers.{Slot, ThreadNumber}
+use Rattle.xs_model.specs.Masks.{in_mask}
 use Rattle.xs_model.specs.Picks.{is_rested, earliest}
-
--- bit k of the mask is set
-abbrev pub in_mask : ℕ → ThreadNumber → Bool
-in_mask mask k = bit_at mask k == 1
 
 -- a thread of the mask may be picked in a slot where it is rested
 abbrev pub may_pick : ℕ → List (Option Slot) → Slot → ThreadNumber → Bool

@@ -5,7 +5,8 @@
 ghost use Rattle.std.specs.Prelude.{◌≡◌, ◌≢◌, ◌<◌, ◌≤◌, ◌↔◌, ◌&&◌, ℕ, Bool, true, false, List, Option, Some, None, length, replicate, slice_index_or, slice_set, IfSome};
 ghost use Rattle.xs_base.specs.declared.numbers.TheConstants.{THREADS};
 ghost use Rattle.xs_model.specs.Picks.{is_rested, is_earlier, pick, best_from};
-ghost use Rattle.thread_slots.specs.Able.{in_mask, may_pick, best_with};
+ghost use Rattle.xs_model.specs.Masks.{in_mask};
+ghost use Rattle.thread_slots.specs.Able.{may_pick, best_with};
 
 use std::marker::Model;
 use xs_base::numbers::THREADS;

@@ -3,6 +3,7 @@ pub mod Threads
 pub mod Memory
 pub mod Record
 pub mod Free
+pub mod Masks
 pub mod Syncs
 pub mod Outside
 pub mod AtWork

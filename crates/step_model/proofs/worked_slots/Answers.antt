@@ -501,7 +501,7 @@ returns-clause-traps c = record {
 }
 
 pub returns-clause-end : goal.returns-clause-end
-unfolding moves_from links_after_arrivals node_step best_from with_slave
+unfolding moves_from links_after_arrivals node_step best_from with_slave lowest_free
 returns-clause-end c = record {
   free = refl;
   no_event = refl;

@@ -1,7 +1,8 @@
 use Rattle.std.proofs.Common.{◌≡◌, ℕ, ◌<◌, ◌≤◌, false}
 use Rattle.std.specs.Prelude.{slice_index_or}
 use Rattle.xs_model.specs.Threads.{fresh_thread}
-use Rattle.thread_slots.specs.Able.{in_mask}
+use Rattle.xs_model.specs.Masks.{in_mask}
+
 use Rattle.core_units.specs.Waits.{able_by}
 use Rattle.core_units.proofs.waits.able_of.Given as goal
 
