@@ -13,6 +13,16 @@ chans_after chans c (Got chan word) = slice_set chans c chan
 chans_after chans c Waits = chans
 chans_after chans c Refused = chans
 
+-- a channel end after it was freed, where it could be
+abbrev pub chan_where_freed : ChanRec → Option ChanRec → ChanRec
+chan_where_freed chan None = chan
+chan_where_freed chan (Some after) = after
+
+-- the channel ends after one of them was freed, where it could be
+abbrev pub with_freed : List ChanRec → ChanNumber → Option ChanRec → List ChanRec
+with_freed chans c None = chans
+with_freed chans c (Some chan) = slice_set chans c chan
+
 -- the channel ends after the one with this number was got, if there is one
 abbrev pub with_got : List ChanRec → Option ChanNumber → List ChanRec
 with_got chans None = chans

@@ -56,6 +56,20 @@ impl ChanEnd {
         self.input.clear();
     }
 
+    /// Puts it out of use, with no destination: refused exactly where it is not in use, a buffer is not empty, or the
+    /// switch is at work with it.
+    pub(crate) fn free(&mut self, held: bool) -> Result<(), Bad>
+        ensures answer { IsErr result ↔ freed_chan held self.old ≡ None }
+        ensures after { self.new ≡ chan_where_freed self.old (freed_chan held self.old) }
+    {
+        if !self.used || !self.output.is_empty() || !self.input.is_empty() || held {
+            return Err(Bad);
+        }
+        self.used = false;
+        self.dest = None;
+        Ok(())
+    }
+
     pub(crate) fn used(&self) -> bool
         ensures { result ≡ self.now.used }
     {

@@ -58,6 +58,18 @@ impl ChanEnds {
         free
     }
 
+    /// Frees channel end `c`, 0 to 31: it is not in use then, and has no destination. `held` says that the switch is
+    /// at work with it. `Bad` comes exactly where it is not in use, a buffer is not empty or `held` is true, and then
+    /// nothing changes. See docs/LINKS.md.
+    pub fn free(&mut self, c: u8, held: bool) -> Result<(), Bad>
+        requires { c < CHAN_ENDS }
+        ensures bad { IsErr result ↔ freed_chan held (chan_at self.old c) ≡ None }
+        ensures after { self.new ≡ with_freed self.old c (freed_chan held (chan_at self.old c)) }
+        ensures count { length self.new ≡ CHAN_ENDS }
+    {
+        self.ends[c as usize].free(held)
+    }
+
     /// Whether channel end `c`, 0 to 31, is in use.
     pub fn used(&self, c: u8) -> bool
         requires { c < CHAN_ENDS }

@@ -8,6 +8,7 @@ ghost use Rattle.switch_routes.specs.Rows.{SentBy};
 ghost use Rattle.core_step.specs.Network.{NetworkStands, RestsAsKnown, Brings, routes_of, counts_with_gap, first_network};
 
 use chan_ends::ChanEnds;
+use core_units::{Holders, Units};
 use std::marker::Model;
 use switch_routes::{LinkEnd, Links, Switch};
 use trace_lines::Emissions;
@@ -48,7 +49,7 @@ impl Network {
     /// What arrives by the link ends in a slot, and then the switch: nothing is done where it rests and nothing arrives.
     pub(crate) fn bring(
         &mut self,
-        chans: &mut ChanEnds,
+        units: &mut Units,
         slot: u32,
         arrivals: &Arrivals,
         out: &mut Emissions,
@@ -65,7 +66,7 @@ impl Network {
         if self.resting && nothing_arrives(arrivals) {
             return;
         }
-        self.take_in(chans, slot, arrivals, out);
+        self.take_in(units.chans_mut(), slot, arrivals, out);
     }
 
     // The same, where something arrives or may wait.
@@ -92,6 +93,14 @@ impl Network {
         ensures { self.new ≡ record self.old { resting = false } }
     {
         self.resting = false;
+    }
+}
+
+impl Holders for Network {
+    ghost busy = { λ n c. is_busy_among n.switch.inputs c };
+
+    fn is_busy(&self, c: u8) -> bool {
+        self.switch.held(c)
     }
 }
 

@@ -89,9 +89,8 @@ impl Core {
         ensures after { SlotsBefore self.new (slot + 1) }
     {
         out.clear();
-        self.network
-            .bring(self.units.chans_mut(), slot, arrivals, out);
-        if self.units.issue(&self.program, slot, out) {
+        self.network.bring(&mut self.units, slot, arrivals, out);
+        if self.units.issue(&self.program, slot, &self.network, out) {
             self.network.stir();
         }
     }

@@ -8,6 +8,7 @@ ghost use Rattle.step_model.specs.Rows.{effect};
 ghost use Rattle.step_model.specs.Step.{issue_begins, with_run, settled, trap, issued, issued_by};
 ghost use Rattle.core_units.specs.Units.{Ends, Goes, effect_of, and_happened, is_on_resources};
 
+use crate::holders::Holders;
 use crate::program::Program;
 use crate::units::Units;
 use trace_lines::Emissions;
@@ -19,7 +20,7 @@ use xs_model::{Event, Happen, Outcome, Run};
 impl Units {
     /// At most one issue, by the thread that is picked in a slot. What happens is put after the events of `out`.
     /// It answers whether channel ends may have changed. See docs/MACHINE.md.
-    pub fn issue(&mut self, program: &Program, slot: u32, out: &mut Emissions) -> bool
+    pub fn issue<H: Holders>(&mut self, program: &Program, slot: u32, holders: &H, out: &mut Emissions) -> bool
         requires room { length out.old.events + ISSUE_EVENTS ≤ EVENT_ROOM }
         ensures units { (here : Setting) → here.id ≡ program.now.id → here.slot ≡ slot → self.new ≡ (issued program.now.code here self.old).core }
         ensures events { (here : Setting) → here.id ≡ program.now.id → here.slot ≡ slot → out.new ≡ and_happened out.old slot (issued program.now.code here self.old).happened }
@@ -27,13 +28,13 @@ impl Units {
     {
         match self.picked(slot) {
             None => false,
-            Some(k) => self.issue_by(k, program, slot, out),
+            Some(k) => self.issue_by(k, program, slot, holders, out),
         }
     }
 
     // Thread k issues. It stands apart, so that slots in which nobody issues are quick.
     #[inline(never)]
-    fn issue_by(&mut self, k: u8, program: &Program, slot: u32, out: &mut Emissions) -> bool
+    fn issue_by<H: Holders>(&mut self, k: u8, program: &Program, slot: u32, holders: &H, out: &mut Emissions) -> bool
         requires thread { k < THREADS }
         requires room { length out.old.events + ISSUE_EVENTS ≤ EVENT_ROOM }
         ensures units { (here : Setting) → here.id ≡ program.now.id → here.slot ≡ slot → self.new ≡ (issued_by program.now.code here self.old (Some k)).core }
@@ -48,7 +49,7 @@ impl Units {
                 false
             }
             Some(ins) => {
-                let outcome = self.execute(k, program.id(), ins);
+                let outcome = self.execute(k, program.id(), slot, holders, ins);
                 self.settle(k, program, outcome, slot, out);
                 is_on_resources(ins)
             }
@@ -62,7 +63,9 @@ impl Units {
         ensures goes { Goes self.new k }
     {
         self.slots.mark_issue(k, slot);
-        self.set_run(k, Run::Going);
+        if !matches!(self.threads[k as usize].run, Run::Going) {
+            self.set_run(k, Run::Going);
+        }
     }
 
     // Where thread k is.
@@ -78,12 +81,12 @@ impl Units {
         requires thread { k < THREADS }
         ensures { self.new ≡ with_run self.old k run }
     {
-        self.reach = self.reach.max(k + 1);
+        self.able = None;
         self.threads[k as usize].run = run;
     }
 
     // What an instruction does when thread k issues it.
-    fn execute(&mut self, k: u8, id: u16, ins: Instr) -> Outcome
+    fn execute<H: Holders>(&mut self, k: u8, id: u16, slot: u32, holders: &H, ins: Instr) -> Outcome
         requires thread { k < THREADS }
         requires goes { Goes self.old k }
         requires range { InRange ins }
@@ -98,8 +101,8 @@ impl Units {
                 Outcome::Done
             }
             Instr::Memory(_) | Instr::Flow(_) | Instr::Kernel(_) => self.local(k, ins),
-            Instr::Threads(ins) => self.on_threads(k, ins),
-            Instr::Resources(ins) => self.resources(id, k, ins),
+            Instr::Threads(ins) => self.on_threads(id, slot, k, ins),
+            Instr::Resources(ins) => self.on_resources(id, slot, k, holders, ins),
         }
     }
 
@@ -126,7 +129,6 @@ impl Units {
         ensures events { out.new ≡ and_happened out.old slot (trap program.now.code self.old k et ed).happened }
         ensures chans { self.new.chans ≡ self.old.chans }
     {
-        self.reach = self.reach.max(k + 1);
         let thread = &mut self.threads[k as usize];
         let next = return_address(thread, et);
         enter_trap(thread, et, ed, next);
@@ -140,7 +142,7 @@ impl Units {
             },
         });
         if !program.stands_at(thread.pc) {
-            thread.run = Run::Halted;
+            self.set_run(k, Run::Halted);
             out.add_event(Event {
                 slot,
                 what: Happen::Halt { thread: k },

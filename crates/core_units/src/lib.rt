@@ -1,9 +1,13 @@
-//! The units of a core (threads, last issues, memory, channel ends) and what instructions do to them: at most one
+//! The units of a core (threads, last issues, memory, channel ends, synchronisers, locks) and what instructions do to them: at most one
 //! issue in a slot. See docs/MACHINE.md and docs/INSTRUCTIONS.md.
 #![tactic(auto)]
 
+mod chans;
+mod holders;
 mod issue;
+mod named;
 mod program;
+mod refused;
 mod resources;
 mod rows;
 mod threads;
@@ -11,5 +15,6 @@ mod units;
 mod waits;
 
 pub use core_memory::{BadAddress, Ram};
+pub use holders::Holders;
 pub use program::Program;
 pub use units::Units;

@@ -1,4 +1,4 @@
-//! The rows on resources.
+//! The rows on resources. See docs/THREADS.md and docs/LINKS.md.
 ghost use Rattle.std.specs.Prelude.{◌≡◌, ◌<◌, if◌then◌else◌, IsTrue, IfSome, take, []};
 ghost use Rattle.xs_base.specs.declared.numbers.TheConstants.{THREADS, CHAN_ENDS, CHAN_END_KIND};
 ghost use Rattle.xs_model.specs.declared.traps.TheConstants.{ILLEGAL_RESOURCE, RESOURCE_DEPENDENCY};
@@ -14,29 +14,39 @@ ghost use Rattle.step_model.specs.ResourceRows.{resources_row, resource_got, on_
 ghost use Rattle.core_units.specs.Units.{Ends, Goes};
 ghost use Rattle.core_units.specs.Found.{name_of_got};
 
-use crate::threads::go_on;
+use crate::chans::got_chan;
+use crate::holders::Holders;
+use crate::named::resource_named;
+use crate::refused::illegal;
 use crate::units::Units;
-use chan_ends::{ChanEnds, Put, Take};
-use xs_base::numbers::{CHAN_END_KIND, CHAN_ENDS};
-use xs_base::{Token, chan_id};
+use sync_locks::Claim;
+use xs_base::numbers::{CHAN_END_KIND, LOCK_KIND, SYNCHRONISER_KIND, THREAD_KIND};
+use xs_base::{Token, res_id};
 use xs_instructions::ResIns;
-use xs_model::traps::{ILLEGAL_RESOURCE, RESOURCE_DEPENDENCY};
-use xs_model::{Outcome, Wait};
+use xs_model::{Outcome, Resource, Wait};
 
 impl Units {
-    // On the node with this id.
-    pub(crate) fn resources(&mut self, id: u16, k: u8, ins: ResIns) -> Outcome
-        requires thread { k < THREADS }
-        requires goes { Goes self.old k }
-        requires range { ResourcesInRange ins }
-        requires built { IsTrue (is_built (row_of_resources ins)) }
-        ensures row { (here : Setting) → here.id ≡ id → Ends result self.old self.new (resources_row here self.old k ins) }
+    // On the node with this id, in a slot.
+    pub(crate) fn on_resources<H: Holders>(
+        &mut self,
+        id: u16,
+        slot: u32,
+        k: u8,
+        holders: &H,
+        ins: ResIns,
+    ) -> Outcome
     {
+        self.able = None;
         let thread = &self.threads[k as usize];
         match ins {
             ResIns::Getr(d, kind) => {
-                self.getr(id, k, d, kind);
+                let name = self.get(id, slot, k, kind);
+                self.go_on_with(k, d, name);
                 Outcome::Done
+            }
+            ResIns::Freer(s) => {
+                let name = thread.reg(s);
+                self.freer(id, k, holders, name)
             }
             ResIns::Setd(s, x) => {
                 let (name, dest) = (thread.reg(s), thread.reg(x));
@@ -50,142 +60,90 @@ impl Units {
                 let name = thread.reg(s);
                 self.check(id, k, name, u32::from(i))
             }
+            ResIns::In(d, s) => {
+                let name = thread.reg(s);
+                self.take_in(id, k, d, name)
+            }
+            ResIns::Out(s, _) => {
+                let name = thread.reg(s);
+                self.put_out(id, k, name)
+            }
             _ => unreachable!(),
         }
     }
 
-    // Thread k goes on.
-    #[tactic(auto, using(crate::proofs::Still::still_set))]
-    fn go_on(&mut self, k: u8)
-        requires thread { k < THREADS }
-        requires goes { Goes self.old k }
-        ensures { self.new ≡ with_thread self.old k (after_it (thread_of self.old k)) }
+    // Gets the lowest free resource of a kind for thread k: its identifier, or 0 where there is none.
+    fn get(&mut self, id: u16, slot: u32, k: u8, kind: u8) -> u32
     {
-        go_on(&mut self.threads[k as usize]);
-    }
-
-    // Gets the lowest free resource of a kind.
-    #[tactic(auto, using(crate::proofs::Still::still_set))]
-    fn getr(&mut self, id: u16, k: u8, d: u8, kind: u8)
-        requires thread { k < THREADS }
-        requires goes { Goes self.old k }
-        requires register { d < 12 }
-        ensures row { self.new ≡ resource_got id self.old k d kind }
-    {
-        let name = if kind == CHAN_END_KIND {
-            got_chan(id, &mut self.chans)
-        } else {
-            0
-        };
-        let thread = &mut self.threads[k as usize];
-        thread.set_reg(d, name);
-        go_on(thread);
-    }
-
-    // The channel end that a word names takes a destination.
-    fn set_dest(&mut self, id: u16, k: u8, name: u32, dest: u32) -> Outcome
-        requires thread { k < THREADS }
-        requires goes { Goes self.old k }
-        ensures row { Ends result self.old self.new (on_named self.old k name no_wait (take_dest dest) takes_nothing (chan_named id name)) }
-    {
-        match chan_named(id, name) {
-            None => illegal(name),
-            Some(c) => match self.chans.set_dest(c, dest) {
-                Ok(()) => {
-                    self.go_on(k);
-                    Outcome::Done
-                }
-                Err(_) => illegal(name),
-            },
+        match kind {
+            CHAN_END_KIND => got_chan(id, &mut self.chans),
+            SYNCHRONISER_KIND => name_of(self.syncs.get_sync(k), kind),
+            THREAD_KIND => name_of(self.get_thread(slot), kind),
+            LOCK_KIND => name_of(self.syncs.get_lock(), kind),
+            _ => 0,
         }
     }
 
-    // A token is put into the channel end that a word names.
-    fn put(&mut self, id: u16, k: u8, name: u32, token: Token) -> Outcome
-        requires thread { k < THREADS }
-        requires goes { Goes self.old k }
-        ensures row { Ends result self.old self.new (on_named self.old k name (room 1) (put_token token) takes_nothing (chan_named id name)) }
+    // Frees the resource that a word names.
+    fn freer<H: Holders>(&mut self, id: u16, k: u8, holders: &H, name: u32) -> Outcome
     {
-        match chan_named(id, name) {
-            None => illegal(name),
-            Some(c) => match self.chans.put(c, token) {
-                Put::Done => {
-                    self.go_on(k);
-                    Outcome::Done
-                }
-                Put::Full => self.wait(name, Wait::Room { chan: c, count: 1 }),
-                Put::Bad => illegal(name),
-            },
-        }
-    }
-
-    // The control token of a value is taken from the channel end that a word names.
-    fn check(&mut self, id: u16, k: u8, name: u32, value: u32) -> Outcome
-        requires thread { k < THREADS }
-        requires goes { Goes self.old k }
-        ensures row { Ends result self.old self.new (on_named self.old k name (tokens 1) (check_token value) takes_nothing (chan_named id name)) }
-    {
-        match chan_named(id, name) {
-            None => illegal(name),
-            Some(c) => match self.chans.check(c, value) {
-                Take::Got(_) => {
-                    self.go_on(k);
-                    Outcome::Done
-                }
-                Take::Wait => self.wait(name, Wait::Tokens { chan: c, count: 1 }),
-                Take::Bad => illegal(name),
-            },
-        }
-    }
-
-    // The thread pauses, and traps where another one is paused there.
-    fn wait(&self, name: u32, wait: Wait) -> Outcome
-        ensures row { Ends result self.now self.now (if is_waited_at self.now wait then Trap RESOURCE_DEPENDENCY name else Pause self.now wait []) }
-    {
-        if self.is_waited_at(wait) {
-            Outcome::Trap {
-                et: RESOURCE_DEPENDENCY,
-                ed: name,
+        match resource_named(id, name) {
+            Some(resource) if !self.is_paused_on(resource) && self.free(k, holders, resource) => {
+                self.go_on(k);
+                Outcome::Done
             }
-        } else {
-            Outcome::Pause(wait)
+            _ => illegal(name),
+        }
+    }
+
+    // Whether a resource could be freed by thread k, and then it is.
+    fn free<H: Holders>(&mut self, k: u8, holders: &H, resource: Resource) -> bool
+    {
+        match resource {
+            Resource::Chan { chan } => self.chans.free(chan, holders.is_busy(chan)).is_ok(),
+            Resource::Sync { sync } => self.syncs.free_sync(sync, k).is_ok(),
+            Resource::Lock { lock } => self.syncs.free_lock(lock).is_ok(),
+            Resource::Thread { .. } => false,
+        }
+    }
+
+    // Thread k owns the lock that a word names, or waits until nobody does.
+    fn take_in(&mut self, id: u16, k: u8, d: u8, name: u32) -> Outcome
+    {
+        let Some(Resource::Lock { lock }) = resource_named(id, name) else {
+            return illegal(name);
+        };
+        match self.syncs.claim(lock, k) {
+            Claim::Got => {
+                self.go_on_with(k, d, name);
+                Outcome::Done
+            }
+            Claim::Held => Outcome::Pause(Wait::Lock { lock }),
+            Claim::Bad => illegal(name),
+        }
+    }
+
+    // Thread k gives up the lock that a word names.
+    fn put_out(&mut self, id: u16, k: u8, name: u32) -> Outcome
+    {
+        let Some(Resource::Lock { lock }) = resource_named(id, name) else {
+            return illegal(name);
+        };
+        match self.syncs.release(lock, k) {
+            Ok(()) => {
+                self.go_on(k);
+                Outcome::Done
+            }
+            Err(_) => illegal(name),
         }
     }
 }
 
-// Gets the one channel end that a program may get so far: its identifier, or 0 where it is in use.
-fn got_chan(id: u16, chans: &mut ChanEnds) -> u32
-    ensures name { result ≡ name_of_got id (free_chan (take (built_of_kind CHAN_END_KIND) chans.old) 0) }
-    ensures got { chans.new ≡ with_got chans.old (free_chan (take (built_of_kind CHAN_END_KIND) chans.old) 0) }
+// The identifier of a resource of a kind, or 0 where there is none.
+fn name_of(number: Option<u8>, kind: u8) -> u32
 {
-    if chans.used(0) {
-        return 0;
-    }
-    match chans.alloc() {
-        Some(c) => chan_id(id, c),
+    match number {
+        Some(number) => res_id(number, kind),
         None => 0,
-    }
-}
-
-// The channel end of this node that a word names, 0 to 31: `None` exactly where it names none.
-fn chan_named(id: u16, name: u32) -> Option<u8>
-    ensures value { result ≡ chan_named id name }
-    ensures within { IfSome result (λ c. c < CHAN_ENDS) }
-{
-    let number = (name / 256 % 256) as u8;
-    if name == chan_id(id, number) && number < CHAN_ENDS {
-        Some(number)
-    } else {
-        None
-    }
-}
-
-// The word names no channel end in use, or the instruction is none for it.
-fn illegal(name: u32) -> Outcome
-    ensures { result ≡ Outcome.Trap ILLEGAL_RESOURCE name }
-{
-    Outcome::Trap {
-        et: ILLEGAL_RESOURCE,
-        ed: name,
     }
 }

@@ -1,40 +1,268 @@
-//! The rows on threads.
-ghost use Rattle.std.specs.Prelude.{◌≡◌, ◌<◌, IsTrue};
-ghost use Rattle.xs_base.specs.declared.numbers.TheConstants.{THREADS};
-ghost use Rattle.xs_instructions.specs.Rows.{is_built};
-ghost use Rattle.xs_instructions.specs.Operands.{row_of_threads};
-ghost use Rattle.step_model.specs.Effect.{Setting, after_it};
-ghost use Rattle.step_model.specs.ThreadRows.{threads_row};
-ghost use Rattle.core_units.specs.Units.{Ends, Goes};
-
+//! The rows on threads. See docs/THREADS.md.
+use crate::named::resource_named;
+use crate::refused::illegal;
 use crate::units::Units;
+use xs_base::numbers::{THREAD_KIND, THREADS};
+use xs_base::res_id;
 use xs_instructions::ThreadIns;
-use xs_model::{Outcome, Run, Thread};
+use xs_model::{Outcome, Resource, Run, Thread, Wait};
+
+// The numbers of a thread's registers after r11, as `Thread::set_reg` counts them.
+const CP: u8 = 12;
+const DP: u8 = 13;
+const SP: u8 = 14;
+const LR: u8 = 15;
+
+// What a row sets of another thread.
+#[derive(Clone, Copy)]
+enum Target {
+    Pc,
+    Register(u8),
+}
 
 impl Units {
-    #[tactic(auto, using(crate::proofs::Still::still_set))]
-    pub(crate) fn on_threads(&mut self, k: u8, ins: ThreadIns) -> Outcome
-        requires thread { k < THREADS }
-        requires goes { Goes self.old k }
-        requires built { IsTrue (is_built (row_of_threads ins)) }
-        ensures row { (here : Setting) → Ends result self.old self.new (threads_row here self.old k ins) }
-        ensures chans { self.new.chans ≡ self.old.chans }
+    // On the node with this id, in a slot.
+    pub(crate) fn on_threads(&mut self, id: u16, slot: u32, k: u8, ins: ThreadIns) -> Outcome
     {
+        self.able = None;
         match ins {
-            ThreadIns::Freet => {
-                let thread = &mut self.threads[k as usize];
-                go_on(thread);
-                thread.run = Run::Free;
-                Outcome::Gone
-            }
-            _ => unreachable!(),
+            ThreadIns::Getst(d, s) => self.getst(id, slot, k, d, s),
+            ThreadIns::InitPc(s, x) => self.set_other(id, k, s, Target::Pc, x),
+            ThreadIns::InitSp(s, x) => self.set_other(id, k, s, Target::Register(SP), x),
+            ThreadIns::InitDp(s, x) => self.set_other(id, k, s, Target::Register(DP), x),
+            ThreadIns::InitCp(s, x) => self.set_other(id, k, s, Target::Register(CP), x),
+            ThreadIns::InitLr(s, x) => self.set_other(id, k, s, Target::Register(LR), x),
+            ThreadIns::SetOther(s, d, x) => self.set_other(id, k, s, Target::Register(d), x),
+            ThreadIns::Start(s) => self.start(id, k, s),
+            ThreadIns::Msync(s) => self.msync(id, k, s),
+            ThreadIns::Mjoin(s) => self.mjoin(id, k, s),
+            ThreadIns::Ssync => self.ssync(k),
+            ThreadIns::Freet => self.freet(k),
         }
+    }
+
+    // ---- Rows of a master, on the synchroniser that register s names
+
+    fn getst(&mut self, id: u16, slot: u32, k: u8, d: u8, s: u8) -> Outcome
+    {
+        let name = self.threads[k as usize].reg(s);
+        match self.mastered(id, k, name) {
+            None => illegal(name),
+            Some(sync) => {
+                let got = self.get_slave(slot, k, sync);
+                self.go_on_with(k, d, got);
+                Outcome::Done
+            }
+        }
+    }
+
+    // Waits until all slaves are in, and then they go.
+    fn msync(&mut self, id: u16, k: u8, s: u8) -> Outcome
+    {
+        let name = self.threads[k as usize].reg(s);
+        match self.mastered(id, k, name) {
+            None => illegal(name),
+            Some(sync) => {
+                if !self.all_in(sync) {
+                    return Outcome::Pause(Wait::Slaves { sync });
+                }
+                self.set_slaves(sync, Run::Going);
+                self.go_on(k);
+                Outcome::Done
+            }
+        }
+    }
+
+    // Waits until all slaves are in, and then they are free, and no slaves any more.
+    fn mjoin(&mut self, id: u16, k: u8, s: u8) -> Outcome
+    {
+        let name = self.threads[k as usize].reg(s);
+        match self.mastered(id, k, name) {
+            None => illegal(name),
+            Some(sync) => {
+                if !self.all_in(sync) {
+                    return Outcome::Pause(Wait::Slaves { sync });
+                }
+                self.set_slaves(sync, Run::Free);
+                self.syncs.unbind_all(sync);
+                self.go_on(k);
+                Outcome::Done
+            }
+        }
+    }
+
+    // The synchroniser that a word names, where thread k is its master.
+    fn mastered(&self, id: u16, k: u8, name: u32) -> Option<u8>
+    {
+        match resource_named(id, name) {
+            Some(Resource::Sync { sync }) if self.syncs.master(sync) == Some(k) => Some(sync),
+            _ => None,
+        }
+    }
+
+    // Gets the lowest free thread as a slave: its identifier, or 0 where none is free.
+    fn get_slave(&mut self, slot: u32, k: u8, sync: u8) -> u32
+    {
+        match self.get_thread(slot) {
+            None => 0,
+            Some(j) => {
+                let _ = self.syncs.bind(sync, k, j);
+                res_id(j, THREAD_KIND)
+            }
+        }
+    }
+
+    // Gets the lowest free thread: it is unstarted, its registers are 0, and the slot is its last issue.
+    pub(crate) fn get_thread(&mut self, slot: u32) -> Option<u8>
+    {
+        let free = free_thread(&self.threads)?;
+        self.threads[free as usize] = Thread::fresh();
+        self.slots.mark_issue(free, slot);
+        Some(free)
+    }
+
+    fn all_in(&self, sync: u8) -> bool
+    {
+        all_in(&self.threads, self.syncs.slaves(sync))
+    }
+
+    // What the slaves of a synchroniser do from now on.
+    fn set_slaves(&mut self, sync: u8, run: Run)
+    {
+        let slaves = self.syncs.slaves(sync);
+        set_runs(&mut self.threads, slaves, run);
+    }
+
+    // ---- Rows on the thread that register s names
+
+    fn set_other(&mut self, id: u16, k: u8, s: u8, target: Target, x: u8) -> Outcome
+    {
+        let thread = &self.threads[k as usize];
+        let (name, value) = (thread.reg(s), thread.reg(x));
+        match thread_named(id, name) {
+            Some(j) if is_in(self.threads[j as usize].run) => {
+                set(&mut self.threads[j as usize], target, value);
+                self.go_on(k);
+                Outcome::Done
+            }
+            _ => illegal(name),
+        }
+    }
+
+    fn start(&mut self, id: u16, k: u8, s: u8) -> Outcome
+    {
+        let name = self.threads[k as usize].reg(s);
+        match thread_named(id, name) {
+            Some(j) if self.may_start(j) => {
+                self.threads[j as usize].run = Run::Going;
+                self.go_on(k);
+                Outcome::Done
+            }
+            _ => illegal(name),
+        }
+    }
+
+    // Whether a thread is unstarted, and no master starts it.
+    fn may_start(&self, j: u8) -> bool
+    {
+        matches!(self.threads[j as usize].run, Run::Unstarted) && self.syncs.sync_of(j).is_none()
+    }
+
+    // ---- Rows on the thread itself
+
+    fn ssync(&mut self, k: u8) -> Outcome
+    {
+        if self.syncs.sync_of(k).is_none() {
+            return illegal(0);
+        }
+        self.go_on(k);
+        self.threads[k as usize].run = Run::AtSync;
+        Outcome::Done
+    }
+
+    fn freet(&mut self, k: u8) -> Outcome
+    {
+        if self.syncs.sync_of(k).is_some() {
+            return illegal(0);
+        }
+        self.go_on(k);
+        self.threads[k as usize].run = Run::Free;
+        Outcome::Gone
+    }
+
+    // ---- The thread goes on
+
+    pub(crate) fn go_on(&mut self, k: u8)
+    {
+        go_on(&mut self.threads[k as usize]);
+    }
+
+    // With this word in a register.
+    pub(crate) fn go_on_with(&mut self, k: u8, d: u8, word: u32)
+    {
+        let thread = &mut self.threads[k as usize];
+        thread.set_reg(d, word);
+        go_on(thread);
     }
 }
 
 /// Goes on to the next instruction.
 pub(crate) fn go_on(thread: &mut Thread)
-    ensures { thread.new ≡ after_it thread.old }
 {
     thread.pc = thread.pc.wrapping_add(4);
+}
+
+/// Whether the threads of a mask are all unstarted or at sync.
+pub(crate) fn all_in(threads: &[Thread; 8], slaves: u8) -> bool
+{
+    for k in 0..THREADS {
+        if (slaves >> k) & 1 == 1 && !is_in(threads[k as usize].run) {
+            return false;
+        }
+    }
+    true
+}
+
+// What the threads of a mask do from now on.
+fn set_runs(threads: &mut [Thread; 8], slaves: u8, run: Run)
+{
+    for k in 0..THREADS {
+        if (slaves >> k) & 1 == 1 {
+            threads[k as usize].run = run;
+        }
+    }
+}
+
+fn set(thread: &mut Thread, target: Target, value: u32)
+{
+    match target {
+        Target::Pc => thread.pc = value,
+        Target::Register(g) => thread.set_reg(g, value),
+    }
+}
+
+// Whether a thread is where its synchroniser waits for it.
+fn is_in(run: Run) -> bool
+{
+    matches!(run, Run::Unstarted | Run::AtSync)
+}
+
+// The thread, 0 to 7, that a word names.
+fn thread_named(id: u16, name: u32) -> Option<u8>
+{
+    match resource_named(id, name) {
+        Some(Resource::Thread { thread }) => Some(thread),
+        _ => None,
+    }
+}
+
+// The lowest thread that is free.
+fn free_thread(threads: &[Thread; 8]) -> Option<u8>
+{
+    for k in 0..THREADS {
+        if matches!(threads[k as usize].run, Run::Free) {
+            return Some(k);
+        }
+    }
+    None
 }

@@ -10,19 +10,21 @@ ghost use Rattle.xs_model.specs.Memory.{load_word, is_word_address};
 use chan_ends::ChanEnds;
 use core_memory::{BadAddress, Ram};
 use std::marker::Model;
+use sync_locks::Syncs;
 use thread_slots::Slots;
 use xs_model::{Entry0, Run, Thread};
 
-/// A core's threads with their last issues, its memory and its channel ends. Contracts see the core record. See
-/// docs/MACHINE.md.
+/// A core's threads with their last issues, its memory, channel ends, synchronisers and locks. Contracts see the core
+/// record. See docs/MACHINE.md and docs/THREADS.md.
 #[derive(Drop)]
 pub struct Units {
     pub(crate) threads: [Thread; 8],
-    // Every thread from this number on is still: it neither goes nor is paused.
-    pub(crate) reach: u8,
+    // The threads that would issue if they were rested, as the bits of a mask, where that is known.
+    pub(crate) able: Option<u8>,
     pub(crate) slots: Slots,
     pub(crate) ram: Ram,
     pub(crate) chans: ChanEnds,
+    pub(crate) syncs: Syncs,
 }
 
 impl Model for Units {
@@ -47,10 +49,11 @@ impl Units {
         threads[0] = Thread::first(&Entry0 { pc, cp });
         Units {
             threads,
-            reach: 1,
+            able: None,
             slots: Slots::new(),
             ram,
             chans: ChanEnds::new(id),
+            syncs: Syncs::new(),
         }
     }
 
@@ -59,6 +62,7 @@ impl Units {
         ensures* writes_back { sem 𝓛 (LendsChans self.entry result) }
         ensures value { result.now ≡ self.old.chans }
     {
+        self.able = None;
         &mut self.chans
     }
 

@@ -11,25 +11,47 @@ ghost use Rattle.xs_model.specs.Masks.{in_mask};
 ghost use Rattle.core_units.specs.Units.{AreStillFrom};
 ghost use Rattle.core_units.specs.Waits.{holds_by, able_by};
 
+use crate::threads::all_in;
 use crate::units::Units;
 use chan_ends::ChanEnds;
+use sync_locks::Syncs;
 use thread_slots::{no_threads, with_able};
-use xs_model::{Run, Thing, Thread, Wait};
+use xs_base::numbers::THREADS;
+use xs_model::{Resource, Run, Thing, Thread, Wait};
 
 impl Units {
     /// The thread that issues in a slot, 0 to 7: None exactly where nobody may.
-    pub(crate) fn picked(&self, slot: u32) -> Option<u8>
+    pub(crate) fn picked(&mut self, slot: u32) -> Option<u8>
         ensures value { result ≡ picked self.now slot }
         ensures within { IfSome result (λ k. k < THREADS) }
     {
-        self.slots.pick(self.able(slot), slot)
+        let able = self.able();
+        self.slots.pick(able, slot)
     }
 
     // The threads that may issue but for the four slots of rest: bit k for thread k.
-    fn able(&self, _slot: u32) -> u8
-        ensures { (k : ℕ) → k < THREADS → in_mask result k ≡ is_able self.now k _slot }
+    fn able(&mut self) -> u8
+        ensures value { (slot k : ℕ) → k < THREADS → in_mask result k ≡ is_able self.old k slot }
+        ensures unchanged { self.new ≡ self.old }
     {
-        able_of(&self.threads, self.reach, &self.chans)
+        if let Some(able) = self.able {
+            return able;
+        }
+        let able = able_of(&self.threads, &self.chans, &self.syncs);
+        self.able = Some(able);
+        able
+    }
+
+    /// Whether a thread is paused on a resource.
+    pub(crate) fn is_paused_on(&self, resource: Resource) -> bool
+        ensures { result ≡ is_paused_on self.now resource }
+    {
+        for thread in &self.threads {
+            if pauses_on(resource, thread.run) {
+                return true;
+            }
+        }
+        false
     }
 
     /// Whether a thread is paused where one would be with this wait.
@@ -46,16 +68,12 @@ impl Units {
     }
 }
 
-// The same by these threads and channel ends, where every thread from `reach` on is still.
-fn able_of(threads: &[Thread; 8], reach: u8, chans: &ChanEnds) -> u8
-    requires within { reach ≤ THREADS }
-    requires still { AreStillFrom reach threads.now }
-    ensures { (k : ℕ) → k < THREADS → in_mask result k ≡ able_by chans.now (slice_index_or threads.now k fresh_thread).run }
+// The same by these parts of the core.
+fn able_of(threads: &[Thread; 8], chans: &ChanEnds, syncs: &Syncs) -> u8
 {
     let mut able = no_threads();
-    for k in 0..reach {
-        let thread = &threads[k as usize];
-        if is_able(thread.run, chans) {
+    for k in 0..THREADS {
+        if is_able(threads[k as usize].run, threads, chans, syncs) {
             able = with_able(able, k);
         }
     }
@@ -63,25 +81,48 @@ fn able_of(threads: &[Thread; 8], reach: u8, chans: &ChanEnds) -> u8
 }
 
 // Whether a thread would issue if it were rested.
-fn is_able(run: Run, chans: &ChanEnds) -> bool
-    ensures { result ≡ able_by chans.now run }
+fn is_able(run: Run, threads: &[Thread; 8], chans: &ChanEnds, syncs: &Syncs) -> bool
 {
     match run {
         Run::Going => true,
-        Run::Paused(wait) => holds(wait, chans),
+        Run::Paused(wait) => holds(wait, threads, chans, syncs),
         _ => false,
     }
 }
 
 // Whether what pauses a thread holds.
-fn holds(wait: Wait, chans: &ChanEnds) -> bool
-    ensures { result ≡ holds_by chans.now wait }
+fn holds(wait: Wait, threads: &[Thread; 8], chans: &ChanEnds, syncs: &Syncs) -> bool
 {
     match wait {
         Wait::Room { chan, count } => chans.has_room(chan, count),
         Wait::Tokens { chan, count } => chans.has_tokens(chan, count),
+        Wait::Lock { lock } => syncs.owner(lock).is_none(),
+        Wait::Slaves { sync } => all_in(threads, syncs.slaves(sync)),
         Wait::PortFull { .. } | Wait::Choice => false,
-        _ => true,
+        Wait::PortEmpty { .. } | Wait::PortIdle { .. } | Wait::Timer { .. } => true,
+    }
+}
+
+fn pauses_on(resource: Resource, run: Run) -> bool
+    ensures { result ≡ pauses_on resource run }
+{
+    match run {
+        Run::Paused(wait) => is_on(resource, wait),
+        _ => false,
+    }
+}
+
+// Whether a wait names a resource.
+fn is_on(resource: Resource, wait: Wait) -> bool
+    ensures { result ≡ is_on resource wait }
+{
+    match (resource, wait) {
+        (Resource::Chan { chan: c }, Wait::Room { chan, .. } | Wait::Tokens { chan, .. }) => {
+            chan == c
+        }
+        (Resource::Sync { sync: n }, Wait::Slaves { sync }) => sync == n,
+        (Resource::Lock { lock: n }, Wait::Lock { lock }) => lock == n,
+        _ => false,
     }
 }
 

@@ -1,5 +1,5 @@
 -- Channel ends: what programs do with their buffers.
-use Rattle.std.specs.Prelude.{ℕ, ◌+◌, ◌%◌, Bool, true, false, ◌&&◌, ◌==◌, nat_lt, if◌then◌else◌, Option, Some, None, List, [], ◌∷◌, ◌++◌}
+use Rattle.std.specs.Prelude.{ℕ, ◌+◌, ◌%◌, Bool, true, false, ◌&&◌, not, ◌==◌, nat_lt, if◌then◌else◌, Option, Some, None, List, [], ◌∷◌, ◌++◌, length}
 use Rattle.xs_base.specs.Numbers.{Word, NodeId, ChanNumber, Identifier}
 use Rattle.xs_base.specs.declared.numbers.TheConstants.{CHAN_ENDS, CHAN_END_KIND}
 use Rattle.xs_base.specs.declared.token.Token.{Token}
@@ -22,6 +22,11 @@ free_chan chans n = lowest_free (λ chan. chan.used) chans n
 -- a channel end that was just got: its buffers are empty, and it has no destination
 abbrev pub got_chan : ChanRec
 got_chan = record unused_chan { used = true }
+
+-- a channel end is freed where it is in use, its buffers are empty, and the switch is not at work with it
+abbrev pub freed_chan : Bool → ChanRec → Option ChanRec
+freed_chan is_busy chan =
+    if chan.used && (length chan.output == 0) && (length chan.input == 0) && not is_busy then Some unused_chan else None
 
 -- what a program finds at a channel end
 pub data Found : Type 0 where

@@ -74,8 +74,11 @@ abbrev pub end_is_held : NodeRec → EndNumber → Bool
 end_is_held rec e = list_any (is_out_by e) rec.inputs
 
 -- whether a channel end is at work: its own input is not idle, or some input holds it
+abbrev pub is_busy_among : List InputRec → ChanNumber → Bool
+is_busy_among inputs n = not (is_idle (slice_index_or inputs (input_of_chan n) Idle)) || list_any (is_local_to n) inputs
+
 abbrev pub chan_is_busy : NodeRec → ChanNumber → Bool
-chan_is_busy rec n = not (is_idle (state_at rec (input_of_chan n))) || chan_is_held rec n
+chan_is_busy rec n = is_busy_among rec.inputs n
 
 -- the lowest of the link ends from end on, of so many, that is in the mask and free
 unfoldable pub free_end : NodeRec → ℕ → EndNumber → ℕ → Option EndNumber

@@ -6,7 +6,7 @@ use Rattle.xs_model.specs.declared.resource.Resource.{Resource}
 use Rattle.xs_model.specs.declared.resource.Resource.TheVariants as resource
 use Rattle.net_model.specs.Chans.{chan_named}
 
--- a number that the word's kind has, of so many
+-- the resource with a number, where its kind has so many
 abbrev pub numbered : (ℕ → Resource) → ℕ → ℕ → Option Resource
 numbered of_number count number = if nat_lt number count then Some (of_number number) else None
 

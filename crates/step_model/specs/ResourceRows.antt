@@ -1,5 +1,5 @@
 -- The rows on resources.
-use Rattle.std.specs.Prelude.{ℕ, Bool, ◌&&◌, not, ◌==◌, if◌then◌else◌, Option, Some, None, [], length, take}
+use Rattle.std.specs.Prelude.{ℕ, ◌==◌, if◌then◌else◌, Option, Some, None, [], take}
 use Rattle.xs_base.specs.Numbers.{Slot, Word, Register, ThreadNumber, ChanNumber, NodeId, Kind, Identifier}
 use Rattle.xs_base.specs.Ids.{chan_id, res_id}
 use Rattle.xs_base.specs.declared.numbers.TheConstants.{CHAN_END_KIND, SYNCHRONISER_KIND, THREAD_KIND, LOCK_KIND}
@@ -11,13 +11,13 @@ use Rattle.xs_model.specs.declared.thread.Wait.TheVariants as wait
 use Rattle.xs_model.specs.declared.traps.TheConstants.{ILLEGAL_RESOURCE, RESOURCE_DEPENDENCY}
 use Rattle.xs_model.specs.declared.resource.Resource.{Resource}
 use Rattle.xs_model.specs.declared.resource.Resource.TheVariants as resource
-use Rattle.xs_model.specs.Record.{CoreRec, ChanRec, SyncRec, LockRec, unused_chan, thread_of, chan_of, sync_of, lock_of, with_thread, with_chan, with_sync, with_lock}
+use Rattle.xs_model.specs.Record.{CoreRec, ChanRec, SyncRec, LockRec, thread_of, chan_of, sync_of, lock_of, with_thread, with_chan, with_sync, with_lock}
 use Rattle.xs_model.specs.Free.{lowest_free}
 use Rattle.xs_model.specs.Syncs.{is_sync_used, got_sync, freed_sync, free_lock, Claimed, Owns, IsHeld, IsRefused, claimed, released, freed_lock}
 use Rattle.xs_model.specs.Waits.{is_waited_at, is_paused_on}
 use Rattle.xs_instructions.specs.declared.instr.ResIns.{ResIns}
 use Rattle.xs_instructions.specs.declared.instr.ResIns.TheVariants as resources
-use Rattle.net_model.specs.Chans.{Found, Got, Waits, Refused, got_chan, free_chan, chan_named, found_at, put_token, check_token, take_dest}
+use Rattle.net_model.specs.Chans.{Found, Got, Waits, Refused, got_chan, free_chan, freed_chan, chan_named, found_at, put_token, check_token, take_dest}
 use Rattle.step_model.specs.Effect.{Setting, Effect, Done, Pause, Trap, Unbuilt, reg, after_it, goes_on, goes_on_with}
 use Rattle.step_model.specs.Named.{resource_named}
 use Rattle.step_model.specs.ThreadRows.{thread_id, thread_to_get, with_got_thread}
@@ -59,12 +59,8 @@ resource_got here core k d kind =
     else (if kind == LOCK_KIND then lock_was_got core k d (lowest_free (λ lock. lock.used) core.locks 0)
     else goes_on_with core k d 0)))
 
--- ---- Freeing a resource, on which no thread may be paused
-
--- a channel end may be freed where it is in use, its buffers are empty, and the switch is not at work with it
-abbrev pub freed_chan : Bool → ChanRec → Option ChanRec
-freed_chan is_busy chan =
-    if chan.used && (length chan.output == 0) && (length chan.input == 0) && not is_busy then Some unused_chan else None
+-- ---- Freeing a resource, which is refused while a thread is paused on it. That what was enabled of it is forgotten is
+-- not built yet.
 
 -- the core without a resource: None where it may not be freed by thread k
 abbrev pub without_chan : CoreRec → ChanNumber → Option ChanRec → Option CoreRec
@@ -127,7 +123,7 @@ on_named core k name wait does takes (Some c) = found_there core k name c (wait 
 abbrev pub on_chan : Setting → CoreRec → ThreadNumber → Register → (ChanNumber → Wait) → (ChanRec → Found) → (Word → Thread → Thread) → Effect
 on_chan here core k s wait does takes = on_named core k (reg core k s) wait does takes (chan_named here.id (reg core k s))
 
--- ---- Rows on a lock. On a channel end `in` and `out` are not built yet.
+-- ---- Rows on a lock. On a channel end `in` and `out` are not built yet: what names one is refused, as what names no lock.
 
 -- the thread owns the lock and takes its identifier, or waits until nobody owns it
 abbrev pub claimed_there : CoreRec → ThreadNumber → Register → Identifier → ℕ → Claimed → Effect

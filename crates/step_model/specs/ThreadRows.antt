@@ -1,4 +1,5 @@
--- The rows on threads: a master gets slaves, sets their registers, and starts and joins them.
+-- The rows on threads: a master gets slaves and joins them; any thread sets the registers of one that does not run, and
+-- starts one that is nobody's slave.
 use Rattle.std.specs.Prelude.{ℕ, Bool, true, false, ◌&&◌, not, if◌then◌else◌, Option, Some, None, List, [], ◌∷◌, is_some, slice_index_or, slice_set}
 use Rattle.xs_base.specs.Numbers.{Slot, Word, Register, ThreadNumber, Identifier}
 use Rattle.xs_base.specs.Ids.{res_id}
@@ -13,7 +14,7 @@ use Rattle.xs_model.specs.declared.resource.Resource.TheVariants as resource
 use Rattle.xs_model.specs.Threads.{fresh_thread, with_register}
 use Rattle.xs_model.specs.Record.{CoreRec, SyncRec, thread_of, sync_of, with_thread, with_run, with_last, with_sync}
 use Rattle.xs_model.specs.Free.{lowest_free}
-use Rattle.xs_model.specs.Syncs.{is_thread, sync_with, with_slave}
+use Rattle.xs_model.specs.Syncs.{is_thread, sync_with, with_bound, unbound}
 use Rattle.xs_model.specs.Waits.{is_in, all_in}
 use Rattle.xs_instructions.specs.declared.instr.ThreadIns.{ThreadIns}
 use Rattle.xs_instructions.specs.declared.instr.ThreadIns.TheVariants as threads
@@ -22,13 +23,13 @@ use Rattle.step_model.specs.Named.{resource_named}
 
 -- ---- Getting a thread
 
-abbrev pub is_there : Run → Bool
-is_there Free = false
-is_there _ = true
+abbrev pub is_taken : Run → Bool
+is_taken Free = false
+is_taken _ = true
 
 -- the lowest thread that is free
 abbrev pub thread_to_get : CoreRec → Option ThreadNumber
-thread_to_get core = lowest_free (λ th. is_there th.run) core.threads 0
+thread_to_get core = lowest_free (λ th. is_taken th.run) core.threads 0
 
 -- a thread that is got in a slot is unstarted, its registers are 0, and the slot is its last issue
 abbrev pub with_got_thread : CoreRec → ThreadNumber → Slot → CoreRec
@@ -41,8 +42,7 @@ thread_id j = res_id j THREAD_KIND
 abbrev pub slave_got : Setting → CoreRec → ThreadNumber → Register → ℕ → Option ThreadNumber → CoreRec
 slave_got here core k d n None = goes_on_with core k d 0
 slave_got here core k d n (Some j) =
-    let sync = record (sync_of core n) { slaves = with_slave j (sync_of core n).slaves } in
-    goes_on_with (with_sync (with_got_thread core j here.slot) n sync) k d (thread_id j)
+    goes_on_with (with_sync (with_got_thread core j here.slot) n (with_bound j (sync_of core n))) k d (thread_id j)
 
 -- ---- Rows of a master, on the synchroniser that register s names
 
@@ -69,7 +69,7 @@ slaves_go core n = with_slaves_run core n Going
 
 -- they are all free, and no slaves of it any more; what they enabled is disabled, of which nothing is built yet
 abbrev pub slaves_are_freed : CoreRec → ℕ → CoreRec
-slaves_are_freed core n = with_sync (with_slaves_run core n Free) n (record (sync_of core n) { slaves = [] })
+slaves_are_freed core n = with_sync (with_slaves_run core n Free) n (unbound (sync_of core n))
 
 -- the master waits until all its slaves are in, and then this becomes of them
 abbrev pub when_all_in : CoreRec → ThreadNumber → (CoreRec → ℕ → CoreRec) → ℕ → Effect
@@ -96,7 +96,7 @@ abbrev pub is_unstarted : Run → Bool
 is_unstarted Unstarted = true
 is_unstarted _ = false
 
--- a thread that no master starts
+-- a thread that is unstarted, and nobody's slave: those are started by `msync`
 abbrev pub may_start : CoreRec → ThreadNumber → Bool
 may_start core j = is_unstarted (thread_of core j).run && not (is_slave core j)
 
@@ -114,5 +114,6 @@ threads_row here core k (threads.Start s) = on_thread here core k s (may_start c
 threads_row here core k (threads.Msync s) = as_master here core k s (when_all_in core k slaves_go)
 threads_row here core k (threads.Mjoin s) = as_master here core k s (when_all_in core k slaves_are_freed)
 threads_row here core k threads.Ssync = allowed_where (is_slave core k) 0 (with_run (goes_on core k) k AtSync)
+-- what the thread enabled is disabled, of which nothing is built yet
 threads_row here core k threads.Freet =
     if is_slave core k then Trap ILLEGAL_RESOURCE 0 else Gone (with_run (goes_on core k) k Free) []

@@ -35,7 +35,8 @@ pub record ClockRec : Type 0 where
 abbrev pub off_clock : ClockRec
 off_clock = record { on = false; divider = 0; running = false }
 
--- a synchroniser: the thread that got it, and the threads bound to it, in ascending order
+-- a synchroniser: its master, which is the thread that got it, and the threads bound to it, in ascending order; it is in
+-- use where it has a master
 pub record SyncRec : Type 0 where
   pub master : Option ThreadNumber
   pub slaves : List ThreadNumber

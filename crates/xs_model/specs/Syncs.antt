@@ -31,13 +31,20 @@ with_slave k (slave ∷ slaves) =
 abbrev pub is_bound : ThreadNumber → SyncRec → Bool
 is_bound k sync = list_any (λ slave. slave == k) sync.slaves
 
--- the synchroniser that a thread is bound to, the lowest, if there is one
+-- the synchroniser that a thread is bound to, the lowest, if there is one: the first that is not without it
 abbrev pub sync_with : ThreadNumber → List SyncRec → Option ℕ
 sync_with k syncs = lowest_free (λ sync. not (is_bound k sync)) syncs 0
 
+-- a thread is bound to it too, or no thread is bound to it any more
+abbrev pub with_bound : ThreadNumber → SyncRec → SyncRec
+with_bound k sync = record sync { slaves = with_slave k sync.slaves }
+
+abbrev pub unbound : SyncRec → SyncRec
+unbound sync = record sync { slaves = [] }
+
 -- a slave is bound to it by its master, and by no other thread
 abbrev pub bound : ThreadNumber → ThreadNumber → SyncRec → Option SyncRec
-bound by slave sync = if is_thread by sync.master then Some (record sync { slaves = with_slave slave sync.slaves }) else None
+bound by slave sync = if is_thread by sync.master then Some (with_bound slave sync) else None
 
 -- it is freed by its master, while it has no slaves
 abbrev pub freed_sync : ThreadNumber → SyncRec → Option SyncRec

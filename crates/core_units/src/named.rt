@@ -1,0 +1,50 @@
+//! What of a core a word names.
+ghost use Rattle.std.specs.Prelude.{◌≡◌, ◌<◌, IfSome};
+ghost use Rattle.xs_base.specs.declared.numbers.TheConstants.{CHAN_ENDS};
+ghost use Rattle.net_model.specs.Chans.{chan_named};
+ghost use Rattle.step_model.specs.Named.{resource_named};
+ghost use Rattle.core_units.specs.Named.{IsWithin};
+
+use xs_base::chan_id;
+use xs_base::numbers::{
+    CHAN_END_KIND, CHAN_ENDS, LOCK_KIND, LOCKS, SYNCHRONISER_KIND, SYNCHRONISERS, THREAD_KIND,
+    THREADS,
+};
+use xs_model::Resource;
+
+/// What a word names on the node with this id, in use or not: `None` exactly where it names nothing that is built.
+pub(crate) fn resource_named(id: u16, name: u32) -> Option<Resource>
+    ensures value { result ≡ resource_named id name }
+    ensures within { IfSome result IsWithin }
+{
+    match (name % 256) as u8 {
+        CHAN_END_KIND => chan_named(id, name).map(|chan| Resource::Chan { chan }),
+        SYNCHRONISER_KIND => number_below(SYNCHRONISERS, name).map(|sync| Resource::Sync { sync }),
+        THREAD_KIND => number_below(THREADS, name).map(|thread| Resource::Thread { thread }),
+        LOCK_KIND => number_below(LOCKS, name).map(|lock| Resource::Lock { lock }),
+        _ => None,
+    }
+}
+
+// The number above the low byte, where it is below the count.
+fn number_below(count: u8, name: u32) -> Option<u8> {
+    let number = name / 256;
+    if number < u32::from(count) {
+        Some(number as u8)
+    } else {
+        None
+    }
+}
+
+/// The channel end of this node that a word names, 0 to 31: `None` exactly where it names none.
+pub(crate) fn chan_named(id: u16, name: u32) -> Option<u8>
+    ensures value { result ≡ chan_named id name }
+    ensures within { IfSome result (λ c. c < CHAN_ENDS) }
+{
+    let number = (name / 256 % 256) as u8;
+    if name == chan_id(id, number) && number < CHAN_ENDS {
+        Some(number)
+    } else {
+        None
+    }
+}
