@@ -24,7 +24,7 @@ use xs_model::{Outcome, Wait};
 
 impl Units {
     // The channel end that a word names takes a destination.
-    fn set_dest(&mut self, id: u16, k: u8, name: u32, dest: u32) -> Outcome
+    pub(crate) fn set_dest(&mut self, id: u16, k: u8, name: u32, dest: u32) -> Outcome
         requires thread { k < THREADS }
         requires goes { Goes self.old k }
         ensures row { Ends result self.old self.new (on_named self.old k name no_wait (take_dest dest) takes_nothing (chan_named id name)) }
@@ -42,7 +42,7 @@ impl Units {
     }
 
     // A token is put into the channel end that a word names.
-    fn put(&mut self, id: u16, k: u8, name: u32, token: Token) -> Outcome
+    pub(crate) fn put(&mut self, id: u16, k: u8, name: u32, token: Token) -> Outcome
         requires thread { k < THREADS }
         requires goes { Goes self.old k }
         ensures row { Ends result self.old self.new (on_named self.old k name (room 1) (put_token token) takes_nothing (chan_named id name)) }
@@ -61,7 +61,7 @@ impl Units {
     }
 
     // The control token of a value is taken from the channel end that a word names.
-    fn check(&mut self, id: u16, k: u8, name: u32, value: u32) -> Outcome
+    pub(crate) fn check(&mut self, id: u16, k: u8, name: u32, value: u32) -> Outcome
         requires thread { k < THREADS }
         requires goes { Goes self.old k }
         ensures row { Ends result self.old self.new (on_named self.old k name (tokens 1) (check_token value) takes_nothing (chan_named id name)) }
