@@ -1,0 +1,3 @@
+pub mod Syncs
+pub mod Answers
+pub mod State
