@@ -3,3 +3,11 @@ pub mod Threads
 pub mod Rows
 pub mod Issue
 pub mod Slot
+pub mod Free
+pub mod RowLasts
+pub mod Lasts
+pub mod Best
+pub mod Before
+pub mod Phases
+pub mod Turn
+pub mod EightSlots

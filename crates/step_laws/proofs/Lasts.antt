@@ -1,0 +1,101 @@
+-- What an issue does to last issues: the slot is that of the thread that issues, and perhaps of one that was free.
+use Rattle.std.proofs.Common.{◌≡◌, ◌≢◌, ◌⊎◌, inl, inr, ℕ, zero, suc, ◌<◌, Bool, true, false, Option, Some, None, List, [], ◌∷◌, length, get_or, slice_set, refl, ap, sym, ◌∙◌, length-set, get_or-set_same, get_or-set_other}
+use Rattle.std.proofs.lemmas.Bool.{both_ways}
+use Rattle.xs_base.specs.Numbers.{Slot, ThreadNumber}
+use Rattle.xs_model.specs.declared.event.Happen.{Happen}
+use Rattle.xs_model.specs.declared.thread.Run.{Run}
+use Rattle.xs_model.specs.declared.thread.Run.TheVariants.{Going, Free, Unstarted, AtSync, Paused, Halted}
+use Rattle.xs_model.specs.declared.thread.Thread.{Thread}
+use Rattle.xs_model.specs.Threads.{fresh_thread}
+use Rattle.xs_model.specs.Record.{CoreRec, thread_of, last_of}
+use Rattle.xs_model.specs.Picks.{goes_or_holds}
+use Rattle.xs_instructions.specs.declared.instr.Instr.{Instr}
+use Rattle.xs_instructions.specs.Code.{code_at}
+use Rattle.step_model.specs.Effect.{Setting, Effect, Done, Pause, Trap, Gone, Unbuilt}
+use Rattle.step_model.specs.ThreadRows.{is_there}
+use Rattle.step_model.specs.Step.{halt_unless, settled, executed, issue_begins, issued_by}
+use Rattle.step_laws.proofs.RowLasts.{LastsAfter, as_before, with_got, EffectLasts, effect_lasts}
+
+-- ---- What the thread that issues does
+
+halt_lasts : (slot : Slot) (core : CoreRec) (k : ThreadNumber) (stands : Bool) (th : Thread) (happened : List Happen) → LastsAfter core slot (halt_unless stands k th happened core).core.last
+halt_lasts slot core k true th happened = as_before
+halt_lasts slot core k false th happened = as_before
+
+settled_lasts : (code : List Instr) (slot : Slot) (core : CoreRec) (k : ThreadNumber) (ends : Effect) → EffectLasts core slot ends → LastsAfter core slot (settled code core k ends).core.last
+settled_lasts code slot core k (Done after happened) h = h
+settled_lasts code slot core k (Pause after wait happened) h = h
+settled_lasts code slot core k (Trap number value) h = halt_lasts slot core k _ _ _
+settled_lasts code slot core k (Gone after happened) h = h
+settled_lasts code slot core k Unbuilt h = as_before
+
+executed_lasts : (code : List Instr) (here : Setting) (core : CoreRec) (k : ThreadNumber) (found : Option Instr) → LastsAfter core here.slot (executed code here core k found).core.last
+executed_lasts code here core k None = halt_lasts here.slot core k _ _ _
+executed_lasts code here core k (Some ins) = settled_lasts code here.slot core k _ (effect_lasts here core k ins)
+
+-- ---- Place by place
+
+-- a place is as it was, or the slot
+abbrev pub IsSameOr : Slot → List (Option Slot) → List (Option Slot) → ℕ → Type 0
+IsSameOr slot old new i = (get_or new i None ≡ get_or old i None) ⊎ (get_or new i None ≡ Some slot)
+
+set_places : (slot : Slot) (lasts : List (Option Slot)) (j i : ℕ) → IsSameOr slot lasts (slice_set lasts j (Some slot)) i
+set_places slot [] j i = inl refl
+set_places slot (last ∷ lasts) zero zero = inr refl
+set_places slot (last ∷ lasts) zero (suc i) = inl refl
+set_places slot (last ∷ lasts) (suc j) zero = inl refl
+set_places slot (last ∷ lasts) (suc j) (suc i) = set_places slot lasts j i
+
+then_places : (slot : Slot) (old mid new : List (Option Slot)) (i : ℕ) → IsSameOr slot old mid i → IsSameOr slot mid new i → IsSameOr slot old new i
+then_places slot old mid new i h (inl same) = elim h [ inl before ↦ inl (same ∙ before) | inr is ↦ inr (same ∙ is) ]
+then_places slot old mid new i h (inr is) = inr is
+
+after_places : (core : CoreRec) (slot : Slot) (lasts : List (Option Slot)) (i : ℕ) → LastsAfter core slot lasts → IsSameOr slot core.last lasts i
+after_places core slot lasts i as_before = inl refl
+after_places core slot lasts i (with_got j free) = set_places slot core.last j i
+
+after_length : (core : CoreRec) (slot : Slot) (lasts : List (Option Slot)) → LastsAfter core slot lasts → length lasts ≡ length core.last
+after_length core slot lasts as_before = refl
+after_length core slot lasts (with_got j free) = length-set core.last j (Some slot)
+
+-- a thread that is not free keeps its last issue
+after_stays : (core : CoreRec) (slot : Slot) (lasts : List (Option Slot)) (k : ThreadNumber) → is_there (thread_of core k).run ≡ true → LastsAfter core slot lasts → get_or lasts k None ≡ last_of core k
+after_stays core slot lasts k there as_before = refl
+after_stays core slot lasts k there (with_got j free) =
+    let other : k ≢ j = λ e. both_ways _ free (ap (λ n. is_there (thread_of core n).run) (sym e) ∙ there) in
+    get_or-set_other core.last j k (Some slot) None other
+
+-- a thread that goes, or is paused on what holds, is not free
+there_if_able : (core : CoreRec) (slot : Slot) (run : Run) → goes_or_holds core slot run ≡ true → is_there run ≡ true
+there_if_able core slot Free able = absurd (both_ways _ refl able)
+there_if_able core slot Unstarted able = refl
+there_if_able core slot AtSync able = refl
+there_if_able core slot Going able = refl
+there_if_able core slot (Paused wait) able = refl
+there_if_able core slot Halted able = refl
+
+-- what the issue of one thread leaves of the last issues
+pub record IssueLasts (slot : Slot) (core after : CoreRec) (p : ThreadNumber) : Type 0 where
+  pub as_many : length after.last ≡ length core.last
+  pub places : (i : ℕ) → IsSameOr slot core.last after.last i
+  pub its : p < length core.last → last_of after p ≡ Some slot
+  pub others : (k : ThreadNumber) → k ≢ p → goes_or_holds core slot (thread_of core k).run ≡ true → last_of after k ≡ last_of core k
+
+its_slot : (slot : Slot) (lasts after : List (Option Slot)) (p : ℕ) → p < length lasts → IsSameOr slot (slice_set lasts p (Some slot)) after p → get_or after p None ≡ Some slot
+its_slot slot lasts after p within (inl same) = same ∙ get_or-set_same lasts p (Some slot) None within
+its_slot slot lasts after p within (inr is) = is
+
+pub issue_lasts : (code : List Instr) (here : Setting) (core : CoreRec) (p : ThreadNumber) → IssueLasts here.slot core (issued_by code here core (Some p)).core p
+issue_lasts code here core p =
+    let begun = issue_begins core here.slot p in
+    let after = (issued_by code here core (Some p)).core in
+    let does : LastsAfter begun here.slot after.last = executed_lasts code here begun p (code_at code (thread_of begun p).pc) in
+    record {
+      as_many = after_length begun here.slot after.last does ∙ length-set core.last p (Some here.slot);
+      places = λ i. then_places here.slot core.last begun.last after.last i (set_places here.slot core.last p i) (after_places begun here.slot after.last i does);
+      its = λ within. its_slot here.slot core.last after.last p within (after_places begun here.slot after.last p does);
+      others = λ k other able.
+          let same : thread_of begun k ≡ thread_of core k = get_or-set_other core.threads p k _ fresh_thread other in
+          let there : is_there (thread_of begun k).run ≡ true = ap (λ th. is_there th.run) same ∙ there_if_able core here.slot (thread_of core k).run able in
+          after_stays begun here.slot after.last k there does ∙ get_or-set_other core.last p k (Some here.slot) None other;
+    }

@@ -1,0 +1,198 @@
+-- What an instruction does to last issues: it changes none but that of a thread that it gets, which was free.
+use Rattle.std.proofs.Common.{◌≡◌, ℕ, Bool, true, false, ◌==◌, if◌then◌else◌, Option, Some, None, List, [], slice_set, refl}
+use Rattle.xs_base.specs.Numbers.{Slot, Word, Register, ThreadNumber, ChanNumber, Kind, Identifier}
+use Rattle.xs_base.specs.declared.token.Token.TheVariants.{Ctrl}
+use Rattle.xs_base.specs.declared.numbers.TheConstants.{CHAN_END_KIND, SYNCHRONISER_KIND, THREAD_KIND, LOCK_KIND}
+use Rattle.xs_model.specs.declared.thread.Thread.{Thread}
+use Rattle.xs_model.specs.declared.thread.Run.TheVariants.{Going}
+use Rattle.xs_model.specs.declared.thread.Wait.{Wait}
+use Rattle.xs_model.specs.declared.resource.Resource.{Resource}
+use Rattle.xs_model.specs.declared.resource.Resource.TheVariants as resource
+use Rattle.xs_model.specs.Threads.{fresh_thread, with_register}
+use Rattle.xs_model.specs.Record.{CoreRec, ChanRec, SyncRec, LockRec, thread_of, sync_of, with_thread, with_run}
+use Rattle.xs_model.specs.Syncs.{is_thread, Claimed, Owns, IsHeld, IsRefused}
+use Rattle.xs_model.specs.Waits.{is_in, all_in, is_waited_at, is_paused_on}
+use Rattle.xs_instructions.specs.declared.instr.Instr.{Instr}
+use Rattle.xs_instructions.specs.declared.instr.Instr.TheVariants.{Words, Memory, Flow, Kernel, Threads, Resources}
+use Rattle.xs_instructions.specs.declared.instr.ThreadIns.{ThreadIns}
+use Rattle.xs_instructions.specs.declared.instr.ThreadIns.TheVariants as threads
+use Rattle.xs_instructions.specs.declared.instr.ResIns.{ResIns}
+use Rattle.xs_instructions.specs.declared.instr.ResIns.TheVariants as resources
+use Rattle.net_model.specs.Chans.{Found, Got, Waits, Refused, put_token, check_token, take_dest}
+use Rattle.step_model.specs.Effect.{Setting, Effect, Done, Pause, Trap, Gone, Unbuilt, Leaving, Leaves, Traps, NotBuilt, Local, on_local, on_registers, reg}
+use Rattle.step_model.specs.Named.{resource_named}
+use Rattle.step_model.specs.ThreadRows.{is_there, thread_to_get, slave_got, by_master, as_master, slaves_go, slaves_are_freed, when_all_in, on_named_thread, on_thread, is_slave, may_start, sets_other, threads_row}
+use Rattle.step_model.specs.ResourceRows.{resources_row, resource_got, chan_was_got, sync_was_got, thread_was_got, lock_was_got, without_chan, without_sync, without_lock, without, goes_on_in, freed, claimed_there, takes_in, puts_out, found_there, on_named, room, tokens, no_wait, takes_nothing}
+use Rattle.step_model.specs.Rows.{effect}
+use Rattle.step_laws.proofs.Free.{lowest_is_free}
+
+-- last issues after something in a slot: those of the core, or with the slot for a thread that was free
+pub data LastsAfter (core : CoreRec) (slot : Slot) : List (Option Slot) → Type 0 where
+  as_before : LastsAfter core slot core.last
+  with_got : (j : ThreadNumber) → is_there (thread_of core j).run ≡ false → LastsAfter core slot (slice_set core.last j (Some slot))
+
+-- where an effect has a core
+abbrev pub EffectLasts : CoreRec → Slot → Effect → Type 0
+EffectLasts core slot (Done after happened) = LastsAfter core slot after.last
+EffectLasts core slot (Pause after wait happened) = LastsAfter core slot after.last
+EffectLasts core slot (Trap number value) = Unit {0}
+EffectLasts core slot (Gone after happened) = LastsAfter core slot after.last
+EffectLasts core slot Unbuilt = Unit {0}
+
+-- where a core is left, or none
+abbrev LeftLasts : CoreRec → Slot → Option CoreRec → Type 0
+LeftLasts core slot None = Unit {0}
+LeftLasts core slot (Some after) = LastsAfter core slot after.last
+
+module _ (here : Setting) (core : CoreRec) (k : ThreadNumber) where
+  -- an effect or another
+  either : (holds : Bool) (x y : Effect) → EffectLasts core here.slot x → EffectLasts core here.slot y → EffectLasts core here.slot (if holds then x else y)
+  either true x y one other = one
+  either false x y one other = other
+
+  on_registers_lasts : (left : Leaving Thread) → EffectLasts core here.slot (on_registers core k left)
+  on_registers_lasts (Leaves th) = as_before
+  on_registers_lasts (Traps number value) = tt
+  on_registers_lasts NotBuilt = tt
+
+  on_local_lasts : (left : Leaving Local) → EffectLasts core here.slot (on_local core k left)
+  on_local_lasts (Leaves l) = as_before
+  on_local_lasts (Traps number value) = tt
+  on_local_lasts NotBuilt = tt
+
+  -- ---- The rows on threads
+
+  to_get_is_free : (j : ThreadNumber) → thread_to_get core ≡ Some j → is_there (thread_of core j).run ≡ false
+  to_get_is_free j is = lowest_is_free (λ th. is_there th.run) core.threads j fresh_thread is
+
+  slave_got_lasts : (d : Register) (n : ℕ) (got : Option ThreadNumber) → thread_to_get core ≡ got → LastsAfter core here.slot (slave_got here core k d n got).last
+  slave_got_lasts d n None is = as_before
+  slave_got_lasts d n (Some j) is = with_got j (to_get_is_free j is)
+
+  by_master_lasts : (name : Identifier) (does : ℕ → Effect) → ((n : ℕ) → EffectLasts core here.slot (does n)) → (named : Option Resource) → EffectLasts core here.slot (by_master core k name does named)
+  by_master_lasts name does h (Some (resource.Sync n)) = either (is_thread k (sync_of core n).master) (does n) _ (h n) tt
+  by_master_lasts name does h _ = tt
+
+  as_master_lasts : (s : Register) (does : ℕ → Effect) → ((n : ℕ) → EffectLasts core here.slot (does n)) → EffectLasts core here.slot (as_master here core k s does)
+  as_master_lasts s does h = by_master_lasts (reg core k s) does h (resource_named here.id (reg core k s))
+
+  named_thread_lasts : (name : Identifier) (allowed : ThreadNumber → Bool) (after : ThreadNumber → CoreRec) → ((j : ThreadNumber) → LastsAfter core here.slot (after j).last) → (named : Option Resource) → EffectLasts core here.slot (on_named_thread core k name allowed after named)
+  named_thread_lasts name allowed after h (Some (resource.Thread j)) = either (allowed j) _ _ (h j) tt
+  named_thread_lasts name allowed after h _ = tt
+
+  on_thread_lasts : (s : Register) (allowed : ThreadNumber → Bool) (after : ThreadNumber → CoreRec) → ((j : ThreadNumber) → LastsAfter core here.slot (after j).last) → EffectLasts core here.slot (on_thread here core k s allowed after)
+  on_thread_lasts s allowed after h = named_thread_lasts (reg core k s) allowed after h (resource_named here.id (reg core k s))
+
+  sets_other_lasts : (s : Register) (sets : Thread → Thread) → EffectLasts core here.slot (sets_other here core k s sets)
+  sets_other_lasts s sets =
+      on_thread_lasts s (λ j. is_in (thread_of core j).run) (λ j. with_thread core j (sets (thread_of core j))) (λ j. as_before)
+
+  threads_lasts : (ins : ThreadIns) → EffectLasts core here.slot (threads_row here core k ins)
+  threads_lasts (threads.Getst d s) = as_master_lasts s (λ n. Done (slave_got here core k d n (thread_to_get core)) []) (λ n. slave_got_lasts d n _ refl)
+  threads_lasts (threads.InitPc s x) = sets_other_lasts s (λ th. record th { pc = reg core k x })
+  threads_lasts (threads.InitSp s x) = sets_other_lasts s (λ th. record th { sp = reg core k x })
+  threads_lasts (threads.InitDp s x) = sets_other_lasts s (λ th. record th { dp = reg core k x })
+  threads_lasts (threads.InitCp s x) = sets_other_lasts s (λ th. record th { cp = reg core k x })
+  threads_lasts (threads.InitLr s x) = sets_other_lasts s (λ th. record th { lr = reg core k x })
+  threads_lasts (threads.SetOther s d x) = sets_other_lasts s (λ th. with_register th d (reg core k x))
+  threads_lasts (threads.Start s) = on_thread_lasts s (may_start core) (λ j. with_run core j Going) (λ j. as_before)
+  threads_lasts (threads.Msync s) = as_master_lasts s (when_all_in core k slaves_go) (λ n. either (all_in core n) _ _ as_before as_before)
+  threads_lasts (threads.Mjoin s) = as_master_lasts s (when_all_in core k slaves_are_freed) (λ n. either (all_in core n) _ _ as_before as_before)
+  threads_lasts threads.Ssync = either (is_slave core k) _ _ as_before tt
+  threads_lasts threads.Freet = either (is_slave core k) _ _ tt as_before
+
+  -- ---- The rows on resources
+
+  -- last issues of a core or another
+  or_lasts : (holds : Bool) (x y : CoreRec) → LastsAfter core here.slot x.last → LastsAfter core here.slot y.last → LastsAfter core here.slot (if holds then x else y).last
+  or_lasts true x y one other = one
+  or_lasts false x y one other = other
+
+  chan_got_lasts : (d : Register) (got : Option ChanNumber) → LastsAfter core here.slot (chan_was_got here.id core k d got).last
+  chan_got_lasts d None = as_before
+  chan_got_lasts d (Some c) = as_before
+
+  sync_got_lasts : (d : Register) (got : Option ℕ) → LastsAfter core here.slot (sync_was_got core k d got).last
+  sync_got_lasts d None = as_before
+  sync_got_lasts d (Some n) = as_before
+
+  thread_got_lasts : (d : Register) (got : Option ThreadNumber) → thread_to_get core ≡ got → LastsAfter core here.slot (thread_was_got here.slot core k d got).last
+  thread_got_lasts d None is = as_before
+  thread_got_lasts d (Some j) is = with_got j (to_get_is_free j is)
+
+  lock_got_lasts : (d : Register) (got : Option ℕ) → LastsAfter core here.slot (lock_was_got core k d got).last
+  lock_got_lasts d None = as_before
+  lock_got_lasts d (Some n) = as_before
+
+  got_lasts : (d : Register) (kind : Kind) → LastsAfter core here.slot (resource_got here core k d kind).last
+  got_lasts d kind =
+      or_lasts (kind == CHAN_END_KIND) _ _ (chan_got_lasts d _)
+      (or_lasts (kind == SYNCHRONISER_KIND) _ _ (sync_got_lasts d _)
+      (or_lasts (kind == THREAD_KIND) _ _ (thread_got_lasts d _ refl)
+      (or_lasts (kind == LOCK_KIND) _ _ (lock_got_lasts d _) as_before)))
+
+  without_chan_lasts : (c : ChanNumber) (left : Option ChanRec) → LeftLasts core here.slot (without_chan core c left)
+  without_chan_lasts c None = tt
+  without_chan_lasts c (Some chan) = as_before
+
+  without_sync_lasts : (n : ℕ) (left : Option SyncRec) → LeftLasts core here.slot (without_sync core n left)
+  without_sync_lasts n None = tt
+  without_sync_lasts n (Some sync) = as_before
+
+  without_lock_lasts : (n : ℕ) (left : Option LockRec) → LeftLasts core here.slot (without_lock core n left)
+  without_lock_lasts n None = tt
+  without_lock_lasts n (Some lock) = as_before
+
+  without_lasts : (r : Resource) → LeftLasts core here.slot (without here core k r)
+  without_lasts (resource.Chan c) = without_chan_lasts c _
+  without_lasts (resource.Sync n) = without_sync_lasts n _
+  without_lasts (resource.Lock n) = without_lock_lasts n _
+  without_lasts (resource.Thread j) = tt
+
+  goes_on_lasts : (name : Identifier) (left : Option CoreRec) → LeftLasts core here.slot left → EffectLasts core here.slot (goes_on_in k name left)
+  goes_on_lasts name None h = tt
+  goes_on_lasts name (Some after) h = h
+
+  freed_lasts : (name : Identifier) (named : Option Resource) → EffectLasts core here.slot (freed here core k name named)
+  freed_lasts name None = tt
+  freed_lasts name (Some r) = either (is_paused_on core r) _ _ tt (goes_on_lasts name _ (without_lasts r))
+
+  puts_out_lasts : (name : Identifier) (named : Option Resource) → EffectLasts core here.slot (puts_out core k name named)
+  puts_out_lasts name (Some (resource.Lock n)) = goes_on_lasts name _ (without_lock_lasts n _)
+  puts_out_lasts name _ = tt
+
+  claimed_lasts : (d : Register) (name : Identifier) (n : ℕ) (found : Claimed) → EffectLasts core here.slot (claimed_there core k d name n found)
+  claimed_lasts d name n (Owns lock) = as_before
+  claimed_lasts d name n IsHeld = as_before
+  claimed_lasts d name n IsRefused = tt
+
+  takes_in_lasts : (d : Register) (name : Identifier) (named : Option Resource) → EffectLasts core here.slot (takes_in core k d name named)
+  takes_in_lasts d name (Some (resource.Lock n)) = claimed_lasts d name n _
+  takes_in_lasts d name _ = tt
+
+  there_lasts : (name : Identifier) (c : ChanNumber) (wait : Wait) (takes : Word → Thread → Thread) (found : Found) → EffectLasts core here.slot (found_there core k name c wait takes found)
+  there_lasts name c wait takes (Got chan word) = as_before
+  there_lasts name c wait takes Waits = either (is_waited_at core wait) _ _ tt as_before
+  there_lasts name c wait takes Refused = tt
+
+  named_lasts : (name : Identifier) (wait : ChanNumber → Wait) (does : ChanRec → Found) (takes : Word → Thread → Thread) (named : Option ChanNumber) → EffectLasts core here.slot (on_named core k name wait does takes named)
+  named_lasts name wait does takes None = tt
+  named_lasts name wait does takes (Some c) = there_lasts name c (wait c) takes _
+
+  resources_lasts : (ins : ResIns) → EffectLasts core here.slot (resources_row here core k ins)
+  resources_lasts (resources.Getr d i) = got_lasts d i
+  resources_lasts (resources.Freer s) = freed_lasts _ _
+  resources_lasts (resources.Out s x) = puts_out_lasts _ _
+  resources_lasts (resources.In d s) = takes_in_lasts d _ _
+  resources_lasts (resources.Setd s x) = named_lasts _ no_wait (take_dest (reg core k x)) takes_nothing _
+  resources_lasts (resources.OutctImm s i) = named_lasts _ (room 1) (put_token (Ctrl i)) takes_nothing _
+  resources_lasts (resources.ChkctImm s i) = named_lasts _ (tokens 1) (check_token i) takes_nothing _
+  resources_lasts _ = tt
+
+  pub effect_lasts : (ins : Instr) → EffectLasts core here.slot (effect here core k ins)
+  effect_lasts (Words ins) = on_registers_lasts _
+  effect_lasts (Memory ins) = on_local_lasts _
+  effect_lasts (Flow ins) = on_local_lasts _
+  effect_lasts (Kernel ins) = on_local_lasts _
+  effect_lasts (Threads ins) = threads_lasts ins
+  effect_lasts (Resources ins) = resources_lasts ins
