@@ -1,55 +1,70 @@
 -- The law of eight slots: in each slot in which the thread does not issue, fewer come before it, and at first at most 7 do.
-use Rattle.std.proofs.Common.{◌≡◌, ◌⊎◌, inl, inr, ℕ, zero, suc, ◌+◌, ◌<◌, ◌≤◌, length, sym, subst, arith}
-use Rattle.xs_base.specs.Numbers.{Slot, ThreadNumber}
-use Rattle.xs_model.specs.Record.{NodeRec, last_of}
-use Rattle.step_model.specs.Fixed.{Fixed}
-use Rattle.step_model.specs.Step.{setting_of, before_issue, node_step}
-use Rattle.step_laws.specs.EightSlots.{Comes, after_slots, core_to_issue, IsEligibleIn, IssuesIn, EligibleIssues}
+use Rattle.std.proofs.Common.{◌≡◌, ◌⊎◌, inl, inr, ℕ, zero, suc, ◌+◌, ◌<◌, ◌≤◌, Option, Some, None, List, length, ap, sym, subst, ◌∙◌, refl, arith}
+use Rattle.xs_base.specs.Numbers.{ThreadNumber}
+use Rattle.xs_model.specs.Record.{CoreRec, last_of}
+use Rattle.xs_model.specs.Picks.{picked}
+use Rattle.xs_instructions.specs.declared.instr.Instr.{Instr}
+use Rattle.step_model.specs.Effect.{Setting}
+use Rattle.step_model.specs.Step.{setting_of, before_issue, issued_by, node_step}
+use Rattle.step_laws.specs.EightSlots.{NodeRun, after_slots, core_to_issue, IsEligibleAfter, IssuesAfter, HasAllLastIssues, EligibleIssues, SlotKeepsAllLastIssues}
 use Rattle.step_laws.proofs.Phases.{before_issue_keeps}
+use Rattle.step_laws.proofs.Lasts.{IssueLasts, issue_lasts}
 use Rattle.step_laws.proofs.Turn.{Waits, waits_at_first, issues_or_waits}
 
-module _ (fixed : Fixed) (comes : Slot → Comes) (rec : NodeRec) (slot : Slot) (k : ThreadNumber) (number : k < 8) where
-  -- n slots after the first, thread k has not issued
-  WaitsIn : ℕ → Type 0
-  WaitsIn n = Waits (last_of rec.core k) k n (core_to_issue fixed comes rec slot n).last
+module _ (run : NodeRun) (k : ThreadNumber) (number : k < 8) where
+  -- in n slots thread k did not issue
+  WaitsAfter : ℕ → Type 0
+  WaitsAfter n = Waits (last_of run.rec.core k) k n (core_to_issue run n).last
 
-  waits_in_first : length rec.core.last ≡ 8 → WaitsIn 0
-  unfolding WaitsIn after_slots
-  waits_in_first eight =
-      let here = comes (slot + 0) in
-      let same = (before_issue_keeps fixed rec (slot + 0) here.arrivals here.pins).1 in
-      subst (Waits (last_of rec.core k) k 0) (sym same) (waits_at_first k rec.core.last number eight)
+  waits_after_none : HasAllLastIssues run.rec.core → WaitsAfter 0
+  unfolding WaitsAfter after_slots
+  waits_after_none eight =
+      let slot = run.slot + 0 in
+      let same = (before_issue_keeps run.fixed run.rec slot (run.arrivals slot) (run.pins slot)).1 in
+      subst (Waits (last_of run.rec.core k) k 0) (sym same) (waits_at_first k run.rec.core.last number eight)
 
   -- nothing else changes last issues from one slot's issue to the next one's
-  waits_in_next : (n : ℕ) → IsEligibleIn fixed comes rec slot k n → WaitsIn n → IssuesIn fixed comes rec slot k n ⊎ WaitsIn (suc n)
-  unfolding WaitsIn after_slots node_step
-  waits_in_next n may waits =
-      let here = comes (slot + n) in
-      let before = before_issue fixed (after_slots fixed comes rec slot n) (slot + n) here.arrivals here.pins in
-      let next = comes (slot + suc n) in
-      let same = (before_issue_keeps fixed (after_slots fixed comes rec slot (suc n)) (slot + suc n) next.arrivals next.pins).1 in
-      elim (issues_or_waits fixed.code (setting_of fixed (slot + n) here.pins before.rec) before.rec.core (last_of rec.core k) k n number may waits) [
+  waits_after_more : (n : ℕ) → IsEligibleAfter run k n → WaitsAfter n → IssuesAfter run k n ⊎ WaitsAfter (suc n)
+  unfolding WaitsAfter after_slots node_step
+  waits_after_more n may waits =
+      let slot = run.slot + n in
+      let before = before_issue run.fixed (after_slots run n) slot (run.arrivals slot) (run.pins slot) in
+      let next = run.slot + suc n in
+      let same = (before_issue_keeps run.fixed (after_slots run (suc n)) next (run.arrivals next) (run.pins next)).1 in
+      elim (issues_or_waits run.fixed.code (setting_of run.fixed slot (run.pins slot) before.rec) before.rec.core (last_of run.rec.core k) k n number may waits) [
         | inl issues ↦ inl issues
-        | inr later ↦ inr (subst (Waits (last_of rec.core k) k (suc n)) (sym same) later)
+        | inr later ↦ inr (subst (Waits (last_of run.rec.core k) k (suc n)) (sym same) later)
       ]
 
-  issues_before : length rec.core.last ≡ 8 → ((n : ℕ) → n < 8 → IsEligibleIn fixed comes rec slot k n) → (m : ℕ) → m ≤ 8 → ((n : ℕ) × (n < 8) × IssuesIn fixed comes rec slot k n) ⊎ WaitsIn m
-  issues_before eight may zero within = inr (waits_in_first eight)
-  issues_before eight may (suc m) within = elim (issues_before eight may m (omega arith)) [
+  issues_or_waits_after : HasAllLastIssues run.rec.core → ((n : ℕ) → n < 8 → IsEligibleAfter run k n) → (m : ℕ) → m ≤ 8 → ((n : ℕ) × (n < 8) × IssuesAfter run k n) ⊎ WaitsAfter m
+  issues_or_waits_after eight may zero within = inr (waits_after_none eight)
+  issues_or_waits_after eight may (suc m) within = elim (issues_or_waits_after eight may m (omega arith)) [
     | inl issues ↦ inl issues
-    | inr waits ↦ elim (waits_in_next m (may m (omega arith)) waits) [
+    | inr waits ↦ elim (waits_after_more m (may m (omega arith)) waits) [
       | inl issues ↦ inl (m, omega arith, issues)
       | inr later ↦ inr later
     ]
   ]
 
-  none_waits_longer : WaitsIn 8 → ⊥
-  unfolding WaitsIn
+  none_waits_longer : WaitsAfter 8 → ⊥
+  unfolding WaitsAfter
   none_waits_longer waits = omega (arith, waits.few)
 
 pub eligible_issues : EligibleIssues
-eligible_issues fixed comes rec slot k number eight may =
-    elim (issues_before fixed comes rec slot k number eight may 8 (omega arith)) [
+eligible_issues run k eight number may =
+    elim (issues_or_waits_after run k number eight may 8 (omega arith)) [
       | inl issues ↦ issues
-      | inr waits ↦ absurd (none_waits_longer fixed comes rec slot k number waits)
+      | inr waits ↦ absurd (none_waits_longer run k number waits)
     ]
+
+-- ---- A last issue for each thread
+
+by_keeps : (code : List Instr) (here : Setting) (core : CoreRec) (who : Option ThreadNumber) → length (issued_by code here core who).core.last ≡ length core.last
+by_keeps code here core None = refl
+by_keeps code here core (Some p) = let lasts : IssueLasts here.slot core (issued_by code here core (Some p)).core p = issue_lasts code here core p in lasts.as_many
+
+pub slot_keeps_all : SlotKeepsAllLastIssues
+unfolding node_step
+slot_keeps_all fixed rec slot arrivals pins all =
+    let before = before_issue fixed rec slot arrivals pins in
+    by_keeps fixed.code (setting_of fixed slot pins before.rec) before.rec.core (picked before.rec.core slot) ∙ ap length (before_issue_keeps fixed rec slot arrivals pins).1 ∙ all

@@ -1,7 +1,7 @@
 //! What every issue keeps: laws about the definitions of a node's step. See docs/MACHINE.md.
 #![tactic(auto)]
 
-ghost use Rattle.step_laws.specs.EightSlots.{EligibleIssues};
+ghost use Rattle.step_laws.specs.EightSlots.{EligibleIssues, FirstHasAllLastIssues, SlotKeepsAllLastIssues};
 ghost use Rattle.step_laws.specs.StatusBits.{FirstIsKnown, IssueStaysKnown, SlotStaysKnown};
 
 /// The status registers of every thread have the seven status bits and no others, whatever program runs: as a core
@@ -12,8 +12,11 @@ pub fn status_has_no_other_bit()
     ensures slot { SlotStaysKnown }
 {}
 
-/// A thread that is eligible in eight consecutive slots issues in one of them, whatever code the threads run, whatever
-/// comes to the node from outside, and whatever the other threads do. It does nothing. See docs/THREADS.md.
+/// A thread that is eligible in eight consecutive slots of a node issues in one of them: whatever code the threads run,
+/// whatever comes from outside, and whatever the other threads do. This holds of a core with eight last issues; every
+/// core starts with eight, and keeps eight in each slot. It does nothing. See docs/THREADS.md.
 pub fn eligible_thread_issues()
     ensures law { EligibleIssues }
+    ensures first { FirstHasAllLastIssues }
+    ensures slot { SlotKeepsAllLastIssues }
 {}

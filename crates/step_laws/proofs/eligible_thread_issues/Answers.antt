@@ -1,5 +1,8 @@
-use Rattle.step_laws.proofs.EightSlots.{eligible_issues}
+use Rattle.step_laws.proofs.EightSlots.{eligible_issues, slot_keeps_all}
 use Rattle.step_laws.proofs.eligible_thread_issues.Goals as goal
 
-pub returns : goal.returns
-returns c = record { law = eligible_issues }
+pub returns-clause-law : goal.returns-clause-law
+returns-clause-law c = eligible_issues
+
+pub returns-clause-slot : goal.returns-clause-slot
+returns-clause-slot c = slot_keeps_all
