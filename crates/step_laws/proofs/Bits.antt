@@ -5,8 +5,7 @@ use Rattle.std.proofs.lemmas.Nat.{and_assoc, and_comm}
 use Rattle.std.proofs.lemmas.Nat.Bits.{bit_at_and, bit_at_or, same_from_bits}
 use Rattle.xs_model.specs.declared.status.Status.{Status}
 use Rattle.xs_model.specs.declared.status.TheConstants.{STATUS_BITS}
-use Rattle.xs_model.specs.Status.{status, with_bits, without_bits, status_of}
-use Rattle.step_laws.specs.StatusBits.{IsKnown}
+use Rattle.xs_model.specs.Status.{status, with_bits, without_bits, status_of, IsKnown}
 
 -- bits of a mask, without those that another one lacks
 and_within : (a b mask : ℕ) → bit_and a mask ≡ a → bit_and (bit_and a b) mask ≡ bit_and a b

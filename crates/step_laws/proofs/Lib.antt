@@ -1,6 +1,9 @@
 pub mod Bits
 pub mod Threads
 pub mod Rows
+pub mod Effects
+pub mod ThreadRows
+pub mod ResourceRows
 pub mod Issue
 pub mod Slot
 pub mod Free

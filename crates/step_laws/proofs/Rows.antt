@@ -1,7 +1,8 @@
 -- What the rows leave of a thread: its status registers, or ones with no other bits.
-use Rattle.std.proofs.Common.{ℕ, Bool, true, false, ◌==◌, if◌then◌else◌, Option, Some, None, List}
+use Rattle.std.proofs.Common.{ℕ, Bool, true, false, not, ◌==◌, if◌then◌else◌, Option, Some, None, List}
 use Rattle.xs_base.specs.Numbers.{Word, Register, ThreadNumber}
 use Rattle.xs_model.specs.declared.thread.Thread.{Thread}
+use Rattle.xs_model.specs.Threads.{HasKnownBits}
 use Rattle.xs_instructions.specs.declared.instr.WordIns.{WordIns}
 use Rattle.xs_instructions.specs.declared.instr.WordIns.TheVariants as words
 use Rattle.xs_instructions.specs.declared.instr.MemIns.{MemIns}
@@ -12,12 +13,11 @@ use Rattle.xs_instructions.specs.declared.instr.KernelIns.{KernelIns}
 use Rattle.xs_instructions.specs.declared.instr.KernelIns.TheVariants as kernel
 use Rattle.step_model.specs.Effect.{Leaving, Leaves, Local}
 use Rattle.step_model.specs.WordRows.{words_row, sets_two, divides, divides_long}
-use Rattle.step_model.specs.MemoryRows.{memory_row, loads, stores}
-use Rattle.step_model.specs.FlowRows.{flow_row}
+use Rattle.step_model.specs.MemoryRows.{reg, memory_row, loads, stores}
+use Rattle.step_model.specs.FlowRows.{after_branch, flow_row}
 use Rattle.step_model.specs.KernelRows.{kernel_row, calls_where}
-use Rattle.step_laws.specs.StatusBits.{HasKnownBits}
 use Rattle.step_laws.proofs.Bits.{of_word_known}
-use Rattle.step_laws.proofs.Threads.{either, register_known}
+use Rattle.step_laws.proofs.Threads.{known, on_known, register_known, sets_known}
 
 -- where a row does not trap
 abbrev pub LeftKnown : Leaving Thread → Type 0
@@ -92,78 +92,82 @@ stores_known at None th h = tt
 stores_known at (Some bytes) th h = h
 
 pub memory_known : (l : Local) (ins : MemIns) → HasKnownBits l.thread → LocalKnown (memory_row l ins)
-memory_known l (memory.LdwImm d x i) h = loads_known l _ _ _ (λ word. register_known l.thread d word h)
-memory_known l (memory.Ldw d x y) h = loads_known l _ _ _ (λ word. register_known l.thread d word h)
-memory_known l (memory.LdwDp g u) h = loads_known l _ _ _ (λ word. register_known l.thread g word h)
-memory_known l (memory.LdwSp g u) h = loads_known l _ _ _ (λ word. register_known l.thread g word h)
-memory_known l (memory.LdwCp d u) h = loads_known l _ _ _ (λ word. register_known l.thread d word h)
-memory_known l (memory.StwImm d x i) h = stores_known _ _ _ h
-memory_known l (memory.Stw d x y) h = stores_known _ _ _ h
-memory_known l (memory.StwDp g u) h = stores_known _ _ _ h
-memory_known l (memory.StwSp g u) h = stores_known _ _ _ h
-memory_known l (memory.Ld16s d x y) h = loads_known l _ _ _ (λ word. register_known l.thread d word h)
-memory_known l (memory.Ld8u d x y) h = loads_known l _ _ _ (λ word. register_known l.thread d word h)
-memory_known l (memory.St16 d x y) h = stores_known _ _ _ h
-memory_known l (memory.St8 d x y) h = stores_known _ _ _ h
-memory_known l (memory.Ldaw d x y) h = register_known l.thread d _ h
-memory_known l (memory.LdawBack d x y) h = register_known l.thread d _ h
-memory_known l (memory.LdawImm d x i) h = register_known l.thread d _ h
-memory_known l (memory.LdawBackImm d x i) h = register_known l.thread d _ h
-memory_known l (memory.LdawDp d u) h = register_known l.thread d _ h
-memory_known l (memory.LdawSp d u) h = register_known l.thread d _ h
-memory_known l (memory.LdawCp u) h = h
-memory_known l (memory.Lda16 d x y) h = register_known l.thread d _ h
-memory_known l (memory.Lda16Back d x y) h = register_known l.thread d _ h
-memory_known l (memory.Ldap p) h = h
+memory_known l (memory.LdwImm d x i) h = loads_known l _ _ _ (λ word. sets_known l.thread d word h)
+memory_known l (memory.Ldw d x y) h = loads_known l _ _ _ (λ word. sets_known l.thread d word h)
+memory_known l (memory.LdwDp g u) h = loads_known l _ _ _ (λ word. sets_known l.thread g word h)
+memory_known l (memory.LdwSp g u) h = loads_known l _ _ _ (λ word. sets_known l.thread g word h)
+memory_known l (memory.LdwCp d u) h = loads_known l _ _ _ (λ word. sets_known l.thread d word h)
+memory_known l (memory.StwImm d x i) h = stores_known _ _ _ (on_known _ h)
+memory_known l (memory.Stw d x y) h = stores_known _ _ _ (on_known _ h)
+memory_known l (memory.StwDp g u) h = stores_known _ _ _ (on_known _ h)
+memory_known l (memory.StwSp g u) h = stores_known _ _ _ (on_known _ h)
+memory_known l (memory.Ld16s d x y) h = loads_known l _ _ _ (λ word. sets_known l.thread d word h)
+memory_known l (memory.Ld8u d x y) h = loads_known l _ _ _ (λ word. sets_known l.thread d word h)
+memory_known l (memory.St16 d x y) h = stores_known _ _ _ (on_known _ h)
+memory_known l (memory.St8 d x y) h = stores_known _ _ _ (on_known _ h)
+memory_known l (memory.Ldaw d x y) h = sets_known l.thread d _ h
+memory_known l (memory.LdawBack d x y) h = sets_known l.thread d _ h
+memory_known l (memory.LdawImm d x i) h = sets_known l.thread d _ h
+memory_known l (memory.LdawBackImm d x i) h = sets_known l.thread d _ h
+memory_known l (memory.LdawDp d u) h = sets_known l.thread d _ h
+memory_known l (memory.LdawSp d u) h = sets_known l.thread d _ h
+memory_known l (memory.LdawCp u) h = known _ h.sr h.ssr
+memory_known l (memory.Lda16 d x y) h = sets_known l.thread d _ h
+memory_known l (memory.Lda16Back d x y) h = sets_known l.thread d _ h
+memory_known l (memory.Ldap p) h = known _ h.sr h.ssr
 
 -- a row of two cases
 branch_known : (holds : Bool) (x y : Leaving Local) → LocalKnown x → LocalKnown y → LocalKnown (if holds then x else y)
 branch_known true x y one other = one
 branch_known false x y one other = other
 
+after_branch_known : (taken : Bool) (place : ℕ) (th : Thread) → HasKnownBits th → HasKnownBits (after_branch taken place th)
+after_branch_known true place th h = known _ h.sr h.ssr
+after_branch_known false place th h = on_known th h
+
 pub flow_known : (l : Local) (ins : FlowIns) → HasKnownBits l.thread → LocalKnown (flow_row l ins)
-flow_known l (flow.Bt s p) h = either _ _ _ h h
-flow_known l (flow.Bf s p) h = either _ _ _ h h
-flow_known l (flow.Bu p) h = h
-flow_known l (flow.Bru s) h = h
-flow_known l (flow.Bau s) h = h
-flow_known l (flow.Bl p) h = h
-flow_known l (flow.Bla s) h = h
-flow_known l (flow.BlaCp u) h = loads_known l _ _ _ (λ word. h)
-flow_known l (flow.Entsp u) h = branch_known (u == 0) _ _ h (stores_known _ _ _ h)
-flow_known l (flow.Retsp u) h = branch_known (u == 0) _ _ h (loads_known l _ _ _ (λ word. h))
-flow_known l (flow.Extsp u) h = h
-flow_known l (flow.Extdp u) h = h
-flow_known l (flow.SetSp s) h = h
-flow_known l (flow.SetDp s) h = h
-flow_known l (flow.SetCp s) h = h
+flow_known l (flow.Bt s p) h = after_branch_known (not (reg l s == 0)) p l.thread h
+flow_known l (flow.Bf s p) h = after_branch_known (reg l s == 0) p l.thread h
+flow_known l (flow.Bu p) h = known _ h.sr h.ssr
+flow_known l (flow.Bru s) h = known _ h.sr h.ssr
+flow_known l (flow.Bau s) h = known _ h.sr h.ssr
+flow_known l (flow.Bl p) h = known _ h.sr h.ssr
+flow_known l (flow.Bla s) h = known _ h.sr h.ssr
+flow_known l (flow.BlaCp u) h = loads_known l _ _ _ (λ word. known _ h.sr h.ssr)
+flow_known l (flow.Entsp u) h = branch_known (u == 0) _ _ (known _ h.sr h.ssr) (stores_known _ _ _ (known _ h.sr h.ssr))
+flow_known l (flow.Retsp u) h = branch_known (u == 0) _ _ (known _ h.sr h.ssr) (loads_known l _ _ _ (λ word. known _ h.sr h.ssr))
+flow_known l (flow.Extsp u) h = known _ h.sr h.ssr
+flow_known l (flow.Extdp u) h = known _ h.sr h.ssr
+flow_known l (flow.SetSp s) h = known _ h.sr h.ssr
+flow_known l (flow.SetDp s) h = known _ h.sr h.ssr
+flow_known l (flow.SetCp s) h = known _ h.sr h.ssr
 
 calls_known : (l : Local) (holds : Bool) (value : Word) → HasKnownBits l.thread → LocalKnown (calls_where l holds value)
 calls_known l true value h = tt
-calls_known l false value h = h
+calls_known l false value h = on_known _ h
 
 pub kernel_known : (k : ThreadNumber) (l : Local) (ins : KernelIns) → HasKnownBits l.thread → LocalKnown (kernel_row k l ins)
 kernel_known k l (kernel.KcallImm u) h = tt
 kernel_known k l (kernel.Kcall s) h = tt
-kernel_known k l kernel.Kret h = (h.1, h.1)
-kernel_known k l (kernel.Kentsp u) h = stores_known _ _ _ h
-kernel_known k l (kernel.Krestsp u) h = loads_known l _ _ _ (λ word. h)
+kernel_known k l kernel.Kret h = known _ h.ssr h.ssr
+kernel_known k l (kernel.Kentsp u) h = stores_known _ _ _ (known _ h.sr h.ssr)
+kernel_known k l (kernel.Krestsp u) h = loads_known l _ _ _ (λ word. known _ h.sr h.ssr)
 kernel_known k l (kernel.Ecallt s) h = calls_known l _ _ h
 kernel_known k l (kernel.Ecallf s) h = calls_known l _ _ h
-kernel_known k l kernel.SetKep h = h
-kernel_known k l kernel.GetKep h = h
-kernel_known k l kernel.GetKsp h = h
-kernel_known k l kernel.GetEd h = h
-kernel_known k l kernel.GetEt h = h
-kernel_known k l kernel.GetId h = h
-kernel_known k l (kernel.Getsr u) h = h
-kernel_known k l kernel.LdwSpc h = loads_known l _ _ _ (λ word. h)
-kernel_known k l kernel.LdwSsr h = loads_known l _ _ _ (λ word. (h.0, of_word_known word))
-kernel_known k l kernel.LdwSed h = loads_known l _ _ _ (λ word. h)
-kernel_known k l kernel.LdwEt h = loads_known l _ _ _ (λ word. h)
-kernel_known k l kernel.StwSpc h = stores_known _ _ _ h
-kernel_known k l kernel.StwSsr h = stores_known _ _ _ h
-kernel_known k l kernel.StwSed h = stores_known _ _ _ h
-kernel_known k l kernel.StwEt h = stores_known _ _ _ h
+kernel_known k l kernel.SetKep h = known _ h.sr h.ssr
+kernel_known k l kernel.GetKep h = sets_known l.thread 11 _ h
+kernel_known k l kernel.GetKsp h = sets_known l.thread 11 _ h
+kernel_known k l kernel.GetEd h = sets_known l.thread 11 _ h
+kernel_known k l kernel.GetEt h = sets_known l.thread 11 _ h
+kernel_known k l kernel.GetId h = sets_known l.thread 11 _ h
+kernel_known k l (kernel.Getsr u) h = sets_known l.thread 11 _ h
+kernel_known k l kernel.LdwSpc h = loads_known l _ _ _ (λ word. known _ h.sr h.ssr)
+kernel_known k l kernel.LdwSsr h = loads_known l _ _ _ (λ word. known _ h.sr (of_word_known word))
+kernel_known k l kernel.LdwSed h = loads_known l _ _ _ (λ word. known _ h.sr h.ssr)
+kernel_known k l kernel.LdwEt h = loads_known l _ _ _ (λ word. known _ h.sr h.ssr)
+kernel_known k l kernel.StwSpc h = stores_known _ _ _ (known _ h.sr h.ssr)
+kernel_known k l kernel.StwSsr h = stores_known _ _ _ (known _ h.sr h.ssr)
+kernel_known k l kernel.StwSed h = stores_known _ _ _ (known _ h.sr h.ssr)
+kernel_known k l kernel.StwEt h = stores_known _ _ _ (known _ h.sr h.ssr)
 kernel_known k l (kernel.Setsr u) h = tt
 kernel_known k l (kernel.Clrsr u) h = tt

@@ -1,27 +1,17 @@
 -- Which bits the status registers have.
-use Rattle.std.specs.Prelude.{ℕ, ◌≡◌, List, bit_and, slice_index_or}
+use Rattle.std.specs.Prelude.{ℕ, List, slice_index_or}
 use Rattle.xs_base.specs.Numbers.{Slot, Word, ThreadNumber}
-use Rattle.xs_model.specs.declared.status.Status.{Status}
-use Rattle.xs_model.specs.declared.status.TheConstants.{STATUS_BITS}
 use Rattle.xs_model.specs.declared.thread.Thread.{Thread}
 use Rattle.xs_model.specs.declared.outside.Arrivals.{Arrivals}
 use Rattle.xs_model.specs.declared.outside.PinView.{PinView}
-use Rattle.xs_model.specs.Threads.{fresh_thread}
+use Rattle.xs_model.specs.Threads.{fresh_thread, HasKnownBits}
 use Rattle.xs_model.specs.Record.{CoreRec, NodeRec, first_core}
 use Rattle.xs_instructions.specs.declared.instr.Instr.{Instr}
 use Rattle.step_model.specs.Fixed.{Fixed}
 use Rattle.step_model.specs.Effect.{Setting}
 use Rattle.step_model.specs.Step.{issued, node_step}
 
--- all bits of a status are among the seven
-abbrev pub IsKnown : Status → Type 0
-IsKnown sr = bit_and sr.bits STATUS_BITS ≡ sr.bits
-
--- those of a thread's status are, and those of the one to which it returns
-abbrev pub HasKnownBits : Thread → Type 0
-HasKnownBits th = IsKnown th.sr × IsKnown th.ssr
-
--- so it is with every thread of a core
+-- the status registers of every thread of a core have the seven bits and no others
 abbrev pub AllKnown : List Thread → Type 0
 AllKnown threads = (k : ThreadNumber) → HasKnownBits (slice_index_or threads k fresh_thread)
 
