@@ -2,8 +2,8 @@
 #![tactic(auto)]
 
 ghost use Rattle.std.specs.Prelude.{◌≡◌};
+ghost use Rattle.xs_model.specs.Threads.{HasKnownBits};
 ghost use Rattle.xs_model.specs.Entry.{return_address, handler_address, trapped, in_event, in_interrupt, returned};
-ghost use Rattle.trap_unit.specs.Known.{HasKnownBits};
 
 use bitflags::Flags;
 use core_state::{Status, Thread};

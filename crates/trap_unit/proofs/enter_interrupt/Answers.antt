@@ -1,6 +1,6 @@
 use Rattle.std.proofs.Common.{◌≡◌, bit_and, bit_or, ap, ◌∙◌, subst, sym, refl}
 use Rattle.xs_model.specs.declared.thread.Thread.{Thread}
-use Rattle.trap_unit.specs.Known.{IsKnown}
+use Rattle.xs_model.specs.Status.{IsKnown}
 use Rattle.trap_unit.proofs.StaysKnown.{and_within, or_within}
 use Rattle.trap_unit.proofs.enter_interrupt.Goals as goal
 
