@@ -1,9 +1,10 @@
 //! `ChanEnd`, one channel end.
-ghost use Rattle.std.specs.Prelude.{◌≡◌, Some, None, [], ◌∷◌, ◌++◌, drop, slice_get, OnOk, OnErr, IsTrue, IsFalse};
+ghost use Rattle.std.specs.Prelude.{◌≡◌, ◌↔◌, true, false, Some, None, [], ◌∷◌, ◌++◌, drop, slice_get, IsOk, OnOk, OnErr, IsTrue, IsFalse};
 ghost use Rattle.std.specs.List.{list_any};
 ghost use Rattle.xs_model.specs.Record.{unused_chan};
 ghost use Rattle.xs_model.specs.Waits.{has_room, has_tokens, is_control};
-ghost use Rattle.net_model.specs.Chans.{Got, Refused, got_chan, found_at, put_token, check_token, take_dest, chan_after};
+ghost use Rattle.net_model.specs.Chans.{Got, Refused, got_chan, freed_chan, found_at, put_token, check_token, take_dest, chan_after};
+ghost use Rattle.chan_ends.specs.Ends.{chan_where_freed};
 ghost use Rattle.chan_ends.specs.Answers.{put_answer, take_answer};
 
 use crate::answers::{Bad, Put, Take};
@@ -59,14 +60,16 @@ impl ChanEnd {
     /// Puts it out of use, with no destination: refused exactly where it is not in use, a buffer is not empty, or the
     /// switch is at work with it.
     pub(crate) fn free(&mut self, held: bool) -> Result<(), Bad>
-        ensures answer { IsErr result ↔ freed_chan held self.old ≡ None }
+        ensures ok { OnOk result (freed_chan held self.old ≡ Some unused_chan) }
+        ensures err { OnErr result (freed_chan held self.old ≡ None) }
         ensures after { self.new ≡ chan_where_freed self.old (freed_chan held self.old) }
+        ensures allowed { IsOk result ↔ ((self.old.used ≡ true) × (self.old.output ≡ []) × (self.old.input ≡ []) × (held ≡ false)) }
+        ensures unchanged { OnErr result (self.new ≡ self.old) }
     {
         if !self.used || !self.output.is_empty() || !self.input.is_empty() || held {
             return Err(Bad);
         }
-        self.used = false;
-        self.dest = None;
+        *self = ChanEnd::default();
         Ok(())
     }
 

@@ -1,10 +1,10 @@
 //! `ChanEnds`, the channel ends of a core.
-ghost use Rattle.std.specs.Prelude.{ℕ, ◌≡◌, ◌<◌, ◌↔◌, true, Some, None, [], ◌∷◌, ◌++◌, drop, length, replicate, slice_get, slice_set, OnOk, OnErr, IfSome, IsTrue, IsFalse};
+ghost use Rattle.std.specs.Prelude.{ℕ, ◌≡◌, ◌<◌, ◌↔◌, true, false, Some, None, [], ◌∷◌, ◌++◌, drop, length, replicate, slice_get, slice_set, IsOk, OnOk, OnErr, IfSome, IsTrue, IsFalse};
 ghost use Rattle.xs_base.specs.declared.numbers.TheConstants.{CHAN_ENDS};
 ghost use Rattle.xs_model.specs.Record.{unused_chan};
 ghost use Rattle.xs_model.specs.Waits.{has_room, has_tokens};
-ghost use Rattle.net_model.specs.Chans.{Got, Refused, free_chan, found_at, put_token, check_token, take_dest};
-ghost use Rattle.chan_ends.specs.Ends.{chan_at, with_got, chans_after};
+ghost use Rattle.net_model.specs.Chans.{Got, Refused, free_chan, freed_chan, found_at, put_token, check_token, take_dest};
+ghost use Rattle.chan_ends.specs.Ends.{chan_at, with_got, with_freed, chans_after};
 ghost use Rattle.chan_ends.specs.Answers.{put_answer, take_answer};
 
 use crate::answers::{Bad, Put, Take};
@@ -63,8 +63,11 @@ impl ChanEnds {
     /// nothing changes. See docs/LINKS.md.
     pub fn free(&mut self, c: u8, held: bool) -> Result<(), Bad>
         requires { c < CHAN_ENDS }
-        ensures bad { IsErr result ↔ freed_chan held (chan_at self.old c) ≡ None }
+        ensures ok { OnOk result (freed_chan held (chan_at self.old c) ≡ Some unused_chan) }
+        ensures err { OnErr result (freed_chan held (chan_at self.old c) ≡ None) }
         ensures after { self.new ≡ with_freed self.old c (freed_chan held (chan_at self.old c)) }
+        ensures allowed { IsOk result ↔ (((chan_at self.old c).used ≡ true) × ((chan_at self.old c).output ≡ []) × ((chan_at self.old c).input ≡ []) × (held ≡ false)) }
+        ensures unchanged { OnErr result (self.new ≡ self.old) }
         ensures count { length self.new ≡ CHAN_ENDS }
     {
         self.ends[c as usize].free(held)

@@ -105,6 +105,25 @@ fn calls_answer_in_turn(rt: HostRuntime) {
 }
 
 #[test]
+fn freed_where_nothing_is_left_in_it(rt: HostRuntime) {
+    let mut ends = ChanEnds::new(3);
+    assert_eq!(rt; ends.free(0, false), Err(Bad));
+    assert_eq!(rt; ends.alloc(), Some(0));
+    assert_eq!(rt; ends.set_dest(0, 0x00030102), Ok(()));
+    assert_eq!(rt; ends.free(0, true), Err(Bad));
+    assert_eq!(rt; ends.put(0, END), Put::Done);
+    assert_eq!(rt; ends.free(0, false), Err(Bad));
+    assert_eq!(rt; ends.pop_out(0), Some(END));
+    assert_eq!(rt; ends.push_in(0, END), true);
+    assert_eq!(rt; ends.free(0, false), Err(Bad));
+    assert_eq!(rt; ends.check(0, 1), Take::Got(1));
+    assert_eq!(rt; ends.free(0, false), Ok(()));
+    assert_eq!(rt; ends.used(0), false);
+    assert_eq!(rt; ends.alloc(), Some(0));
+    assert_eq!(rt; ends.dest(0), None);
+}
+
+#[test]
 fn thirty_two_are_there(rt: HostRuntime) {
     let mut ends = ChanEnds::new(3);
     for c in 0..32 {
