@@ -1,4 +1,3 @@
-pub mod Still
 pub mod AsBuilt
 pub mod FirstChan
 pub mod Settles

@@ -1,43 +1,45 @@
 -- The units of a core: what they stand for, and what calls leave of them.
-use Rattle.std.specs.Prelude.{ℕ, ◌≡◌, ◌≤◌, Bool, true, false, List, [], ◌++◌, length, map, slice_index_or}
+use Rattle.std.specs.Prelude.{ℕ, ◌≡◌, ◌<◌, Bool, true, false, Option, IfSome, List, [], ◌++◌, length, map}
 use Rattle.xs_base.specs.Numbers.{Slot, ThreadNumber}
 use Rattle.xs_base.specs.declared.numbers.TheConstants.{THREADS}
 use Rattle.xs_model.specs.declared.event.Happen.{Happen}
 use Rattle.xs_model.specs.declared.thread.Thread.{Thread}
-use Rattle.xs_model.specs.declared.thread.Run.{Run}
-use Rattle.xs_model.specs.declared.thread.Run.TheVariants.{Going, Paused}
+use Rattle.xs_model.specs.declared.thread.Run.TheVariants.{Going}
 use Rattle.xs_model.specs.declared.thread.Outcome.{Outcome}
 use Rattle.xs_model.specs.declared.thread.Outcome.TheVariants as outcome
-use Rattle.xs_model.specs.Threads.{fresh_thread}
-use Rattle.xs_model.specs.Record.{CoreRec, core_with, thread_of}
+use Rattle.xs_model.specs.Record.{CoreRec, ChanRec, core_with, thread_of}
+use Rattle.xs_model.specs.Masks.{in_mask}
+use Rattle.xs_model.specs.Picks.{is_able}
 use Rattle.xs_model.specs.Outside.{Emitted, in_slot}
 use Rattle.xs_instructions.specs.declared.instr.Instr.{Instr}
 use Rattle.xs_instructions.specs.declared.instr.Instr.TheVariants.{Resources}
 use Rattle.step_model.specs.Effect.{Effect, Done, Pause, Trap, Gone, after_it}
+use Rattle.sync_locks.specs.Syncs.{SyncsRec}
 use Rattle.core_units.specs.declared.units.Units.TheInside.{Inside}
-
--- a thread that neither goes nor is paused
-abbrev pub IsStill : Run → Type 0
-IsStill Going = ⊥
-IsStill (Paused wait) = ⊥
-IsStill _ = Unit {0}
 
 -- a thread goes
 abbrev pub Goes : CoreRec → ThreadNumber → Type 0
 Goes core k = (thread_of core k).run ≡ Going
 
--- every thread from a number on is still
-pub record AreStillFrom (from : ThreadNumber) (threads : List Thread) : Type 0 where
-  pub at : (k : ℕ) → from ≤ k → IsStill (slice_index_or threads k fresh_thread).run
+-- a core of these parts; all else of it is as at the start
+abbrev pub core_of : List Thread → List (Option Slot) → List ℕ → List ChanRec → SyncsRec → CoreRec
+core_of threads last memory chans syncs = record (core_with threads last memory) {
+  chans = chans;
+  syncs = syncs.syncs;
+  locks = syncs.locks;
+}
 
 abbrev pub units_of : Inside → CoreRec
-units_of u = record (core_with u.threads u.slots u.ram) { chans = u.chans }
+units_of u = core_of u.threads u.slots u.ram u.chans u.syncs
 
--- there are eight threads, and those out of reach are still
+-- the mask has the threads that would issue if they were rested, whatever the slot
+pub record AreAble (core : CoreRec) (mask : ℕ) : Type 0 where
+  pub at : (slot k : ℕ) → k < THREADS → in_mask mask k ≡ is_able core k slot
+
+-- there are eight threads, and where it is known which are able the mask has them
 pub record IsUnits (u : Inside) : Type 0 where
   pub eight : length u.threads ≡ THREADS
-  pub within : u.reach ≤ THREADS
-  pub still : AreStillFrom u.reach u.threads
+  pub known : IfSome u.able (AreAble (units_of u))
 
 -- the outcome of an instruction, and the units after it, are what its effect says; nothing happens by it
 abbrev pub Ends : Outcome → CoreRec → CoreRec → Effect → Type 0

@@ -1,21 +1,10 @@
--- Whether what pauses a thread holds, as these channel ends say. No timer, synchroniser, lock or port is built yet: each
--- is as at the start.
-use Rattle.std.specs.Prelude.{Bool, true, false, List, slice_index_or}
-use Rattle.xs_model.specs.declared.thread.Run.{Run}
-use Rattle.xs_model.specs.declared.thread.Run.TheVariants.{Going, Paused}
-use Rattle.xs_model.specs.declared.thread.Wait.{Wait}
-use Rattle.xs_model.specs.declared.thread.Wait.TheVariants.{Room, Tokens, PortFull, Choice}
-use Rattle.xs_model.specs.Record.{ChanRec, unused_chan}
-use Rattle.xs_model.specs.Waits.{has_room, has_tokens}
+-- The parts of a core by which threads are able.
+use Rattle.std.specs.Prelude.{List, []}
+use Rattle.xs_model.specs.declared.thread.Thread.{Thread}
+use Rattle.xs_model.specs.Record.{CoreRec, ChanRec}
+use Rattle.sync_locks.specs.Syncs.{SyncsRec}
+use Rattle.core_units.specs.Units.{core_of}
 
-abbrev pub holds_by : List ChanRec → Wait → Bool
-holds_by chans (Room chan count) = has_room count (slice_index_or chans chan unused_chan).output
-holds_by chans (Tokens chan count) = has_tokens count (slice_index_or chans chan unused_chan).input
-holds_by chans (PortFull port) = false
-holds_by chans Choice = false
-holds_by chans _ = true
-
-abbrev pub able_by : List ChanRec → Run → Bool
-able_by chans Going = true
-able_by chans (Paused wait) = holds_by chans wait
-able_by chans _ = false
+-- a core of these parts: what was issued last, and what is in the memory, makes no thread able
+abbrev pub core_by : List Thread → List ChanRec → SyncsRec → CoreRec
+core_by threads chans syncs = core_of threads [] [] chans syncs

@@ -1,6 +1,6 @@
 //! At most one issue in a slot.
-ghost use Rattle.std.specs.Prelude.{◌≡◌, ◌<◌, ◌≤◌, ◌+◌, false, Some, None, length, IsTrue};
-ghost use Rattle.xs_base.specs.declared.numbers.TheConstants.{THREADS, EVENT_ROOM, ISSUE_EVENTS};
+ghost use Rattle.std.specs.Prelude.{ℕ, ◌≡◌, ◌<◌, ◌≤◌, ◌+◌, false, Some, None, length, IsTrue};
+ghost use Rattle.xs_base.specs.declared.numbers.TheConstants.{THREADS, CHAN_ENDS, EVENT_ROOM, ISSUE_EVENTS};
 ghost use Rattle.xs_model.specs.Record.{thread_of};
 ghost use Rattle.xs_instructions.specs.Instr.{InRange, built};
 ghost use Rattle.step_model.specs.Effect.{Setting};
@@ -22,8 +22,8 @@ impl Units {
     /// It answers whether channel ends may have changed. See docs/MACHINE.md.
     pub fn issue<H: Holders>(&mut self, program: &Program, slot: u32, holders: &H, out: &mut Emissions) -> bool
         requires room { length out.old.events + ISSUE_EVENTS ≤ EVENT_ROOM }
-        ensures units { (here : Setting) → here.id ≡ program.now.id → here.slot ≡ slot → self.new ≡ (issued program.now.code here self.old).core }
-        ensures events { (here : Setting) → here.id ≡ program.now.id → here.slot ≡ slot → out.new ≡ and_happened out.old slot (issued program.now.code here self.old).happened }
+        ensures units { (here : Setting) → here.id ≡ program.now.id → here.slot ≡ slot → ((c : ℕ) → c < CHAN_ENDS → here.is_busy c ≡ H.busy holders.now c) → self.new ≡ (issued program.now.code here self.old).core }
+        ensures events { (here : Setting) → here.id ≡ program.now.id → here.slot ≡ slot → ((c : ℕ) → c < CHAN_ENDS → here.is_busy c ≡ H.busy holders.now c) → out.new ≡ and_happened out.old slot (issued program.now.code here self.old).happened }
         ensures chans { result ≡ false → self.new.chans ≡ self.old.chans }
     {
         match self.picked(slot) {
@@ -37,8 +37,8 @@ impl Units {
     fn issue_by<H: Holders>(&mut self, k: u8, program: &Program, slot: u32, holders: &H, out: &mut Emissions) -> bool
         requires thread { k < THREADS }
         requires room { length out.old.events + ISSUE_EVENTS ≤ EVENT_ROOM }
-        ensures units { (here : Setting) → here.id ≡ program.now.id → here.slot ≡ slot → self.new ≡ (issued_by program.now.code here self.old (Some k)).core }
-        ensures events { (here : Setting) → here.id ≡ program.now.id → here.slot ≡ slot → out.new ≡ and_happened out.old slot (issued_by program.now.code here self.old (Some k)).happened }
+        ensures units { (here : Setting) → here.id ≡ program.now.id → here.slot ≡ slot → ((c : ℕ) → c < CHAN_ENDS → here.is_busy c ≡ H.busy holders.now c) → self.new ≡ (issued_by program.now.code here self.old (Some k)).core }
+        ensures events { (here : Setting) → here.id ≡ program.now.id → here.slot ≡ slot → ((c : ℕ) → c < CHAN_ENDS → here.is_busy c ≡ H.busy holders.now c) → out.new ≡ and_happened out.old slot (issued_by program.now.code here self.old (Some k)).happened }
         ensures chans { result ≡ false → self.new.chans ≡ self.old.chans }
     {
         self.begin(k, slot);
@@ -91,7 +91,7 @@ impl Units {
         requires goes { Goes self.old k }
         requires range { InRange ins }
         requires built { IsTrue (built ins) }
-        ensures row { (here : Setting) → here.id ≡ id → Ends result self.old self.new (effect here self.old k ins) }
+        ensures row { (here : Setting) → here.id ≡ id → here.slot ≡ slot → ((c : ℕ) → c < CHAN_ENDS → here.is_busy c ≡ H.busy holders.now c) → Ends result self.old self.new (effect here self.old k ins) }
         ensures chans { is_on_resources ins ≡ false → self.new.chans ≡ self.old.chans }
     {
         match ins {

@@ -35,6 +35,11 @@ impl Units {
         holders: &H,
         ins: ResIns,
     ) -> Outcome
+        requires thread { k < THREADS }
+        requires goes { Goes self.old k }
+        requires range { ResourcesInRange ins }
+        requires built { IsTrue (is_built (row_of_resources ins)) }
+        ensures row { (here : Setting) → here.id ≡ id → here.slot ≡ slot → ((c : ℕ) → c < CHAN_ENDS → here.is_busy c ≡ H.busy holders.now c) → Ends result self.old self.new (resources_row here self.old k ins) }
     {
         self.able = None;
         let thread = &self.threads[k as usize];

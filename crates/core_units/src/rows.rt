@@ -20,7 +20,7 @@ use xs_model::{Outcome, Thread};
 impl Units {
     // A row on words.
     #[inline]
-    #[tactic(auto, using(crate::proofs::Still::still_set, crate::proofs::Parts::registers_end))]
+    #[tactic(auto, using(crate::proofs::Parts::registers_end))]
     pub(crate) fn words(&mut self, k: u8, ins: WordIns) -> Outcome
         requires thread { k < THREADS }
         requires goes { Goes self.old k }
@@ -36,7 +36,6 @@ impl Units {
 
     // A row on memory, on the flow of control or on the kernel, but for the return.
     #[inline]
-    #[tactic(auto, using(crate::proofs::Still::still_set))]
     pub(crate) fn local(&mut self, k: u8, ins: Instr) -> Outcome
         requires thread { k < THREADS }
         requires goes { Goes self.old k }
@@ -51,7 +50,6 @@ impl Units {
     }
 
     // The return from a trap or an interrupt.
-    #[tactic(auto, using(crate::proofs::Still::still_set))]
     pub(crate) fn kret(&mut self, k: u8)
         requires thread { k < THREADS }
         requires goes { Goes self.old k }

@@ -1,4 +1,11 @@
 //! The rows on threads. See docs/THREADS.md.
+ghost use Rattle.std.specs.Prelude.{◌≡◌, ◌<◌, IsTrue};
+ghost use Rattle.xs_base.specs.declared.numbers.TheConstants.{THREADS};
+ghost use Rattle.xs_instructions.specs.Instr.{ThreadsInRange};
+ghost use Rattle.step_model.specs.Effect.{Setting, after_it};
+ghost use Rattle.step_model.specs.ThreadRows.{threads_row};
+ghost use Rattle.core_units.specs.Units.{Ends, Goes};
+
 use crate::named::resource_named;
 use crate::refused::illegal;
 use crate::units::Units;
@@ -23,6 +30,11 @@ enum Target {
 impl Units {
     // On the node with this id, in a slot.
     pub(crate) fn on_threads(&mut self, id: u16, slot: u32, k: u8, ins: ThreadIns) -> Outcome
+        requires thread { k < THREADS }
+        requires goes { Goes self.old k }
+        requires range { ThreadsInRange ins }
+        ensures row { (here : Setting) → here.id ≡ id → here.slot ≡ slot → Ends result self.old self.new (threads_row here self.old k ins) }
+        ensures chans { self.new.chans ≡ self.old.chans }
     {
         self.able = None;
         match ins {
@@ -208,6 +220,7 @@ impl Units {
 
 /// Goes on to the next instruction.
 pub(crate) fn go_on(thread: &mut Thread)
+    ensures { thread.new ≡ after_it thread.old }
 {
     thread.pc = thread.pc.wrapping_add(4);
 }

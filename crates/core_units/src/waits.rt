@@ -1,15 +1,12 @@
-//! Which thread issues. No timer, synchroniser, lock or port is built yet: each is as it was at the start, so for those
-//! the wait alone says whether it holds.
+//! Which thread issues. No timer or port is built yet: each is as it was at the start, so for those the wait alone says
+//! whether it holds.
 ghost use Rattle.std.specs.Prelude.{◌≡◌, ℕ, ◌<◌, ◌≤◌, slice_index_or, IfSome};
 ghost use Rattle.std.specs.List.{list_any};
 ghost use Rattle.xs_base.specs.declared.numbers.TheConstants.{THREADS};
-ghost use Rattle.xs_model.specs.Threads.{fresh_thread};
-ghost use Rattle.xs_model.specs.Waits.{thing_of, waits_at, are_same, is_same_thing, is_waited_at};
-ghost use Rattle.xs_model.specs.Picks.{is_able, picked};
+ghost use Rattle.xs_model.specs.Waits.{holds, thing_of, waits_at, are_same, is_same_thing, is_waited_at, is_on, pauses_on, is_paused_on};
+ghost use Rattle.xs_model.specs.Picks.{goes_or_holds, is_able, picked};
 ghost use Rattle.xs_model.specs.Masks.{in_mask};
-
-ghost use Rattle.core_units.specs.Units.{AreStillFrom};
-ghost use Rattle.core_units.specs.Waits.{holds_by, able_by};
+ghost use Rattle.core_units.specs.Waits.{core_by};
 
 use crate::threads::all_in;
 use crate::units::Units;
@@ -22,8 +19,9 @@ use xs_model::{Resource, Run, Thing, Thread, Wait};
 impl Units {
     /// The thread that issues in a slot, 0 to 7: None exactly where nobody may.
     pub(crate) fn picked(&mut self, slot: u32) -> Option<u8>
-        ensures value { result ≡ picked self.now slot }
+        ensures value { result ≡ picked self.old slot }
         ensures within { IfSome result (λ k. k < THREADS) }
+        ensures unchanged { self.new ≡ self.old }
     {
         let able = self.able();
         self.slots.pick(able, slot)
@@ -70,6 +68,7 @@ impl Units {
 
 // The same by these parts of the core.
 fn able_of(threads: &[Thread; 8], chans: &ChanEnds, syncs: &Syncs) -> u8
+    ensures { (slot k : ℕ) → k < THREADS → in_mask result k ≡ is_able (core_by threads.now chans.now syncs.now) k slot }
 {
     let mut able = no_threads();
     for k in 0..THREADS {
@@ -82,6 +81,7 @@ fn able_of(threads: &[Thread; 8], chans: &ChanEnds, syncs: &Syncs) -> u8
 
 // Whether a thread would issue if it were rested.
 fn is_able(run: Run, threads: &[Thread; 8], chans: &ChanEnds, syncs: &Syncs) -> bool
+    ensures { (slot : ℕ) → result ≡ goes_or_holds (core_by threads.now chans.now syncs.now) slot run }
 {
     match run {
         Run::Going => true,
@@ -92,6 +92,7 @@ fn is_able(run: Run, threads: &[Thread; 8], chans: &ChanEnds, syncs: &Syncs) -> 
 
 // Whether what pauses a thread holds.
 fn holds(wait: Wait, threads: &[Thread; 8], chans: &ChanEnds, syncs: &Syncs) -> bool
+    ensures { (slot : ℕ) → result ≡ holds (core_by threads.now chans.now syncs.now) slot wait }
 {
     match wait {
         Wait::Room { chan, count } => chans.has_room(chan, count),

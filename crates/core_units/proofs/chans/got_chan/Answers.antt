@@ -2,7 +2,7 @@ use Rattle.std.proofs.Common.{sym, ap, ◌∙◌}
 use Rattle.chan_ends.specs.Ends.{with_got}
 use Rattle.core_units.specs.Found.{name_of_got}
 use Rattle.core_units.proofs.FirstChan.{none_to_get, first_to_get}
-use Rattle.core_units.proofs.resources.got_chan.Goals as goal
+use Rattle.core_units.proofs.chans.got_chan.Goals as goal
 
 pub returns-then-used-clause-name : goal.returns-then-used-clause-name
 returns-then-used-clause-name c = sym (ap (name_of_got c.args.id) (none_to_get c.args.chans.now (sym c.used.ensures.value ∙ c.if-used.true)))
