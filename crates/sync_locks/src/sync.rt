@@ -2,7 +2,7 @@
 ghost use Rattle.std.specs.Prelude.{ℕ, ◌≡◌, ◌<◌, ◌↔◌, Bool, true, false, Some, None, [], OnOk, OnErr, IsErr, length, ◌⊎◌};
 ghost use Rattle.xs_base.specs.declared.numbers.TheConstants.{THREADS};
 ghost use Rattle.xs_model.specs.Record.{unused_sync};
-ghost use Rattle.xs_model.specs.Masks.{members};
+ghost use Rattle.xs_model.specs.Masks.{in_mask, members};
 ghost use Rattle.xs_model.specs.Syncs.{is_thread, is_sync_used, got_sync, is_bound, bound, freed_sync, with_slave};
 ghost use Rattle.sync_locks.specs.Syncs.{sync_after};
 
@@ -64,7 +64,8 @@ impl Sync {
 
     /// Its slaves, a bit for each thread.
     pub(crate) fn slaves(&self) -> u8
-        ensures { members result ≡ self.now.slaves }
+        ensures value { members result ≡ self.now.slaves }
+        ensures bits { (k : ℕ) → k < THREADS → in_mask result k ≡ is_bound k self.now }
     {
         self.slaves
     }
@@ -74,7 +75,7 @@ impl Sync {
         requires { thread < THREADS }
         ensures { result ≡ is_bound thread self.now }
     {
-        self.slaves & (1 << thread) != 0
+        (self.slaves >> thread) & 1 == 1
     }
 
     /// Binds a slave, 0 to 7: refused exactly where another thread, or none, is its master.
