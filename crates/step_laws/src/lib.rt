@@ -1,4 +1,4 @@
-//! What every issue keeps: laws about the definitions of a node's step. See docs/MACHINE.md.
+//! Laws of a node's step: what every issue keeps, and how soon an eligible thread issues. See docs/MACHINE.md.
 #![tactic(auto)]
 
 ghost use Rattle.step_laws.specs.EightSlots.{EligibleIssues, FirstHasAllLastIssues, SlotKeepsAllLastIssues};
