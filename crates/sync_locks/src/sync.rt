@@ -1,5 +1,5 @@
 //! `Sync`, one synchroniser.
-ghost use Rattle.std.specs.Prelude.{ℕ, ◌≡◌, ◌<◌, ◌↔◌, Bool, true, false, Some, None, [], OnOk, OnErr, IsErr, length, ◌⊎◌};
+ghost use Rattle.std.specs.Prelude.{ℕ, ◌≡◌, ◌<◌, ◌↔◌, false, Some, None, [], OnOk, OnErr, IsErr, length, ◌⊎◌};
 ghost use Rattle.xs_base.specs.declared.numbers.TheConstants.{THREADS};
 ghost use Rattle.xs_model.specs.Record.{unused_sync};
 ghost use Rattle.xs_model.specs.Masks.{in_mask, members};
@@ -8,7 +8,6 @@ ghost use Rattle.sync_locks.specs.Syncs.{sync_after};
 
 use crate::answers::Bad;
 use std::marker::Model;
-use xs_base::numbers::THREADS;
 
 /// A synchroniser: its master, where it is in use, and its slaves, a bit for each thread. Contracts see it as a
 /// `SyncRec` of `Rattle.xs_model.specs.Record`.
@@ -46,8 +45,10 @@ impl Sync {
     pub(crate) fn get(&mut self, master: u8)
         ensures { self.new ≡ got_sync master }
     {
-        self.master = Some(master);
-        self.slaves = 0;
+        *self = Sync {
+            master: Some(master),
+            slaves: 0,
+        };
     }
 
     pub(crate) fn is_used(&self) -> bool

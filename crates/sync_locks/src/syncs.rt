@@ -13,7 +13,7 @@ use crate::answers::{Bad, Claim};
 use crate::lock::Lock;
 use crate::sync::Sync;
 use std::marker::Model;
-use xs_base::numbers::{LOCKS, SYNCHRONISERS, THREADS};
+use xs_base::numbers::{LOCKS, SYNCHRONISERS};
 
 /// A core's 7 synchronisers and 4 locks, each numbered from 0. A synchroniser in use has a master, the thread that got
 /// it, and slaves, the threads bound to it. A lock in use may have an owner. Contracts see the lists of their
