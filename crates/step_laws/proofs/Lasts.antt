@@ -12,7 +12,7 @@ use Rattle.xs_model.specs.Picks.{goes_or_holds}
 use Rattle.xs_instructions.specs.declared.instr.Instr.{Instr}
 use Rattle.xs_instructions.specs.Code.{code_at}
 use Rattle.step_model.specs.Effect.{Setting, Effect, Done, Pause, Trap, Gone, Unbuilt}
-use Rattle.step_model.specs.ThreadRows.{is_there}
+use Rattle.step_model.specs.ThreadRows.{is_taken}
 use Rattle.step_model.specs.Step.{halt_unless, settled, executed, issue_begins, issued_by}
 use Rattle.step_laws.proofs.RowLasts.{LastsAfter, as_before, with_got, EffectLasts, effect_lasts}
 
@@ -59,14 +59,14 @@ after_length core slot lasts as_before = refl
 after_length core slot lasts (with_got j free) = length-set core.last j (Some slot)
 
 -- a thread that is not free keeps its last issue
-after_stays : (core : CoreRec) (slot : Slot) (lasts : List (Option Slot)) (k : ThreadNumber) → is_there (thread_of core k).run ≡ true → LastsAfter core slot lasts → get_or lasts k None ≡ last_of core k
+after_stays : (core : CoreRec) (slot : Slot) (lasts : List (Option Slot)) (k : ThreadNumber) → is_taken (thread_of core k).run ≡ true → LastsAfter core slot lasts → get_or lasts k None ≡ last_of core k
 after_stays core slot lasts k there as_before = refl
 after_stays core slot lasts k there (with_got j free) =
-    let other : k ≢ j = λ e. both_ways _ free (ap (λ n. is_there (thread_of core n).run) (sym e) ∙ there) in
+    let other : k ≢ j = λ e. both_ways _ free (ap (λ n. is_taken (thread_of core n).run) (sym e) ∙ there) in
     get_or-set_other core.last j k (Some slot) None other
 
 -- a thread that goes, or is paused on what holds, is not free
-there_if_able : (core : CoreRec) (slot : Slot) (run : Run) → goes_or_holds core slot run ≡ true → is_there run ≡ true
+there_if_able : (core : CoreRec) (slot : Slot) (run : Run) → goes_or_holds core slot run ≡ true → is_taken run ≡ true
 there_if_able core slot Free able = absurd (both_ways _ refl able)
 there_if_able core slot Unstarted able = refl
 there_if_able core slot AtSync able = refl
@@ -96,6 +96,6 @@ issue_lasts code here core p =
       its = λ within. its_slot here.slot core.last after.last p within (after_places begun here.slot after.last p does);
       others = λ k other able.
           let same : thread_of begun k ≡ thread_of core k = get_or-set_other core.threads p k _ fresh_thread other in
-          let there : is_there (thread_of begun k).run ≡ true = ap (λ th. is_there th.run) same ∙ there_if_able core here.slot (thread_of core k).run able in
+          let there : is_taken (thread_of begun k).run ≡ true = ap (λ th. is_taken th.run) same ∙ there_if_able core here.slot (thread_of core k).run able in
           after_stays begun here.slot after.last k there does ∙ get_or-set_other core.last p k (Some here.slot) None other;
     }

@@ -16,7 +16,8 @@ use Rattle.xs_instructions.specs.declared.instr.ResIns.TheVariants as resources
 use Rattle.net_model.specs.Chans.{Found, Got, Waits, Refused, put_token, check_token, take_dest}
 use Rattle.step_model.specs.Effect.{Setting, Pause, Trap, reg}
 use Rattle.step_model.specs.ThreadRows.{thread_to_get, with_got_thread}
-use Rattle.step_model.specs.ResourceRows.{resources_row, resource_got, chan_to_get, chan_was_got, sync_was_got, thread_was_got, lock_was_got, freed_chan, without_chan, without_sync, without_lock, without, goes_on_in, freed, found_there, on_named, room, tokens, no_wait, takes_nothing, claimed_there, takes_in, puts_out, named_in}
+use Rattle.step_model.specs.ResourceRows.{resources_row, resource_got, chan_to_get, chan_was_got, sync_was_got, thread_was_got, lock_was_got, without_chan, without_sync, without_lock, without, goes_on_in, freed, found_there, on_named, room, tokens, no_wait, takes_nothing, claimed_there, takes_in, puts_out, named_in}
+use Rattle.net_model.specs.Chans.{freed_chan}
 use Rattle.step_laws.specs.StatusBits.{AllKnown}
 use Rattle.step_laws.proofs.Threads.{goes_on_known, goes_on_with_known}
 use Rattle.step_laws.proofs.Effects.{EffectKnown, branch_known}

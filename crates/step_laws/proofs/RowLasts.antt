@@ -21,7 +21,7 @@ use Rattle.xs_instructions.specs.declared.instr.ResIns.TheVariants as resources
 use Rattle.net_model.specs.Chans.{Found, Got, Waits, Refused, put_token, check_token, take_dest}
 use Rattle.step_model.specs.Effect.{Setting, Effect, Done, Pause, Trap, Gone, Unbuilt, Leaving, Leaves, Traps, NotBuilt, Local, on_local, on_registers, reg}
 use Rattle.step_model.specs.Named.{resource_named}
-use Rattle.step_model.specs.ThreadRows.{is_there, thread_to_get, slave_got, by_master, as_master, slaves_go, slaves_are_freed, when_all_in, on_named_thread, on_thread, is_slave, may_start, sets_other, threads_row}
+use Rattle.step_model.specs.ThreadRows.{is_taken, thread_to_get, slave_got, by_master, as_master, slaves_go, slaves_are_freed, when_all_in, on_named_thread, on_thread, is_slave, may_start, sets_other, threads_row}
 use Rattle.step_model.specs.ResourceRows.{resources_row, resource_got, chan_was_got, sync_was_got, thread_was_got, lock_was_got, without_chan, without_sync, without_lock, without, goes_on_in, freed, claimed_there, takes_in, puts_out, found_there, on_named, room, tokens, no_wait, takes_nothing}
 use Rattle.step_model.specs.Rows.{effect}
 use Rattle.step_laws.proofs.Free.{lowest_is_free}
@@ -29,7 +29,7 @@ use Rattle.step_laws.proofs.Free.{lowest_is_free}
 -- last issues after something in a slot: those of the core, or with the slot for a thread that was free
 pub data LastsAfter (core : CoreRec) (slot : Slot) : List (Option Slot) → Type 0 where
   as_before : LastsAfter core slot core.last
-  with_got : (j : ThreadNumber) → is_there (thread_of core j).run ≡ false → LastsAfter core slot (slice_set core.last j (Some slot))
+  with_got : (j : ThreadNumber) → is_taken (thread_of core j).run ≡ false → LastsAfter core slot (slice_set core.last j (Some slot))
 
 -- where an effect has a core
 abbrev pub EffectLasts : CoreRec → Slot → Effect → Type 0
@@ -62,8 +62,8 @@ module _ (here : Setting) (core : CoreRec) (k : ThreadNumber) where
 
   -- ---- The rows on threads
 
-  to_get_is_free : (j : ThreadNumber) → thread_to_get core ≡ Some j → is_there (thread_of core j).run ≡ false
-  to_get_is_free j is = lowest_is_free (λ th. is_there th.run) core.threads j fresh_thread is
+  to_get_is_free : (j : ThreadNumber) → thread_to_get core ≡ Some j → is_taken (thread_of core j).run ≡ false
+  to_get_is_free j is = lowest_is_free (λ th. is_taken th.run) core.threads j fresh_thread is
 
   slave_got_lasts : (d : Register) (n : ℕ) (got : Option ThreadNumber) → thread_to_get core ≡ got → LastsAfter core here.slot (slave_got here core k d n got).last
   slave_got_lasts d n None is = as_before
