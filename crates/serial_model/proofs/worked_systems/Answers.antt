@@ -9,7 +9,7 @@ use Rattle.serial_model.specs.Serial.{serial}
 use Rattle.serial_model.proofs.worked_systems.Goals as goal
 
 pub returns-clause-small : goal.returns-clause-small
-unfolding best_from links_after_arrivals moves_from node_step serial
+unfolding best_from lowest_free links_after_arrivals moves_from node_step serial
 returns-clause-small c = record {
   apart_events = refl;
   apart_histories = refl;
