@@ -18,3 +18,4 @@ pub mod WorkedFlow
 pub mod WorkedKernel
 pub mod WorkedChannels
 pub mod WorkedWaits
+pub mod WorkedThreads

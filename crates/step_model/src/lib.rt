@@ -8,6 +8,7 @@ ghost use Rattle.step_model.specs.WorkedFlow.{WorkedFlow};
 ghost use Rattle.step_model.specs.WorkedKernel.{WorkedKernel};
 ghost use Rattle.step_model.specs.WorkedChannels.{WorkedChannels};
 ghost use Rattle.step_model.specs.WorkedWaits.{WorkedWaits, WorkedThings, WorkedLevels};
+ghost use Rattle.step_model.specs.WorkedThreads.{WorkedThreads};
 
 /// The definitions give what was worked out by hand: what a node keeps after its first slots, for small code.
 pub fn worked_slots()
@@ -22,4 +23,5 @@ pub fn worked_slots()
     ensures waits { WorkedWaits }
     ensures things { WorkedThings }
     ensures levels { WorkedLevels }
+    ensures threads { WorkedThreads }
 {}
