@@ -18,4 +18,6 @@ pub mod WorkedFlow
 pub mod WorkedKernel
 pub mod WorkedChannels
 pub mod WorkedWaits
+pub mod WorkedTurns
 pub mod WorkedThreads
+pub mod WorkedSyncs

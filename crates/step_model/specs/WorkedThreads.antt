@@ -1,5 +1,5 @@
 -- The rows on threads, worked out by hand: what each leaves of a whole node, and what it refuses.
-use Rattle.std.specs.Prelude.{ℕ, zero, suc, ◌≡◌, ◌+◌, true, Option, Some, None, List, [], ◌∷◌, ◌++◌, replicate}
+use Rattle.std.specs.Prelude.{ℕ, ◌≡◌, true, Option, Some, None, List, [], ◌∷◌, ◌++◌, replicate}
 use Rattle.xs_base.specs.Numbers.{Slot, ThreadNumber}
 use Rattle.xs_model.specs.declared.thread.Thread.{Thread}
 use Rattle.xs_model.specs.declared.thread.Run.{Run}
@@ -8,7 +8,6 @@ use Rattle.xs_model.specs.declared.thread.Wait.TheVariants.{Choice}
 use Rattle.xs_model.specs.declared.event.Happen.TheVariants as happen
 use Rattle.xs_model.specs.Record.{NodeRec, SyncRec, LockRec, unused_chan, unused_sync, unused_lock, thread_of, with_thread, with_last}
 use Rattle.xs_model.specs.Outside.{emitted_events, in_slot}
-use Rattle.xs_model.specs.Picks.{picked}
 use Rattle.xs_instructions.specs.declared.instr.Instr.{Instr}
 use Rattle.xs_instructions.specs.declared.instr.Instr.TheVariants.{Threads, Resources}
 use Rattle.xs_instructions.specs.declared.instr.ThreadIns.TheVariants as threads
@@ -16,6 +15,7 @@ use Rattle.xs_instructions.specs.declared.instr.ResIns.TheVariants as resources
 use Rattle.net_model.specs.Chans.{got_chan}
 use Rattle.step_model.specs.Step.{Stepped}
 use Rattle.step_model.specs.Worked.{start, slot_of, idle, with_three, halted}
+use Rattle.step_model.specs.WorkedTurns.{nobody, issuers_from}
 
 -- ---- Threads
 
@@ -292,20 +292,7 @@ pub record WorkedGetThread : Type 0 where
   pub clock : GetsNone 6
   pub greatest : GetsNone 11
 
--- ---- Who issues
-
-abbrev pub nobody : ℕ
-nobody = 8
-
-abbrev pub number_or_nobody : Option ThreadNumber → ℕ
-number_or_nobody None = nobody
-number_or_nobody (Some k) = k
-
--- the threads that issue in each of so many slots from one on
-abbrev pub issuers_from : List Instr → NodeRec → Slot → ℕ → List ℕ
-issuers_from code rec slot zero = []
-issuers_from code rec slot (suc count) =
-    number_or_nobody (picked rec.core slot) ∷ issuers_from code (slot_of code rec slot).rec (slot + 1) count
+-- ---- Who issues next
 
 -- Thread 1 is got in slot 10. In slot 11 thread 2, which has its name, starts it.
 abbrev pub get_and_start : List Instr

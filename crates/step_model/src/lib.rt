@@ -9,6 +9,8 @@ ghost use Rattle.step_model.specs.WorkedKernel.{WorkedKernel};
 ghost use Rattle.step_model.specs.WorkedChannels.{WorkedChannels};
 ghost use Rattle.step_model.specs.WorkedWaits.{WorkedWaits, WorkedThings, WorkedLevels};
 ghost use Rattle.step_model.specs.WorkedThreads.{WorkedThreads};
+ghost use Rattle.step_model.specs.WorkedSyncs.{WorkedSyncs};
+ghost use Rattle.step_model.specs.WorkedTurns.{WorkedTurns};
 
 /// The definitions give what was worked out by hand: what a node keeps after its first slots, for small code.
 pub fn worked_slots()
@@ -24,4 +26,6 @@ pub fn worked_slots()
     ensures things { WorkedThings }
     ensures levels { WorkedLevels }
     ensures threads { WorkedThreads }
+    ensures syncs { WorkedSyncs }
+    ensures turns { WorkedTurns }
 {}

@@ -885,3 +885,111 @@ returns-clause-threads c = record {
     got_by_3 = refl;
   };
 }
+
+pub returns-clause-syncs : goal.returns-clause-syncs
+unfolding moves_from links_after_arrivals node_step best_from with_slave with_runs lowest_free free_end first_difference
+returns-clause-syncs c = record {
+  getr = record {
+    got = refl;
+    last_got = refl;
+    none_free = refl;
+    by_thread_1 = refl;
+  };
+  msync = record {
+    all_in = refl;
+    awaits = record {
+      one_goes = refl;
+      one_pauses = refl;
+      one_is_halted = refl;
+      none_is_in = refl;
+      no_slaves = refl;
+      refused = record {
+        unused = refl;
+        not_its_master = refl;
+        number_7 = refl;
+        upper_half = refl;
+        nothing = refl;
+        port = refl;
+        timer = refl;
+        chan_end = refl;
+        thread = refl;
+        lock = refl;
+        clock = refl;
+      };
+    };
+    halted_slave = refl;
+  };
+  mjoin = record {
+    all_in = refl;
+    awaits = record {
+      one_goes = refl;
+      one_pauses = refl;
+      one_is_halted = refl;
+      none_is_in = refl;
+      no_slaves = refl;
+      refused = record {
+        unused = refl;
+        not_its_master = refl;
+        number_7 = refl;
+        upper_half = refl;
+        nothing = refl;
+        port = refl;
+        timer = refl;
+        chan_end = refl;
+        thread = refl;
+        lock = refl;
+        clock = refl;
+      };
+    };
+    halted_slave = refl;
+  };
+  freer = record {
+    freed = refl;
+    last_freed = refl;
+    has_slaves = refl;
+    not_its_master = refl;
+    unused = refl;
+    number_7 = refl;
+    upper_half = refl;
+  };
+  waking = record {
+    issues = refl;
+    waits = refl;
+    is_in = refl;
+    master_goes_on = refl;
+    slave_goes_on = refl;
+  };
+  join = record {
+    issues = refl;
+    waits = refl;
+    at_mjoin = refl;
+    is_in = refl;
+    goes_on = refl;
+    slave_is_free = refl;
+    sync_stays = refl;
+    no_word = refl;
+    word = refl;
+    no_second_word = refl;
+    second_word = refl;
+    ends = refl;
+  };
+}
+
+pub returns-clause-turns : goal.returns-clause-turns
+unfolding moves_from links_after_arrivals node_step best_from with_slave with_runs lowest_free free_end first_difference
+returns-clause-turns c = record {
+  always_able = record {
+    one = refl;
+    four = refl;
+    five = refl;
+    eight = refl;
+  };
+  one = refl;
+  two = refl;
+  eight_set_up = refl;
+  eight = refl;
+  lock_set_up = refl;
+  lock = refl;
+  slaves_set_up = refl;
+  slaves = refl;
+}
