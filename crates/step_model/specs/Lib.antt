@@ -21,3 +21,4 @@ pub mod WorkedWaits
 pub mod WorkedTurns
 pub mod WorkedThreads
 pub mod WorkedSyncs
+pub mod WorkedLocks

@@ -10,6 +10,7 @@ ghost use Rattle.step_model.specs.WorkedChannels.{WorkedChannels};
 ghost use Rattle.step_model.specs.WorkedWaits.{WorkedWaits, WorkedThings, WorkedLevels};
 ghost use Rattle.step_model.specs.WorkedThreads.{WorkedThreads};
 ghost use Rattle.step_model.specs.WorkedSyncs.{WorkedSyncs};
+ghost use Rattle.step_model.specs.WorkedLocks.{WorkedLocks};
 ghost use Rattle.step_model.specs.WorkedTurns.{WorkedTurns};
 
 /// The definitions give what was worked out by hand: what a node keeps after its first slots, for small code.
@@ -27,5 +28,6 @@ pub fn worked_slots()
     ensures levels { WorkedLevels }
     ensures threads { WorkedThreads }
     ensures syncs { WorkedSyncs }
+    ensures locks { WorkedLocks }
     ensures turns { WorkedTurns }
 {}

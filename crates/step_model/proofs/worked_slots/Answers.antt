@@ -975,6 +975,106 @@ returns-clause-syncs c = record {
   };
 }
 
+pub returns-clause-locks : goal.returns-clause-locks
+unfolding moves_from links_after_arrivals node_step best_from with_slave with_runs lowest_free free_end first_difference
+returns-clause-locks c = record {
+  getr = record {
+    got = refl;
+    last_got = refl;
+    none_free = refl;
+  };
+  claim = record {
+    claimed = refl;
+    last_claimed = refl;
+    waits = refl;
+    second_waits = refl;
+    own = refl;
+    refused = record {
+      unused = refl;
+      number_4 = refl;
+      upper_half = refl;
+      upper_half_of_own = refl;
+      nothing = refl;
+      port = refl;
+      timer = refl;
+      chan_end = refl;
+      sync = refl;
+      thread = refl;
+      clock = refl;
+    };
+    left_by_its_owner = refl;
+  };
+  release = record {
+    released = refl;
+    released_to_nobody = refl;
+    nobody_owns = refl;
+    another_owns = refl;
+    refused = record {
+      unused = refl;
+      number_4 = refl;
+      upper_half = refl;
+      upper_half_of_own = refl;
+      nothing = refl;
+      port = refl;
+      timer = refl;
+      chan_end = refl;
+      sync = refl;
+      thread = refl;
+      clock = refl;
+    };
+    left_by_it = refl;
+  };
+  waking = record {
+    issues = refl;
+    nobody_owns = refl;
+    first_issued = refl;
+    both_eligible = refl;
+    owns_it = refl;
+    has_its_name = refl;
+    not_eligible = refl;
+    still_waits = refl;
+  };
+  freer = record {
+    freed = refl;
+    last_freed = refl;
+    own = refl;
+    owned = refl;
+    unused = refl;
+    is_waited_for = refl;
+    other_is_waited_for = refl;
+    number_4 = refl;
+    upper_half = refl;
+    nothing = refl;
+    thread = refl;
+    itself = refl;
+    timer = refl;
+    port = refl;
+    clock = refl;
+  };
+  freer_of_chan = record {
+    freed = refl;
+    goes_on = refl;
+    input_token = (refl, refl);
+    output_token = (refl, refl);
+    packet_over = refl;
+    in_a_packet = (refl, refl);
+    is_held = (refl, refl);
+    input_waited_at = (refl, refl);
+    output_waited_at = (refl, refl);
+    other_waited_at = refl;
+    event_waited_for = refl;
+    unused = (refl, refl);
+    chan_1 = refl;
+    chan_32 = refl;
+    other_node = refl;
+  };
+  second = record {
+    traps = refl;
+    is_halted = refl;
+    first_waits = refl;
+  };
+}
+
 pub returns-clause-turns : goal.returns-clause-turns
 unfolding moves_from links_after_arrivals node_step best_from with_slave with_runs lowest_free free_end first_difference
 returns-clause-turns c = record {
