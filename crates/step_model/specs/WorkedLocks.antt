@@ -54,12 +54,14 @@ four_locks two three = owned_by 5 ∷ ownerless ∷ two ∷ three ∷ []
 
 pub record WorkedGetLock : Type 0 where
   -- nobody owns it
-  pub got : in_10 getr_5 (named 1 (four_locks unused_lock unused_lock)) ≡ leaves by_0 (passed 1 0x205 (four_locks ownerless unused_lock))
-  pub last_got : in_10 getr_5 (named 1 (four_locks ownerless unused_lock)) ≡ leaves by_0 (passed 1 0x305 (four_locks ownerless ownerless))
-  pub none_free : in_10 getr_5 (named 1 (four_locks ownerless (owned_by 0))) ≡ leaves by_0 (passed 1 0 (four_locks ownerless (owned_by 0)))
+  pub got : in_10 getr_5 (named 1 (four_locks unused_lock unused_lock)) ≡
+      leaves by_0 (passed 1 0x205 (four_locks ownerless unused_lock))
+  pub last_got : in_10 getr_5 (named 1 (four_locks ownerless unused_lock)) ≡
+      leaves by_0 (passed 1 0x305 (four_locks ownerless ownerless))
+  pub none_free : in_10 getr_5 (named 1 (four_locks ownerless (owned_by 0))) ≡
+      leaves by_0 (passed 1 0 (four_locks ownerless (owned_by 0)))
 
--- ---- in r1, res[r0] and out res[r0], r1, where nobody owns lock 0, thread 0 owns lock 1, thread 1 owns lock 2, and lock 3 is
--- not in use
+-- ---- in r1, res[r0] and out res[r0], r1
 
 abbrev pub in_0 : Instr
 in_0 = Resources (resources.In 1 0)
@@ -104,7 +106,8 @@ pub record WorkedIn : Type 0 where
 
 pub record WorkedOut : Type 0 where
   -- nobody owns the lock from now on; what r1 holds does not matter
-  pub released : in_10 out_0 (named 0x105 three_locks) ≡ leaves by_0 (passed 0x105 7 (ownerless ∷ ownerless ∷ owned_by 1 ∷ unused_lock ∷ []))
+  pub released : in_10 out_0 (named 0x105 three_locks) ≡
+      leaves by_0 (passed 0x105 7 (ownerless ∷ ownerless ∷ owned_by 1 ∷ unused_lock ∷ []))
   -- not even a thread that waits for it
   pub released_to_nobody : in_10 out_0 (among (with_three 0x105 7 0) (Paused (Lock 1)) three_locks) ≡
       leaves by_0 (among (next (with_three 0x105 7 0)) (Paused (Lock 1)) (ownerless ∷ ownerless ∷ owned_by 1 ∷ unused_lock ∷ []))
@@ -145,7 +148,8 @@ pub record WorkedRelease : Type 0 where
 
 pub record WorkedFreeLock : Type 0 where
   pub freed : in_10 freer_0 (named 0x005 (first_is ownerless)) ≡ leaves by_0 (passed 0x005 7 (first_is unused_lock))
-  pub last_freed : in_10 freer_0 (named 0x305 (four_locks unused_lock ownerless)) ≡ leaves by_0 (passed 0x305 7 (four_locks unused_lock unused_lock))
+  pub last_freed : in_10 freer_0 (named 0x305 (four_locks unused_lock ownerless)) ≡
+      leaves by_0 (passed 0x305 7 (four_locks unused_lock unused_lock))
   -- a thread owns it: this one, or another
   pub own : Refuses freer_0 0x105
   pub owned : Refuses freer_0 0x205
@@ -205,7 +209,8 @@ pub record WorkedFreeChan : Type 0 where
 -- ---- A second thread at a channel end: thread 0 waits there from slot 10 on, and thread 1 comes to it in slot 11.
 
 abbrev pub both_at_it : NodeRec
-both_at_it = team (with_three 0x002 0 0 ∷ with_three 0x002 0 0 ∷ replicate 6 (other Free)) (replicate 7 unused_sync) (replicate 4 unused_lock)
+both_at_it = team (with_three 0x002 0 0 ∷ with_three 0x002 0 0 ∷ replicate 6 (other Free)) (replicate 7 unused_sync)
+    (replicate 4 unused_lock)
 
 abbrev pub second : List Event
 second = (slot_of (chkct_end ∷ []) (in_10 chkct_end both_at_it).rec 11).emitted.events

@@ -41,7 +41,9 @@ all_but six = replicate 6 (sync_of_thread 5) ++ six ∷ []
 -- threads 0 and 1 are at the instruction, of which 0 issued in slot 9
 abbrev pub thread_1_next : Thread → List SyncRec → NodeRec
 thread_1_next one syncs = record start {
-  core = record (team (with_three 1 7 0 ∷ one ∷ replicate 6 (other Halted)) syncs three_locks).core { last = Some 9 ∷ replicate 7 None };
+  core = record (team (with_three 1 7 0 ∷ one ∷ replicate 6 (other Halted)) syncs three_locks).core {
+    last = Some 9 ∷ replicate 7 None;
+  };
 }
 
 pub record WorkedGetSync : Type 0 where
@@ -57,7 +59,8 @@ pub record WorkedGetSync : Type 0 where
 
 -- ---- msync res[r0] and mjoin res[r0]
 
--- Threads 2, 4 and 5 are slaves of synchroniser 1, and do this; 6 is a slave of 2, which is thread 1's. Thread 3 is nobody's.
+-- Threads 2, 4 and 5 do this, and these are slaves of synchroniser 1. Thread 6 is a slave of synchroniser 2, which is thread
+-- 1's, and thread 3 is nobody's.
 abbrev pub group : Thread → Thread → Thread → Thread → List ThreadNumber → NodeRec
 group mine two four five slaves =
     team (mine ∷ other Unstarted ∷ two ∷ other Unstarted ∷ four ∷ five ∷ other AtSync ∷ other Free ∷ [])
@@ -92,7 +95,8 @@ pub record Awaits (ins : Instr) : Type 0 where
   pub one_pauses : PausesWhere ins AtSync Unstarted (Paused Choice)
   pub one_is_halted : PausesWhere ins Halted AtSync AtSync
   pub none_is_in : PausesWhere ins Going Going Going
-  pub no_slaves : in_10 ins (at_it 0x603 Going AtSync Unstarted) ≡ leaves by_0 (went_on 0x603 Going AtSync Unstarted (2 ∷ 4 ∷ 5 ∷ []))
+  pub no_slaves : in_10 ins (at_it 0x603 Going AtSync Unstarted) ≡
+      leaves by_0 (went_on 0x603 Going AtSync Unstarted (2 ∷ 4 ∷ 5 ∷ []))
   pub refused : RefusesNoSync ins
 
 -- a master that waits for a halted slave waits for ever: nobody issues in the slots from 11 on
@@ -101,7 +105,8 @@ WaitsInVain ins = issuers_from (ins ∷ []) (leaves by_0 (waiting Halted AtSync 
 
 pub record WorkedMsync : Type 0 where
   -- slaves at sync go on, and unstarted ones begin
-  pub all_in : in_10 msync_0 (at_it 0x103 Unstarted AtSync AtSync) ≡ leaves by_0 (went_on 0x103 Going Going Going (2 ∷ 4 ∷ 5 ∷ []))
+  pub all_in : in_10 msync_0 (at_it 0x103 Unstarted AtSync AtSync) ≡
+      leaves by_0 (went_on 0x103 Going Going Going (2 ∷ 4 ∷ 5 ∷ []))
   pub awaits : Awaits msync_0
   pub halted_slave : WaitsInVain msync_0
 
@@ -156,7 +161,8 @@ pub record WorkedWaking : Type 0 where
 abbrev pub joins_one : List Instr
 joins_one =
     Resources (resources.Getr 0 3) ∷ Threads (threads.Getst 1 0) ∷ Memory (memory.Ldap 10) ∷ Threads (threads.InitPc 1 11) ∷
-    Memory (memory.LdawDp 2 0) ∷ Threads (threads.InitDp 1 2) ∷ msync_0 ∷ mjoin_0 ∷ Memory (memory.StwDp 1 1) ∷ Threads threads.Freet ∷
+    Memory (memory.LdawDp 2 0) ∷ Threads (threads.InitDp 1 2) ∷ msync_0 ∷ mjoin_0 ∷
+    Memory (memory.StwDp 1 1) ∷ Threads threads.Freet ∷
     Words (words.Ldc 3 9) ∷ Memory (memory.StwDp 3 0) ∷ Threads threads.Ssync ∷ []
 
 -- its threads before a slot, and the words at the beginning of its memory
@@ -175,7 +181,12 @@ pub record WorkedJoin : Type 0 where
   pub is_in : (joining 34 1).run ≡ AtSync
   pub goes_on : (joining 35 0).run ≡ Going
   -- the slave is free, with the registers that it had
-  pub slave_is_free : joining 35 1 ≡ record all_zero { r = 0 ∷ 0 ∷ 0 ∷ 9 ∷ replicate 8 0; dp = 0x00010000; pc = 0x00040034; run = Free }
+  pub slave_is_free : joining 35 1 ≡ record all_zero {
+    r = 0 ∷ 0 ∷ 0 ∷ 9 ∷ replicate 8 0;
+    dp = 0x00010000;
+    pc = 0x00040034;
+    run = Free;
+  }
   pub sync_stays : sync_of (after_from joins_one start 0 35).core 0 ≡ sync_of_thread 0
   pub no_word : word_before 29 0x00010000 ≡ Some 0
   pub word : word_before 30 0x00010000 ≡ Some 9

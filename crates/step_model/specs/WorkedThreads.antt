@@ -83,11 +83,14 @@ three_locks =
     record { used = true; owner = None } ∷ record { used = true; owner = Some 0 } ∷ record { used = true; owner = Some 1 } ∷
     unused_lock ∷ []
 
--- seven other threads after thread 0: one of each sort, with this for thread 3; threads 2 and 4 are slaves of synchroniser 1
+-- seven other threads after thread 0, one of each sort, with this for thread 3; these are slaves of synchroniser 1
+abbrev pub crowd_with : List ThreadNumber → Thread → Thread → NodeRec
+crowd_with slaves mine three = team (mine ∷ other Going ∷ other Halted ∷ three ∷
+    other AtSync ∷ other Unstarted ∷ other Free ∷ other (Paused Choice) ∷ []) (syncs_with slaves) three_locks
+
+-- threads 2 and 4 are
 abbrev pub crowd : Thread → Thread → NodeRec
-crowd mine three =
-    team (mine ∷ other Going ∷ other Halted ∷ three ∷ other AtSync ∷ other Unstarted ∷ other Free ∷ other (Paused Choice) ∷ [])
-    (syncs_with (2 ∷ 4 ∷ [])) three_locks
+crowd mine three = crowd_with (2 ∷ 4 ∷ []) mine three
 
 -- the same, where thread 0 has this name in r0 and 7 in r1, and thread 3 is free
 abbrev pub crowd_named : ℕ → NodeRec
@@ -101,12 +104,15 @@ in_10 ins rec = slot_of (ins ∷ []) rec 10
 abbrev pub leaves : List (Option Slot) → NodeRec → Stepped
 leaves last rec = idle (record rec { core = record rec.core { last = last } })
 
--- thread 0 alone issued, or thread 3 was got too
+-- thread 0 alone issued, or thread 3 or 7 was got too
 abbrev pub by_0 : List (Option Slot)
 by_0 = Some 10 ∷ replicate 7 None
 
 abbrev pub by_0_with_3 : List (Option Slot)
 by_0_with_3 = Some 10 ∷ None ∷ None ∷ Some 10 ∷ replicate 4 None
+
+abbrev pub by_0_with_7 : List (Option Slot)
+by_0_with_7 = Some 10 ∷ replicate 6 None ++ Some 10 ∷ []
 
 -- thread 0 traps in slot 10, and no handler is there: nothing else changes
 abbrev pub trapped : NodeRec → ℕ → ℕ → Stepped
@@ -161,23 +167,23 @@ pub record RefusesNoThread (ins : Instr) : Type 0 where
 abbrev pub getst_10 : Instr
 getst_10 = Threads (threads.Getst 1 0)
 
--- thread 0 with this name in r0, and six halted threads before this one
+-- this thread 0, then six halted threads, and then this one; these are slaves of synchroniser 1
+abbrev pub last_with : List ThreadNumber → Thread → Thread → NodeRec
+last_with slaves mine seven = team (mine ∷ replicate 6 (other Halted) ++ seven ∷ []) (syncs_with slaves) three_locks
+
 abbrev pub last_is : Thread → Thread → NodeRec
-last_is mine seven = team (mine ∷ replicate 6 (other Halted) ++ seven ∷ []) (syncs_with []) three_locks
+last_is mine seven = last_with [] mine seven
 
 pub record WorkedGetst : Type 0 where
   -- threads 3 and 6 are free: 3 is got, as a slave between the two others
-  pub got : in_10 getst_10 (crowd_named 0x103) ≡ leaves by_0_with_3 (team (next (with_three 0x103 0x304 0) ∷
-      other Going ∷ other Halted ∷ all_zero ∷ other AtSync ∷ other Unstarted ∷ other Free ∷ other (Paused Choice) ∷ [])
-      (syncs_with (2 ∷ 3 ∷ 4 ∷ [])) three_locks)
+  pub got : in_10 getst_10 (crowd_named 0x103) ≡
+      leaves by_0_with_3 (crowd_with (2 ∷ 3 ∷ 4 ∷ []) (next (with_three 0x103 0x304 0)) all_zero)
   -- the name is read before it is written over
-  pub over_its_name : in_10 (Threads (threads.Getst 0 0)) (crowd_named 0x103) ≡ leaves by_0_with_3 (team (next (with_three 0x304 7 0) ∷
-      other Going ∷ other Halted ∷ all_zero ∷ other AtSync ∷ other Unstarted ∷ other Free ∷ other (Paused Choice) ∷ [])
-      (syncs_with (2 ∷ 3 ∷ 4 ∷ [])) three_locks)
+  pub over_its_name : in_10 (Threads (threads.Getst 0 0)) (crowd_named 0x103) ≡
+      leaves by_0_with_3 (crowd_with (2 ∷ 3 ∷ 4 ∷ []) (next (with_three 0x304 7 0)) all_zero)
   -- thread 7 is the first slave of synchroniser 1
   pub last_got : in_10 getst_10 (last_is (with_three 0x103 7 0) (other Free)) ≡
-      leaves (Some 10 ∷ replicate 6 None ++ Some 10 ∷ []) (team (next (with_three 0x103 0x704 0) ∷ replicate 6 (other Halted) ++ all_zero ∷ [])
-      (syncs_with (7 ∷ [])) three_locks)
+      leaves by_0_with_7 (last_with (7 ∷ []) (next (with_three 0x103 0x704 0)) all_zero)
   -- none is free: r1 becomes 0
   pub none_free : in_10 getst_10 (last_is (with_three 0x103 7 0) (other Unstarted)) ≡
       leaves by_0 (last_is (next (with_three 0x103 0 0)) (other Unstarted))
@@ -228,14 +234,13 @@ pub record WorkedInit : Type 0 where
 abbrev pub start_0 : Instr
 start_0 = Threads (threads.Start 0)
 
--- thread 3 is unstarted, and a slave of this synchroniser
+-- thread 3 is unstarted, and a slave of synchroniser 1, which is thread 0's; or of 6, which is thread 5's
 abbrev pub slave_of_1 : NodeRec
-slave_of_1 = record (to_set Unstarted) { core = record (to_set Unstarted).core { syncs = syncs_with (2 ∷ 3 ∷ 4 ∷ []) } }
+slave_of_1 = crowd_with (2 ∷ 3 ∷ 4 ∷ []) (with_three 0x304 0xabcd 0) (other Unstarted)
 
 abbrev pub slave_of_6 : NodeRec
-slave_of_6 = record (to_set Unstarted) {
-  core = record (to_set Unstarted).core { syncs = replicate 6 unused_sync ++ record { master = Some 5; slaves = 3 ∷ [] } ∷ [] };
-}
+slave_of_6 = team (with_three 0x304 0xabcd 0 ∷ other Going ∷ other Halted ∷ other Unstarted ∷ replicate 4 (other Halted))
+    (replicate 6 unused_sync ++ record { master = Some 5; slaves = 3 ∷ [] } ∷ []) three_locks
 
 pub record WorkedStart : Type 0 where
   -- it goes, with the registers and the last issue that it has
@@ -251,7 +256,7 @@ pub record WorkedStart : Type 0 where
 
 -- ---- ssync and freet
 
--- thread 0 owns lock 1 and is the master of synchronisers 1 and 6; so it is while it is a slave of thread 1
+-- thread 0 is a slave of synchroniser 2, which is thread 1's, and the master of synchroniser 1
 abbrev pub as_slave : Thread → NodeRec
 as_slave mine = team (mine ∷ replicate 7 (other Halted)) (unused_sync ∷ record { master = Some 0; slaves = 2 ∷ [] } ∷
     record { master = Some 1; slaves = 0 ∷ 5 ∷ [] } ∷ replicate 4 unused_sync) three_locks
@@ -263,13 +268,15 @@ abbrev pub freet : Instr
 freet = Threads threads.Freet
 
 pub record WorkedSsync : Type 0 where
-  pub at_sync : in_10 ssync (as_slave (with_three 1 2 3)) ≡ leaves by_0 (as_slave (record (next (with_three 1 2 3)) { run = AtSync }))
+  pub at_sync : in_10 ssync (as_slave (with_three 1 2 3)) ≡
+      leaves by_0 (as_slave (record (next (with_three 1 2 3)) { run = AtSync }))
   -- it is no slave: the data are 0, not what r0 holds
   pub no_slave : RefusesIn (crowd_named 0x103) ssync 0
 
 pub record WorkedFreet : Type 0 where
-  -- its registers stay, its lock and its synchronisers are its own
-  pub is_free : in_10 freet (crowd_named 0x103) ≡ leaves by_0 (crowd (record (next (with_three 0x103 7 0)) { run = Free }) (other Free))
+  -- its registers stay; lock 1 and synchronisers 1 and 6 are still its own
+  pub is_free : in_10 freet (crowd_named 0x103) ≡
+      leaves by_0 (crowd (record (next (with_three 0x103 7 0)) { run = Free }) (other Free))
   pub slave : RefusesIn (as_slave (with_three 1 2 3)) freet 0
 
 -- ---- getr r1, 4, and of kinds that are not there
@@ -284,7 +291,7 @@ GetsNone kind = in_10 (getr_of kind) (crowd_named 1) ≡ leaves by_0 (crowd (nex
 pub record WorkedGetThread : Type 0 where
   pub got : in_10 (getr_of 4) (crowd_named 1) ≡ leaves by_0_with_3 (crowd (next (with_three 1 0x304 0)) all_zero)
   pub last_got : in_10 (getr_of 4) (last_is (with_three 1 7 0) (other Free)) ≡
-      leaves (Some 10 ∷ replicate 6 None ++ Some 10 ∷ []) (last_is (next (with_three 1 0x704 0)) all_zero)
+      leaves by_0_with_7 (last_is (next (with_three 1 0x704 0)) all_zero)
   pub none_free : in_10 (getr_of 4) (last_is (with_three 1 7 0) (other (Paused Choice))) ≡
       leaves by_0 (last_is (next (with_three 1 0 0)) (other (Paused Choice)))
   pub port : GetsNone 0
@@ -309,10 +316,12 @@ got_by mine three = record start {
   };
 }
 
--- a thread that is got and the one that got it have one last issue
+-- a thread that is got and the one that got it have one last issue: in slot 14 the lower of the two is first
 pub record WorkedTies : Type 0 where
-  pub got_by_0 : issuers_from get_and_start (got_by (with_three 0 0 0) (other Free)) 10 6 ≡ 0 ∷ 2 ∷ nobody ∷ nobody ∷ 0 ∷ 1 ∷ []
-  pub got_by_3 : issuers_from get_and_start (got_by (other Halted) (with_three 0 0 0)) 10 6 ≡ 3 ∷ 2 ∷ nobody ∷ nobody ∷ 1 ∷ 3 ∷ []
+  pub got_by_0 : issuers_from get_and_start (got_by (with_three 0 0 0) (other Free)) 10 6 ≡
+      0 ∷ 2 ∷ nobody ∷ nobody ∷ 0 ∷ 1 ∷ []
+  pub got_by_3 : issuers_from get_and_start (got_by (other Halted) (with_three 0 0 0)) 10 6 ≡
+      3 ∷ 2 ∷ nobody ∷ nobody ∷ 1 ∷ 3 ∷ []
 
 pub record WorkedThreads : Type 0 where
   pub getst : WorkedGetst
