@@ -1,9 +1,9 @@
 //! The rows, by `alu`: each reads its operands, works on words, and then writes what comes of it.
 ghost use Rattle.std.specs.Prelude.{◌≡◌, ◌<◌, ℕ, Bool, Some, None, if◌then◌else◌};
 ghost use Rattle.xs_instructions.specs.Instr.{WordsInRange};
-ghost use Rattle.step_model.specs.Outcomes.{EndsAs};
+ghost use Rattle.step_model.specs.Outcomes.{EndsAs, IsDoneOrTraps};
 ghost use Rattle.xs_model.specs.Threads.{register};
-ghost use Rattle.alu_unit.specs.Ends.{IsDoneOrTraps};
+ghost use Rattle.alu_unit.specs.Ends.{TrapsAsArithmetic};
 ghost use Rattle.step_model.specs.WordRows.{words_row, sets, sets_two, divides, divides_long};
 
 use crate::words::{divs, divu, lss, maccs, maccu, rems, remu};
@@ -27,6 +27,7 @@ pub fn alu(thread: &mut Thread, ins: WordIns) -> Outcome
     requires range { WordsInRange ins }
     ensures row { EndsAs result thread.old thread.new (words_row thread.old ins) }
     ensures ends { IsDoneOrTraps result thread.old thread.new }
+    ensures trap { TrapsAsArithmetic result }
     ensures stays { thread.new ≡ record thread.old { r = thread.new.r } }
 {
     match ins {
@@ -111,6 +112,7 @@ fn set(thread: &mut Thread, d: u8, word: u32) -> Outcome
     requires { d < 12 }
     ensures row { EndsAs result thread.old thread.new (sets thread.old d word) }
     ensures ends { IsDoneOrTraps result thread.old thread.new }
+    ensures trap { TrapsAsArithmetic result }
     ensures stays { thread.new ≡ record thread.old { r = thread.new.r } }
 {
     thread.r[d as usize] = word;
@@ -124,6 +126,7 @@ fn set_two(thread: &mut Thread, d: u8, e: u8, both: (u32, u32)) -> Outcome
     requires right { e < 12 }
     ensures row { EndsAs result thread.old thread.new (sets_two thread.old d e both) }
     ensures ends { IsDoneOrTraps result thread.old thread.new }
+    ensures trap { TrapsAsArithmetic result }
     ensures stays { thread.new ≡ record thread.old { r = thread.new.r } }
 {
     thread.r[d as usize] = both.0;
@@ -138,6 +141,7 @@ fn divide(thread: &mut Thread, d: u8, quotient: Option<u32>) -> Outcome
     ensures row { (fails : Bool) → (word : ℕ) → quotient ≡ (if fails then None else Some word)
         → EndsAs result thread.old thread.new (divides thread.old d fails word) }
     ensures ends { IsDoneOrTraps result thread.old thread.new }
+    ensures trap { TrapsAsArithmetic result }
     ensures stays { thread.new ≡ record thread.old { r = thread.new.r } }
 {
     match quotient {
@@ -153,6 +157,7 @@ fn divide_long(thread: &mut Thread, d: u8, e: u8, both: Option<(u32, u32)>) -> O
     requires right { e < 12 }
     ensures row { EndsAs result thread.old thread.new (divides_long thread.old d e both) }
     ensures ends { IsDoneOrTraps result thread.old thread.new }
+    ensures trap { TrapsAsArithmetic result }
     ensures stays { thread.new ≡ record thread.old { r = thread.new.r } }
 {
     match both {

@@ -2,8 +2,7 @@
 use Rattle.xs_model.specs.declared.thread.Outcome.{Outcome}
 use Rattle.xs_model.specs.declared.thread.Outcome.TheVariants as outcome
 use Rattle.step_model.specs.Effect.{Local, Leaving, Leaves, Traps, NotBuilt}
-use Rattle.step_model.specs.Outcomes.{EndsAs}
-use Rattle.flow_unit.specs.Ends.{IsDoneOrTraps}
+use Rattle.step_model.specs.Outcomes.{EndsAs, IsDoneOrTraps}
 
 pub done_or_traps : (o : Outcome) (old new : Local) (row : Leaving Local) → EndsAs o old new row → IsDoneOrTraps o old new
 done_or_traps outcome.Done old new row is = tt

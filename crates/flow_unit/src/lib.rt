@@ -3,9 +3,8 @@
 
 ghost use Rattle.std.specs.Prelude.{◌≡◌, IsTrue};
 ghost use Rattle.xs_instructions.specs.Instr.{InRange, built};
-ghost use Rattle.step_model.specs.Outcomes.{EndsAs};
+ghost use Rattle.step_model.specs.Outcomes.{EndsAs, IsDoneOrTraps};
 ghost use Rattle.step_model.specs.Rows.{local_row};
-ghost use Rattle.flow_unit.specs.Ends.{IsDoneOrTraps};
 ghost use Rattle.flow_unit.specs.Local.{local, is_local};
 
 mod access;

@@ -9,3 +9,9 @@ abbrev pub EndsAs : {A : Type 0} → Outcome → A → A → Leaving A → Type 
 EndsAs outcome.Done old new (Leaves after) = new ≡ after
 EndsAs (outcome.Trap et ed) old new (Traps number value) = (et ≡ number) × (ed ≡ value) × (new ≡ old)
 EndsAs _ old new _ = ⊥
+
+-- whichever row it was: it was done; or it trapped, and the part is as before
+abbrev pub IsDoneOrTraps : {A : Type 0} → Outcome → A → A → Type 0
+IsDoneOrTraps outcome.Done old new = Unit {0}
+IsDoneOrTraps (outcome.Trap et ed) old new = new ≡ old
+IsDoneOrTraps _ old new = ⊥
