@@ -92,6 +92,7 @@ impl Syncs {
         ensures ok { OnOk result (bound by slave (sync_at self.old.syncs sync) ≡ Some (record (sync_at self.old.syncs sync) { slaves = with_slave slave (sync_at self.old.syncs sync).slaves })) }
         ensures err { OnErr result (bound by slave (sync_at self.old.syncs sync) ≡ None) }
         ensures after { self.new ≡ syncs_after self.old sync (bound by slave (sync_at self.old.syncs sync)) }
+        ensures unchanged { OnErr result (self.new ≡ self.old) }
         ensures bad { IsErr result ↔ (is_thread by (sync_at self.old.syncs sync).master ≡ false) }
         ensures count { length self.new.syncs ≡ SYNCHRONISERS }
         ensures lock_count { length self.new.locks ≡ LOCKS }
@@ -155,6 +156,7 @@ impl Syncs {
         ensures ok { OnOk result (freed_sync by (sync_at self.old.syncs sync) ≡ Some unused_sync) }
         ensures err { OnErr result (freed_sync by (sync_at self.old.syncs sync) ≡ None) }
         ensures after { self.new ≡ syncs_after self.old sync (freed_sync by (sync_at self.old.syncs sync)) }
+        ensures unchanged { OnErr result (self.new ≡ self.old) }
         ensures bad { IsErr result ↔ ((is_thread by (sync_at self.old.syncs sync).master ≡ false) ⊎ (0 < length (sync_at self.old.syncs sync).slaves)) }
         ensures count { length self.new.syncs ≡ SYNCHRONISERS }
         ensures lock_count { length self.new.locks ≡ LOCKS }
@@ -184,6 +186,7 @@ impl Syncs {
         requires by { by < THREADS }
         ensures answer { result ≡ claim_answer (claimed by (lock_at self.old.locks lock)) }
         ensures after { self.new ≡ locks_after_claim self.old lock (claimed by (lock_at self.old.locks lock)) }
+        ensures unchanged { result ≢ claim.Got → self.new ≡ self.old }
         ensures got { (result ≡ claim.Got) ↔ (((lock_at self.old.locks lock).used ≡ true) × ((lock_at self.old.locks lock).owner ≡ None)) }
         ensures held { (result ≡ claim.Held) ↔ IsSomeAnd (lock_at self.old.locks lock).owner (λ owner. owner ≢ by) }
         ensures bad { (result ≡ claim.Bad) ↔ (((lock_at self.old.locks lock).used ≡ false) ⊎ ((lock_at self.old.locks lock).owner ≡ Some by)) }
@@ -201,6 +204,7 @@ impl Syncs {
         ensures ok { OnOk result (released by (lock_at self.old.locks lock) ≡ Some free_lock) }
         ensures err { OnErr result (released by (lock_at self.old.locks lock) ≡ None) }
         ensures after { self.new ≡ locks_after self.old lock (released by (lock_at self.old.locks lock)) }
+        ensures unchanged { OnErr result (self.new ≡ self.old) }
         ensures bad { IsErr result ↔ (is_thread by (lock_at self.old.locks lock).owner ≡ false) }
         ensures count { length self.new.syncs ≡ SYNCHRONISERS }
         ensures lock_count { length self.new.locks ≡ LOCKS }
@@ -215,6 +219,7 @@ impl Syncs {
         ensures ok { OnOk result (freed_lock (lock_at self.old.locks lock) ≡ Some unused_lock) }
         ensures err { OnErr result (freed_lock (lock_at self.old.locks lock) ≡ None) }
         ensures after { self.new ≡ locks_after self.old lock (freed_lock (lock_at self.old.locks lock)) }
+        ensures unchanged { OnErr result (self.new ≡ self.old) }
         ensures bad { IsErr result ↔ (((lock_at self.old.locks lock).used ≡ false) ⊎ IsSome (lock_at self.old.locks lock).owner) }
         ensures count { length self.new.syncs ≡ SYNCHRONISERS }
         ensures lock_count { length self.new.locks ≡ LOCKS }
