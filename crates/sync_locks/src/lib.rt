@@ -1,5 +1,5 @@
 //! A core's seven synchronisers and four locks: who got them, which threads are bound to them, and who owns them. See
-//! docs/MACHINE.md.
+//! docs/THREADS.md.
 #![tactic(auto)]
 
 mod answers;

@@ -17,7 +17,7 @@ use xs_base::numbers::{LOCKS, SYNCHRONISERS};
 
 /// A core's 7 synchronisers and 4 locks, each numbered from 0. A synchroniser in use has a master, the thread that got
 /// it, and slaves, the threads bound to it. A lock in use may have an owner. Contracts see the lists of their
-/// `SyncRec`s and `LockRec`s. See docs/MACHINE.md.
+/// `SyncRec`s and `LockRec`s. See docs/THREADS.md.
 #[derive(Drop)]
 pub struct Syncs {
     syncs: [Sync; 7],
@@ -49,7 +49,7 @@ impl Syncs {
     }
 
     /// Gets the synchroniser with the lowest number that is not in use, for thread `master`, 0 to 7: it is in use
-    /// then, with this master and no slaves. `None` comes exactly where all 7 are in use. See docs/MACHINE.md.
+    /// then, with this master and no slaves. `None` comes exactly where all 7 are in use. See docs/THREADS.md.
     pub fn get_sync(&mut self, master: u8) -> Option<u8>
         requires { master < THREADS }
         ensures lowest { result ≡ lowest_free is_sync_used self.old.syncs 0 }
@@ -67,7 +67,7 @@ impl Syncs {
     }
 
     /// Gets the lock with the lowest number that is not in use: it is in use then, and nobody owns it. `None` comes
-    /// exactly where all 4 are in use. See docs/MACHINE.md.
+    /// exactly where all 4 are in use. See docs/THREADS.md.
     pub fn get_lock(&mut self) -> Option<u8>
         ensures lowest { result ≡ lowest_free (λ lock. lock.used) self.old.locks 0 }
         ensures got { self.new ≡ with_got_lock self.old (lowest_free (λ lock. lock.used) self.old.locks 0) }
@@ -84,7 +84,7 @@ impl Syncs {
     }
 
     /// Binds thread `slave`, 0 to 7, to synchroniser `sync`, 0 to 6, for thread `by`, 0 to 7. `Bad` comes exactly where
-    /// `by` is not its master, and then nothing changes. See docs/MACHINE.md.
+    /// `by` is not its master, and then nothing changes. See docs/THREADS.md.
     pub fn bind(&mut self, sync: u8, by: u8, slave: u8) -> Result<(), Bad>
         requires sync { sync < SYNCHRONISERS }
         requires by { by < THREADS }
@@ -138,7 +138,7 @@ impl Syncs {
         first_with_slave(&self.syncs, slave)
     }
 
-    /// Leaves synchroniser `sync`, 0 to 6, with no slaves; its master stays. See docs/MACHINE.md.
+    /// Leaves synchroniser `sync`, 0 to 6, with no slaves; its master stays. See docs/THREADS.md.
     pub fn unbind_all(&mut self, sync: u8)
         requires { sync < SYNCHRONISERS }
         ensures after { self.new ≡ with_sync_at self.old sync (record (sync_at self.old.syncs sync) { slaves = [] }) }
@@ -149,7 +149,7 @@ impl Syncs {
     }
 
     /// Puts synchroniser `sync`, 0 to 6, out of use, for thread `by`, 0 to 7. `Bad` comes exactly where `by` is not its
-    /// master or it has slaves, and then nothing changes. See docs/MACHINE.md.
+    /// master or it has slaves, and then nothing changes. See docs/THREADS.md.
     pub fn free_sync(&mut self, sync: u8, by: u8) -> Result<(), Bad>
         requires sync { sync < SYNCHRONISERS }
         requires by { by < THREADS }
@@ -180,7 +180,7 @@ impl Syncs {
 
     /// Thread `by`, 0 to 7, would own lock `lock`, 0 to 3: where it is in use and nobody owns it, the thread owns it
     /// then. `Held` comes exactly where another thread owns it, and `Bad` exactly where it is not in use or `by` owns
-    /// it; then nothing changes. See docs/MACHINE.md.
+    /// it; then nothing changes. See docs/THREADS.md.
     pub fn claim(&mut self, lock: u8, by: u8) -> Claim
         requires lock { lock < LOCKS }
         requires by { by < THREADS }
@@ -197,7 +197,7 @@ impl Syncs {
     }
 
     /// Thread `by`, 0 to 7, gives lock `lock`, 0 to 3, up: it is in use then, and nobody owns it. `Bad` comes exactly
-    /// where `by` is not its owner, and then nothing changes. See docs/MACHINE.md.
+    /// where `by` is not its owner, and then nothing changes. See docs/THREADS.md.
     pub fn release(&mut self, lock: u8, by: u8) -> Result<(), Bad>
         requires lock { lock < LOCKS }
         requires by { by < THREADS }
@@ -213,7 +213,7 @@ impl Syncs {
     }
 
     /// Puts lock `lock`, 0 to 3, out of use. `Bad` comes exactly where it is not in use or a thread owns it, and then
-    /// nothing changes. See docs/MACHINE.md.
+    /// nothing changes. See docs/THREADS.md.
     pub fn free_lock(&mut self, lock: u8) -> Result<(), Bad>
         requires { lock < LOCKS }
         ensures ok { OnOk result (freed_lock (lock_at self.old.locks lock) ≡ Some unused_lock) }
