@@ -3,3 +3,5 @@ pub mod Units
 pub mod Waits
 pub mod Found
 pub mod Lends
+pub mod Named
+pub mod Targets

@@ -1,5 +1,5 @@
 //! What of a core a word names.
-ghost use Rattle.std.specs.Prelude.{◌≡◌, ◌<◌, IfSome};
+ghost use Rattle.std.specs.Prelude.{◌≡◌, ◌<◌, ◌/◌, nat_lt, if◌then◌else◌, IfSome};
 ghost use Rattle.xs_base.specs.declared.numbers.TheConstants.{CHAN_ENDS};
 ghost use Rattle.net_model.specs.Chans.{chan_named};
 ghost use Rattle.step_model.specs.Named.{resource_named};
@@ -27,7 +27,10 @@ pub(crate) fn resource_named(id: u16, name: u32) -> Option<Resource>
 }
 
 // The number above the low byte, where it is below the count.
-fn number_below(count: u8, name: u32) -> Option<u8> {
+fn number_below(count: u8, name: u32) -> Option<u8>
+    ensures value { result ≡ (if nat_lt (name / 256) count then Some (name / 256) else None) }
+    ensures within { IfSome result (λ n. n < count) }
+{
     let number = name / 256;
     if number < u32::from(count) {
         Some(number as u8)

@@ -1,0 +1,10 @@
+-- What a row sets of another thread.
+use Rattle.xs_base.specs.Numbers.{Word}
+use Rattle.xs_model.specs.declared.thread.Thread.{Thread}
+use Rattle.xs_model.specs.Threads.{with_register}
+use Rattle.core_units.specs.declared.threads.Target.{Target}
+use Rattle.core_units.specs.declared.threads.Target.TheVariants.{Pc, Register}
+
+abbrev pub with_target : Target → Word → Thread → Thread
+with_target Pc value th = record th { pc = value }
+with_target (Register g) value th = with_register th g value
