@@ -77,7 +77,7 @@ impl Units {
     }
 
     // What thread k does from now on.
-    fn set_run(&mut self, k: u8, run: Run)
+    pub(crate) fn set_run(&mut self, k: u8, run: Run)
         requires thread { k < THREADS }
         ensures { self.new ≡ with_run self.old k run }
     {
