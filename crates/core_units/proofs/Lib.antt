@@ -2,3 +2,7 @@ pub mod AsBuilt
 pub mod FirstChan
 pub mod Settles
 pub mod Parts
+pub mod Members
+pub mod SetRuns
+pub mod AllIn
+pub mod Lowest

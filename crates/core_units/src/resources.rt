@@ -78,8 +78,7 @@ impl Units {
     }
 
     // Gets the lowest free resource of a kind for thread k: its identifier, or 0 where there is none.
-    fn get(&mut self, id: u16, slot: u32, k: u8, kind: u8) -> u32
-    {
+    fn get(&mut self, id: u16, slot: u32, k: u8, kind: u8) -> u32 {
         match kind {
             CHAN_END_KIND => got_chan(id, &mut self.chans),
             SYNCHRONISER_KIND => name_of(self.syncs.get_sync(k), kind),
@@ -90,8 +89,7 @@ impl Units {
     }
 
     // Frees the resource that a word names.
-    fn freer<H: Holders>(&mut self, id: u16, k: u8, holders: &H, name: u32) -> Outcome
-    {
+    fn freer<H: Holders>(&mut self, id: u16, k: u8, holders: &H, name: u32) -> Outcome {
         match resource_named(id, name) {
             Some(resource) if !self.is_paused_on(resource) && self.free(k, holders, resource) => {
                 self.go_on(k);
@@ -102,8 +100,7 @@ impl Units {
     }
 
     // Whether a resource could be freed by thread k, and then it is.
-    fn free<H: Holders>(&mut self, k: u8, holders: &H, resource: Resource) -> bool
-    {
+    fn free<H: Holders>(&mut self, k: u8, holders: &H, resource: Resource) -> bool {
         match resource {
             Resource::Chan { chan } => self.chans.free(chan, holders.is_busy(chan)).is_ok(),
             Resource::Sync { sync } => self.syncs.free_sync(sync, k).is_ok(),
@@ -113,8 +110,7 @@ impl Units {
     }
 
     // Thread k owns the lock that a word names, or waits until nobody does.
-    fn take_in(&mut self, id: u16, k: u8, d: u8, name: u32) -> Outcome
-    {
+    fn take_in(&mut self, id: u16, k: u8, d: u8, name: u32) -> Outcome {
         let Some(Resource::Lock { lock }) = resource_named(id, name) else {
             return illegal(name);
         };
@@ -129,8 +125,7 @@ impl Units {
     }
 
     // Thread k gives up the lock that a word names.
-    fn put_out(&mut self, id: u16, k: u8, name: u32) -> Outcome
-    {
+    fn put_out(&mut self, id: u16, k: u8, name: u32) -> Outcome {
         let Some(Resource::Lock { lock }) = resource_named(id, name) else {
             return illegal(name);
         };
@@ -145,8 +140,7 @@ impl Units {
 }
 
 // The identifier of a resource of a kind, or 0 where there is none.
-fn name_of(number: Option<u8>, kind: u8) -> u32
-{
+fn name_of(number: Option<u8>, kind: u8) -> u32 {
     match number {
         Some(number) => res_id(number, kind),
         None => 0,

@@ -1,10 +1,21 @@
 //! The rows on threads. See docs/THREADS.md.
-ghost use Rattle.std.specs.Prelude.{◌≡◌, ◌<◌, IsTrue};
-ghost use Rattle.xs_base.specs.declared.numbers.TheConstants.{THREADS};
+ghost use Rattle.std.specs.Prelude.{ℕ, ◌≡◌, ◌<◌, true, false, IsTrue, IfSome, length, slice_index_or};
+ghost use Rattle.std.specs.List.{list_all};
+ghost use Rattle.xs_base.specs.declared.numbers.TheConstants.{THREADS, SYNCHRONISERS};
+ghost use Rattle.xs_model.specs.Threads.{fresh_thread};
+ghost use Rattle.xs_model.specs.Record.{thread_of, sync_of, with_sync};
+ghost use Rattle.xs_model.specs.Free.{lowest_free};
+ghost use Rattle.xs_model.specs.Masks.{in_mask, members};
+ghost use Rattle.xs_model.specs.Syncs.{is_thread, unbound};
+ghost use Rattle.xs_model.specs.Waits.{is_in, all_in};
 ghost use Rattle.xs_instructions.specs.Instr.{ThreadsInRange};
-ghost use Rattle.step_model.specs.Effect.{Setting, after_it};
-ghost use Rattle.step_model.specs.ThreadRows.{threads_row};
+ghost use Rattle.step_model.specs.Effect.{Setting, reg, after_it, goes_on, goes_on_with};
+ghost use Rattle.step_model.specs.Named.{resource_named};
+ghost use Rattle.step_model.specs.ThreadRows.{threads_row, is_taken, thread_to_get, slave_got, is_slave, may_start, sets_other, with_runs, with_slaves_run};
 ghost use Rattle.core_units.specs.Units.{Ends, Goes};
+ghost use Rattle.core_units.specs.Named.{named_thread, mastered};
+ghost use Rattle.core_units.specs.Found.{with_thread_got};
+ghost use Rattle.core_units.specs.Targets.{IsTarget, with_target};
 
 use crate::named::resource_named;
 use crate::refused::illegal;
@@ -16,8 +27,11 @@ use xs_model::{Outcome, Resource, Run, Thread, Wait};
 
 // The numbers of a thread's registers after r11, as `Thread::set_reg` counts them.
 const CP: u8 = 12;
+
 const DP: u8 = 13;
+
 const SP: u8 = 14;
+
 const LR: u8 = 15;
 
 // What a row sets of another thread.
@@ -36,7 +50,6 @@ impl Units {
         ensures row { (here : Setting) → here.id ≡ id → here.slot ≡ slot → Ends result self.old self.new (threads_row here self.old k ins) }
         ensures chans { self.new.chans ≡ self.old.chans }
     {
-        self.able = None;
         match ins {
             ThreadIns::Getst(d, s) => self.getst(id, slot, k, d, s),
             ThreadIns::InitPc(s, x) => self.set_other(id, k, s, Target::Pc, x),
@@ -56,8 +69,13 @@ impl Units {
     // ---- Rows of a master, on the synchroniser that register s names
 
     fn getst(&mut self, id: u16, slot: u32, k: u8, d: u8, s: u8) -> Outcome
+        requires thread { k < THREADS }
+        requires target { d < 12 }
+        requires source { s < 12 }
+        ensures row { (here : Setting) → here.id ≡ id → here.slot ≡ slot → Ends result self.old self.new (threads_row here self.old k (ThreadIns.Getst d s)) }
+        ensures chans { self.new.chans ≡ self.old.chans }
     {
-        let name = self.threads[k as usize].reg(s);
+        let name = self.reg(k, s);
         match self.mastered(id, k, name) {
             None => illegal(name),
             Some(sync) => {
@@ -70,14 +88,16 @@ impl Units {
 
     // Waits until all slaves are in, and then they go.
     fn msync(&mut self, id: u16, k: u8, s: u8) -> Outcome
+        requires thread { k < THREADS }
+        requires source { s < 12 }
+        ensures row { (here : Setting) → here.id ≡ id → Ends result self.old self.new (threads_row here self.old k (ThreadIns.Msync s)) }
+        ensures chans { self.new.chans ≡ self.old.chans }
     {
-        let name = self.threads[k as usize].reg(s);
+        let name = self.reg(k, s);
         match self.mastered(id, k, name) {
             None => illegal(name),
+            Some(sync) if !self.all_in(sync) => Outcome::Pause(Wait::Slaves { sync }),
             Some(sync) => {
-                if !self.all_in(sync) {
-                    return Outcome::Pause(Wait::Slaves { sync });
-                }
                 self.set_slaves(sync, Run::Going);
                 self.go_on(k);
                 Outcome::Done
@@ -87,16 +107,18 @@ impl Units {
 
     // Waits until all slaves are in, and then they are free, and no slaves any more.
     fn mjoin(&mut self, id: u16, k: u8, s: u8) -> Outcome
+        requires thread { k < THREADS }
+        requires source { s < 12 }
+        ensures row { (here : Setting) → here.id ≡ id → Ends result self.old self.new (threads_row here self.old k (ThreadIns.Mjoin s)) }
+        ensures chans { self.new.chans ≡ self.old.chans }
     {
-        let name = self.threads[k as usize].reg(s);
+        let name = self.reg(k, s);
         match self.mastered(id, k, name) {
             None => illegal(name),
+            Some(sync) if !self.all_in(sync) => Outcome::Pause(Wait::Slaves { sync }),
             Some(sync) => {
-                if !self.all_in(sync) {
-                    return Outcome::Pause(Wait::Slaves { sync });
-                }
                 self.set_slaves(sync, Run::Free);
-                self.syncs.unbind_all(sync);
+                self.unbind_all(sync);
                 self.go_on(k);
                 Outcome::Done
             }
@@ -105,19 +127,38 @@ impl Units {
 
     // The synchroniser that a word names, where thread k is its master.
     fn mastered(&self, id: u16, k: u8, name: u32) -> Option<u8>
+        ensures value { result ≡ mastered self.now k (resource_named id name) }
+        ensures within { IfSome result (λ n. n < SYNCHRONISERS) }
+        ensures master { IfSome result (λ n. is_thread k (sync_of self.now n).master ≡ true) }
     {
         match resource_named(id, name) {
-            Some(Resource::Sync { sync }) if self.syncs.master(sync) == Some(k) => Some(sync),
+            Some(Resource::Sync { sync }) if self.is_master(k, sync) => Some(sync),
             _ => None,
+        }
+    }
+
+    fn is_master(&self, k: u8, sync: u8) -> bool
+        requires { sync < SYNCHRONISERS }
+        ensures { result ≡ is_thread k (sync_of self.now sync).master }
+    {
+        match self.syncs.master(sync) {
+            None => false,
+            Some(master) => master == k,
         }
     }
 
     // Gets the lowest free thread as a slave: its identifier, or 0 where none is free.
     fn get_slave(&mut self, slot: u32, k: u8, sync: u8) -> u32
+        requires thread { k < THREADS }
+        requires within { sync < SYNCHRONISERS }
+        requires master { is_thread k (sync_of self.old sync).master ≡ true }
+        ensures got { (here : Setting) → here.slot ≡ slot → (d : ℕ) → goes_on_with self.new k d result ≡ slave_got here self.old k d sync (thread_to_get self.old) }
+        ensures chans { self.new.chans ≡ self.old.chans }
     {
         match self.get_thread(slot) {
             None => 0,
             Some(j) => {
+                self.able = None;
                 let _ = self.syncs.bind(sync, k, j);
                 res_id(j, THREAD_KIND)
             }
@@ -126,33 +167,55 @@ impl Units {
 
     // Gets the lowest free thread: it is unstarted, its registers are 0, and the slot is its last issue.
     pub(crate) fn get_thread(&mut self, slot: u32) -> Option<u8>
+        ensures lowest { result ≡ thread_to_get self.old }
+        ensures got { self.new ≡ with_thread_got self.old slot (thread_to_get self.old) }
+        ensures within { IfSome result (λ j. j < THREADS) }
     {
         let free = free_thread(&self.threads)?;
+        self.able = None;
         self.threads[free as usize] = Thread::fresh();
         self.slots.mark_issue(free, slot);
         Some(free)
     }
 
     fn all_in(&self, sync: u8) -> bool
+        ensures { result ≡ all_in self.now sync }
     {
         all_in(&self.threads, self.syncs.slaves(sync))
     }
 
     // What the slaves of a synchroniser do from now on.
     fn set_slaves(&mut self, sync: u8, run: Run)
+        ensures { self.new ≡ with_slaves_run self.old sync run }
     {
+        self.able = None;
         let slaves = self.syncs.slaves(sync);
         set_runs(&mut self.threads, slaves, run);
+    }
+
+    // A synchroniser is left with no slaves.
+    fn unbind_all(&mut self, sync: u8)
+        requires { sync < SYNCHRONISERS }
+        ensures { self.new ≡ with_sync self.old sync (unbound (sync_of self.old sync)) }
+    {
+        self.able = None;
+        self.syncs.unbind_all(sync);
     }
 
     // ---- Rows on the thread that register s names
 
     fn set_other(&mut self, id: u16, k: u8, s: u8, target: Target, x: u8) -> Outcome
+        requires thread { k < THREADS }
+        requires name { s < 12 }
+        requires value { x < 12 }
+        requires target { IsTarget target }
+        ensures row { (here : Setting) → here.id ≡ id → Ends result self.old self.new (sets_other here self.old k s (with_target target (reg self.old k x))) }
+        ensures chans { self.new.chans ≡ self.old.chans }
     {
-        let thread = &self.threads[k as usize];
-        let (name, value) = (thread.reg(s), thread.reg(x));
+        let (name, value) = (self.reg(k, s), self.reg(k, x));
         match thread_named(id, name) {
             Some(j) if is_in(self.threads[j as usize].run) => {
+                self.able = None;
                 set(&mut self.threads[j as usize], target, value);
                 self.go_on(k);
                 Outcome::Done
@@ -162,11 +225,15 @@ impl Units {
     }
 
     fn start(&mut self, id: u16, k: u8, s: u8) -> Outcome
+        requires thread { k < THREADS }
+        requires source { s < 12 }
+        ensures row { (here : Setting) → here.id ≡ id → Ends result self.old self.new (threads_row here self.old k (ThreadIns.Start s)) }
+        ensures chans { self.new.chans ≡ self.old.chans }
     {
-        let name = self.threads[k as usize].reg(s);
+        let name = self.reg(k, s);
         match thread_named(id, name) {
             Some(j) if self.may_start(j) => {
-                self.threads[j as usize].run = Run::Going;
+                self.set_run(j, Run::Going);
                 self.go_on(k);
                 Outcome::Done
             }
@@ -176,42 +243,72 @@ impl Units {
 
     // Whether a thread is unstarted, and no master starts it.
     fn may_start(&self, j: u8) -> bool
+        requires { j < THREADS }
+        ensures { result ≡ may_start self.now j }
     {
-        matches!(self.threads[j as usize].run, Run::Unstarted) && self.syncs.sync_of(j).is_none()
+        matches!(self.threads[j as usize].run, Run::Unstarted) && !self.is_slave(j)
     }
 
     // ---- Rows on the thread itself
 
     fn ssync(&mut self, k: u8) -> Outcome
+        requires { k < THREADS }
+        ensures row { (here : Setting) → Ends result self.old self.new (threads_row here self.old k ThreadIns.Ssync) }
+        ensures chans { self.new.chans ≡ self.old.chans }
     {
-        if self.syncs.sync_of(k).is_none() {
+        if !self.is_slave(k) {
             return illegal(0);
         }
         self.go_on(k);
-        self.threads[k as usize].run = Run::AtSync;
+        self.set_run(k, Run::AtSync);
         Outcome::Done
     }
 
     fn freet(&mut self, k: u8) -> Outcome
+        requires { k < THREADS }
+        ensures row { (here : Setting) → Ends result self.old self.new (threads_row here self.old k ThreadIns.Freet) }
+        ensures chans { self.new.chans ≡ self.old.chans }
     {
-        if self.syncs.sync_of(k).is_some() {
+        if self.is_slave(k) {
             return illegal(0);
         }
         self.go_on(k);
-        self.threads[k as usize].run = Run::Free;
+        self.set_run(k, Run::Free);
         Outcome::Gone
     }
 
-    // ---- The thread goes on
+    fn is_slave(&self, j: u8) -> bool
+        requires { j < THREADS }
+        ensures { result ≡ is_slave self.now j }
+    {
+        self.syncs.sync_of(j).is_some()
+    }
+
+    // ---- A thread's registers, and where it goes on
+
+    pub(crate) fn reg(&self, k: u8, g: u8) -> u32
+        requires thread { k < THREADS }
+        requires register { g < 16 }
+        ensures { result ≡ reg self.now k g }
+    {
+        self.threads[k as usize].reg(g)
+    }
 
     pub(crate) fn go_on(&mut self, k: u8)
+        requires { k < THREADS }
+        ensures { self.new ≡ goes_on self.old k }
     {
+        self.able = None;
         go_on(&mut self.threads[k as usize]);
     }
 
     // With this word in a register.
     pub(crate) fn go_on_with(&mut self, k: u8, d: u8, word: u32)
+        requires thread { k < THREADS }
+        requires register { d < 16 }
+        ensures { self.new ≡ goes_on_with self.old k d word }
     {
+        self.able = None;
         let thread = &mut self.threads[k as usize];
         thread.set_reg(d, word);
         go_on(thread);
@@ -227,9 +324,10 @@ pub(crate) fn go_on(thread: &mut Thread)
 
 /// Whether the threads of a mask are all unstarted or at sync.
 pub(crate) fn all_in(threads: &[Thread; 8], slaves: u8) -> bool
+    ensures { result ≡ list_all (λ k. is_in (slice_index_or threads.now k fresh_thread).run) (members slaves) }
 {
     for k in 0..THREADS {
-        if (slaves >> k) & 1 == 1 && !is_in(threads[k as usize].run) {
+        if is_member(k, slaves) && !is_in(threads[k as usize].run) {
             return false;
         }
     }
@@ -237,16 +335,27 @@ pub(crate) fn all_in(threads: &[Thread; 8], slaves: u8) -> bool
 }
 
 // What the threads of a mask do from now on.
-fn set_runs(threads: &mut [Thread; 8], slaves: u8, run: Run)
+fn set_runs(threads: &mut [Thread], slaves: u8, run: Run)
+    requires { length threads.old ≡ THREADS }
+    ensures { threads.new ≡ with_runs run (members slaves) threads.old }
 {
     for k in 0..THREADS {
-        if (slaves >> k) & 1 == 1 {
+        if is_member(k, slaves) {
             threads[k as usize].run = run;
         }
     }
 }
 
+fn is_member(k: u8, mask: u8) -> bool
+    requires { k < THREADS }
+    ensures { result ≡ in_mask mask k }
+{
+    (mask >> k) & 1 == 1
+}
+
 fn set(thread: &mut Thread, target: Target, value: u32)
+    requires { IsTarget target }
+    ensures { thread.new ≡ with_target target value thread.old }
 {
     match target {
         Target::Pc => thread.pc = value,
@@ -256,12 +365,15 @@ fn set(thread: &mut Thread, target: Target, value: u32)
 
 // Whether a thread is where its synchroniser waits for it.
 fn is_in(run: Run) -> bool
+    ensures { result ≡ is_in run }
 {
     matches!(run, Run::Unstarted | Run::AtSync)
 }
 
 // The thread, 0 to 7, that a word names.
 fn thread_named(id: u16, name: u32) -> Option<u8>
+    ensures value { result ≡ named_thread (resource_named id name) }
+    ensures within { IfSome result (λ j. j < THREADS) }
 {
     match resource_named(id, name) {
         Some(Resource::Thread { thread }) => Some(thread),
@@ -271,11 +383,19 @@ fn thread_named(id: u16, name: u32) -> Option<u8>
 
 // The lowest thread that is free.
 fn free_thread(threads: &[Thread; 8]) -> Option<u8>
+    ensures lowest { result ≡ lowest_free (λ th. is_taken th.run) threads.now 0 }
+    ensures within { IfSome result (λ j. j < THREADS) }
 {
     for k in 0..THREADS {
-        if matches!(threads[k as usize].run, Run::Free) {
+        if !is_taken(threads[k as usize].run) {
             return Some(k);
         }
     }
     None
+}
+
+fn is_taken(run: Run) -> bool
+    ensures { result ≡ is_taken run }
+{
+    !matches!(run, Run::Free)
 }
