@@ -1,4 +1,4 @@
-pub mod AsBuilt
+pub mod Able
 pub mod FirstChan
 pub mod Settles
 pub mod Parts

@@ -3,10 +3,10 @@ use Rattle.std.proofs.Common.{◌≡◌, ℕ, List, [], ◌∷◌, ap, ◌∙◌
 use Rattle.xs_model.specs.declared.thread.Outcome.{Outcome}
 use Rattle.xs_model.specs.declared.thread.Outcome.TheVariants as outcome
 use Rattle.xs_model.specs.declared.thread.Run.TheVariants.{Paused}
-use Rattle.xs_model.specs.Record.{CoreRec}
+use Rattle.xs_model.specs.Record.{CoreRec, with_run}
 use Rattle.xs_instructions.specs.declared.instr.Instr.{Instr}
 use Rattle.step_model.specs.Effect.{Effect, Done, Pause, Trap, Gone, Unbuilt}
-use Rattle.step_model.specs.Step.{Issued, settled, trap, with_run}
+use Rattle.step_model.specs.Step.{Issued, settled, trap}
 use Rattle.core_units.specs.Units.{Ends, effect_of}
 
 -- an issue in which nothing happens

@@ -1,11 +1,11 @@
 //! At most one issue in a slot.
 ghost use Rattle.std.specs.Prelude.{ℕ, ◌≡◌, ◌<◌, ◌≤◌, ◌+◌, false, Some, None, length, IsTrue};
 ghost use Rattle.xs_base.specs.declared.numbers.TheConstants.{THREADS, CHAN_ENDS, EVENT_ROOM, ISSUE_EVENTS};
-ghost use Rattle.xs_model.specs.Record.{thread_of};
+ghost use Rattle.xs_model.specs.Record.{thread_of, with_run};
 ghost use Rattle.xs_instructions.specs.Instr.{InRange, built};
 ghost use Rattle.step_model.specs.Effect.{Setting};
 ghost use Rattle.step_model.specs.Rows.{effect};
-ghost use Rattle.step_model.specs.Step.{issue_begins, with_run, settled, trap, issued, issued_by};
+ghost use Rattle.step_model.specs.Step.{issue_begins, settled, trap, issued, issued_by};
 ghost use Rattle.core_units.specs.Units.{Ends, Goes, effect_of, and_happened, is_on_resources};
 
 use crate::holders::Holders;
