@@ -5,3 +5,4 @@ pub mod Found
 pub mod Lends
 pub mod Named
 pub mod Targets
+pub mod Freed

@@ -20,7 +20,13 @@ use xs_model::{Event, Happen, Outcome, Run};
 impl Units {
     /// At most one issue, by the thread that is picked in a slot. What happens is put after the events of `out`.
     /// It answers whether channel ends may have changed. See docs/MACHINE.md.
-    pub fn issue<H: Holders>(&mut self, program: &Program, slot: u32, holders: &H, out: &mut Emissions) -> bool
+    pub fn issue<H: Holders>(
+        &mut self,
+        program: &Program,
+        slot: u32,
+        holders: &H,
+        out: &mut Emissions,
+    ) -> bool
         requires room { length out.old.events + ISSUE_EVENTS ≤ EVENT_ROOM }
         ensures units { (here : Setting) → here.id ≡ program.now.id → here.slot ≡ slot → ((c : ℕ) → c < CHAN_ENDS → here.is_busy c ≡ H.busy holders.now c) → self.new ≡ (issued program.now.code here self.old).core }
         ensures events { (here : Setting) → here.id ≡ program.now.id → here.slot ≡ slot → ((c : ℕ) → c < CHAN_ENDS → here.is_busy c ≡ H.busy holders.now c) → out.new ≡ and_happened out.old slot (issued program.now.code here self.old).happened }
@@ -34,7 +40,14 @@ impl Units {
 
     // Thread k issues. It stands apart, so that slots in which nobody issues are quick.
     #[inline(never)]
-    fn issue_by<H: Holders>(&mut self, k: u8, program: &Program, slot: u32, holders: &H, out: &mut Emissions) -> bool
+    fn issue_by<H: Holders>(
+        &mut self,
+        k: u8,
+        program: &Program,
+        slot: u32,
+        holders: &H,
+        out: &mut Emissions,
+    ) -> bool
         requires thread { k < THREADS }
         requires room { length out.old.events + ISSUE_EVENTS ≤ EVENT_ROOM }
         ensures units { (here : Setting) → here.id ≡ program.now.id → here.slot ≡ slot → ((c : ℕ) → c < CHAN_ENDS → here.is_busy c ≡ H.busy holders.now c) → self.new ≡ (issued_by program.now.code here self.old (Some k)).core }
