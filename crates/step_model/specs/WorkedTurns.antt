@@ -174,8 +174,8 @@ pub record WorkedTurns : Type 0 where
   -- `msync` is issued in slot 128
   pub eight : next_64 eight_threads 128 ≡ times 8 (0 ∷ 1 ∷ 2 ∷ 3 ∷ 4 ∷ 5 ∷ 6 ∷ 7 ∷ [])
   pub lock_set_up : first_64 four_at_a_lock ≡ times 16 (alone 0)
-  -- `msync` is issued in slot 160, and thread 1 gets the lock in slot 185. Threads 3, 5 and 7 pause in slots 187, 189 and 191;
-  -- they come back in slots 199, 212 and 227.
+  -- `msync` is issued in slot 160, and thread 1 gets the lock in slot 185. Threads 3, 5 and 7 pause in slots 187, 189 and
+  -- 191; they come back in slots 199, 212 and 227.
   pub lock : next_64 four_at_a_lock 176 ≡
       0 ∷ 1 ∷ 2 ∷ 3 ∷ 4 ∷ 5 ∷ 6 ∷ 7 ∷
       0 ∷ 1 ∷ 2 ∷ 3 ∷ 4 ∷ 5 ∷ 6 ∷ 7 ∷
