@@ -1,1 +1,4 @@
 pub mod Best
+pub mod Lowest
+pub mod Picked
+pub mod Turns

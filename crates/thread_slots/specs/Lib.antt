@@ -1,1 +1,2 @@
 pub mod Able
+pub mod Turns

@@ -2,11 +2,12 @@
 //! See docs/MACHINE.md.
 #![tactic(auto)]
 
-ghost use Rattle.std.specs.Prelude.{◌≡◌, ◌≢◌, ◌<◌, ◌≤◌, ◌↔◌, ◌&&◌, ℕ, Bool, true, false, List, Option, Some, None, length, replicate, slice_index_or, slice_set, IfSome};
+ghost use Rattle.std.specs.Prelude.{◌≡◌, ◌≢◌, ◌<◌, ◌≤◌, ◌↔◌, ℕ, Bool, true, false, List, Option, Some, None, length, replicate, slice_index_or, slice_set, IfSome};
 ghost use Rattle.xs_base.specs.declared.numbers.TheConstants.{THREADS};
-ghost use Rattle.xs_model.specs.Picks.{is_rested, is_earlier, pick, best_from};
+ghost use Rattle.xs_model.specs.Picks.{is_rested, is_earlier, pick};
 ghost use Rattle.xs_model.specs.Masks.{in_mask};
-ghost use Rattle.thread_slots.specs.Able.{may_pick, best_with};
+ghost use Rattle.thread_slots.specs.Able.{may_pick};
+ghost use Rattle.thread_slots.specs.Turns.{IsLeast};
 
 use std::marker::Model;
 use xs_base::numbers::THREADS;
@@ -15,19 +16,24 @@ use xs_base::numbers::THREADS;
 /// eight last issues, by thread number. See docs/MACHINE.md.
 #[derive(Clone, Copy, Drop)]
 pub struct Slots {
-    issues: [Option<u32>; 8],
+    // Each thread's turn: eight times the first slot in which it is rested, 0 where it never issued, and its number.
+    // So of any threads the one to pick has the least turn, and where that one is not rested, none of them is.
+    turns: [u64; 8],
 }
 
 impl Model for Slots {
-    ghost use Rattle.std.specs.Prelude.{◌≡◌, List, Option, ℕ, length};
+    ghost use Rattle.std.specs.Prelude.{List, Option, ℕ, map};
+    ghost use Rattle.thread_slots.specs.Turns.{last_in, turns_from, turns_again, AreTurns};
 
     ghost Value = { List (Option ℕ) };
 
-    ghost view = { λ slots. slots.issues };
+    ghost view = { λ slots. map last_in slots.turns };
 
-    ghost invariant = { λ slots. length slots.issues ≡ 8 };
+    ghost invariant = { λ slots. AreTurns slots.turns };
 
-    ghost inverse = { λ issues. record { issues = issues } };
+    ghost inverse = { λ issues. record { turns = turns_from 0 issues } };
+
+    ghost inverse_ok = { λ slots are i. record { turns = turns_again slots.turns are i } };
 }
 
 impl Slots {
@@ -35,31 +41,42 @@ impl Slots {
     pub fn new() -> Slots
         ensures never { result ≡ replicate 8 None }
     {
-        Slots { issues: [None; 8] }
+        Slots {
+            turns: [0, 1, 2, 3, 4, 5, 6, 7],
+        }
     }
 
     /// Notes that a thread, 0 to 7, issues in a slot.
+    #[inline]
     pub fn mark_issue(&mut self, th: u8, slot: u32)
         requires { th < THREADS }
         ensures marked { self.new ≡ slice_set self.old th (Some slot) }
         ensures threads { length self.new ≡ THREADS }
     {
-        self.issues[th as usize] = Some(slot);
+        self.turns[th as usize] = 8 * (u64::from(slot) + 4) + u64::from(th);
     }
 
     /// The slot in which a thread, 0 to 7, issued last: `None` exactly where it never did.
+    #[inline]
     pub fn last(&self, th: u8) -> Option<u32>
         requires { th < THREADS }
         ensures value { result ≡ slice_index_or self.now th None }
         ensures threads { length self.now ≡ THREADS }
     {
-        self.issues[th as usize]
+        let rested = self.turns[th as usize] / 8;
+        if rested == 0 {
+            None
+        } else {
+            Some((rested - 4) as u32)
+        }
     }
 
     /// The thread that issues in a slot. Bit k of `able` is set for each thread k that may issue but for the four
     /// slots of rest that lie between two issues of one thread. Of the threads that are able and rested the one
     /// with the earliest last issue is picked, never being before every slot, and among equals the one with the
-    /// lowest number; `None` comes exactly where no thread is able and rested. See docs/MACHINE.md.
+    /// lowest number; `None` comes exactly where no thread is able and rested: each thread has no bit in `able`, or
+    /// its last issue is less than four slots before this one. See docs/MACHINE.md.
+    #[inline]
     pub fn pick(&self, able: u8, slot: u32) -> Option<u8>
         ensures value { (may : ℕ → Bool) → ((k : ℕ) → k < THREADS → may k ≡ may_pick able self.now slot k) → result ≡ pick may self.now }
         ensures none { result ≡ None ↔ ((k : ℕ) → k < THREADS → may_pick able self.now slot k ≡ false) }
@@ -70,14 +87,17 @@ impl Slots {
         ensures lowest { IfSome result (λ k. (j : ℕ) → j < k → may_pick able self.now slot j ≡ true → is_earlier (slice_index_or self.now k None) (slice_index_or self.now j None) ≡ true) }
         ensures threads { length self.now ≡ THREADS }
     {
-        match best_of(&self.issues, able, slot) {
-            Some((thread, _)) => Some(thread),
-            None => None,
+        let turn = least_turn(&self.turns, able);
+        if turn / 8 <= u64::from(slot) {
+            Some((turn % 8) as u8)
+        } else {
+            None
         }
     }
 }
 
 /// The mask with no thread in it, for `Slots::pick`.
+#[inline]
 pub fn no_threads() -> u8
     ensures { (k : ℕ) → in_mask result k ≡ false }
 {
@@ -94,68 +114,41 @@ pub fn with_able(able: u8, th: u8) -> u8
     able | (1 << th)
 }
 
-/// The best of the threads that are able and rested, with its last issue: no thread past the last able one is looked at.
-fn best_of(issues: &[Option<u32>; 8], able: u8, slot: u32) -> Option<(u8, Option<u32>)>
-    ensures { result ≡ best_from (may_pick able issues.now slot) 0 issues.now }
-{
-    let mut best = None;
-    for k in (0..end_of(able)).rev() {
-        best = best_with(k, issues[k as usize], able, slot, best);
-    }
-    best
-}
-
-/// The number after that of the last thread in a mask, 0 where there is none.
+/// The least turn of the threads in a mask, `u64::MAX` where there is none. Where all are in it, no bit is looked at.
 #[inline]
-fn end_of(able: u8) -> u8
-    ensures within { result ≤ THREADS }
-    ensures past { (k : ℕ) → result ≤ k → in_mask able k ≡ false }
+fn least_turn(turns: &[u64; 8], able: u8) -> u64
+    ensures { IsLeast (in_mask able) turns.now result }
 {
-    (u8::BITS - able.leading_zeros()) as u8
-}
-
-/// The best of a thread and of those after it.
-#[inline]
-fn best_with(
-    k: u8,
-    last: Option<u32>,
-    able: u8,
-    slot: u32,
-    others: Option<(u8, Option<u32>)>,
-) -> Option<(u8, Option<u32>)>
-    requires { k < THREADS }
-    ensures { result ≡ best_with (in_mask able k && is_rested last slot) k last others }
-{
-    if (able >> k) & 1 == 0 || !is_rested(last, slot) {
-        return others;
-    }
-    match others {
-        Some(best) if is_earlier(best.1, last) => others,
-        _ => Some((k, last)),
+    if able == u8::MAX {
+        least_of_all(turns)
+    } else {
+        least_in_mask(turns, able)
     }
 }
 
-/// Whether four slots lie between the last issue and this one.
 #[inline]
-fn is_rested(last: Option<u32>, slot: u32) -> bool
-    ensures { result ≡ is_rested last slot }
+fn least_of_all(turns: &[u64; 8]) -> u64
+    ensures { IsLeast (λ _. true) turns.now result }
 {
-    match last {
-        Some(issued) => u64::from(issued) + 4 <= u64::from(slot),
-        None => true,
+    let mut least = u64::MAX;
+    for turn in turns {
+        least = least.min(*turn);
     }
+    least
 }
 
-/// Whether one last issue is before another; never is before every slot.
 #[inline]
-fn is_earlier(one: Option<u32>, other: Option<u32>) -> bool
-    ensures { result ≡ is_earlier one other }
+fn least_in_mask(turns: &[u64; 8], able: u8) -> u64
+    ensures { IsLeast (in_mask able) turns.now result }
 {
-    match (one, other) {
-        (_, None) => false,
-        (None, Some(_)) => true,
-        (Some(a), Some(b)) => a < b,
+    let mut least = u64::MAX;
+    let mut left = able;
+    while left != 0 {
+        let k = left.trailing_zeros();
+        least = least.min(turns[k as usize]);
+        left &= left - 1;
     }
+    least
 }
 
 #[cfg(test)]
@@ -230,5 +223,69 @@ mod tests {
     fn no_thread_is_able(rt: HostRuntime) {
         picks(&rt, 0, &[(0, None), (4, None)]);
         assert_eq!(rt; Slots::new().last(7), None);
+    }
+
+    /// The last issues of these threads, each marked in its slot.
+    fn marked(issues: &[(u8, u32)]) -> Slots {
+        let mut slots = Slots::new();
+        for &(thread, slot) in issues {
+            slots.mark_issue(thread & 7, slot);
+        }
+        slots
+    }
+
+    #[test]
+    fn among_equals_the_lowest_number_is_picked(rt: HostRuntime) {
+        let slots = marked(&[(6, 9), (2, 9), (4, 9), (1, 10), (0, 12)]);
+        let cases = [
+            (0b01010100, 13, Some(2)),
+            (0b01010000, 13, Some(4)),
+            (0b01010111, 13, Some(2)),
+            (0b01000010, 13, Some(6)),
+            (0b00000010, 13, None),
+            (0b00000011, 14, Some(1)),
+            (0b01010100, 12, None),
+            (0b10101100, 12, Some(3)),
+            (0b11111111, 12, Some(3)),
+        ];
+        for &(able, slot, want) in &cases {
+            assert_eq!(rt;
+                slots.pick(able, slot),
+                want,
+                "of {able:08b} in slot {slot}"
+            );
+        }
+    }
+
+    #[test]
+    fn the_last_slots_there_are(rt: HostRuntime) {
+        let late = marked(&[(0, u32::MAX - 2), (1, u32::MAX - 4), (2, u32::MAX - 3)]);
+        assert_eq!(rt; late.pick(0b00000001, u32::MAX), None);
+        assert_eq!(rt; late.pick(0b00000011, u32::MAX), Some(1));
+        assert_eq!(rt; late.pick(0b00000101, u32::MAX), None);
+        assert_eq!(rt; late.last(0), Some(u32::MAX - 2));
+        let last = marked(&[(3, u32::MAX)]);
+        assert_eq!(rt; last.pick(0b00001000, u32::MAX), None);
+        assert_eq!(rt; last.last(3), Some(u32::MAX));
+    }
+
+    #[test]
+    fn eight_threads_take_turns(rt: HostRuntime) {
+        picks(
+            &rt,
+            0b11111111,
+            &[
+                (0, Some(0)),
+                (1, Some(1)),
+                (2, Some(2)),
+                (3, Some(3)),
+                (4, Some(4)),
+                (5, Some(5)),
+                (6, Some(6)),
+                (7, Some(7)),
+                (8, Some(0)),
+                (9, Some(1)),
+            ],
+        );
     }
 }

@@ -1,40 +1,26 @@
-use Rattle.std.proofs.Common.{Some, None, subst, sym, refl}
-use Rattle.std.proofs.lemmas.Option.{none-some}
-use Rattle.thread_slots.proofs.Best.{pick_by, picked, no_thread, IsPicked, some_may}
+use Rattle.std.proofs.Common.{◌%◌, subst, arith}
+use Rattle.std.proofs.lemmas.List.{length-map}
+use Rattle.thread_slots.specs.Turns.{last_in}
+use Rattle.thread_slots.proofs.Picked.{best_of_least, none_of_least, IsPicked, picked, none_picked}
 use Rattle.thread_slots.proofs.Slots.pick.Goals as goal
-use Rattle.thread_slots.proofs.Slots.pick.Goals.{In-Some}
+use Rattle.thread_slots.proofs.Slots.pick.Goals.{Then-turn-from}
 
-its : (c : In-Some) → IsPicked c.args.able c.args.slot c.args.self.now c.in-Some.thread
+its : (c : Then-turn-from) → IsPicked c.args.able c.args.slot c.args.self.now (c.least_turn-turn.result % 8)
 its c =
-    subst (λ lasts. IsPicked c.args.able c.args.slot lasts c.in-Some.thread) c.self.view_is (picked c.args.able c.args.slot c.self.inside.issues (c.in-Some.thread, c.in-Some.field-0-1) c.self.invariant c.in-Some.ensures)
+    subst (λ lasts. IsPicked c.args.able c.args.slot lasts (c.least_turn-turn.result % 8)) c.self.view_is (picked _ _ _ _ (omega (arith, c.self.invariant.threads, length-map c.self.inside.turns last_in)) (best_of_least c.args.able c.args.slot c.least_turn-turn.result c.self.inside.turns c.self.invariant c.least_turn-turn.ensures (omega arith) (omega arith)))
 
-pub returns-in-Some-clause-value : goal.returns-in-Some-clause-value
-returns-in-Some-clause-value c =
-    rw (← c.self.view_is) (pick_by c.args.able c.args.slot c.self.inside.issues (Some (c.in-Some.thread, c.in-Some.field-0-1)) c.self.invariant c.in-Some.ensures)
+pub returns-then-turn-from-clause-value : goal.returns-then-turn-from-clause-value
+returns-then-turn-from-clause-value c = (its c).value
 
-pub returns-in-Some-clause-none : goal.returns-in-Some-clause-none
-returns-in-Some-clause-none c =
-    (λ e. absurd (none-some _ (sym e)), λ none. absurd (some_may c.args.able c.args.slot c.args.self.now c.in-Some.thread (its c) none))
+pub returns-then-turn-from-clause-rested : goal.returns-then-turn-from-clause-rested
+returns-then-turn-from-clause-rested c = (its c).rested
 
-pub returns-in-Some-clause-within : goal.returns-in-Some-clause-within
-returns-in-Some-clause-within c = (its c).within
+pub returns-then-turn-from-clause-least : goal.returns-then-turn-from-clause-least
+returns-then-turn-from-clause-least c = (its c).least
 
-pub returns-in-Some-clause-able : goal.returns-in-Some-clause-able
-returns-in-Some-clause-able c = (its c).able
+pub returns-then-turn-from-clause-lowest : goal.returns-then-turn-from-clause-lowest
+returns-then-turn-from-clause-lowest c = (its c).lowest
 
-pub returns-in-Some-clause-rested : goal.returns-in-Some-clause-rested
-returns-in-Some-clause-rested c = (its c).rested
-
-pub returns-in-Some-clause-least : goal.returns-in-Some-clause-least
-returns-in-Some-clause-least c = (its c).least
-
-pub returns-in-Some-clause-lowest : goal.returns-in-Some-clause-lowest
-returns-in-Some-clause-lowest c = (its c).lowest
-
-pub returns-in-None-clause-value : goal.returns-in-None-clause-value
-returns-in-None-clause-value c =
-    rw (← c.self.view_is) (pick_by c.args.able c.args.slot c.self.inside.issues None c.self.invariant c.in-None.ensures)
-
-pub returns-in-None-clause-none : goal.returns-in-None-clause-none
-returns-in-None-clause-none c =
-    rw (← c.self.view_is) (λ _. no_thread c.args.able c.args.slot c.self.inside.issues c.self.invariant c.in-None.ensures, λ _. refl)
+pub returns-else-turn-from-clause-value : goal.returns-else-turn-from-clause-value
+returns-else-turn-from-clause-value c =
+    rw (← c.self.view_is) (none_picked c.args.able c.args.slot _ (omega (arith, c.self.invariant.threads, length-map c.self.inside.turns last_in)) (none_of_least c.args.able c.args.slot c.least_turn-turn.result c.self.inside.turns c.self.invariant c.least_turn-turn.ensures (omega arith)))
