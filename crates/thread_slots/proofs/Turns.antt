@@ -1,7 +1,7 @@
 -- Turns: what they tell of the last issues, what a new one is, and the least of them.
-use Rattle.std.proofs.Common.{ℕ, zero, suc, ◌≡◌, ◌≢◌, ◌+◌, ◌-◌, ◌*◌, ◌/◌, ◌^◌, ◌<◌, ◌≤◌, min, Bool, true, false, cond, eqb, Option, Some, None, List, [], ◌∷◌, length, map, get_or, set, refl, ap, ap₂, sym, ◌∙◌, arith, length-set, inl, inr}
+use Rattle.std.proofs.Common.{ℕ, ◌≡◌, ◌≢◌, ◌+◌, ◌-◌, ◌*◌, ◌/◌, ◌^◌, ◌<◌, min, Bool, true, false, Option, Some, None, List, get_or, ap, sym, ◌∙◌, arith, inl, inr}
 use Rattle.std.proofs.lemmas.Bool.{eq-eqb, ne_eqb, cond-true, cond-false, cases_eq, cases_lt, both_ways}
-use Rattle.thread_slots.specs.Turns.{rested_from, turn_of, last_in, turns_from, IsTurnOf, AreTurns, IsLeast}
+use Rattle.thread_slots.specs.Turns.{turn_of, last_in, IsLeast}
 
 -- ---- a turn and the last issue in it
 

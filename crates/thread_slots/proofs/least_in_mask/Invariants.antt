@@ -1,4 +1,4 @@
-use Rattle.std.proofs.Common.{ℕ, ◌≡◌, ◌<◌, Bool, true, not, ◌&&◌}
+use Rattle.std.proofs.Common.{ℕ, ◌≡◌, ◌<◌, true, not, ◌&&◌}
 use Rattle.xs_model.specs.Masks.{in_mask}
 use Rattle.thread_slots.specs.Turns.{IsLeast}
 use Rattle.thread_slots.proofs.least_in_mask.Given as goal

@@ -1,4 +1,4 @@
-use Rattle.std.proofs.Common.{◌+◌, ◌*◌, Some, ap, ap₂, set, ◌∙◌}
+use Rattle.std.proofs.Common.{◌+◌, ◌*◌, Some, ap₂, set, ◌∙◌}
 use Rattle.std.proofs.lemmas.List.{map-set}
 use Rattle.thread_slots.specs.Turns.{last_in}
 use Rattle.thread_slots.proofs.Turns.{last_in_of}
