@@ -1,5 +1,5 @@
 -- Channel ends: what programs do with their buffers.
-use Rattle.std.specs.Prelude.{ℕ, ◌+◌, ◌%◌, Bool, true, false, ◌&&◌, not, ◌==◌, nat_lt, if◌then◌else◌, Option, Some, None, List, [], ◌∷◌, ◌++◌, length}
+use Rattle.std.specs.Prelude.{ℕ, ◌%◌, Bool, true, false, ◌&&◌, not, ◌==◌, nat_lt, if◌then◌else◌, Option, Some, None, List, [], ◌∷◌, ◌++◌, length}
 use Rattle.xs_base.specs.Numbers.{Word, NodeId, ChanNumber, Identifier}
 use Rattle.xs_base.specs.declared.numbers.TheConstants.{CHAN_ENDS, CHAN_END_KIND}
 use Rattle.xs_base.specs.declared.token.Token.{Token}

@@ -1,5 +1,5 @@
 -- The rows on memory.
-use Rattle.std.specs.Prelude.{ℕ, ◌+◌, ◌-◌, ◌*◌, ◌%◌, ◌^◌, Option, Some, None, List}
+use Rattle.std.specs.Prelude.{ℕ, ◌*◌, ◌%◌, ◌^◌, Option, Some, None, List}
 use Rattle.xs_base.specs.Numbers.{Word, Register}
 use Rattle.xs_base.specs.Words.{word_sum, word_difference}
 use Rattle.xs_model.specs.declared.thread.Thread.{Thread}

@@ -2,7 +2,6 @@
 use Rattle.std.specs.Prelude.{ℕ, Bool, if◌then◌else◌, Option, Some, None, List, [], ◌∷◌, ◌++◌}
 use Rattle.xs_base.specs.Numbers.{Slot, Word, ThreadNumber}
 use Rattle.xs_model.specs.declared.thread.Thread.{Thread}
-use Rattle.xs_model.specs.declared.thread.Run.{Run}
 use Rattle.xs_model.specs.declared.thread.Run.TheVariants.{Going, Paused, Halted}
 use Rattle.xs_model.specs.declared.traps.TheConstants.{ILLEGAL_PC}
 use Rattle.xs_model.specs.declared.event.Happen.{Happen}

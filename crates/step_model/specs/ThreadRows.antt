@@ -1,7 +1,7 @@
 -- The rows on threads: a master gets slaves and joins them; any thread sets the registers of one that does not run, and
 -- starts one that is nobody's slave.
 use Rattle.std.specs.Prelude.{ℕ, Bool, true, false, ◌&&◌, not, if◌then◌else◌, Option, Some, None, List, [], ◌∷◌, is_some, slice_index_or, slice_set}
-use Rattle.xs_base.specs.Numbers.{Slot, Word, Register, ThreadNumber, Identifier}
+use Rattle.xs_base.specs.Numbers.{Slot, Register, ThreadNumber, Identifier}
 use Rattle.xs_base.specs.Ids.{res_id}
 use Rattle.xs_base.specs.declared.numbers.TheConstants.{THREAD_KIND}
 use Rattle.xs_model.specs.declared.thread.Thread.{Thread}
@@ -12,13 +12,13 @@ use Rattle.xs_model.specs.declared.traps.TheConstants.{ILLEGAL_RESOURCE}
 use Rattle.xs_model.specs.declared.resource.Resource.{Resource}
 use Rattle.xs_model.specs.declared.resource.Resource.TheVariants as resource
 use Rattle.xs_model.specs.Threads.{fresh_thread, with_register}
-use Rattle.xs_model.specs.Record.{CoreRec, SyncRec, thread_of, sync_of, with_thread, with_run, with_last, with_sync}
+use Rattle.xs_model.specs.Record.{CoreRec, thread_of, sync_of, with_thread, with_run, with_last, with_sync}
 use Rattle.xs_model.specs.Free.{lowest_free}
 use Rattle.xs_model.specs.Syncs.{is_thread, sync_with, with_bound, unbound}
 use Rattle.xs_model.specs.Waits.{is_in, all_in}
 use Rattle.xs_instructions.specs.declared.instr.ThreadIns.{ThreadIns}
 use Rattle.xs_instructions.specs.declared.instr.ThreadIns.TheVariants as threads
-use Rattle.step_model.specs.Effect.{Setting, Effect, Done, Pause, Trap, Gone, allowed_where, reg, after_it, goes_on, goes_on_with}
+use Rattle.step_model.specs.Effect.{Setting, Effect, Done, Pause, Trap, Gone, allowed_where, reg, goes_on, goes_on_with}
 use Rattle.step_model.specs.Named.{resource_named}
 
 -- ---- Getting a thread
