@@ -1,18 +1,23 @@
 -- Threads stay able, or not able, where what each does stays, and all that it may wait for.
 use Rattle.std.specs.Prelude.{Bool, ◌&&◌, Option, Some, None, IfSome, slice_set, slice_index_or}
 use Rattle.std.specs.List.{list_all}
-use Rattle.std.proofs.Common.{◌≡◌, ℕ, zero, suc, List, [], ◌∷◌, refl, ap, sym, ◌∙◌, get_or}
-use Rattle.std.proofs.lemmas.List.{length-set}
+use Rattle.std.proofs.Common.{◌≡◌, ◌<◌, ℕ, zero, suc, List, [], ◌∷◌, refl, ap, sym, ◌∙◌, get_or, arith}
+use Rattle.std.proofs.lemmas.List.{length-set, get_or_default}
 use Rattle.xs_model.specs.declared.thread.Thread.{Thread}
 use Rattle.xs_model.specs.declared.thread.Run.{Run}
 use Rattle.xs_model.specs.declared.thread.Run.TheVariants.{Free, Unstarted, AtSync, Going, Paused, Halted}
 use Rattle.xs_model.specs.declared.thread.Wait.{Wait}
 use Rattle.xs_model.specs.declared.thread.Wait.TheVariants.{Room, Tokens, PortFull, PortEmpty, PortIdle, Timer, Lock, Slaves, Choice}
+use Rattle.xs_model.specs.declared.thread.Outcome.{Outcome}
+use Rattle.xs_model.specs.declared.thread.Outcome.TheVariants as outcome
 use Rattle.xs_model.specs.Threads.{fresh_thread}
 use Rattle.xs_model.specs.Record.{CoreRec, thread_of, sync_of}
 use Rattle.xs_model.specs.Waits.{holds, is_in}
 use Rattle.xs_model.specs.Picks.{goes_or_holds, is_able}
-use Rattle.core_units.specs.Units.{AreAble, IsUnits, units_of}
+use Rattle.xs_base.specs.declared.numbers.TheConstants.{THREADS}
+use Rattle.xs_model.specs.Masks.{in_mask}
+use Rattle.core_units.specs.Waits.{core_by}
+use Rattle.core_units.specs.Units.{AreAble, IsUnits, units_of, gone_on}
 use Rattle.core_units.specs.declared.units.Units.TheInside.{Inside}
 
 -- what a thread does, by its number
@@ -69,9 +74,23 @@ module _ (core : CoreRec) (threads : List Thread) (last : List (Option ℕ)) (me
   known_still None known = tt
   known_still (Some mask) known = mask_still mask known
 
--- the units stay right where thread k does what it did, and where the memory and the last issues change
-pub thread-set : (u : Inside) (k : ℕ) (th : Thread) (last : List (Option ℕ)) (memory : List ℕ) → th.run ≡ run_at u.threads k → IsUnits u → IsUnits (record u { threads = slice_set u.threads k th; slots = last; ram = memory })
-thread-set u k th last memory same is = record {
-  eight = length-set u.threads k th ∙ is.eight;
-  known = known_still (units_of u) (slice_set u.threads k th) last memory (run-set u.threads k th same) u.able is.known;
-}
+-- what is told of the parts is so of the units
+pub parts_able : (u : Inside) (mask : ℕ) → ((slot k : ℕ) → k < THREADS → in_mask mask k ≡ is_able (core_by u.threads u.chans u.syncs) k slot) → AreAble (units_of u) mask
+parts_able u mask told = record { at = λ slot k below. told slot k below ∙ sym (able_still (units_of u) u.threads [] [] (λ j. refl) slot k) }
+
+-- The units stay right where thread k, read with any default, does what it did; the memory may change.
+pub thread-set : (u : Inside) (k : ℕ) (th default : Thread) (memory : List ℕ) → k < THREADS → th.run ≡ (get_or u.threads k default).run → IsUnits u → IsUnits (record u { threads = slice_set u.threads k th; ram = memory })
+thread-set u k th default memory below same is =
+    let there : get_or u.threads k default ≡ get_or u.threads k fresh_thread = get_or_default u.threads k default fresh_thread (omega (arith, is.eight)) in
+    let does = run-set u.threads k th (same ∙ ap (λ (t : Thread). t.run) there) in
+    record {
+      eight = length-set u.threads k th ∙ is.eight;
+      known = known_still (units_of u) (slice_set u.threads k th) u.slots memory does u.able is.known;
+    }
+
+-- what becomes of a thread after its row on words leaves what it does
+pub gone_on-run : (o : Outcome) (th : Thread) → (gone_on o th).run ≡ th.run
+gone_on-run outcome.Done th = refl
+gone_on-run (outcome.Pause wait) th = refl
+gone_on-run (outcome.Trap et ed) th = refl
+gone_on-run outcome.Gone th = refl

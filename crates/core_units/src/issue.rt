@@ -142,6 +142,7 @@ impl Units {
         ensures events { out.new ≡ and_happened out.old slot (trap program.now.code self.old k et ed).happened }
         ensures chans { self.new.chans ≡ self.old.chans }
     {
+        self.able = None;
         let thread = &mut self.threads[k as usize];
         let next = return_address(thread, et);
         enter_trap(thread, et, ed, next);
@@ -155,7 +156,7 @@ impl Units {
             },
         });
         if !program.stands_at(thread.pc) {
-            self.set_run(k, Run::Halted);
+            thread.run = Run::Halted;
             out.add_event(Event {
                 slot,
                 what: Happen::Halt { thread: k },

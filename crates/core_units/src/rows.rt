@@ -20,7 +20,6 @@ use xs_model::{Outcome, Thread};
 impl Units {
     // A row on words.
     #[inline]
-    #[tactic(auto, using(crate::proofs::Parts::registers_end))]
     pub(crate) fn words(&mut self, k: u8, ins: WordIns) -> Outcome
         requires thread { k < THREADS }
         requires goes { Goes self.old k }
