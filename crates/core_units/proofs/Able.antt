@@ -11,7 +11,7 @@ use Rattle.xs_model.specs.declared.thread.Wait.TheVariants.{Room, Tokens, PortFu
 use Rattle.xs_model.specs.declared.thread.Outcome.{Outcome}
 use Rattle.xs_model.specs.declared.thread.Outcome.TheVariants as outcome
 use Rattle.xs_model.specs.Threads.{fresh_thread}
-use Rattle.xs_model.specs.Record.{CoreRec, thread_of, sync_of}
+use Rattle.xs_model.specs.Record.{CoreRec, sync_of}
 use Rattle.xs_model.specs.Waits.{holds, is_in}
 use Rattle.xs_model.specs.Picks.{goes_or_holds, is_able}
 use Rattle.xs_base.specs.declared.numbers.TheConstants.{THREADS}

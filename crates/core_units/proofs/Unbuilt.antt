@@ -1,5 +1,5 @@
 -- Timers and ports are as at the start, so for those the wait alone says whether it holds.
-use Rattle.std.specs.Prelude.{Bool, true, false, not, ◌&&◌, ◌||◌, nat_lt, is_some, is_none}
+use Rattle.std.specs.Prelude.{true, false, not, ◌&&◌, ◌||◌, nat_lt, is_some, is_none}
 use Rattle.std.proofs.Common.{◌≡◌, ◌⊎◌, inl, inr, ℕ, zero, suc, List, length, refl, ap, ◌∙◌, replicate, get_or}
 use Rattle.xs_model.specs.declared.thread.Thread.{Thread}
 use Rattle.xs_model.specs.declared.thread.Wait.{Wait}

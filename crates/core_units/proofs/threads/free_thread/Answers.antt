@@ -1,6 +1,4 @@
-use Rattle.std.proofs.Common.{◌≡◌, Bool, get_or, ap, sym, ◌∙◌, arith}
-use Rattle.std.proofs.lemmas.List.{get_or_default}
-use Rattle.xs_model.specs.declared.thread.Thread.{Thread}
+use Rattle.std.proofs.Common.{sym, ◌∙◌, arith}
 use Rattle.step_model.specs.ThreadRows.{is_taken}
 use Rattle.core_units.proofs.Lowest.{lowest_more, lowest_here, lowest_none}
 use Rattle.core_units.proofs.threads.free_thread.Goals as goal
