@@ -7,7 +7,7 @@ ghost use Rattle.xs_instructions.specs.Instr.{ResourcesInRange};
 ghost use Rattle.step_model.specs.Effect.{Setting, goes_on_with};
 ghost use Rattle.step_model.specs.Named.{resource_named};
 ghost use Rattle.step_model.specs.ResourceRows.{resources_row, resource_got, without, freed, takes_in, puts_out};
-ghost use Rattle.core_units.specs.Units.{Ends, Goes};
+ghost use Rattle.core_units.specs.Units.{Ends};
 ghost use Rattle.core_units.specs.Named.{IsWithin};
 ghost use Rattle.core_units.specs.Found.{name_of};
 ghost use Rattle.core_units.specs.Freed.{IsFreed};
@@ -34,7 +34,6 @@ impl Units {
         ins: ResIns,
     ) -> Outcome
         requires thread { k < THREADS }
-        requires goes { Goes self.old k }
         requires range { ResourcesInRange ins }
         requires built { IsTrue (is_built (row_of_resources ins)) }
         ensures row { (here : Setting) → here.id ≡ id → here.slot ≡ slot → ((c : ℕ) → c < CHAN_ENDS → here.is_busy c ≡ H.busy holders.now c) → Ends result self.old self.new (resources_row here self.old k ins) }

@@ -12,7 +12,7 @@ ghost use Rattle.xs_instructions.specs.Instr.{ThreadsInRange};
 ghost use Rattle.step_model.specs.Effect.{Setting, reg, after_it, goes_on, goes_on_with};
 ghost use Rattle.step_model.specs.Named.{resource_named};
 ghost use Rattle.step_model.specs.ThreadRows.{threads_row, is_taken, thread_to_get, slave_got, is_slave, may_start, sets_other, with_runs, with_slaves_run};
-ghost use Rattle.core_units.specs.Units.{Ends, Goes};
+ghost use Rattle.core_units.specs.Units.{Ends};
 ghost use Rattle.core_units.specs.Named.{named_thread, mastered};
 ghost use Rattle.core_units.specs.Found.{with_thread_got};
 ghost use Rattle.core_units.specs.Targets.{IsTarget, with_target};
@@ -45,7 +45,6 @@ impl Units {
     // On the node with this id, in a slot.
     pub(crate) fn on_threads(&mut self, id: u16, slot: u32, k: u8, ins: ThreadIns) -> Outcome
         requires thread { k < THREADS }
-        requires goes { Goes self.old k }
         requires range { ThreadsInRange ins }
         ensures row { (here : Setting) → here.id ≡ id → here.slot ≡ slot → Ends result self.old self.new (threads_row here self.old k ins) }
         ensures chans { self.new.chans ≡ self.old.chans }
