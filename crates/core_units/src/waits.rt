@@ -17,8 +17,8 @@ use xs_base::numbers::THREADS;
 use xs_model::{Resource, Run, Thing, Thread, Wait};
 
 impl Units {
-    /// The thread that issues in a slot, 0 to 7: None exactly where nobody may.
-    pub(crate) fn picked(&mut self, slot: u32) -> Option<u8>
+    /// The thread that issues in a slot, 0 to 7: None exactly where nobody may. See docs/MACHINE.md.
+    pub fn picked(&mut self, slot: u32) -> Option<u8>
         ensures value { result ≡ picked self.old slot }
         ensures within { IfSome result (λ k. k < THREADS) }
         ensures unchanged { self.new ≡ self.old }
