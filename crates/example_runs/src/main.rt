@@ -1,10 +1,13 @@
 //! Gives each example to the program's call, and says whether it wrote the text that stands beside it and ended with
-//! its status. The timeline of two nodes is compared too, slot by slot.
+//! its status. The timeline of two nodes is compared too, slot by slot, and so are the pictures of who issues.
 #![tactic(auto)]
 
+mod node;
+mod slots;
 mod timeline;
 
 use anyhow::{Context, Result};
+use slots::pictures_as;
 use std::rt::Files;
 use std::{fs, io};
 use timeline::text_after;
@@ -18,29 +21,37 @@ const LONGEST_TEXT: usize = 65_536;
 const TIMELINE_SLOTS: u32 = 40;
 
 fn main(rt: HostRuntime) -> Result<()> {
-    for name in names(&rt)? {
-        let verdict = verdict(is_as_expected(&rt, &name)?);
-        println!(rt; "{name}: {verdict}")?;
+    for name in names(&rt, ".args")? {
+        tell(&rt, &name, is_as_expected(&rt, &name)?)?;
     }
-    let verdict = verdict(timeline_is_as_expected(&rt)?);
-    println!(rt; "pair.timeline: {verdict}")?;
+    tell(&rt, "pair.timeline", timeline_is_as_expected(&rt)?)?;
+    for name in names(&rt, ".slots")? {
+        let pictures = format!(in rt.alloc(); "{name}.slots")?;
+        tell(
+            &rt,
+            &pictures,
+            slots_are_as_expected(&rt, &name, &pictures)?,
+        )?;
+    }
     Ok(())
 }
 
-fn verdict(as_expected: bool) -> &'static str {
-    if as_expected {
+fn tell(rt: &HostRuntime, name: &str, as_expected: bool) -> Result<()> {
+    let verdict = if as_expected {
         "as expected"
     } else {
         "differs"
-    }
+    };
+    println!(rt; "{name}: {verdict}")?;
+    Ok(())
 }
 
-// The names of the runs, in order: of the files that end in .args.
-fn names(rt: &HostRuntime) -> Result<Vec<String>> {
+// The names of the files with this ending, in order and without it: `.args` for the runs.
+fn names(rt: &HostRuntime, ending: &str) -> Result<Vec<String>> {
     let mut names = Vec::new(rt.alloc());
     for entry in fs::read_dir(rt, ".")? {
         let entry = entry?;
-        if let Some(name) = entry.file_name().strip_suffix(".args") {
+        if let Some(name) = entry.file_name().strip_suffix(ending) {
             names.push(name.to_string(rt.alloc())?)?;
         }
     }
@@ -84,6 +95,13 @@ fn timeline_is_as_expected(rt: &HostRuntime) -> Result<bool> {
         }
     }
     Ok(true)
+}
+
+// Whether the threads of a system issue in those slots in which the pictures of a file have it.
+fn slots_are_as_expected(rt: &HostRuntime, name: &str, pictures: &str) -> Result<bool> {
+    let system = fs::read(rt, format!(in rt.alloc(); "{name}.xs1")?)?;
+    let expected = fs::read_to_string(rt, pictures)?;
+    Ok(pictures_as(rt.alloc(), &system, &expected).context(name)? == expected)
 }
 
 // Whether the example, given to the program with the words of a line, ends with this number and writes this text.
