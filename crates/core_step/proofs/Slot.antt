@@ -3,6 +3,7 @@ use Rattle.std.proofs.Common.{◌≡◌, ℕ, ◌+◌, ◌<◌, ◌≤◌, List,
 use Rattle.std.specs.Prelude.{IfSome}
 use Rattle.std.specs.List.{AllByRecursion}
 use Rattle.std.proofs.lemmas.List.{map-append}
+use Rattle.xs_base.specs.declared.numbers.TheConstants.{CHAN_ENDS}
 use Rattle.xs_model.specs.declared.outside.Arrivals.{Arrivals}
 use Rattle.xs_model.specs.declared.outside.PinView.{PinView}
 use Rattle.xs_model.specs.declared.event.Event.{Event}
@@ -10,11 +11,12 @@ use Rattle.xs_model.specs.Record.{CoreRec, NodeRec, LinkRec, ChanRec}
 use Rattle.xs_model.specs.Outside.{Emitted, emitted_events, in_slot}
 use Rattle.xs_model.specs.AtWork.{AtWork, slot_begins}
 use Rattle.net_model.specs.Links.{latest}
+use Rattle.net_model.specs.Switch.{is_busy_among}
 use Rattle.link_ends.specs.Counts.{EndCounts, CountsOf, NeverFall}
 use Rattle.switch_routes.specs.Rows.{AllCountsOf, CreditedBy, SentBy}
 use Rattle.step_model.specs.Fixed.{Fixed}
 use Rattle.step_model.specs.Effect.{Setting}
-use Rattle.step_model.specs.Step.{Issued, node_step, issued, setting_of}
+use Rattle.step_model.specs.Step.{Issued, node_step, issued, setting_of, before_issue}
 use Rattle.core_units.specs.Units.{and_happened}
 use Rattle.core_step.specs.Core.{CoreValue, StandsAt, SentBefore, IsLinkBefore}
 use Rattle.core_step.specs.Network.{NetworkRec, NetworkStands, Brings, arrived_and_moved}
@@ -98,22 +100,23 @@ begins fixed core n rec slot at = record {
 
 module _ (fixed : Fixed) (rec : NodeRec) (slot : ℕ) (arrivals : Arrivals) (pins : PinView) where
   -- the node before the issue, and where that happens
-  abbrev pub before_issue : AtWork
-  before_issue = arrived_and_moved fixed.routes slot arrivals (slot_begins rec)
+  abbrev before : AtWork
+  before = before_issue fixed rec slot arrivals pins
 
   abbrev pub its_setting : Setting
-  its_setting = setting_of fixed slot pins before_issue.rec
+  its_setting = setting_of fixed slot pins before.rec
 
-  module _ (core : CoreRec) (n : NetworkRec) (chans : List ChanRec) (out : Emitted) (is : core ≡ rec.core) (b : Brings slot arrivals fixed.routes n chans out (slot_begins rec)) where
-    core_is : record core { chans = chans } ≡ before_issue.rec.core
-    core_is = ap (λ (c : CoreRec). record c { chans = chans }) is ∙ sym (ap (λ (r : NodeRec). r.core) b.rest)
+  module _ (core : CoreRec) (n : NetworkRec) (out : Emitted) (core_is : core ≡ record rec.core { chans = core.chans }) (b : Brings slot arrivals fixed.routes n core.chans out (slot_begins rec)) where
+    -- the switch of the core says which channel ends are at work in the node
+    pub busy_is : (c : ℕ) → c < CHAN_ENDS → its_setting.is_busy c ≡ is_busy_among n.switch.inputs c
+    busy_is c below = ap (λ inputs. is_busy_among inputs c) (sym b.stands.parts.inputs)
 
     -- the units then make the issue that the definition makes
-    issue_is : issued fixed.code its_setting (record core { chans = chans }) ≡ issued fixed.code its_setting before_issue.rec.core
-    issue_is = ap (λ (c : CoreRec). issued fixed.code its_setting c) core_is
+    issue_is : issued fixed.code its_setting core ≡ issued fixed.code its_setting before.rec.core
+    issue_is = ap (λ (c : CoreRec). issued fixed.code its_setting c) (core_is ∙ sym (ap (λ (r : NodeRec). r.core) b.rest))
 
     -- so the core stands for the node after the slot
-    pub stepped : (any : Fixed) (new : CoreRec) → new ≡ (issued fixed.code its_setting (record core { chans = chans })).core → SentBy slot n.links → StandsAt (value_with any new n) (node_step fixed rec slot arrivals pins).rec (slot + 1)
+    pub stepped : (any : Fixed) (new : CoreRec) → new ≡ (issued fixed.code its_setting core).core → SentBy slot n.links → StandsAt (value_with any new n) (node_step fixed rec slot arrivals pins).rec (slot + 1)
     unfolding node_step
     stepped any new made sent = record {
       stands = record {
@@ -121,13 +124,13 @@ module _ (fixed : Fixed) (rec : NodeRec) (slot : ℕ) (arrivals : Arrivals) (pin
         inputs = b.stands.parts.inputs;
         links = b.stands.parts.links;
       };
-      links = links_before slot n.links before_issue.rec.links b.stands.parts.links (sent_before_next slot n.links sent) b.stands.parts.credited;
+      links = links_before slot n.links before.rec.links b.stands.parts.links (sent_before_next slot n.links sent) b.stands.parts.credited;
     }
 
     -- and it gave what the slot gives
-    pub gave : (after : Emitted) → after ≡ and_happened out slot (issued fixed.code its_setting (record core { chans = chans })).happened → after ≡ (node_step fixed rec slot arrivals pins).emitted
+    pub gave : (after : Emitted) → after ≡ and_happened out slot (issued fixed.code its_setting core).happened → after ≡ (node_step fixed rec slot arrivals pins).emitted
     unfolding node_step
     gave after made =
         made ∙ ap (λ (i : Issued). and_happened out slot i.happened) issue_is
-        ∙ ap (λ (o : Emitted). and_happened o slot (issued fixed.code its_setting before_issue.rec.core).happened) b.stands.emitted
-        ∙ ap (λ (events : List Event). let e : Emitted = record { events = events; tokens = before_issue.tokens; credits = before_issue.credits } in e) (sym (map-append (in_slot slot) before_issue.happened (issued fixed.code its_setting before_issue.rec.core).happened))
+        ∙ ap (λ (o : Emitted). and_happened o slot (issued fixed.code its_setting before.rec.core).happened) b.stands.emitted
+        ∙ ap (λ (events : List Event). let e : Emitted = record { events = events; tokens = before.tokens; credits = before.credits } in e) (sym (map-append (in_slot slot) before.happened (issued fixed.code its_setting before.rec.core).happened))

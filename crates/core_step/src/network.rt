@@ -4,6 +4,7 @@ ghost use Rattle.xs_base.specs.Numbers.{Slot};
 ghost use Rattle.xs_base.specs.declared.numbers.TheConstants.{EVENTS_BEFORE_SWITCH, SWITCH_EVENTS};
 ghost use Rattle.xs_model.specs.AtWork.{AtWork};
 ghost use Rattle.net_model.specs.Links.{arrive};
+ghost use Rattle.net_model.specs.Switch.{is_busy_among};
 ghost use Rattle.switch_routes.specs.Rows.{SentBy};
 ghost use Rattle.core_step.specs.Network.{NetworkStands, RestsAsKnown, Brings, routes_of, counts_with_gap, first_network};
 
@@ -55,11 +56,12 @@ impl Network {
         out: &mut Emissions,
     )
         requires room { length out.old.events ≤ EVENTS_BEFORE_SWITCH }
-        requires rest { RestsAsKnown self.old chans.old }
+        requires rest { RestsAsKnown self.old units.old.chans }
 
-        ensures brings { (m : AtWork) → NetworkStands slot self.old chans.old out.old m → Brings slot arrivals.now (routes_of self.old) self.new chans.new out.new m }
+        ensures brings { (m : AtWork) → NetworkStands slot self.old units.old.chans out.old m → Brings slot arrivals.now (routes_of self.old) self.new units.new.chans out.new m }
+        ensures units { units.new ≡ record units.old { chans = units.new.chans } }
         ensures routes { routes_of self.new ≡ routes_of self.old }
-        ensures rests { RestsAsKnown self.new chans.new }
+        ensures rests { RestsAsKnown self.new units.new.chans }
         ensures sent { SentBy slot self.old.links → SentBy slot self.new.links }
         ensures events { length out.new.events ≤ length out.old.events + SWITCH_EVENTS }
     {
@@ -122,27 +124,26 @@ fn links_with(gaps: &[u32; 8]) -> Links
 fn nothing_arrives(arrivals: &Arrivals) -> bool
     ensures { IsTrue result → (slot : Slot) (m : AtWork) → arrive slot arrivals.now m ≡ m }
 {
-    are_none(arrivals.tokens) && are_false(arrivals.credits)
+    are_none(&arrivals.tokens) && are_false(&arrivals.credits)
 }
 
-fn are_none(tokens: [Option<Token>; 8]) -> bool
-    ensures { IsTrue result → (end : ℕ) → slice_index_or tokens end None ≡ None }
+// It ends in no earlier way, so that the compiler may do all link ends at once. So does the next one.
+fn are_none(tokens: &[Option<Token>; 8]) -> bool
+    ensures { IsTrue result → (end : ℕ) → slice_index_or tokens.now end None ≡ None }
 {
+    let mut some = false;
     for end in 0..8usize {
-        if tokens[end].is_some() {
-            return false;
-        }
+        some |= tokens[end].is_some();
     }
-    true
+    !some
 }
 
-fn are_false(credits: [bool; 8]) -> bool
-    ensures { IsTrue result → (end : ℕ) → slice_index_or credits end false ≡ false }
+fn are_false(credits: &[bool; 8]) -> bool
+    ensures { IsTrue result → (end : ℕ) → slice_index_or credits.now end false ≡ false }
 {
+    let mut some = false;
     for end in 0..8usize {
-        if credits[end] {
-            return false;
-        }
+        some |= credits[end];
     }
-    true
+    !some
 }

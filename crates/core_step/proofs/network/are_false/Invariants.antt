@@ -3,4 +3,4 @@ use Rattle.std.specs.Prelude.{slice_index_or}
 use Rattle.core_step.proofs.network.are_false.Given as goal
 
 abbrev pub invariant-loop-end : goal.invariant-loop-end
-invariant-loop-end l = (e : ℕ) → e < l.end → slice_index_or l.credits e false ≡ false
+invariant-loop-end l = l.some ≡ false → (e : ℕ) → e < l.end → slice_index_or l.credits e false ≡ false

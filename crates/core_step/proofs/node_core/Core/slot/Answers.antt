@@ -1,5 +1,5 @@
-use Rattle.std.proofs.Common.{◌≡◌, ◌+◌, sym, refl, subst}
-use Rattle.xs_model.specs.Record.{NodeRec}
+use Rattle.std.proofs.Common.{◌≡◌, ◌+◌, sym, refl, ap, subst, ◌∙◌}
+use Rattle.xs_model.specs.Record.{CoreRec, NodeRec}
 use Rattle.xs_model.specs.AtWork.{slot_begins}
 use Rattle.switch_routes.specs.Rows.{SentBy}
 use Rattle.step_model.specs.Fixed.{Fixed}
@@ -7,18 +7,20 @@ use Rattle.step_model.specs.Step.{node_step}
 use Rattle.core_step.specs.Core.{CoreValue, StandsAt, SentBefore}
 use Rattle.core_step.specs.Network.{NetworkRec, NetworkStands, Brings, routes_of}
 use Rattle.core_step.specs.Inside.{value_of}
-use Rattle.core_step.proofs.Slot.{begins, stepped, gave, its_setting, sent_by, sent_before_next}
+use Rattle.core_step.proofs.Slot.{begins, stepped, gave, its_setting, busy_is, sent_by, sent_before_next}
 use Rattle.core_step.proofs.node_core.Core.slot.Goals as goal
 use Rattle.core_step.proofs.node_core.Core.slot.Goals.{After-issue}
 
 -- what the network brings to a node for which the core stands
-brings : (c : After-issue) (rec : NodeRec) → StandsAt (value_of c.self.inside) rec c.args.slot → Brings c.args.slot c.args.arrivals.now (routes_of c.self.inside.network) c.bring.new.self c.bring.new.chans c.bring.new.out (slot_begins rec)
+brings : (c : After-issue) (rec : NodeRec) → StandsAt (value_of c.self.inside) rec c.args.slot → Brings c.args.slot c.args.arrivals.now (routes_of c.self.inside.network) c.bring.new.self c.bring.new.units.chans c.bring.new.out (slot_begins rec)
 brings c rec at =
     let s = c.self.inside in
-    let stands = begins (value_of s).fixed s.units s.network rec c.args.slot at in
     c.bring.ensures.brings (slot_begins rec)
-    (subst (λ chans. NetworkStands c.args.slot s.network chans c.clear.new.self (slot_begins rec)) (sym c.chans_mut.ensures.value)
-    (subst (λ out. NetworkStands c.args.slot s.network s.units.chans out (slot_begins rec)) (sym c.clear.ensures) stands))
+    (subst (λ out. NetworkStands c.args.slot s.network s.units.chans out (slot_begins rec)) (sym c.clear.ensures) (begins (value_of s).fixed s.units s.network rec c.args.slot at))
+
+-- but for its channel ends, the core that issues is the node's
+core_is : (c : After-issue) (rec : NodeRec) → StandsAt (value_of c.self.inside) rec c.args.slot → c.bring.new.units ≡ record rec.core { chans = c.bring.new.units.chans }
+core_is c rec at = c.bring.ensures.units ∙ ap (λ (core : CoreRec). record core { chans = c.bring.new.units.chans }) at.stands.core
 
 sent : (c : After-issue) → SentBy c.args.slot c.bring.new.self.links
 sent c =
@@ -31,9 +33,10 @@ step_is c fixed rec h =
     let s = c.self.inside in
     let at = subst (λ (v : CoreValue). StandsAt v rec a.slot) (sym c.self.view_is) h in
     let now = (value_of s).fixed in
+    let b = brings c rec at in
     subst (λ (v : CoreValue). StandsAt (record { fixed = fixed; core = c.issue.new.self; inputs = c.bring.new.self.switch.inputs; links = c.bring.new.self.links }) (node_step v.fixed rec a.slot a.arrivals.now a._pins.now).rec (a.slot + 1)) c.self.view_is
-    (stepped now rec a.slot a.arrivals.now a._pins.now s.units c.bring.new.self c.bring.new.chans c.bring.new.out at.stands.core (brings c rec at) fixed c.issue.new.self
-    (c.issue.ensures.units (its_setting now rec a.slot a.arrivals.now a._pins.now) c.self.invariant.node refl) (sent c))
+    (stepped now rec a.slot a.arrivals.now a._pins.now c.bring.new.units c.bring.new.self c.bring.new.out (core_is c rec at) b fixed c.issue.new.self
+    (c.issue.ensures.units (its_setting now rec a.slot a.arrivals.now a._pins.now) c.self.invariant.node refl (busy_is now rec a.slot a.arrivals.now a._pins.now c.bring.new.units c.bring.new.self c.bring.new.out (core_is c rec at) b)) (sent c))
 
 emissions_are : (c : After-issue) (rec : NodeRec) → StandsAt c.args.self.now rec c.args.slot → c.issue.new.out ≡ (node_step c.args.self.now.fixed rec c.args.slot c.args.arrivals.now c.args._pins.now).emitted
 emissions_are c rec h =
@@ -41,9 +44,10 @@ emissions_are c rec h =
     let s = c.self.inside in
     let at = subst (λ (v : CoreValue). StandsAt v rec a.slot) (sym c.self.view_is) h in
     let now = (value_of s).fixed in
+    let b = brings c rec at in
     subst (λ (v : CoreValue). c.issue.new.out ≡ (node_step v.fixed rec a.slot a.arrivals.now a._pins.now).emitted) c.self.view_is
-    (gave now rec a.slot a.arrivals.now a._pins.now s.units c.bring.new.self c.bring.new.chans c.bring.new.out at.stands.core (brings c rec at) c.issue.new.out
-    (c.issue.ensures.events (its_setting now rec a.slot a.arrivals.now a._pins.now) c.self.invariant.node refl))
+    (gave now rec a.slot a.arrivals.now a._pins.now c.bring.new.units c.bring.new.self c.bring.new.out (core_is c rec at) b c.issue.new.out
+    (c.issue.ensures.events (its_setting now rec a.slot a.arrivals.now a._pins.now) c.self.invariant.node refl (busy_is now rec a.slot a.arrivals.now a._pins.now c.bring.new.units c.bring.new.self c.bring.new.out (core_is c rec at) b)))
 
 pub returns-then-issue-clause-step : goal.returns-then-issue-clause-step
 returns-then-issue-clause-step c = λ rec h.
