@@ -47,7 +47,8 @@ impl Network {
         }
     }
 
-    /// What arrives by the link ends in a slot, and then the switch: nothing is done where it rests and nothing arrives.
+    /// What arrives by the link ends in a slot, and then the switch, which works with the units' channel ends: nothing
+    /// is done where it rests and nothing arrives.
     pub(crate) fn bring(
         &mut self,
         units: &mut Units,
@@ -99,6 +100,8 @@ impl Network {
 }
 
 impl Holders for Network {
+    ghost use Rattle.net_model.specs.Switch.{is_busy_among};
+
     ghost busy = { λ n c. is_busy_among n.switch.inputs c };
 
     fn is_busy(&self, c: u8) -> bool {

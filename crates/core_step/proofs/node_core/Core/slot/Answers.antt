@@ -1,9 +1,12 @@
-use Rattle.std.proofs.Common.{◌≡◌, ◌+◌, sym, refl, ap, subst, ◌∙◌}
+use Rattle.std.proofs.Common.{◌≡◌, ◌+◌, ◌<◌, ℕ, ap, sym, refl, ◌∙◌, subst}
 use Rattle.xs_model.specs.Record.{CoreRec, NodeRec}
 use Rattle.xs_model.specs.AtWork.{slot_begins}
+use Rattle.xs_base.specs.declared.numbers.TheConstants.{CHAN_ENDS}
+use Rattle.net_model.specs.Switch.{is_busy_among}
 use Rattle.switch_routes.specs.Rows.{SentBy}
 use Rattle.step_model.specs.Fixed.{Fixed}
-use Rattle.step_model.specs.Step.{node_step}
+use Rattle.step_model.specs.Step.{node_step, issued}
+use Rattle.core_units.specs.Units.{and_happened}
 use Rattle.core_step.specs.Core.{CoreValue, StandsAt, SentBefore}
 use Rattle.core_step.specs.Network.{NetworkRec, NetworkStands, Brings, routes_of}
 use Rattle.core_step.specs.Inside.{value_of}
@@ -16,11 +19,14 @@ brings : (c : After-issue) (rec : NodeRec) → StandsAt (value_of c.self.inside)
 brings c rec at =
     let s = c.self.inside in
     c.bring.ensures.brings (slot_begins rec)
-    (subst (λ out. NetworkStands c.args.slot s.network s.units.chans out (slot_begins rec)) (sym c.clear.ensures) (begins (value_of s).fixed s.units s.network rec c.args.slot at))
+    (subst (λ out. NetworkStands c.args.slot s.network s.units.chans out (slot_begins rec)) (sym c.clear.ensures) stands)
 
--- but for its channel ends, the core that issues is the node's
-core_is : (c : After-issue) (rec : NodeRec) → StandsAt (value_of c.self.inside) rec c.args.slot → c.bring.new.units ≡ record rec.core { chans = c.bring.new.units.chans }
-core_is c rec at = c.bring.ensures.units ∙ ap (λ (core : CoreRec). record core { chans = c.bring.new.units.chans }) at.stands.core
+-- the network tells with which channel ends the switch of that node is at work
+busy : (c : After-issue) (rec : NodeRec) (at : StandsAt (value_of c.self.inside) rec c.args.slot) (n : ℕ) → n < CHAN_ENDS
+    → (its_setting (value_of c.self.inside).fixed rec c.args.slot c.args.arrivals.now c.args._pins.now).is_busy n ≡ is_busy_among c.bring.new.self.switch.inputs n
+busy c rec at n below =
+    let s = c.self.inside in
+    busy_is (value_of s).fixed rec c.args.slot c.args.arrivals.now c.args._pins.now s.units c.bring.new.self c.bring.new.units.chans c.bring.new.out at.stands.core (brings c rec at) n
 
 sent : (c : After-issue) → SentBy c.args.slot c.bring.new.self.links
 sent c =
@@ -35,8 +41,9 @@ step_is c fixed rec h =
     let now = (value_of s).fixed in
     let b = brings c rec at in
     subst (λ (v : CoreValue). StandsAt (record { fixed = fixed; core = c.issue.new.self; inputs = c.bring.new.self.switch.inputs; links = c.bring.new.self.links }) (node_step v.fixed rec a.slot a.arrivals.now a._pins.now).rec (a.slot + 1)) c.self.view_is
-    (stepped now rec a.slot a.arrivals.now a._pins.now c.bring.new.units c.bring.new.self c.bring.new.out (core_is c rec at) b fixed c.issue.new.self
-    (c.issue.ensures.units (its_setting now rec a.slot a.arrivals.now a._pins.now) c.self.invariant.node refl (busy_is now rec a.slot a.arrivals.now a._pins.now c.bring.new.units c.bring.new.self c.bring.new.out (core_is c rec at) b)) (sent c))
+    (stepped now rec a.slot a.arrivals.now a._pins.now s.units c.bring.new.self c.bring.new.units.chans c.bring.new.out at.stands.core (brings c rec at) fixed c.issue.new.self
+    (c.issue.ensures.units (its_setting now rec a.slot a.arrivals.now a._pins.now) c.self.invariant.node refl (busy c rec at)
+    ∙ ap (λ (core : CoreRec). (issued now.code (its_setting now rec a.slot a.arrivals.now a._pins.now) core).core) c.bring.ensures.units) (sent c))
 
 emissions_are : (c : After-issue) (rec : NodeRec) → StandsAt c.args.self.now rec c.args.slot → c.issue.new.out ≡ (node_step c.args.self.now.fixed rec c.args.slot c.args.arrivals.now c.args._pins.now).emitted
 emissions_are c rec h =
@@ -46,8 +53,9 @@ emissions_are c rec h =
     let now = (value_of s).fixed in
     let b = brings c rec at in
     subst (λ (v : CoreValue). c.issue.new.out ≡ (node_step v.fixed rec a.slot a.arrivals.now a._pins.now).emitted) c.self.view_is
-    (gave now rec a.slot a.arrivals.now a._pins.now c.bring.new.units c.bring.new.self c.bring.new.out (core_is c rec at) b c.issue.new.out
-    (c.issue.ensures.events (its_setting now rec a.slot a.arrivals.now a._pins.now) c.self.invariant.node refl (busy_is now rec a.slot a.arrivals.now a._pins.now c.bring.new.units c.bring.new.self c.bring.new.out (core_is c rec at) b)))
+    (gave now rec a.slot a.arrivals.now a._pins.now s.units c.bring.new.self c.bring.new.units.chans c.bring.new.out at.stands.core (brings c rec at) c.issue.new.out
+    (c.issue.ensures.events (its_setting now rec a.slot a.arrivals.now a._pins.now) c.self.invariant.node refl (busy c rec at)
+    ∙ ap (λ (core : CoreRec). and_happened c.bring.new.out a.slot (issued now.code (its_setting now rec a.slot a.arrivals.now a._pins.now) core).happened) c.bring.ensures.units))
 
 pub returns-then-issue-clause-step : goal.returns-then-issue-clause-step
 returns-then-issue-clause-step c = λ rec h.
