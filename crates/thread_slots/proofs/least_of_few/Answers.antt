@@ -3,7 +3,7 @@ use Rattle.std.specs.Int.{w8, trailing_zeros}
 use Rattle.thread_slots.specs.Turns.{IsLeast}
 use Rattle.thread_slots.proofs.Lowest.{lowest_is_in, lowest_goes, gone_stays, gone_came, left_before}
 use Rattle.thread_slots.proofs.Turns.{one_more}
-use Rattle.thread_slots.proofs.least_in_mask.Goals as goal
+use Rattle.thread_slots.proofs.least_of_few.Goals as goal
 
 pub loop-left-preserved : goal.loop-left-preserved
 loop-left-preserved c =

@@ -1,7 +1,7 @@
 use Rattle.std.proofs.Common.{ℕ, ◌≡◌, ◌<◌, true, not, ◌&&◌}
 use Rattle.xs_model.specs.Masks.{in_mask}
 use Rattle.thread_slots.specs.Turns.{IsLeast}
-use Rattle.thread_slots.proofs.least_in_mask.Given as goal
+use Rattle.thread_slots.proofs.least_of_few.Given as goal
 
 -- the least of the threads that are no longer left, and those that are left are of the mask
 abbrev pub invariant-loop-left : goal.invariant-loop-left
