@@ -1,13 +1,12 @@
 -- The units of a core: what they stand for, and what calls leave of them.
 use Rattle.std.specs.Prelude.{ℕ, ◌≡◌, ◌<◌, Bool, true, false, Option, IfSome, List, [], ◌++◌, length, map}
-use Rattle.xs_base.specs.Numbers.{Slot, ThreadNumber}
+use Rattle.xs_base.specs.Numbers.{Slot}
 use Rattle.xs_base.specs.declared.numbers.TheConstants.{THREADS}
 use Rattle.xs_model.specs.declared.event.Happen.{Happen}
 use Rattle.xs_model.specs.declared.thread.Thread.{Thread}
-use Rattle.xs_model.specs.declared.thread.Run.TheVariants.{Going}
 use Rattle.xs_model.specs.declared.thread.Outcome.{Outcome}
 use Rattle.xs_model.specs.declared.thread.Outcome.TheVariants as outcome
-use Rattle.xs_model.specs.Record.{CoreRec, ChanRec, core_with, thread_of}
+use Rattle.xs_model.specs.Record.{CoreRec, ChanRec, core_with}
 use Rattle.xs_model.specs.Masks.{in_mask}
 use Rattle.xs_model.specs.Picks.{is_able}
 use Rattle.xs_model.specs.Outside.{Emitted, in_slot}
@@ -16,10 +15,6 @@ use Rattle.xs_instructions.specs.declared.instr.Instr.TheVariants.{Resources}
 use Rattle.step_model.specs.Effect.{Effect, Done, Pause, Trap, Gone, after_it}
 use Rattle.sync_locks.specs.Syncs.{SyncsRec}
 use Rattle.core_units.specs.declared.units.Units.TheInside.{Inside}
-
--- a thread goes
-abbrev pub Goes : CoreRec → ThreadNumber → Type 0
-Goes core k = (thread_of core k).run ≡ Going
 
 -- a core of these parts; all else of it is as at the start
 abbrev pub core_of : List Thread → List (Option Slot) → List ℕ → List ChanRec → SyncsRec → CoreRec

@@ -6,7 +6,7 @@ ghost use Rattle.xs_instructions.specs.Instr.{InRange, built};
 ghost use Rattle.step_model.specs.Effect.{Setting};
 ghost use Rattle.step_model.specs.Rows.{effect};
 ghost use Rattle.step_model.specs.Step.{issue_begins, settled, trap, issued, issued_by};
-ghost use Rattle.core_units.specs.Units.{Ends, Goes, effect_of, and_happened, is_on_resources};
+ghost use Rattle.core_units.specs.Units.{Ends, effect_of, and_happened, is_on_resources};
 
 use crate::holders::Holders;
 use crate::program::Program;
@@ -72,8 +72,7 @@ impl Units {
     // The slot is thread k's last issue now, and its pause is over.
     fn begin(&mut self, k: u8, slot: u32)
         requires thread { k < THREADS }
-        ensures units { self.new ≡ issue_begins self.old slot k }
-        ensures goes { Goes self.new k }
+        ensures { self.new ≡ issue_begins self.old slot k }
     {
         self.slots.mark_issue(k, slot);
         if !matches!(self.threads[k as usize].run, Run::Going) {
@@ -101,7 +100,6 @@ impl Units {
     // What an instruction does when thread k issues it.
     fn execute<H: Holders>(&mut self, k: u8, id: u16, slot: u32, holders: &H, ins: Instr) -> Outcome
         requires thread { k < THREADS }
-        requires goes { Goes self.old k }
         requires range { InRange ins }
         requires built { IsTrue (built ins) }
         ensures row { (here : Setting) → here.id ≡ id → here.slot ≡ slot → ((c : ℕ) → c < CHAN_ENDS → here.is_busy c ≡ H.busy holders.now c) → Ends result self.old self.new (effect here self.old k ins) }

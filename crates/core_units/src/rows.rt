@@ -8,7 +8,7 @@ ghost use Rattle.step_model.specs.Effect.{Setting, on_registers};
 ghost use Rattle.step_model.specs.WordRows.{words_row};
 ghost use Rattle.step_model.specs.Rows.{effect};
 ghost use Rattle.flow_unit.specs.Local.{is_local};
-ghost use Rattle.core_units.specs.Units.{Ends, Goes, gone_on};
+ghost use Rattle.core_units.specs.Units.{Ends, gone_on};
 
 use crate::threads::go_on;
 use crate::units::Units;
@@ -22,7 +22,6 @@ impl Units {
     #[inline]
     pub(crate) fn words(&mut self, k: u8, ins: WordIns) -> Outcome
         requires thread { k < THREADS }
-        requires goes { Goes self.old k }
         requires range { WordsInRange ins }
         ensures row { Ends result self.old self.new (on_registers self.old k (words_row (thread_of self.old k) ins)) }
         ensures chans { self.new.chans ≡ self.old.chans }
@@ -37,7 +36,6 @@ impl Units {
     #[inline]
     pub(crate) fn local(&mut self, k: u8, ins: Instr) -> Outcome
         requires thread { k < THREADS }
-        requires goes { Goes self.old k }
         requires part { IsTrue (is_local ins) }
         requires range { InRange ins }
         requires built { IsTrue (built ins) }
@@ -50,8 +48,7 @@ impl Units {
 
     // The return from a trap or an interrupt.
     pub(crate) fn kret(&mut self, k: u8)
-        requires thread { k < THREADS }
-        requires goes { Goes self.old k }
+        requires { k < THREADS }
         ensures { self.new ≡ with_thread self.old k (returned (thread_of self.old k)) }
     {
         trap_unit::kret(&mut self.threads[k as usize]);

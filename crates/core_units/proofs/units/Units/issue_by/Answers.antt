@@ -19,7 +19,7 @@ its_issue : (g : Over) (c : After-is_on_resources g) (here : Setting) → here.i
 its_issue g c here id slot busy =
     let code = c.args.program.now.code in
     let begun : c.begin.new.self ≡ issue_begins c.args.self.now here.slot c.args.k =
-    c.begin.ensures.units ∙ ap (λ t. issue_begins c.args.self.now t c.args.k) (sym slot)
+    c.begin.ensures ∙ ap (λ t. issue_begins c.args.self.now t c.args.k) (sym slot)
     in
     same_settled code c.args.k c.begin.new.self c.execute-outcome.new.self c.execute-outcome.result (effect here c.begin.new.self c.args.k c.in-Some.ins) (c.execute-outcome.ensures.row here (id ∙ sym c.id.ensures) slot busy)
     ∙ ap (λ ins. executed code here c.begin.new.self c.args.k ins) (sym c.in-Some.is ∙ c.at.ensures.value ∙ ap (code_at code) c.pc_of-pc.ensures)

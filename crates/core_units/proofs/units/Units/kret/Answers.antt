@@ -5,4 +5,4 @@ use Rattle.core_units.proofs.units.Units.kret.Goals as goal
 
 pub invariant_of-self : goal.invariant_of-self
 invariant_of-self c =
-    thread-set c.self.inside c.args.k _ _ c.self.inside.ram c.requires.thread (ap (λ (th : Thread). th.run) c.kret.ensures.value) c.self.invariant
+    thread-set c.self.inside c.args.k _ _ c.self.inside.ram c.requires (ap (λ (th : Thread). th.run) c.kret.ensures.value) c.self.invariant
