@@ -120,7 +120,7 @@ pub fn with_able(able: u8, th: u8) -> u8
 fn least_turn(turns: &[u64; 8], able: u8) -> u64
     ensures { IsLeast (in_mask able) turns.now result }
 {
-    if able.count_ones() < 6 {
+    if able.count_ones() < 5 {
         least_of_few(turns, able)
     } else {
         least_of_many(turns, able)
@@ -146,8 +146,9 @@ fn least_of_many(turns: &[u64; 8], able: u8) -> u64
     ensures { IsLeast (in_mask able) turns.now result }
 {
     let mut least = u64::MAX;
+    let mask = u32::from(able); // the bits of a word take fewer instructions than those of a byte
     for (k, turn) in turns.iter().enumerate() {
-        if (able >> k) & 1 == 1 {
+        if (mask >> k) & 1 == 1 {
             least = least.min(*turn);
         }
     }
