@@ -6,3 +6,4 @@ pub mod Lends
 pub mod Named
 pub mod Targets
 pub mod Freed
+pub mod Here

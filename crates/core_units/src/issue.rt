@@ -1,11 +1,12 @@
 //! At most one issue in a slot.
-ghost use Rattle.std.specs.Prelude.{ℕ, ◌≡◌, ◌<◌, ◌≤◌, ◌+◌, false, Some, None, length, IsTrue};
-ghost use Rattle.xs_base.specs.declared.numbers.TheConstants.{THREADS, CHAN_ENDS, EVENT_ROOM, ISSUE_EVENTS};
+ghost use Rattle.std.specs.Prelude.{◌≡◌, ◌<◌, ◌≤◌, ◌+◌, false, Some, None, length, IsTrue};
+ghost use Rattle.xs_base.specs.declared.numbers.TheConstants.{THREADS, EVENT_ROOM, ISSUE_EVENTS};
 ghost use Rattle.xs_model.specs.Record.{thread_of, with_run};
 ghost use Rattle.xs_instructions.specs.Instr.{InRange, built};
 ghost use Rattle.step_model.specs.Effect.{Setting};
 ghost use Rattle.step_model.specs.Rows.{effect};
 ghost use Rattle.step_model.specs.Step.{issue_begins, settled, trap, issued, issued_by};
+ghost use Rattle.core_units.specs.Here.{IsHere};
 ghost use Rattle.core_units.specs.Units.{Ends, effect_of, and_happened, is_on_resources};
 
 use crate::holders::Holders;
@@ -28,8 +29,10 @@ impl Units {
         out: &mut Emissions,
     ) -> bool
         requires room { length out.old.events + ISSUE_EVENTS ≤ EVENT_ROOM }
-        ensures units { (here : Setting) → here.id ≡ program.now.id → here.slot ≡ slot → ((c : ℕ) → c < CHAN_ENDS → here.is_busy c ≡ H.busy holders.now c) → self.new ≡ (issued program.now.code here self.old).core }
-        ensures events { (here : Setting) → here.id ≡ program.now.id → here.slot ≡ slot → ((c : ℕ) → c < CHAN_ENDS → here.is_busy c ≡ H.busy holders.now c) → out.new ≡ and_happened out.old slot (issued program.now.code here self.old).happened }
+        ensures units { (here : Setting) → IsHere program.now.id slot (H.busy holders.now) here →
+            self.new ≡ (issued program.now.code here self.old).core }
+        ensures events { (here : Setting) → IsHere program.now.id slot (H.busy holders.now) here →
+            out.new ≡ and_happened out.old slot (issued program.now.code here self.old).happened }
         ensures chans { result ≡ false → self.new.chans ≡ self.old.chans }
     {
         match self.picked(slot) {
@@ -50,8 +53,10 @@ impl Units {
     ) -> bool
         requires thread { k < THREADS }
         requires room { length out.old.events + ISSUE_EVENTS ≤ EVENT_ROOM }
-        ensures units { (here : Setting) → here.id ≡ program.now.id → here.slot ≡ slot → ((c : ℕ) → c < CHAN_ENDS → here.is_busy c ≡ H.busy holders.now c) → self.new ≡ (issued_by program.now.code here self.old (Some k)).core }
-        ensures events { (here : Setting) → here.id ≡ program.now.id → here.slot ≡ slot → ((c : ℕ) → c < CHAN_ENDS → here.is_busy c ≡ H.busy holders.now c) → out.new ≡ and_happened out.old slot (issued_by program.now.code here self.old (Some k)).happened }
+        ensures units { (here : Setting) → IsHere program.now.id slot (H.busy holders.now) here →
+            self.new ≡ (issued_by program.now.code here self.old (Some k)).core }
+        ensures events { (here : Setting) → IsHere program.now.id slot (H.busy holders.now) here →
+            out.new ≡ and_happened out.old slot (issued_by program.now.code here self.old (Some k)).happened }
         ensures chans { result ≡ false → self.new.chans ≡ self.old.chans }
     {
         self.begin(k, slot);
@@ -102,7 +107,7 @@ impl Units {
         requires thread { k < THREADS }
         requires range { InRange ins }
         requires built { IsTrue (built ins) }
-        ensures row { (here : Setting) → here.id ≡ id → here.slot ≡ slot → ((c : ℕ) → c < CHAN_ENDS → here.is_busy c ≡ H.busy holders.now c) → Ends result self.old self.new (effect here self.old k ins) }
+        ensures row { (here : Setting) → IsHere id slot (H.busy holders.now) here → Ends result self.old self.new (effect here self.old k ins) }
         ensures chans { is_on_resources ins ≡ false → self.new.chans ≡ self.old.chans }
     {
         match ins {

@@ -1,12 +1,13 @@
 //! The rows on resources. See docs/THREADS.md and docs/LINKS.md.
 ghost use Rattle.std.specs.Prelude.{ℕ, ◌≡◌, ◌<◌, IsTrue};
-ghost use Rattle.xs_base.specs.declared.numbers.TheConstants.{THREADS, CHAN_ENDS};
+ghost use Rattle.xs_base.specs.declared.numbers.TheConstants.{THREADS};
 ghost use Rattle.xs_instructions.specs.Rows.{is_built};
 ghost use Rattle.xs_instructions.specs.Operands.{row_of_resources};
 ghost use Rattle.xs_instructions.specs.Instr.{ResourcesInRange};
 ghost use Rattle.step_model.specs.Effect.{Setting, goes_on_with};
 ghost use Rattle.step_model.specs.Named.{resource_named};
 ghost use Rattle.step_model.specs.ResourceRows.{resources_row, resource_got, without, freed, takes_in, puts_out};
+ghost use Rattle.core_units.specs.Here.{IsHere, AreBusy};
 ghost use Rattle.core_units.specs.Units.{Ends};
 ghost use Rattle.core_units.specs.Named.{IsWithin};
 ghost use Rattle.core_units.specs.Found.{name_of};
@@ -36,7 +37,7 @@ impl Units {
         requires thread { k < THREADS }
         requires range { ResourcesInRange ins }
         requires built { IsTrue (is_built (row_of_resources ins)) }
-        ensures row { (here : Setting) → here.id ≡ id → here.slot ≡ slot → ((c : ℕ) → c < CHAN_ENDS → here.is_busy c ≡ H.busy holders.now c) → Ends result self.old self.new (resources_row here self.old k ins) }
+        ensures row { (here : Setting) → IsHere id slot (H.busy holders.now) here → Ends result self.old self.new (resources_row here self.old k ins) }
     {
         match ins {
             ResIns::Getr(d, kind) => {
@@ -84,20 +85,27 @@ impl Units {
     }
 
     // Frees the resource that a word names.
-    fn freer<H: Holders>(&mut self, id: u16, k: u8, holders: &H, name: u32) -> Outcome {
-        match resource_named(id, name) {
-            Some(resource) if !self.is_paused_on(resource) && self.free(k, holders, resource) => {
-                self.go_on(k);
-                Outcome::Done
-            }
-            _ => illegal(name),
+    fn freer<H: Holders>(&mut self, id: u16, k: u8, holders: &H, name: u32) -> Outcome
+        requires { k < THREADS }
+        ensures { (here : Setting) → AreBusy (H.busy holders.now) here → Ends result self.old self.new (freed here self.old k name (resource_named id name)) }
+    {
+        let Some(resource) = resource_named(id, name) else {
+            return illegal(name);
+        };
+        if self.is_paused_on(resource) || !self.free(k, holders, resource) {
+            return illegal(name);
         }
         self.go_on(k);
         Outcome::Done
     }
 
     // Whether a resource could be freed by thread k, and then it is.
-    fn free<H: Holders>(&mut self, k: u8, holders: &H, resource: Resource) -> bool {
+    fn free<H: Holders>(&mut self, k: u8, holders: &H, resource: Resource) -> bool
+        requires thread { k < THREADS }
+        requires within { IsWithin resource }
+        ensures { (here : Setting) → AreBusy (H.busy holders.now) here → IsFreed result self.old self.new (without here self.old k resource) }
+    {
+        self.able = None;
         match resource {
             Resource::Chan { chan } => self.chans.free(chan, holders.is_busy(chan)).is_ok(),
             Resource::Sync { sync } => self.syncs.free_sync(sync, k).is_ok(),

@@ -41,9 +41,8 @@ step_is c fixed rec h =
     let now = (value_of s).fixed in
     let b = brings c rec at in
     subst (λ (v : CoreValue). StandsAt (record { fixed = fixed; core = c.issue.new.self; inputs = c.bring.new.self.switch.inputs; links = c.bring.new.self.links }) (node_step v.fixed rec a.slot a.arrivals.now a._pins.now).rec (a.slot + 1)) c.self.view_is
-    (stepped now rec a.slot a.arrivals.now a._pins.now s.units c.bring.new.self c.bring.new.units.chans c.bring.new.out at.stands.core (brings c rec at) fixed c.issue.new.self
-    (c.issue.ensures.units (its_setting now rec a.slot a.arrivals.now a._pins.now) c.self.invariant.node refl (busy c rec at)
-    ∙ ap (λ (core : CoreRec). (issued now.code (its_setting now rec a.slot a.arrivals.now a._pins.now) core).core) c.bring.ensures.units) (sent c))
+    (stepped now rec a.slot a.arrivals.now a._pins.now c.bring.new.units c.bring.new.self c.bring.new.out (core_is c rec at) b fixed c.issue.new.self
+    (c.issue.ensures.units (its_setting now rec a.slot a.arrivals.now a._pins.now) (record { id = c.self.invariant.node; slot = refl; busy = busy_is now rec a.slot a.arrivals.now a._pins.now c.bring.new.units c.bring.new.self c.bring.new.out (core_is c rec at) b })) (sent c))
 
 emissions_are : (c : After-issue) (rec : NodeRec) → StandsAt c.args.self.now rec c.args.slot → c.issue.new.out ≡ (node_step c.args.self.now.fixed rec c.args.slot c.args.arrivals.now c.args._pins.now).emitted
 emissions_are c rec h =
@@ -53,9 +52,8 @@ emissions_are c rec h =
     let now = (value_of s).fixed in
     let b = brings c rec at in
     subst (λ (v : CoreValue). c.issue.new.out ≡ (node_step v.fixed rec a.slot a.arrivals.now a._pins.now).emitted) c.self.view_is
-    (gave now rec a.slot a.arrivals.now a._pins.now s.units c.bring.new.self c.bring.new.units.chans c.bring.new.out at.stands.core (brings c rec at) c.issue.new.out
-    (c.issue.ensures.events (its_setting now rec a.slot a.arrivals.now a._pins.now) c.self.invariant.node refl (busy c rec at)
-    ∙ ap (λ (core : CoreRec). and_happened c.bring.new.out a.slot (issued now.code (its_setting now rec a.slot a.arrivals.now a._pins.now) core).happened) c.bring.ensures.units))
+    (gave now rec a.slot a.arrivals.now a._pins.now c.bring.new.units c.bring.new.self c.bring.new.out (core_is c rec at) b c.issue.new.out
+    (c.issue.ensures.events (its_setting now rec a.slot a.arrivals.now a._pins.now) (record { id = c.self.invariant.node; slot = refl; busy = busy_is now rec a.slot a.arrivals.now a._pins.now c.bring.new.units c.bring.new.self c.bring.new.out (core_is c rec at) b })))
 
 pub returns-then-issue-clause-step : goal.returns-then-issue-clause-step
 returns-then-issue-clause-step c = λ rec h.

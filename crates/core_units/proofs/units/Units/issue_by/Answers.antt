@@ -1,10 +1,10 @@
-use Rattle.std.proofs.Common.{◌≡◌, ◌<◌, ℕ, ap, sym, ◌∙◌}
-use Rattle.xs_base.specs.declared.numbers.TheConstants.{CHAN_ENDS}
+use Rattle.std.proofs.Common.{◌≡◌, ap, sym, ◌∙◌}
 use Rattle.xs_model.specs.Record.{CoreRec, thread_of}
 use Rattle.xs_instructions.specs.Code.{code_at}
 use Rattle.step_model.specs.Effect.{Setting}
 use Rattle.step_model.specs.Step.{Issued, issue_begins, executed, settled}
 use Rattle.step_model.specs.Rows.{effect}
+use Rattle.core_units.specs.Here.{IsHere}
 use Rattle.core_units.specs.Units.{and_happened, effect_of}
 use Rattle.core_units.proofs.Settles.{same_settled}
 use Rattle.core_units.proofs.units.Units.issue_by.Given.{Over}
@@ -12,21 +12,20 @@ use Rattle.core_units.proofs.units.Units.issue_by.Goals as goal
 use Rattle.core_units.proofs.units.Units.issue_by.Goals.{After-is_on_resources}
 
 -- what the outcome makes of the thread is what the definition executes
-its_issue : (g : Over) (c : After-is_on_resources g) (here : Setting) → here.id ≡ c.args.program.now.id → here.slot ≡ c.args.slot
-    → ((n : ℕ) → n < CHAN_ENDS → here.is_busy n ≡ g.H.Holders.busy c.args.holders.now n)
+its_issue : (g : Over) (c : After-is_on_resources g) (here : Setting) → IsHere c.args.program.now.id c.args.slot (g.H.Holders.busy c.args.holders.now) here
     → settled c.args.program.now.code c.execute-outcome.new.self c.args.k (effect_of c.execute-outcome.result c.execute-outcome.new.self)
     ≡ executed c.args.program.now.code here (issue_begins c.args.self.now here.slot c.args.k) c.args.k (code_at c.args.program.now.code (thread_of (issue_begins c.args.self.now here.slot c.args.k) c.args.k).pc)
-its_issue g c here id slot busy =
+its_issue g c here at =
     let code = c.args.program.now.code in
     let begun : c.begin.new.self ≡ issue_begins c.args.self.now here.slot c.args.k =
-    c.begin.ensures ∙ ap (λ t. issue_begins c.args.self.now t c.args.k) (sym slot)
+    c.begin.ensures ∙ ap (λ t. issue_begins c.args.self.now t c.args.k) (sym at.slot)
     in
-    same_settled code c.args.k c.begin.new.self c.execute-outcome.new.self c.execute-outcome.result (effect here c.begin.new.self c.args.k c.in-Some.ins) (c.execute-outcome.ensures.row here (id ∙ sym c.id.ensures) slot busy)
+    same_settled code c.args.k c.begin.new.self c.execute-outcome.new.self c.execute-outcome.result (effect here c.begin.new.self c.args.k c.in-Some.ins) (c.execute-outcome.ensures.row here (record { id = at.id ∙ sym c.id.ensures; slot = at.slot; busy = at.busy }))
     ∙ ap (λ ins. executed code here c.begin.new.self c.args.k ins) (sym c.in-Some.is ∙ c.at.ensures.value ∙ ap (code_at code) c.pc_of-pc.ensures)
     ∙ ap (λ (core : CoreRec). executed code here core c.args.k (code_at code (thread_of core c.args.k).pc)) begun
 
 pub returns-in-Some-clause-units : goal.returns-in-Some-clause-units
-returns-in-Some-clause-units g c = λ here id slot busy. c.settle.ensures.units ∙ ap (λ (i : Issued). i.core) (its_issue g c here id slot busy)
+returns-in-Some-clause-units g c = λ here at. c.settle.ensures.units ∙ ap (λ (i : Issued). i.core) (its_issue g c here at)
 
 pub returns-in-Some-clause-events : goal.returns-in-Some-clause-events
-returns-in-Some-clause-events g c = λ here id slot busy. c.settle.ensures.events ∙ ap (λ (i : Issued). and_happened c.args.out.now c.args.slot i.happened) (its_issue g c here id slot busy)
+returns-in-Some-clause-events g c = λ here at. c.settle.ensures.events ∙ ap (λ (i : Issued). and_happened c.args.out.now c.args.slot i.happened) (its_issue g c here at)
