@@ -1,9 +1,9 @@
 //! The node of a system that has one.
-ghost use Rattle.std.specs.Prelude.{ℕ, ◌≡◌, ◌<◌, false};
-ghost use Rattle.xs_base.specs.declared.numbers.TheConstants.{CHAN_ENDS};
+ghost use Rattle.std.specs.Prelude.{◌≡◌, false};
 ghost use Rattle.xs_model.specs.Picks.{picked};
 ghost use Rattle.step_model.specs.Effect.{Setting};
 ghost use Rattle.step_model.specs.Step.{issued};
+ghost use Rattle.core_units.specs.Here.{IsHere};
 
 use anyhow::{Result, ensure};
 use core_units::{Holders, Program, Ram, Units};
@@ -43,7 +43,8 @@ impl Node {
     /// The issue of the next slot, which has this number: the thread, 0 to 7, or None where nobody issues.
     pub fn issue(&mut self, slot: u32) -> Option<u8>
         ensures issuer { result ≡ picked self.old.units slot }
-        ensures units { (here : Setting) → here.id ≡ self.old.program.id → here.slot ≡ slot → ((c : ℕ) → c < CHAN_ENDS → here.is_busy c ≡ false) → self.new.units ≡ (issued self.old.program.code here self.old.units).core }
+        ensures units { (here : Setting) → IsHere self.old.program.id slot (λ _. false) here →
+            self.new.units ≡ (issued self.old.program.code here self.old.units).core }
     {
         let issuer = self.units.picked(slot);
         self.emissions.clear();
