@@ -7,7 +7,7 @@ use Rattle.xs_base.specs.declared.numbers.TheConstants.{CHAN_ENDS}
 use Rattle.xs_model.specs.declared.outside.Arrivals.{Arrivals}
 use Rattle.xs_model.specs.declared.outside.PinView.{PinView}
 use Rattle.xs_model.specs.declared.event.Event.{Event}
-use Rattle.xs_model.specs.Record.{CoreRec, NodeRec, LinkRec, ChanRec}
+use Rattle.xs_model.specs.Record.{CoreRec, NodeRec, LinkRec}
 use Rattle.xs_model.specs.Outside.{Emitted, emitted_events, in_slot}
 use Rattle.xs_model.specs.AtWork.{AtWork, slot_begins}
 use Rattle.net_model.specs.Links.{latest}
@@ -19,7 +19,7 @@ use Rattle.step_model.specs.Effect.{Setting}
 use Rattle.step_model.specs.Step.{Issued, node_step, issued, setting_of, before_issue}
 use Rattle.core_units.specs.Units.{and_happened}
 use Rattle.core_step.specs.Core.{CoreValue, StandsAt, SentBefore, IsLinkBefore}
-use Rattle.core_step.specs.Network.{NetworkRec, NetworkStands, Brings, arrived_and_moved}
+use Rattle.core_step.specs.Network.{NetworkRec, NetworkStands, Brings}
 
 -- ---- The slots that link ends keep
 

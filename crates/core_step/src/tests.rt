@@ -111,3 +111,68 @@ fn sends_a_packet(rt: HostRuntime) -> Result<(), Fail> {
     assert_eq!(rt; sent, SENT.len());
     Ok(())
 }
+
+// Thread 0 claims lock 0, gets threads 1 to 4 as slaves, and starts them in slot 60; it goes on in slot 65.
+const LOCK_CODE: [Instr; 21] = [
+    Instr::Resources(ResIns::Getr(0, 5)),
+    Instr::Resources(ResIns::In(1, 0)),
+    Instr::Resources(ResIns::Getr(2, 3)),
+    Instr::Threads(ThreadIns::Getst(3, 2)),
+    Instr::Threads(ThreadIns::Getst(4, 2)),
+    Instr::Threads(ThreadIns::Getst(5, 2)),
+    Instr::Threads(ThreadIns::Getst(6, 2)),
+    Instr::Memory(MemIns::LdwDp(11, 0)),
+    Instr::Threads(ThreadIns::InitPc(3, 11)),
+    Instr::Threads(ThreadIns::InitPc(4, 11)),
+    Instr::Threads(ThreadIns::SetOther(3, 0, 0)),
+    Instr::Threads(ThreadIns::SetOther(4, 0, 0)),
+    Instr::Memory(MemIns::LdwDp(11, 1)),
+    Instr::Threads(ThreadIns::InitPc(5, 11)),
+    Instr::Threads(ThreadIns::InitPc(6, 11)),
+    Instr::Threads(ThreadIns::Msync(2)),
+    Instr::Resources(ResIns::Out(0, 1)),
+    // Threads 3 and 4 begin here, and thread 0 comes here.
+    Instr::Words(WordIns::Nop),
+    Instr::Words(WordIns::Nop),
+    // Threads 1 and 2 begin here.
+    Instr::Resources(ResIns::In(1, 0)),
+    Instr::Resources(ResIns::Out(0, 1)),
+];
+
+// Where threads 1 and 2 begin, and where threads 3 and 4 do.
+const LOCK_DATA: [u8; 8] = [0x4c, 0x00, 0x04, 0x00, 0x44, 0x00, 0x04, 0x00];
+
+fn waits_for_lock_0(run: Run) -> bool {
+    matches!(run, Run::Paused(Wait::Lock { lock: 0 }))
+}
+
+// Thread 1 waits from slot 61 on and thread 2 from slot 62 on; thread 0 releases the lock in slot 65. In slot 66 thread 1,
+// whose last issue is the earlier one, owns it, so thread 2 waits on, until thread 1 releases it in slot 70.
+#[test]
+fn lock_is_for_one_thread_at_a_time(rt: HostRuntime) -> Result<(), Fail> {
+    let plan = NodePlan {
+        number: 0,
+        id: 0,
+        image: Image::of(
+            Vec::from_slice(rt.alloc(), &LOCK_CODE)?,
+            Vec::from_slice(rt.alloc(), &LOCK_DATA)?,
+            0x0001_0008,
+            Symbols::of_source(rt.alloc(), b""),
+        ),
+        ways: [0; 16],
+    };
+    let mut core = Core::boot(rt.alloc(), &plan, &NO_GAPS)?;
+    let arrivals = Arrivals {
+        tokens: [None; 8],
+        credits: [false; 8],
+    };
+    let mut out = Emissions::new();
+    for slot in 0..72u32 {
+        core.slot(slot, &arrivals, &PinView { level: [0; 29] }, &mut out);
+        assert_eq!(rt; waits_for_lock_0(core.run_of(1)), matches!(slot, 61..=65));
+        assert_eq!(rt; waits_for_lock_0(core.run_of(2)), matches!(slot, 62..=70));
+    }
+    assert!(rt; matches!(core.run_of(1), Run::Going));
+    assert!(rt; matches!(core.run_of(2), Run::Going));
+    Ok(())
+}

@@ -1,4 +1,4 @@
-use Rattle.std.proofs.Common.{ℕ, zero, suc, ◌<◌, arith, List, replicate}
+use Rattle.std.proofs.Common.{ℕ, zero, suc, ◌<◌, arith, replicate}
 use Rattle.std.specs.Prelude.{slice_index}
 use Rattle.core_step.proofs.tests.sends_a_packet.Goals as goal
 
