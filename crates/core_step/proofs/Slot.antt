@@ -111,10 +111,6 @@ module _ (fixed : Fixed) (rec : NodeRec) (slot : ℕ) (arrivals : Arrivals) (pin
     pub busy_is : (c : ℕ) → c < CHAN_ENDS → its_setting.is_busy c ≡ is_busy_among n.switch.inputs c
     busy_is c below = ap (λ inputs. is_busy_among inputs c) (sym b.stands.parts.inputs)
 
-    -- the inputs of the switch tell with which channel ends it is at work
-    pub busy_is : (c : ℕ) → its_setting.is_busy c ≡ is_busy_among n.switch.inputs c
-    busy_is c = ap (λ inputs. is_busy_among inputs c) (sym b.stands.parts.inputs)
-
     -- the units then make the issue that the definition makes
     issue_is : issued fixed.code its_setting core ≡ issued fixed.code its_setting before.rec.core
     issue_is = ap (λ (c : CoreRec). issued fixed.code its_setting c) (core_is ∙ sym (ap (λ (r : NodeRec). r.core) b.rest))

@@ -4,7 +4,6 @@ ghost use Rattle.xs_base.specs.Numbers.{Slot};
 ghost use Rattle.xs_base.specs.declared.numbers.TheConstants.{EVENTS_BEFORE_SWITCH, SWITCH_EVENTS};
 ghost use Rattle.xs_model.specs.AtWork.{AtWork};
 ghost use Rattle.net_model.specs.Links.{arrive};
-ghost use Rattle.net_model.specs.Switch.{is_busy_among};
 ghost use Rattle.switch_routes.specs.Rows.{SentBy};
 ghost use Rattle.core_step.specs.Network.{NetworkStands, RestsAsKnown, Brings, routes_of, counts_with_gap, first_network};
 

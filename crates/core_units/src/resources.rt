@@ -74,7 +74,11 @@ impl Units {
     }
 
     // Gets the lowest free resource of a kind for thread k: its identifier, or 0 where there is none.
-    fn get(&mut self, id: u16, slot: u32, k: u8, kind: u8) -> u32 {
+    fn get(&mut self, id: u16, slot: u32, k: u8, kind: u8) -> u32
+        requires { k < THREADS }
+        ensures { (here : Setting) → here.id ≡ id → here.slot ≡ slot → (d : ℕ) → goes_on_with self.new k d result ≡ resource_got here self.old k d kind }
+    {
+        self.able = None;
         match kind {
             CHAN_END_KIND => got_chan(id, &mut self.chans),
             SYNCHRONISER_KIND => name_of(self.syncs.get_sync(k), kind),
@@ -115,7 +119,11 @@ impl Units {
     }
 
     // Thread k owns the lock that a word names, or waits until nobody does.
-    fn take_in(&mut self, id: u16, k: u8, d: u8, name: u32) -> Outcome {
+    fn take_in(&mut self, id: u16, k: u8, d: u8, name: u32) -> Outcome
+        requires thread { k < THREADS }
+        requires target { d < 12 }
+        ensures { Ends result self.old self.new (takes_in self.old k d name (resource_named id name)) }
+    {
         let Some(Resource::Lock { lock }) = resource_named(id, name) else {
             return illegal(name);
         };
@@ -131,7 +139,10 @@ impl Units {
     }
 
     // Thread k gives up the lock that a word names.
-    fn put_out(&mut self, id: u16, k: u8, name: u32) -> Outcome {
+    fn put_out(&mut self, id: u16, k: u8, name: u32) -> Outcome
+        requires { k < THREADS }
+        ensures { Ends result self.old self.new (puts_out self.old k name (resource_named id name)) }
+    {
         let Some(Resource::Lock { lock }) = resource_named(id, name) else {
             return illegal(name);
         };
@@ -147,7 +158,9 @@ impl Units {
 }
 
 // The identifier of a resource of a kind, or 0 where there is none.
-fn name_of(number: Option<u8>, kind: u8) -> u32 {
+fn name_of(number: Option<u8>, kind: u8) -> u32
+    ensures { result ≡ name_of kind number }
+{
     match number {
         Some(number) => res_id(number, kind),
         None => 0,

@@ -67,8 +67,14 @@ impl Units {
 
     // ---- Rows of a master, on the synchroniser that register s names
 
-    fn getst(&mut self, id: u16, slot: u32, k: u8, d: u8, s: u8) -> Outcome {
-        let name = self.threads[k as usize].reg(s);
+    fn getst(&mut self, id: u16, slot: u32, k: u8, d: u8, s: u8) -> Outcome
+        requires thread { k < THREADS }
+        requires target { d < 12 }
+        requires source { s < 12 }
+        ensures row { (here : Setting) → here.id ≡ id → here.slot ≡ slot → Ends result self.old self.new (threads_row here self.old k (ThreadIns.Getst d s)) }
+        ensures chans { self.new.chans ≡ self.old.chans }
+    {
+        let name = self.reg(k, s);
         match self.mastered(id, k, name) {
             None => illegal(name),
             Some(sync) => {
@@ -80,8 +86,13 @@ impl Units {
     }
 
     // Waits until all slaves are in, and then they go.
-    fn msync(&mut self, id: u16, k: u8, s: u8) -> Outcome {
-        let name = self.threads[k as usize].reg(s);
+    fn msync(&mut self, id: u16, k: u8, s: u8) -> Outcome
+        requires thread { k < THREADS }
+        requires source { s < 12 }
+        ensures row { (here : Setting) → here.id ≡ id → Ends result self.old self.new (threads_row here self.old k (ThreadIns.Msync s)) }
+        ensures chans { self.new.chans ≡ self.old.chans }
+    {
+        let name = self.reg(k, s);
         match self.mastered(id, k, name) {
             None => illegal(name),
             Some(sync) if !self.all_in(sync) => Outcome::Pause(Wait::Slaves { sync }),
@@ -94,8 +105,13 @@ impl Units {
     }
 
     // Waits until all slaves are in, and then they are free, and no slaves any more.
-    fn mjoin(&mut self, id: u16, k: u8, s: u8) -> Outcome {
-        let name = self.threads[k as usize].reg(s);
+    fn mjoin(&mut self, id: u16, k: u8, s: u8) -> Outcome
+        requires thread { k < THREADS }
+        requires source { s < 12 }
+        ensures row { (here : Setting) → here.id ≡ id → Ends result self.old self.new (threads_row here self.old k (ThreadIns.Mjoin s)) }
+        ensures chans { self.new.chans ≡ self.old.chans }
+    {
+        let name = self.reg(k, s);
         match self.mastered(id, k, name) {
             None => illegal(name),
             Some(sync) if !self.all_in(sync) => Outcome::Pause(Wait::Slaves { sync }),
@@ -109,7 +125,11 @@ impl Units {
     }
 
     // The synchroniser that a word names, where thread k is its master.
-    fn mastered(&self, id: u16, k: u8, name: u32) -> Option<u8> {
+    fn mastered(&self, id: u16, k: u8, name: u32) -> Option<u8>
+        ensures value { result ≡ mastered self.now k (resource_named id name) }
+        ensures within { IfSome result (λ n. n < SYNCHRONISERS) }
+        ensures master { IfSome result (λ n. is_thread k (sync_of self.now n).master ≡ true) }
+    {
         match resource_named(id, name) {
             Some(Resource::Sync { sync }) if self.is_master(k, sync) => Some(sync),
             _ => None,
@@ -127,7 +147,13 @@ impl Units {
     }
 
     // Gets the lowest free thread as a slave: its identifier, or 0 where none is free.
-    fn get_slave(&mut self, slot: u32, k: u8, sync: u8) -> u32 {
+    fn get_slave(&mut self, slot: u32, k: u8, sync: u8) -> u32
+        requires thread { k < THREADS }
+        requires within { sync < SYNCHRONISERS }
+        requires master { is_thread k (sync_of self.old sync).master ≡ true }
+        ensures got { (here : Setting) → here.slot ≡ slot → (d : ℕ) → goes_on_with self.new k d result ≡ slave_got here self.old k d sync (thread_to_get self.old) }
+        ensures chans { self.new.chans ≡ self.old.chans }
+    {
         match self.get_thread(slot) {
             None => 0,
             Some(j) => {
@@ -139,7 +165,11 @@ impl Units {
     }
 
     // Gets the lowest free thread: it is unstarted, its registers are 0, and the slot is its last issue.
-    pub(crate) fn get_thread(&mut self, slot: u32) -> Option<u8> {
+    pub(crate) fn get_thread(&mut self, slot: u32) -> Option<u8>
+        ensures lowest { result ≡ thread_to_get self.old }
+        ensures got { self.new ≡ with_thread_got self.old slot (thread_to_get self.old) }
+        ensures within { IfSome result (λ j. j < THREADS) }
+    {
         let free = free_thread(&self.threads)?;
         self.able = None;
         self.threads[free as usize] = Thread::fresh();
@@ -147,12 +177,17 @@ impl Units {
         Some(free)
     }
 
-    fn all_in(&self, sync: u8) -> bool {
+    fn all_in(&self, sync: u8) -> bool
+        ensures { result ≡ all_in self.now sync }
+    {
         all_in(&self.threads, self.syncs.slaves(sync))
     }
 
     // What the slaves of a synchroniser do from now on.
-    fn set_slaves(&mut self, sync: u8, run: Run) {
+    fn set_slaves(&mut self, sync: u8, run: Run)
+        ensures { self.new ≡ with_slaves_run self.old sync run }
+    {
+        self.able = None;
         let slaves = self.syncs.slaves(sync);
         set_runs(&mut self.threads, slaves, run);
     }
@@ -168,9 +203,15 @@ impl Units {
 
     // ---- Rows on the thread that register s names
 
-    fn set_other(&mut self, id: u16, k: u8, s: u8, target: Target, x: u8) -> Outcome {
-        let thread = &self.threads[k as usize];
-        let (name, value) = (thread.reg(s), thread.reg(x));
+    fn set_other(&mut self, id: u16, k: u8, s: u8, target: Target, x: u8) -> Outcome
+        requires thread { k < THREADS }
+        requires name { s < 12 }
+        requires value { x < 12 }
+        requires target { IsTarget target }
+        ensures row { (here : Setting) → here.id ≡ id → Ends result self.old self.new (sets_other here self.old k s (with_target target (reg self.old k x))) }
+        ensures chans { self.new.chans ≡ self.old.chans }
+    {
+        let (name, value) = (self.reg(k, s), self.reg(k, x));
         match thread_named(id, name) {
             Some(j) if is_in(self.threads[j as usize].run) => {
                 self.able = None;
@@ -182,8 +223,13 @@ impl Units {
         }
     }
 
-    fn start(&mut self, id: u16, k: u8, s: u8) -> Outcome {
-        let name = self.threads[k as usize].reg(s);
+    fn start(&mut self, id: u16, k: u8, s: u8) -> Outcome
+        requires thread { k < THREADS }
+        requires source { s < 12 }
+        ensures row { (here : Setting) → here.id ≡ id → Ends result self.old self.new (threads_row here self.old k (ThreadIns.Start s)) }
+        ensures chans { self.new.chans ≡ self.old.chans }
+    {
+        let name = self.reg(k, s);
         match thread_named(id, name) {
             Some(j) if self.may_start(j) => {
                 self.set_run(j, Run::Going);
@@ -195,14 +241,21 @@ impl Units {
     }
 
     // Whether a thread is unstarted, and no master starts it.
-    fn may_start(&self, j: u8) -> bool {
-        matches!(self.threads[j as usize].run, Run::Unstarted) && self.syncs.sync_of(j).is_none()
+    fn may_start(&self, j: u8) -> bool
+        requires { j < THREADS }
+        ensures { result ≡ may_start self.now j }
+    {
+        matches!(self.threads[j as usize].run, Run::Unstarted) && !self.is_slave(j)
     }
 
     // ---- Rows on the thread itself
 
-    fn ssync(&mut self, k: u8) -> Outcome {
-        if self.syncs.sync_of(k).is_none() {
+    fn ssync(&mut self, k: u8) -> Outcome
+        requires { k < THREADS }
+        ensures row { (here : Setting) → Ends result self.old self.new (threads_row here self.old k ThreadIns.Ssync) }
+        ensures chans { self.new.chans ≡ self.old.chans }
+    {
+        if !self.is_slave(k) {
             return illegal(0);
         }
         self.go_on(k);
@@ -210,8 +263,12 @@ impl Units {
         Outcome::Done
     }
 
-    fn freet(&mut self, k: u8) -> Outcome {
-        if self.syncs.sync_of(k).is_some() {
+    fn freet(&mut self, k: u8) -> Outcome
+        requires { k < THREADS }
+        ensures row { (here : Setting) → Ends result self.old self.new (threads_row here self.old k ThreadIns.Freet) }
+        ensures chans { self.new.chans ≡ self.old.chans }
+    {
+        if self.is_slave(k) {
             return illegal(0);
         }
         self.go_on(k);
@@ -236,12 +293,21 @@ impl Units {
         self.threads[k as usize].reg(g)
     }
 
-    pub(crate) fn go_on(&mut self, k: u8) {
+    pub(crate) fn go_on(&mut self, k: u8)
+        requires { k < THREADS }
+        ensures { self.new ≡ goes_on self.old k }
+    {
+        self.able = None;
         go_on(&mut self.threads[k as usize]);
     }
 
     // With this word in a register.
-    pub(crate) fn go_on_with(&mut self, k: u8, d: u8, word: u32) {
+    pub(crate) fn go_on_with(&mut self, k: u8, d: u8, word: u32)
+        requires thread { k < THREADS }
+        requires register { d < 16 }
+        ensures { self.new ≡ goes_on_with self.old k d word }
+    {
+        self.able = None;
         let thread = &mut self.threads[k as usize];
         thread.set_reg(d, word);
         go_on(thread);
@@ -256,7 +322,9 @@ pub(crate) fn go_on(thread: &mut Thread)
 }
 
 /// Whether the threads of a mask are all unstarted or at sync.
-pub(crate) fn all_in(threads: &[Thread; 8], slaves: u8) -> bool {
+pub(crate) fn all_in(threads: &[Thread; 8], slaves: u8) -> bool
+    ensures { result ≡ list_all (λ k. is_in (slice_index_or threads.now k fresh_thread).run) (members slaves) }
+{
     for k in 0..THREADS {
         if is_member(k, slaves) && !is_in(threads[k as usize].run) {
             return false;
@@ -266,7 +334,10 @@ pub(crate) fn all_in(threads: &[Thread; 8], slaves: u8) -> bool {
 }
 
 // What the threads of a mask do from now on.
-fn set_runs(threads: &mut [Thread; 8], slaves: u8, run: Run) {
+fn set_runs(threads: &mut [Thread], slaves: u8, run: Run)
+    requires { length threads.old ≡ THREADS }
+    ensures { threads.new ≡ with_runs run (members slaves) threads.old }
+{
     for k in 0..THREADS {
         if is_member(k, slaves) {
             threads[k as usize].run = run;
@@ -274,7 +345,17 @@ fn set_runs(threads: &mut [Thread; 8], slaves: u8, run: Run) {
     }
 }
 
-fn set(thread: &mut Thread, target: Target, value: u32) {
+fn is_member(k: u8, mask: u8) -> bool
+    requires { k < THREADS }
+    ensures { result ≡ in_mask mask k }
+{
+    (mask >> k) & 1 == 1
+}
+
+fn set(thread: &mut Thread, target: Target, value: u32)
+    requires { IsTarget target }
+    ensures { thread.new ≡ with_target target value thread.old }
+{
     match target {
         Target::Pc => thread.pc = value,
         Target::Register(g) => thread.set_reg(g, value),
@@ -282,12 +363,17 @@ fn set(thread: &mut Thread, target: Target, value: u32) {
 }
 
 // Whether a thread is where its synchroniser waits for it.
-fn is_in(run: Run) -> bool {
+fn is_in(run: Run) -> bool
+    ensures { result ≡ is_in run }
+{
     matches!(run, Run::Unstarted | Run::AtSync)
 }
 
 // The thread, 0 to 7, that a word names.
-fn thread_named(id: u16, name: u32) -> Option<u8> {
+fn thread_named(id: u16, name: u32) -> Option<u8>
+    ensures value { result ≡ named_thread (resource_named id name) }
+    ensures within { IfSome result (λ j. j < THREADS) }
+{
     match resource_named(id, name) {
         Some(Resource::Thread { thread }) => Some(thread),
         _ => None,
@@ -295,7 +381,10 @@ fn thread_named(id: u16, name: u32) -> Option<u8> {
 }
 
 // The lowest thread that is free.
-fn free_thread(threads: &[Thread; 8]) -> Option<u8> {
+fn free_thread(threads: &[Thread; 8]) -> Option<u8>
+    ensures lowest { result ≡ lowest_free (λ th. is_taken th.run) threads.now 0 }
+    ensures within { IfSome result (λ j. j < THREADS) }
+{
     for k in 0..THREADS {
         if !is_taken(threads[k as usize].run) {
             return Some(k);

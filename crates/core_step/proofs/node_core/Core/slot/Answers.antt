@@ -1,12 +1,9 @@
-use Rattle.std.proofs.Common.{◌≡◌, ◌+◌, ◌<◌, ℕ, ap, sym, refl, ◌∙◌, subst}
+use Rattle.std.proofs.Common.{◌≡◌, ◌+◌, sym, refl, ap, subst, ◌∙◌}
 use Rattle.xs_model.specs.Record.{CoreRec, NodeRec}
 use Rattle.xs_model.specs.AtWork.{slot_begins}
-use Rattle.xs_base.specs.declared.numbers.TheConstants.{CHAN_ENDS}
-use Rattle.net_model.specs.Switch.{is_busy_among}
 use Rattle.switch_routes.specs.Rows.{SentBy}
 use Rattle.step_model.specs.Fixed.{Fixed}
-use Rattle.step_model.specs.Step.{node_step, issued}
-use Rattle.core_units.specs.Units.{and_happened}
+use Rattle.step_model.specs.Step.{node_step}
 use Rattle.core_step.specs.Core.{CoreValue, StandsAt, SentBefore}
 use Rattle.core_step.specs.Network.{NetworkRec, NetworkStands, Brings, routes_of}
 use Rattle.core_step.specs.Inside.{value_of}
@@ -19,14 +16,11 @@ brings : (c : After-issue) (rec : NodeRec) → StandsAt (value_of c.self.inside)
 brings c rec at =
     let s = c.self.inside in
     c.bring.ensures.brings (slot_begins rec)
-    (subst (λ out. NetworkStands c.args.slot s.network s.units.chans out (slot_begins rec)) (sym c.clear.ensures) stands)
+    (subst (λ out. NetworkStands c.args.slot s.network s.units.chans out (slot_begins rec)) (sym c.clear.ensures) (begins (value_of s).fixed s.units s.network rec c.args.slot at))
 
--- the network tells with which channel ends the switch of that node is at work
-busy : (c : After-issue) (rec : NodeRec) (at : StandsAt (value_of c.self.inside) rec c.args.slot) (n : ℕ) → n < CHAN_ENDS
-    → (its_setting (value_of c.self.inside).fixed rec c.args.slot c.args.arrivals.now c.args._pins.now).is_busy n ≡ is_busy_among c.bring.new.self.switch.inputs n
-busy c rec at n below =
-    let s = c.self.inside in
-    busy_is (value_of s).fixed rec c.args.slot c.args.arrivals.now c.args._pins.now s.units c.bring.new.self c.bring.new.units.chans c.bring.new.out at.stands.core (brings c rec at) n
+-- but for its channel ends, the core that issues is the node's
+core_is : (c : After-issue) (rec : NodeRec) → StandsAt (value_of c.self.inside) rec c.args.slot → c.bring.new.units ≡ record rec.core { chans = c.bring.new.units.chans }
+core_is c rec at = c.bring.ensures.units ∙ ap (λ (core : CoreRec). record core { chans = c.bring.new.units.chans }) at.stands.core
 
 sent : (c : After-issue) → SentBy c.args.slot c.bring.new.self.links
 sent c =
