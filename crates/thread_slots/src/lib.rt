@@ -16,7 +16,7 @@ use xs_base::numbers::THREADS;
 /// eight last issues, by thread number. See docs/MACHINE.md.
 #[derive(Clone, Copy, Drop)]
 pub struct Slots {
-    // Each thread's turn: eight times the first slot in which it is rested, 0 where it never issued, and its number.
+    // Each thread's turn: eight times the first slot in which it is rested, 0 where it never issued, plus its number.
     // So of any threads the one to pick has the least turn, and where that one is not rested, none of them is.
     turns: [u64; 8],
 }
@@ -74,8 +74,8 @@ impl Slots {
     /// The thread that issues in a slot. Bit k of `able` is set for each thread k that may issue but for the four
     /// slots of rest that lie between two issues of one thread. Of the threads that are able and rested the one
     /// with the earliest last issue is picked, never being before every slot, and among equals the one with the
-    /// lowest number; `None` comes exactly where no thread is able and rested: each thread has no bit in `able`, or
-    /// its last issue is less than four slots before this one. See docs/MACHINE.md.
+    /// lowest number; `None` comes exactly where no thread is able and rested: each one is not in the mask, or issued
+    /// last three slots before this one or later. See docs/MACHINE.md.
     #[inline]
     pub fn pick(&self, able: u8, slot: u32) -> Option<u8>
         ensures value { (may : ℕ → Bool) → ((k : ℕ) → k < THREADS → may k ≡ may_pick able self.now slot k) → result ≡ pick may self.now }
@@ -291,5 +291,19 @@ mod tests {
                 (9, Some(1)),
             ],
         );
+    }
+
+    #[test]
+    fn of_many_only_the_able_ones_are_picked(rt: HostRuntime) {
+        let wanted = [
+            (0, Some(1)),
+            (1, Some(2)),
+            (2, Some(3)),
+            (3, Some(5)),
+            (4, Some(6)),
+            (5, Some(1)),
+            (6, Some(2)),
+        ];
+        picks(&rt, 0b01101110, &wanted);
     }
 }
