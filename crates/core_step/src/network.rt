@@ -129,7 +129,7 @@ fn nothing_arrives(arrivals: &Arrivals) -> bool
     are_none(&arrivals.tokens) && are_false(&arrivals.credits)
 }
 
-// It ends in no earlier way, so that the compiler may do all link ends at once. So does the next one.
+// Here and below no loop ends early: to look at all link ends at once is quicker than a branch for each.
 fn are_none(tokens: &[Option<Token>; 8]) -> bool
     ensures { IsTrue result → (end : ℕ) → slice_index_or tokens.now end None ≡ None }
 {

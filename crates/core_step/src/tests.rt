@@ -146,8 +146,9 @@ fn waits_for_lock_0(run: Run) -> bool {
     matches!(run, Run::Paused(Wait::Lock { lock: 0 }))
 }
 
-// Thread 1 waits from slot 61 on and thread 2 from slot 62 on; thread 0 releases the lock in slot 65. In slot 66 thread 1,
-// whose last issue is the earlier one, owns it, so thread 2 waits on, until thread 1 releases it in slot 70.
+// Thread 1 waits from slot 61 on and thread 2 from slot 62 on; threads 3 and 4 go in slots 63 and 64, and thread 0 releases
+// the lock in slot 65. Thread 1, whose last issue is the earlier one, owns it in slot 66, so thread 2 may not go in slot
+// 67. It owns the lock in slot 71, after thread 1 released it.
 #[test]
 fn lock_is_for_one_thread_at_a_time(rt: HostRuntime) -> Result<(), Fail> {
     let plan = NodePlan {
