@@ -1,17 +1,17 @@
 //! The rows on threads. See docs/THREADS.md.
-ghost use Rattle.std.specs.Prelude.{ℕ, ◌≡◌, ◌<◌, true, false, IsTrue, IfSome, length, slice_index_or};
+ghost use Rattle.std.specs.Prelude.{ℕ, ◌≡◌, ◌<◌, [], true, false, IsTrue, IfSome, IfOk, IfErr, length, slice_index_or};
 ghost use Rattle.std.specs.List.{list_all};
 ghost use Rattle.xs_base.specs.declared.numbers.TheConstants.{THREADS, SYNCHRONISERS};
 ghost use Rattle.xs_model.specs.Threads.{fresh_thread};
-ghost use Rattle.xs_model.specs.Record.{thread_of, sync_of, with_sync};
+ghost use Rattle.xs_model.specs.Record.{CoreRec, thread_of, sync_of, with_sync};
 ghost use Rattle.xs_model.specs.Free.{lowest_free};
 ghost use Rattle.xs_model.specs.Masks.{in_mask, members};
 ghost use Rattle.xs_model.specs.Syncs.{is_thread, unbound};
 ghost use Rattle.xs_model.specs.Waits.{is_in, all_in};
 ghost use Rattle.xs_instructions.specs.Instr.{ThreadsInRange};
-ghost use Rattle.step_model.specs.Effect.{Setting, reg, after_it, goes_on, goes_on_with};
+ghost use Rattle.step_model.specs.Effect.{Setting, Done, reg, after_it, goes_on, goes_on_with};
 ghost use Rattle.step_model.specs.Named.{resource_named};
-ghost use Rattle.step_model.specs.ThreadRows.{threads_row, is_taken, thread_to_get, slave_got, is_slave, may_start, sets_other, with_runs, with_slaves_run};
+ghost use Rattle.step_model.specs.ThreadRows.{threads_row, as_master, when_all_in, is_taken, thread_to_get, slave_got, is_slave, may_start, sets_other, with_runs, with_slaves_run};
 ghost use Rattle.core_units.specs.Units.{Ends};
 ghost use Rattle.core_units.specs.Named.{named_thread, mastered};
 ghost use Rattle.core_units.specs.Found.{with_thread_got};
@@ -92,11 +92,9 @@ impl Units {
         ensures row { (here : Setting) → here.id ≡ id → Ends result self.old self.new (threads_row here self.old k (ThreadIns.Msync s)) }
         ensures chans { self.new.chans ≡ self.old.chans }
     {
-        let name = self.reg(k, s);
-        match self.mastered(id, k, name) {
-            None => illegal(name),
-            Some(sync) if !self.all_in(sync) => Outcome::Pause(Wait::Slaves { sync }),
-            Some(sync) => {
+        match self.met(id, k, s) {
+            Err(outcome) => outcome,
+            Ok(sync) => {
                 self.set_slaves(sync, Run::Going);
                 self.go_on(k);
                 Outcome::Done
@@ -111,16 +109,32 @@ impl Units {
         ensures row { (here : Setting) → here.id ≡ id → Ends result self.old self.new (threads_row here self.old k (ThreadIns.Mjoin s)) }
         ensures chans { self.new.chans ≡ self.old.chans }
     {
-        let name = self.reg(k, s);
-        match self.mastered(id, k, name) {
-            None => illegal(name),
-            Some(sync) if !self.all_in(sync) => Outcome::Pause(Wait::Slaves { sync }),
-            Some(sync) => {
+        match self.met(id, k, s) {
+            Err(outcome) => outcome,
+            Ok(sync) => {
                 self.set_slaves(sync, Run::Free);
                 self.unbind_all(sync);
                 self.go_on(k);
                 Outcome::Done
             }
+        }
+    }
+
+    // The synchroniser that register s names, whose slaves are all in; else how its master's row ends.
+    fn met(&self, id: u16, k: u8, s: u8) -> Result<u8, Outcome>
+        requires thread { k < THREADS }
+        requires source { s < 12 }
+        ensures ok { IfOk result (λ n. (here : Setting) → here.id ≡ id → (becomes : CoreRec → ℕ → CoreRec) →
+            as_master here self.now k s (when_all_in self.now k becomes) ≡ Done (goes_on (becomes self.now n) k) []) }
+        ensures err { IfErr result (λ outcome. (here : Setting) → here.id ≡ id → (becomes : CoreRec → ℕ → CoreRec) →
+            Ends outcome self.now self.now (as_master here self.now k s (when_all_in self.now k becomes))) }
+        ensures within { IfOk result (λ n. n < SYNCHRONISERS) }
+    {
+        let name = self.reg(k, s);
+        match self.mastered(id, k, name) {
+            None => Err(illegal(name)),
+            Some(sync) if !self.all_in(sync) => Err(Outcome::Pause(Wait::Slaves { sync })),
+            Some(sync) => Ok(sync),
         }
     }
 
