@@ -4,15 +4,16 @@ use Rattle.std.specs.Prelude.{ℕ, zero, suc, ◌+◌, ◌-◌, ◌*◌, ◌/◌
 use Rattle.std.specs.List.{list_any}
 use Rattle.std.specs.Int.{bit_at}
 use Rattle.xs_base.specs.Numbers.{Slot, NodeId, ChanNumber, EndNumber, InputNumber, Identifier}
-use Rattle.xs_base.specs.Ids.{chan_id}
 use Rattle.xs_base.specs.declared.numbers.TheConstants.{LINK_ENDS, CHAN_ENDS, INPUTS, HEADER_BYTES, END, PAUSE}
 use Rattle.xs_base.specs.declared.token.Token.{Token}
 use Rattle.xs_base.specs.declared.token.Token.TheVariants.{Byte, Ctrl}
+use Rattle.xs_model.specs.declared.dest.Dest.{Dest}
 use Rattle.xs_model.specs.declared.event.Happen.TheVariants as happen
+use Rattle.xs_model.specs.Dests.{dest_of, id_of}
 use Rattle.xs_model.specs.Record.{NodeRec, LinkRec, ChanRec, InputRec, Idle, Head1, Head2, Want, Local, Out, Lost, chan_of, with_chan}
 use Rattle.xs_model.specs.AtWork.{AtWork, it_happens}
 use Rattle.xs_model.specs.Waits.{has_room}
-use Rattle.net_model.specs.Ways.{Way, Here, Behind, chan_of_dest, way_to}
+use Rattle.net_model.specs.Ways.{Way, Here, Behind, way_to}
 use Rattle.net_model.specs.Links.{may_send}
 
 -- what the switch knows of its node's plan
@@ -124,8 +125,8 @@ abbrev pub after_token : InputNumber → InputRec → Token → AtWork → AtWor
 after_token i state t m = to_state i (if ends_packet t then Idle else state) m
 
 -- a packet that has no way is lost
-abbrev pub loses : InputNumber → Identifier → AtWork → AtWork
-loses i dest m = it_happens (happen.Lost dest) (to_state i Lost m)
+abbrev pub loses : InputNumber → Dest → AtWork → AtWork
+loses i dest m = it_happens (happen.Lost (id_of dest)) (to_state i Lost m)
 
 abbrev pub put_into : ChanNumber → Token → AtWork → AtWork
 put_into n t m = record m {
@@ -150,11 +151,11 @@ end_may_send routes slot e (Some link) = may_send (slice_index routes.gaps e) sl
 -- ---- Rule 1. An idle channel end at which tokens wait begins a packet: it wants to go to its destination, and goes
 -- on at once by rule 3, which is given as `onward`. Where there is no destination, nothing begins.
 
-abbrev pub start_packet : (Identifier → AtWork → AtWork) → InputNumber → Option Identifier → AtWork → AtWork
+abbrev pub start_packet : (Dest → AtWork → AtWork) → InputNumber → Option Identifier → AtWork → AtWork
 start_packet onward i None m = m
-start_packet onward i (Some dest) m = onward dest (to_state i (Want dest) m)
+start_packet onward i (Some id) m = onward (dest_of id) (to_state i (Want (dest_of id)) m)
 
-abbrev pub packet_step : (Identifier → AtWork → AtWork) → InputNumber → List Token → AtWork → AtWork
+abbrev pub packet_step : (Dest → AtWork → AtWork) → InputNumber → List Token → AtWork → AtWork
 packet_step onward i [] m = m
 packet_step onward i (t ∷ rest) m = start_packet onward i (chan_of m.rec.core (chan_of_input i)).dest m
 
@@ -166,7 +167,7 @@ packet_step onward i (t ∷ rest) m = start_packet onward i (chan_of m.rec.core 
 abbrev pub after_header : InputRec → ℕ → InputRec
 after_header Idle b = Head1 b
 after_header (Head1 high) b = Head2 high b
-after_header (Head2 high low) b = Want (chan_id (high * 256 + low) b)
+after_header (Head2 high low) b = Want (record { node = high * 256 + low; chan = b })
 after_header state b = state
 
 abbrev pub head_token : InputNumber → InputRec → Token → AtWork → AtWork
@@ -181,18 +182,18 @@ head_step i state (t ∷ rest) m = head_token i state t m
 -- it holds a channel end of this node, and by rule 5 where it holds a link end; they are given as `onward`.
 
 -- to a channel end of this node: it is held from now on, unless another input holds it
-abbrev pub want_chan : (ChanNumber → AtWork → AtWork) → InputNumber → ChanNumber → Identifier → AtWork → AtWork
-want_chan onward i n dest m =
-    if not (nat_lt n CHAN_ENDS) || not (chan_of m.rec.core n).used then loses i dest m
-    else (if chan_is_held m.rec n then m else onward n (to_state i (Local n) m))
+abbrev pub want_chan : (ChanNumber → AtWork → AtWork) → InputNumber → Dest → AtWork → AtWork
+want_chan onward i dest m =
+    if not (nat_lt dest.chan CHAN_ENDS) || not (chan_of m.rec.core dest.chan).used then loses i dest m
+    else (if chan_is_held m.rec dest.chan then m else onward dest.chan (to_state i (Local dest.chan) m))
 
 -- to another node: a link end is held from now on, where one is free
-abbrev pub hold_end : (EndNumber → AtWork → AtWork) → InputNumber → Identifier → Option EndNumber → AtWork → AtWork
+abbrev pub hold_end : (EndNumber → AtWork → AtWork) → InputNumber → Dest → Option EndNumber → AtWork → AtWork
 hold_end onward i dest None m = m
 hold_end onward i dest (Some e) m = onward e (to_state i (Out e 0 dest) m)
 
 -- behind some link ends: the lowest one that is free
-abbrev pub want_end : (EndNumber → AtWork → AtWork) → InputNumber → ℕ → Identifier → AtWork → AtWork
+abbrev pub want_end : (EndNumber → AtWork → AtWork) → InputNumber → ℕ → Dest → AtWork → AtWork
 want_end onward i mask dest m =
     if mask == 0 then loses i dest m else hold_end onward i dest (free_end m.rec mask 0 LINK_ENDS) m
 
@@ -214,17 +215,17 @@ local_step i n (t ∷ rest) m = deliver i n t m
 -- destination, then the tokens that wait. END and PAUSE end the packet.
 
 -- the header byte with this number: the high and the low byte of the node's id, and the channel end's number
-abbrev pub header_byte : Identifier → ℕ → ℕ
-header_byte dest zero = dest / 16777216 % 256
-header_byte dest (suc zero) = dest / 65536 % 256
-header_byte dest (suc (suc k)) = dest / 256 % 256
+abbrev pub header_byte : Dest → ℕ → ℕ
+header_byte dest zero = dest.node / 256
+header_byte dest (suc zero) = dest.node % 256
+header_byte dest (suc (suc k)) = dest.chan
 
-abbrev pub out_token : Slot → InputNumber → EndNumber → ℕ → Identifier → List Token → AtWork → AtWork
+abbrev pub out_token : Slot → InputNumber → EndNumber → ℕ → Dest → List Token → AtWork → AtWork
 out_token slot i e headers dest [] m = m
 out_token slot i e headers dest (t ∷ rest) m = after_token i (Out e headers dest) t (send slot e t (take_first i m))
 
 -- the count of header bytes that went out is 0 to 3
-abbrev pub out_step : Routes → Slot → InputNumber → EndNumber → ℕ → Identifier → AtWork → AtWork
+abbrev pub out_step : Routes → Slot → InputNumber → EndNumber → ℕ → Dest → AtWork → AtWork
 out_step routes slot i e headers dest m =
     if end_may_send routes slot e (link_at m.rec e)
     then (if nat_lt headers HEADER_BYTES
@@ -241,12 +242,12 @@ lost_step i (t ∷ rest) m = after_token i Lost t (take_first i m)
 -- ---- The step of an input
 
 -- rule 3, and rule 4 or 5 after it
-abbrev pub want_way : Routes → Slot → InputNumber → Identifier → Way → AtWork → AtWork
-want_way routes slot i dest Here m = want_chan (λ n m. local_step i n (waiting_at m.rec i) m) i (chan_of_dest dest) dest m
+abbrev pub want_way : Routes → Slot → InputNumber → Dest → Way → AtWork → AtWork
+want_way routes slot i dest Here m = want_chan (λ n m. local_step i n (waiting_at m.rec i) m) i dest m
 want_way routes slot i dest (Behind mask) m = want_end (λ e m. out_step routes slot i e 0 dest m) i mask dest m
 
-abbrev pub want_step : Routes → Slot → InputNumber → Identifier → AtWork → AtWork
-want_step routes slot i dest m = want_way routes slot i dest (way_to routes.id routes.ways dest) m
+abbrev pub want_step : Routes → Slot → InputNumber → Dest → AtWork → AtWork
+want_step routes slot i dest m = want_way routes slot i dest (way_to routes.id routes.ways dest.node) m
 
 abbrev pub idle_step : Routes → Slot → InputNumber → List Token → AtWork → AtWork
 idle_step routes slot i tokens m =

@@ -1,22 +1,14 @@
--- Where the destination of a packet lies, and the way to it.
-use Rattle.std.specs.Prelude.{ℕ, zero, suc, ◌/◌, ◌%◌, ◌==◌, if◌then◌else◌, Option, Some, None, List, slice_index}
+-- The way from a node to another.
+use Rattle.std.specs.Prelude.{ℕ, zero, suc, ◌==◌, if◌then◌else◌, Option, Some, None, List, slice_index}
 use Rattle.std.specs.Int.{bit_at}
-use Rattle.xs_base.specs.Numbers.{NodeId, ChanNumber, Identifier}
-
--- the id of the node that a destination is on
-abbrev pub node_of_dest : Identifier → NodeId
-node_of_dest dest = dest / 65536
-
--- the number of the channel end there
-abbrev pub chan_of_dest : Identifier → ChanNumber
-chan_of_dest dest = dest / 256 % 256
+use Rattle.xs_base.specs.Numbers.{NodeId}
 
 -- the highest of the lowest count bits in which two ids differ
 unfoldable pub first_difference : ℕ → NodeId → NodeId → Option ℕ
 first_difference zero a b = None
 first_difference (suc k) a b = if bit_at a k == bit_at b k then first_difference k a b else Some k
 
--- where a destination lies from a node: on the node itself, or behind some of these link ends, as a mask
+-- where a node lies from a node: it is the node itself, or behind some of these link ends, as a mask
 pub data Way : Type 0 where
   Here : Way
   Behind : (ends : ℕ) → Way
@@ -26,5 +18,5 @@ way_at ways None = Here
 way_at ways (Some bit) = Behind (slice_index ways bit)
 
 -- the link ends of the highest bit in which the ids differ lead on
-abbrev pub way_to : NodeId → List ℕ → Identifier → Way
-way_to id ways dest = way_at ways (first_difference 16 id (node_of_dest dest))
+abbrev pub way_to : NodeId → List ℕ → NodeId → Way
+way_to id ways node = way_at ways (first_difference 16 id node)

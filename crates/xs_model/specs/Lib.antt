@@ -1,6 +1,7 @@
 pub mod Status
 pub mod Threads
 pub mod Memory
+pub mod Dests
 pub mod Record
 pub mod Free
 pub mod Masks

@@ -2,6 +2,7 @@
 use Rattle.std.specs.Prelude.{ℕ, Bool, false, List, [], ◌∷◌, Option, Some, None, replicate, slice_index_or, slice_set}
 use Rattle.xs_base.specs.Numbers.{Slot, Word, ThreadNumber, ChanNumber, EndNumber, PortNumber, Identifier}
 use Rattle.xs_base.specs.declared.token.Token.{Token}
+use Rattle.xs_model.specs.declared.dest.Dest.{Dest}
 use Rattle.xs_model.specs.declared.thread.Thread.{Thread}
 use Rattle.xs_model.specs.declared.thread.Run.{Run}
 use Rattle.xs_model.specs.declared.thread.Run.TheVariants.{Free}
@@ -120,9 +121,9 @@ pub data InputRec : Type 0 where
   Idle : InputRec
   Head1 : (high : ℕ) → InputRec
   Head2 : (high low : ℕ) → InputRec
-  Want : (dest : Identifier) → InputRec
+  Want : (dest : Dest) → InputRec
   Local : (chan : ChanNumber) → InputRec
-  Out : (end : EndNumber) (headers : ℕ) (dest : Identifier) → InputRec
+  Out : (end : EndNumber) (headers : ℕ) (dest : Dest) → InputRec
   Lost : InputRec
 
 -- a link end: the tokens that wait in its buffer, the slots in which it sent a token, and those in which a

@@ -2,6 +2,7 @@
 //! which thread is picked, and how a trap is entered. See docs/MACHINE.md.
 #![tactic(auto)]
 
+mod dest;
 mod event;
 mod outside;
 mod resource;
@@ -9,6 +10,7 @@ mod status;
 mod thread;
 pub mod traps;
 
+pub use dest::Dest;
 pub use event::{Event, Happen};
 pub use outside::{Arrivals, PinView};
 pub use resource::Resource;
