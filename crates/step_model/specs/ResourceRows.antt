@@ -1,9 +1,10 @@
 -- The rows on resources.
-use Rattle.std.specs.Prelude.{ℕ, ◌==◌, if◌then◌else◌, Option, Some, None, [], take}
+use Rattle.std.specs.Prelude.{ℕ, ◌%◌, ◌==◌, if◌then◌else◌, Option, Some, None, []}
 use Rattle.xs_base.specs.Numbers.{Slot, Word, Register, ThreadNumber, ChanNumber, NodeId, Kind, Identifier}
 use Rattle.xs_base.specs.Ids.{chan_id, res_id}
 use Rattle.xs_base.specs.declared.numbers.TheConstants.{CHAN_END_KIND, SYNCHRONISER_KIND, THREAD_KIND, LOCK_KIND}
-use Rattle.xs_base.specs.declared.token.Token.TheVariants.{Ctrl}
+use Rattle.xs_base.specs.declared.token.Token.{Token}
+use Rattle.xs_base.specs.declared.token.Token.TheVariants.{Byte, Ctrl}
 use Rattle.xs_model.specs.declared.thread.Thread.{Thread}
 use Rattle.xs_model.specs.declared.thread.Wait.{Wait}
 use Rattle.xs_model.specs.declared.thread.Wait.TheVariants.{Room, Tokens, Choice}
@@ -11,26 +12,19 @@ use Rattle.xs_model.specs.declared.thread.Wait.TheVariants as wait
 use Rattle.xs_model.specs.declared.traps.TheConstants.{ILLEGAL_RESOURCE, RESOURCE_DEPENDENCY}
 use Rattle.xs_model.specs.declared.resource.Resource.{Resource}
 use Rattle.xs_model.specs.declared.resource.Resource.TheVariants as resource
+use Rattle.xs_model.specs.Threads.{with_register}
 use Rattle.xs_model.specs.Record.{CoreRec, ChanRec, SyncRec, LockRec, thread_of, chan_of, sync_of, lock_of, with_thread, with_chan, with_sync, with_lock}
 use Rattle.xs_model.specs.Free.{lowest_free}
 use Rattle.xs_model.specs.Syncs.{is_sync_used, got_sync, freed_sync, free_lock, Claimed, Owns, IsHeld, IsRefused, claimed, released, freed_lock}
 use Rattle.xs_model.specs.Waits.{is_waited_at, is_paused_on}
 use Rattle.xs_instructions.specs.declared.instr.ResIns.{ResIns}
 use Rattle.xs_instructions.specs.declared.instr.ResIns.TheVariants as resources
-use Rattle.net_model.specs.Chans.{Found, Got, Waits, Refused, got_chan, free_chan, freed_chan, chan_named, found_at, put_token, check_token, take_dest}
+use Rattle.net_model.specs.Chans.{Found, Got, Waits, Refused, got_chan, free_chan, freed_chan, chan_named, found_at, put_token, put_word, take_word, take_byte, take_ctrl, check_token, look, look_word, take_dest, tell_dest}
 use Rattle.step_model.specs.Effect.{Setting, Effect, Done, Pause, Trap, Unbuilt, reg, after_it, goes_on, goes_on_with}
 use Rattle.step_model.specs.Named.{resource_named}
 use Rattle.step_model.specs.ThreadRows.{thread_id, thread_to_get, with_got_thread}
 
 -- ---- Getting a resource
-
--- how many channel ends programs may get so far
-abbrev pub chans_built : ℕ
-chans_built = 1
-
--- the lowest channel end that is free, of those
-abbrev pub chan_to_get : CoreRec → Option ChanNumber
-chan_to_get core = free_chan (take chans_built core.chans) 0
 
 -- register d takes the identifier of the channel end that was got, or 0 where none is free
 abbrev pub chan_was_got : NodeId → CoreRec → ThreadNumber → Register → Option ChanNumber → CoreRec
@@ -53,7 +47,7 @@ lock_was_got core k d (Some n) = goes_on_with (with_lock core n free_lock) k d (
 -- the lowest free resource of a kind is got, where there is one: of the kinds that are not built there is none
 abbrev pub resource_got : Setting → CoreRec → ThreadNumber → Register → Kind → CoreRec
 resource_got here core k d kind =
-    if kind == CHAN_END_KIND then chan_was_got here.id core k d (chan_to_get core)
+    if kind == CHAN_END_KIND then chan_was_got here.id core k d (free_chan core.chans 0)
     else (if kind == SYNCHRONISER_KIND then sync_was_got core k d (lowest_free is_sync_used core.syncs 0)
     else (if kind == THREAD_KIND then thread_was_got here.slot core k d (thread_to_get core)
     else (if kind == LOCK_KIND then lock_was_got core k d (lowest_free (λ lock. lock.used) core.locks 0)
@@ -103,9 +97,12 @@ tokens count c = Tokens c count
 abbrev pub no_wait : ChanNumber → Wait
 no_wait c = Choice
 
--- what a thread does with the word that it found: nothing
+-- what a thread does with the word that it found: nothing, or it takes it into register d
 abbrev pub takes_nothing : Word → Thread → Thread
 takes_nothing word th = th
+
+abbrev pub takes_into : Register → Word → Thread → Thread
+takes_into d word th = with_register th d word
 
 -- what is found at channel end c, which the word `name` names: the thread takes the word and goes on; or it pauses,
 -- and traps where another one is paused there; or it is refused
@@ -114,16 +111,29 @@ found_there core k name c wait takes (Got chan word) = Done (with_thread (with_c
 found_there core k name c wait takes Waits = if is_waited_at core wait then Trap RESOURCE_DEPENDENCY name else Pause core wait []
 found_there core k name c wait takes Refused = Trap ILLEGAL_RESOURCE name
 
+-- what a row does at channel end c: where its thread would wait, what it does there, and what the thread takes of it
+abbrev pub at_chan : CoreRec → ThreadNumber → Identifier → (ChanNumber → Wait) → (ChanRec → Found) → (Word → Thread → Thread) → ChanNumber → Effect
+at_chan core k name wait does takes c = found_there core k name c (wait c) takes (found_at does (chan_of core c))
+
 abbrev pub on_named : CoreRec → ThreadNumber → Identifier → (ChanNumber → Wait) → (ChanRec → Found) → (Word → Thread → Thread) → Option ChanNumber → Effect
 on_named core k name wait does takes None = Trap ILLEGAL_RESOURCE name
-on_named core k name wait does takes (Some c) = found_there core k name c (wait c) takes (found_at does (chan_of core c))
+on_named core k name wait does takes (Some c) = at_chan core k name wait does takes c
 
--- A row on the channel end that register s names: where its thread would wait, what it does there, and what the thread
--- takes of it.
+-- a row on the channel end that register s names
 abbrev pub on_chan : Setting → CoreRec → ThreadNumber → Register → (ChanNumber → Wait) → (ChanRec → Found) → (Word → Thread → Thread) → Effect
 on_chan here core k s wait does takes = on_named core k (reg core k s) wait does takes (chan_named here.id (reg core k s))
 
--- ---- Rows on a lock. On a channel end `in` and `out` are not built yet: what names one is refused, as what names no lock.
+-- a row that puts a token there, and one that takes one or looks for it
+abbrev pub puts : Setting → CoreRec → ThreadNumber → Register → Token → Effect
+puts here core k s t = on_chan here core k s (room 1) (put_token t) takes_nothing
+
+abbrev pub checks : Setting → CoreRec → ThreadNumber → Register → Word → Effect
+checks here core k s value = on_chan here core k s (tokens 1) (check_token value) takes_nothing
+
+abbrev pub finds : Setting → CoreRec → ThreadNumber → Register → Register → ℕ → (ChanRec → Found) → Effect
+finds here core k d s count does = on_chan here core k s (tokens count) does (takes_into d)
+
+-- ---- `in` and `out`, which are rows on a channel end and on a lock
 
 -- the thread owns the lock and takes its identifier, or waits until nobody owns it
 abbrev pub claimed_there : CoreRec → ThreadNumber → Register → Identifier → ℕ → Claimed → Effect
@@ -132,13 +142,15 @@ claimed_there core k d name n IsHeld = Pause core (wait.Lock n) []
 claimed_there core k d name n IsRefused = Trap ILLEGAL_RESOURCE name
 
 abbrev pub takes_in : CoreRec → ThreadNumber → Register → Identifier → Option Resource → Effect
+takes_in core k d name (Some (resource.Chan c)) = at_chan core k name (tokens 4) take_word (takes_into d) c
 takes_in core k d name (Some (resource.Lock n)) = claimed_there core k d name n (claimed k (lock_of core n))
 takes_in core k d name _ = Trap ILLEGAL_RESOURCE name
 
--- the thread gives the lock up
-abbrev pub puts_out : CoreRec → ThreadNumber → Identifier → Option Resource → Effect
-puts_out core k name (Some (resource.Lock n)) = goes_on_in k name (without_lock core n (released k (lock_of core n)))
-puts_out core k name _ = Trap ILLEGAL_RESOURCE name
+-- the thread puts a word, or gives the lock up
+abbrev pub puts_out : CoreRec → ThreadNumber → Identifier → Word → Option Resource → Effect
+puts_out core k name word (Some (resource.Chan c)) = at_chan core k name (room 4) (put_word word) takes_nothing c
+puts_out core k name word (Some (resource.Lock n)) = goes_on_in k name (without_lock core n (released k (lock_of core n)))
+puts_out core k name word _ = Trap ILLEGAL_RESOURCE name
 
 -- what register s names
 abbrev pub named_in : Setting → CoreRec → ThreadNumber → Register → Option Resource
@@ -149,9 +161,17 @@ named_in here core k s = resource_named here.id (reg core k s)
 abbrev pub resources_row : Setting → CoreRec → ThreadNumber → ResIns → Effect
 resources_row here core k (resources.Getr d i) = Done (resource_got here core k d i) []
 resources_row here core k (resources.Freer s) = freed here core k (reg core k s) (named_in here core k s)
-resources_row here core k (resources.Out s x) = puts_out core k (reg core k s) (named_in here core k s)
+resources_row here core k (resources.Out s x) = puts_out core k (reg core k s) (reg core k x) (named_in here core k s)
+resources_row here core k (resources.Outt s x) = puts here core k s (Byte (reg core k x % 256))
+resources_row here core k (resources.Outct s x) = puts here core k s (Ctrl (reg core k x % 256))
+resources_row here core k (resources.OutctImm s i) = puts here core k s (Ctrl i)
 resources_row here core k (resources.In d s) = takes_in core k d (reg core k s) (named_in here core k s)
+resources_row here core k (resources.Int d s) = finds here core k d s 1 take_byte
+resources_row here core k (resources.Inct d s) = finds here core k d s 1 take_ctrl
+resources_row here core k (resources.Chkct s x) = checks here core k s (reg core k x)
+resources_row here core k (resources.ChkctImm s i) = checks here core k s i
+resources_row here core k (resources.Testct d s) = finds here core k d s 1 look
+resources_row here core k (resources.Testwct d s) = finds here core k d s 4 look_word
 resources_row here core k (resources.Setd s x) = on_chan here core k s no_wait (take_dest (reg core k x)) takes_nothing
-resources_row here core k (resources.OutctImm s i) = on_chan here core k s (room 1) (put_token (Ctrl i)) takes_nothing
-resources_row here core k (resources.ChkctImm s i) = on_chan here core k s (tokens 1) (check_token i) takes_nothing
+resources_row here core k (resources.Getd d s) = on_chan here core k s no_wait tell_dest (takes_into d)
 resources_row here core k _ = Unbuilt

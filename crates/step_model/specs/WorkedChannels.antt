@@ -11,6 +11,7 @@ use Rattle.xs_model.specs.declared.event.Event.{Event}
 use Rattle.xs_model.specs.declared.event.Happen.TheVariants as happen
 use Rattle.xs_model.specs.declared.outside.Arrivals.{Arrivals}
 use Rattle.xs_model.specs.Record.{NodeRec, ChanRec, LinkRec, InputRec, Idle, Head1, Local, Out, first_node, unused_chan, thread_of, chan_of}
+use Rattle.xs_model.specs.Dests.{dest_of}
 use Rattle.xs_model.specs.Outside.{emitted_events, in_slot, low_pins}
 use Rattle.xs_instructions.specs.declared.instr.Instr.{Instr}
 use Rattle.xs_instructions.specs.declared.instr.Instr.TheVariants.{Words, Memory, Resources}
@@ -90,9 +91,9 @@ seven_in_r1 = start_as (with_three 0 7 0)
 pub record WorkedGetr : Type 0 where
   pub first_got : thread_of (after_from getr_twice seven_in_r1 0 1).core 0 ≡ record first { r = three_and_zeros own_id 7 0; pc = 0x00040004 }
   pub is_in_use : (after_from getr_twice seven_in_r1 0 1).core.chans ≡ got_chan ∷ replicate 31 unused_chan
-  -- none is left for the second: r1 becomes 0
-  pub second_got : thread_of (after_from getr_twice seven_in_r1 0 5).core 0 ≡ record first { r = three_and_zeros own_id 0 0; pc = 0x00040008 }
-  pub one_in_use : (after_from getr_twice seven_in_r1 0 5).core.chans ≡ got_chan ∷ replicate 31 unused_chan
+  -- the second is channel end 1
+  pub second_got : thread_of (after_from getr_twice seven_in_r1 0 5).core 0 ≡ record first { r = three_and_zeros own_id 0x00030102 0; pc = 0x00040008 }
+  pub two_in_use : (after_from getr_twice seven_in_r1 0 5).core.chans ≡ got_chan ∷ got_chan ∷ replicate 30 unused_chan
   -- 0 for a timer, and no channel end is got
   pub of_other_kind : thread_in_1 getr_timer (start_as (with_three 7 0 0)) ≡ record first { pc = 0x00040004 }
   pub none_got : (quiet_slot (getr_timer ∷ []) start 1).rec.core.chans ≡ replicate 32 unused_chan
@@ -130,7 +131,7 @@ own_word = with_three own_id 0 0
 
 -- the channel end sends a packet, whose header is out
 abbrev pub header_out : InputRec
-header_out = Out 0 3 far_id
+header_out = Out 0 3 (dest_of far_id)
 
 -- thread 0 at `outct`, where 8 bytes wait that may go out from slot 4 on
 abbrev pub full_node : NodeRec

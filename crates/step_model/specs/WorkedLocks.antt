@@ -69,7 +69,7 @@ in_0 = Resources (resources.In 1 0)
 abbrev pub out_0 : Instr
 out_0 = Resources (resources.Out 0 1)
 
--- names that neither row takes. On a channel end that is in use both are still to be built.
+-- names that neither row takes
 pub record RefusesNoLock (ins : Instr) : Type 0 where
   pub unused : Refuses ins 0x305
   pub number_4 : Refuses ins 0x405
@@ -78,7 +78,7 @@ pub record RefusesNoLock (ins : Instr) : Type 0 where
   pub nothing : Refuses ins 0
   pub port : Refuses ins 0x00010000
   pub timer : Refuses ins 0x101
-  pub chan_end : Refuses ins 0x002
+  pub unused_chan : Refuses ins 0x102
   pub sync : Refuses ins 0x103
   pub thread : Refuses ins 0x504
   pub clock : Refuses ins 0x106

@@ -105,9 +105,7 @@ impl Row {
     {
         match self {
             Row::Setsr | Row::Clrsr => false,
-            Row::Getr | Row::Freer | Row::Out | Row::OutctImm | Row::In | Row::ChkctImm => true,
-            Row::Setd => true,
-            _ => (self as usize) < Row::Getr as usize,
+            _ => self as usize <= Row::Getd as usize,
         }
     }
 }

@@ -1,0 +1,2 @@
+pub mod LinkSlot
+pub mod Travel
