@@ -50,6 +50,7 @@ text_of_sys_kind sys.SectionNotEnded = codes "S9 section not ended"
 text_of_sys_kind sys.TooLong = codes "S10 input too long"
 text_of_sys_kind sys.BitTwice = codes "S11 bit twice"
 text_of_sys_kind sys.NoSuchNode = codes "S12 no such node or link end"
+text_of_sys_kind sys.TooMany = codes "S13 too many nodes or links"
 
 abbrev pub text_of_asm_kind : AsmKind → List ℕ
 text_of_asm_kind asm.BadByte = codes "A1 bad byte"

@@ -60,11 +60,11 @@ pub record WorkedUnknownNames : Type 0 where
   pub after_a_reserved_label : assembled (codes "r0: foo") ≡ Fault 1 UnknownName
   pub malformed_number : assembled (codes "foo 12ab") ≡ Fault 1 UnknownName
   -- a row that is not built is as no row
-  pub not_built : assembled (codes "outt res[r0], r1") ≡ Fault 1 UnknownName
+  pub not_built : assembled (codes "inshr r1, res[r0]") ≡ Fault 1 UnknownName
   pub not_built_out_of_range : assembled (codes "setsr 65536") ≡ Fault 1 UnknownName
   pub not_built_misshapen : assembled (codes "outt res[r0]") ≡ Fault 1 WrongOperands
   -- of two rows with a name one may be built
-  pub not_built_beside_one : assembled (codes "outct res[r0], 1\noutct res[r0], r1") ≡ Fault 2 UnknownName
+  pub not_built_beside_one : assembled (codes "setd res[r0], r1\nsetc res[r0], r1") ≡ Fault 2 UnknownName
 
 -- shapes
 pub record WorkedShapes : Type 0 where

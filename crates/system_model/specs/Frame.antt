@@ -1,16 +1,17 @@
 -- The frame of a system text: all its lines but those of the sources. Each line is tested by what the lines before it
 -- have given, and the first line that has a fault refuses the text.
-use Rattle.std.specs.Prelude.{ℕ, ◌+◌, Bool, true, false, not, ◌&&◌, ◌||◌, ◌==◌, nat_lt, if◌then◌else◌, Option, Some, None, option_map, option_to_list, List, [], ◌∷◌, ◌++◌, length, map, find}
+use Rattle.std.specs.Prelude.{ℕ, ◌+◌, Bool, true, false, not, ◌&&◌, ◌||◌, ◌==◌, nat_le, nat_lt, if◌then◌else◌, Option, Some, None, option_map, option_to_list, List, [], ◌∷◌, ◌++◌, length, map, find}
 use Rattle.std.specs.List.{list_any, list_all}
 use Rattle.xs_text.specs.Bytes.{all_allowed}
 use Rattle.xs_text.specs.Words.{words_of_line}
 use Rattle.system_model.specs.declared.SysKind.{SysKind}
-use Rattle.system_model.specs.declared.SysKind.TheVariants.{FirstLine, BadLine, GivenTwice, IdTwice, LinkEndTwice, LinkToItself, NumberOutOfRange, NodeWithoutSource, SectionNotEnded, BitTwice, NoSuchNode}
-use Rattle.system_model.specs.declared.frame_line.BitLine.{BitLine}
+use Rattle.system_model.specs.declared.SysKind.TheVariants.{FirstLine, BadLine, GivenTwice, IdTwice, LinkEndTwice, LinkToItself, NumberOutOfRange, NodeWithoutSource, SectionNotEnded, BitTwice, NoSuchNode, TooMany}
+use Rattle.system_model.specs.declared.frame_line.EndName.{EndName}
 use Rattle.system_model.specs.declared.frame_line.FrameLine.{FrameLine}
 use Rattle.system_model.specs.declared.frame_line.FrameLine.TheVariants.{Node, Link, Bit, Source}
 use Rattle.system_model.specs.declared.frame_line.GivenNode.{GivenNode}
 use Rattle.system_model.specs.declared.frame_line.LinkLine.{LinkLine}
+use Rattle.system_model.specs.Bits.{BitRec}
 use Rattle.system_model.specs.FrameLines.{is_header, is_end, frame_line, are_numbers_in_range}
 
 -- a source: the number of its node, the line that begins it, and its own lines
@@ -25,7 +26,7 @@ pub record Given : Type 0 where
   pub begun : Bool
   pub nodes : List GivenNode
   pub links : List LinkLine
-  pub bits : List BitLine
+  pub bits : List BitRec
   pub sources : List SourceText
   pub reading : Option SourceText
 
@@ -73,9 +74,16 @@ says given l = says_by given.begun given.reading l
 abbrev pub has_node : List GivenNode → ℕ → Bool
 has_node nodes number = list_any (λ (node : GivenNode). node.number == number) nodes
 
--- whether link end 0 of a node is in a link
-abbrev pub has_link_end : List LinkLine → ℕ → Bool
-has_link_end links number = list_any (λ (link : LinkLine). (link.a == number) || (link.b == number)) links
+abbrev pub is_same_end : EndName → EndName → Bool
+is_same_end a b = (a.node == b.node) && (a.end == b.end)
+
+-- whether a link end is in a link
+abbrev pub has_link_end : List LinkLine → EndName → Bool
+has_link_end links name = list_any (λ (link : LinkLine). is_same_end link.a name || is_same_end link.b name) links
+
+-- whether all of these are, as link ends of a node
+abbrev pub has_link_ends : List LinkLine → ℕ → List ℕ → Bool
+has_link_ends links node ends = list_all (λ end. has_link_end links (record { node = node; end = end })) ends
 
 abbrev pub has_source : List SourceText → ℕ → Bool
 has_source sources number = list_any (λ (source : SourceText). source.number == number) sources
@@ -90,17 +98,9 @@ abbrev pub is_of_the_frame : FrameSays → Bool
 is_of_the_frame Own = false
 is_of_the_frame _ = true
 
--- there are at most two nodes and one link so far
-abbrev pub is_line_built : Given → FrameLine → Bool
-is_line_built given (Node node) = nat_lt (length given.nodes) 2
-is_line_built given (Link link) = nat_lt (length given.links) 1
-is_line_built given _ = true
-
--- it has no form that is built
-abbrev pub has_no_form : Given → FrameSays → Bool
-has_no_form given NoForm = true
-has_no_form given (Form form) = not (is_line_built given form)
-has_no_form given _ = false
+abbrev pub has_no_form : FrameSays → Bool
+has_no_form NoForm = true
+has_no_form _ = false
 
 abbrev pub has_frame_number_out_of_range : FrameSays → Bool
 has_frame_number_out_of_range (Form form) = not (are_numbers_in_range form)
@@ -108,8 +108,8 @@ has_frame_number_out_of_range _ = false
 
 -- it names a node that is not given, or a link end that no link has given
 abbrev pub names_none : Given → FrameSays → Bool
-names_none given (Form (Link link)) = not (has_node given.nodes link.a && has_node given.nodes link.b)
-names_none given (Form (Bit bit)) = not (has_node given.nodes bit.node && has_link_end given.links bit.node)
+names_none given (Form (Link link)) = not (has_node given.nodes link.a.node && has_node given.nodes link.b.node)
+names_none given (Form (Bit bit)) = not (has_node given.nodes bit.node && has_link_ends given.links bit.node bit.ends)
 names_none given (Form (Source n)) = not (has_node given.nodes n)
 names_none given _ = false
 
@@ -124,25 +124,44 @@ is_id_twice given (Form (Node node)) = list_any (λ (other : GivenNode). other.i
 is_id_twice given _ = false
 
 abbrev pub is_link_to_itself : FrameSays → Bool
-is_link_to_itself (Form (Link link)) = link.a == link.b
+is_link_to_itself (Form (Link link)) = link.a.node == link.b.node
 is_link_to_itself _ = false
 
--- it gives a link end twice, or one that a link has
+-- whether a number stands twice
+abbrev pub stands_twice : List ℕ → Bool
+stands_twice [] = false
+stands_twice (n ∷ ns) = list_any (λ m. m == n) ns || stands_twice ns
+
+-- it gives a link end twice, or as a link one that a link has
 abbrev pub is_link_end_twice : Given → FrameSays → Bool
 is_link_end_twice given (Form (Link link)) =
-    (link.a == link.b) || (has_link_end given.links link.a || has_link_end given.links link.b)
+    is_same_end link.a link.b || (has_link_end given.links link.a || has_link_end given.links link.b)
+is_link_end_twice given (Form (Bit bit)) = stands_twice bit.ends
 is_link_end_twice given _ = false
 
 abbrev pub is_bit_twice : Given → FrameSays → Bool
 is_bit_twice given (Form (Bit bit)) =
-    list_any (λ (other : BitLine). (other.node == bit.node) && (other.bit == bit.bit)) given.bits
+    list_any (λ (other : BitRec). (other.node == bit.node) && (other.bit == bit.bit)) given.bits
 is_bit_twice given _ = false
+
+-- a system has at most so many nodes and so many links
+abbrev pub most_nodes : ℕ
+most_nodes = 16
+
+abbrev pub most_links : ℕ
+most_links = 48
+
+-- it gives a node or a link more than that
+abbrev pub is_too_many : Given → FrameSays → Bool
+is_too_many given (Form (Node node)) = nat_le most_nodes (length given.nodes)
+is_too_many given (Form (Link link)) = nat_le most_links (length given.links)
+is_too_many given _ = false
 
 -- the test of each kind, by what is given, whether a line's bytes are allowed, and what it says; the other kinds are of no
 -- line by itself
 abbrev pub has_frame_kind : SysKind → Given → Bool → FrameSays → Bool
 has_frame_kind FirstLine given allowed said = is_other_first_line said
-has_frame_kind BadLine given allowed said = (is_of_the_frame said && not allowed) || has_no_form given said
+has_frame_kind BadLine given allowed said = (is_of_the_frame said && not allowed) || has_no_form said
 has_frame_kind NumberOutOfRange given allowed said = has_frame_number_out_of_range said
 has_frame_kind NoSuchNode given allowed said = names_none given said
 has_frame_kind GivenTwice given allowed said = is_given_twice given said
@@ -150,12 +169,13 @@ has_frame_kind IdTwice given allowed said = is_id_twice given said
 has_frame_kind LinkToItself given allowed said = is_link_to_itself said
 has_frame_kind LinkEndTwice given allowed said = is_link_end_twice given said
 has_frame_kind BitTwice given allowed said = is_bit_twice given said
+has_frame_kind TooMany given allowed said = is_too_many given said
 has_frame_kind _ given allowed said = false
 
 -- the order that decides within a line
 abbrev pub frame_order : List SysKind
 frame_order =
-    FirstLine ∷ BadLine ∷ NumberOutOfRange ∷ NoSuchNode ∷ GivenTwice ∷ IdTwice ∷ LinkToItself ∷ LinkEndTwice ∷ BitTwice ∷ []
+    FirstLine ∷ BadLine ∷ NumberOutOfRange ∷ NoSuchNode ∷ GivenTwice ∷ IdTwice ∷ LinkToItself ∷ LinkEndTwice ∷ BitTwice ∷ TooMany ∷ []
 
 -- the tests of a line in that order
 abbrev pub tests : Given → Bool → FrameSays → List (SysKind × Bool)

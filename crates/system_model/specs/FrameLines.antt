@@ -1,15 +1,16 @@
--- The forms of the lines of a frame, by their words. Numbers are taken however great they are. What is not built has
--- no form.
-use Rattle.std.specs.Prelude.{ℕ, ◌+◌, Bool, true, false, not, ◌&&◌, ◌==◌, nat_le, if◌then◌else◌, Option, Some, None, option_map, option_and_then, List, [], ◌∷◌, take, drop, codes}
-use Rattle.std.specs.List.{prefix_len}
-use Rattle.xs_text.specs.Numbers.{number_of, at_most}
+-- The forms of the lines of a frame, by their words. Numbers are taken however great they are. The sections `pins` and `play`
+-- are not built yet, and their lines have no form.
+use Rattle.std.specs.Prelude.{ℕ, ◌+◌, Bool, true, false, not, ◌&&◌, ◌==◌, nat_le, if◌then◌else◌, Option, Some, None, option_map, option_and_then, List, [], ◌∷◌, length, take, drop, codes}
+use Rattle.std.specs.List.{prefix_len, list_all}
+use Rattle.xs_text.specs.Numbers.{number_of}
 use Rattle.xs_text.specs.Words.{words_of_line}
 use Rattle.xs_instructions.specs.Image.{same_name}
-use Rattle.system_model.specs.declared.frame_line.BitLine.{BitLine}
+use Rattle.system_model.specs.declared.frame_line.EndName.{EndName}
 use Rattle.system_model.specs.declared.frame_line.FrameLine.{FrameLine}
 use Rattle.system_model.specs.declared.frame_line.FrameLine.TheVariants.{Node, Link, Bit, Source}
 use Rattle.system_model.specs.declared.frame_line.LinkLine.{LinkLine}
 use Rattle.system_model.specs.declared.frame_line.NodeLine.{NodeLine}
+use Rattle.system_model.specs.Bits.{BitRec}
 
 infixl 10 ◌>>=◌
 abbrev pub ◌>>=◌ : {A B : Type 0} → Option A → (A → Option B) → Option B
@@ -42,25 +43,32 @@ node_line _ = None
 abbrev pub before_colon : List ℕ → ℕ
 before_colon word = prefix_len (λ b. not (b == 58)) word
 
--- `N:E`, E the number 0: the node N
-unfoldable pub node_of_end : List ℕ → Option ℕ
-node_of_end word =
-    number_of (take (before_colon word) word) >>= λ number. at_most 0 (number_of (drop (before_colon word + 1) word)) >>= λ end. Some number
+-- `N:E`: link end E of the node N
+unfoldable pub end_name : List ℕ → Option EndName
+end_name word =
+    number_of (take (before_colon word) word) >>= λ node. number_of (drop (before_colon word + 1) word) >>= λ end.
+    Some (record { node = node; end = end })
 
--- `link N:0 M:0 delay D gap G`
+-- `link N:E M:F delay D gap G`
 unfoldable pub link_line : List (List ℕ) → Option LinkLine
 link_line (k ∷ x ∷ y ∷ v ∷ d ∷ w ∷ g ∷ []) =
     if same_name (codes "link") k && (same_name (codes "delay") v && same_name (codes "gap") w)
-    then (node_of_end x >>= λ a. node_of_end y >>= λ b. number_of d >>= λ delay. number_of g >>= λ gap.
+    then (end_name x >>= λ a. end_name y >>= λ b. number_of d >>= λ delay. number_of g >>= λ gap.
     Some (record { a = a; b = b; delay = delay; gap = gap }))
     else None
 link_line _ = None
 
--- `bit N B 0`
-unfoldable pub bit_line : List (List ℕ) → Option BitLine
-bit_line (k ∷ n ∷ b ∷ e ∷ []) =
-    if same_name (codes "bit") k
-    then (number_of n >>= λ node. number_of b >>= λ bit. at_most 0 (number_of e) >>= λ end. Some (record { node = node; bit = bit }))
+-- words that are all numbers
+unfoldable pub numbers_of : List (List ℕ) → Option (List ℕ)
+numbers_of [] = Some []
+numbers_of (w ∷ ws) = number_of w >>= λ n. numbers_of ws >>= λ ns. Some (n ∷ ns)
+
+-- `bit N B E`, with up to seven more link ends
+unfoldable pub bit_line : List (List ℕ) → Option BitRec
+bit_line (k ∷ n ∷ b ∷ e ∷ more) =
+    if same_name (codes "bit") k && nat_le (length more) 7
+    then (number_of n >>= λ node. number_of b >>= λ bit. numbers_of (e ∷ more) >>= λ ends.
+    Some (record { node = node; bit = bit; ends = ends }))
     else None
 bit_line _ = None
 
@@ -82,14 +90,20 @@ frame_line words =
 abbrev pub is_between : ℕ → ℕ → ℕ → Bool
 is_between least most n = nat_le least n && nat_le n most
 
--- the number of a node is at most 99
+-- the number of a node is at most 99, and that of a link end at most 7
 abbrev pub is_node_number : ℕ → Bool
 is_node_number n = nat_le n 99
+
+abbrev pub is_end_number : ℕ → Bool
+is_end_number n = nat_le n 7
+
+abbrev pub is_end_in_range : EndName → Bool
+is_end_in_range name = is_node_number name.node && is_end_number name.end
 
 -- whether each number of a line is within its range
 abbrev pub are_numbers_in_range : FrameLine → Bool
 are_numbers_in_range (Node node) = is_node_number node.number && nat_le node.id 65535
 are_numbers_in_range (Link link) =
-    is_node_number link.a && (is_node_number link.b && (is_between 1 1000 link.delay && is_between 4 1000 link.gap))
-are_numbers_in_range (Bit bit) = is_node_number bit.node && nat_le bit.bit 15
+    is_end_in_range link.a && (is_end_in_range link.b && (is_between 1 1000 link.delay && is_between 4 1000 link.gap))
+are_numbers_in_range (Bit bit) = is_node_number bit.node && (nat_le bit.bit 15 && list_all is_end_number bit.ends)
 are_numbers_in_range (Source n) = is_node_number n

@@ -1,3 +1,4 @@
+pub mod Bits
 pub mod FrameLines
 pub mod Frame
 pub mod FirstFault

@@ -1,6 +1,7 @@
--- What a system text stands for. So far a system has at most two nodes and one link.
-use Rattle.std.specs.Prelude.{ℕ, ◌&&◌, ◌==◌, nat_lt, if◌then◌else◌, Result, Ok, Err, List, [], ◌∷◌, map, filter, length}
+-- What a system text stands for.
+use Rattle.std.specs.Prelude.{ℕ, zero, suc, ◌+◌, ◌^◌, Bool, ◌&&◌, ◌==◌, nat_lt, if◌then◌else◌, Result, Ok, Err, List, [], ◌∷◌, map, filter, length}
 use Rattle.std.specs.List.{list_any}
+use Rattle.xs_base.specs.declared.numbers.TheConstants.{LINK_ENDS}
 use Rattle.xs_text.specs.Lines.{lines_of}
 use Rattle.source_model.specs.Source.{Assembled, Image, Fault, assembled_lines}
 use Rattle.source_model.specs.declared.AsmKind.{AsmKind}
@@ -9,9 +10,9 @@ use Rattle.sys_plan.specs.declared.LinkPlan.{LinkPlan}
 use Rattle.sys_plan.specs.declared.NodePlan.{NodePlan}
 use Rattle.system_model.specs.declared.SysKind.{SysKind}
 use Rattle.system_model.specs.declared.SysKind.TheVariants.{TooLong}
-use Rattle.system_model.specs.declared.frame_line.BitLine.{BitLine}
 use Rattle.system_model.specs.declared.frame_line.GivenNode.{GivenNode}
 use Rattle.system_model.specs.declared.frame_line.LinkLine.{LinkLine}
+use Rattle.system_model.specs.Bits.{BitRec}
 use Rattle.system_model.specs.Frame.{SourceText, Given, Framed, Whole, Refused, framed}
 
 -- what a system text stands for
@@ -22,14 +23,24 @@ pub data System : Type 0 where
   -- the source of a node is refused: the node's number, the line of its source, counted from 1, and why
   Source : (node line : ℕ) (kind : AsmKind) → System
 
--- the link ends by which a node sends what differs from its id at a bit first, as a mask: 1 is link end 0 alone, 0 none
-abbrev pub way : List BitLine → ℕ → ℕ → ℕ
-way bits number bit = if list_any (λ (b : BitLine). (b.node == number) && (b.bit == bit)) bits then 1 else 0
+-- the link ends by which a node sends what differs from its id at a bit first: those of the line of the bit
+abbrev pub ends_for : List BitRec → ℕ → ℕ → List ℕ
+ends_for [] number bit = []
+ends_for (b ∷ bits) number bit = if (b.node == number) && (b.bit == bit) then b.ends else ends_for bits number bit
+
+-- the numbers below count that pass a test, as a mask: number k is bit k
+unfoldable pub mask_where : (ℕ → Bool) → ℕ → ℕ
+mask_where test zero = 0
+mask_where test (suc k) = (if test k then 2 ^ k else 0) + mask_where test k
+
+-- those link ends as a mask: 1 is link end 0 alone, 0 none
+abbrev pub way : List BitRec → ℕ → ℕ → ℕ
+way bits number bit = mask_where (λ end. list_any (λ e. e == end) (ends_for bits number bit)) LINK_ENDS
 
 abbrev pub id_bits : List ℕ
 id_bits = 0 ∷ 1 ∷ 2 ∷ 3 ∷ 4 ∷ 5 ∷ 6 ∷ 7 ∷ 8 ∷ 9 ∷ 10 ∷ 11 ∷ 12 ∷ 13 ∷ 14 ∷ 15 ∷ []
 
-abbrev pub ways_of : List BitLine → ℕ → List ℕ
+abbrev pub ways_of : List BitRec → ℕ → List ℕ
 ways_of bits number = map (way bits number) id_bits
 
 -- the lines of a node's source
@@ -44,7 +55,7 @@ pub record SourceFault : Type 0 where
   pub kind : AsmKind
 
 -- a node's plan by what its source stands for, or the refusal of its source
-abbrev pub planned : List BitLine → GivenNode → Assembled → Result NodePlan SourceFault
+abbrev pub planned : List BitRec → GivenNode → Assembled → Result NodePlan SourceFault
 planned bits node (Image image) = Ok (record { number = node.number; id = node.id; image = image; ways = ways_of bits node.number })
 planned bits node (Fault line kind) = Err (record { node = node.number; line = line; kind = kind })
 
@@ -55,7 +66,7 @@ plan_before (Ok plan) (Err fault) = Err fault
 plan_before (Ok plan) (Ok plans) = Ok (plan ∷ plans)
 
 -- the plans of nodes, or the refusal of the first source that is refused
-unfoldable pub node_plans : List BitLine → List SourceText → List GivenNode → Result (List NodePlan) SourceFault
+unfoldable pub node_plans : List BitRec → List SourceText → List GivenNode → Result (List NodePlan) SourceFault
 node_plans bits sources [] = Ok []
 node_plans bits sources (node ∷ nodes) =
     plan_before (planned bits node (assembled_lines (source_of sources node.number))) (node_plans bits sources nodes)
@@ -65,8 +76,14 @@ abbrev pub position_by_number : List GivenNode → ℕ → ℕ
 position_by_number nodes number = length (filter (λ (node : GivenNode). nat_lt node.number number) nodes)
 
 abbrev pub link_plan : List GivenNode → LinkLine → LinkPlan
-link_plan nodes link =
-    record { a = position_by_number nodes link.a; a_end = 0; b = position_by_number nodes link.b; b_end = 0; delay = link.delay; gap = link.gap }
+link_plan nodes link = record {
+  a = position_by_number nodes link.a.node;
+  a_end = link.a.end;
+  b = position_by_number nodes link.b.node;
+  b_end = link.b.end;
+  delay = link.delay;
+  gap = link.gap;
+}
 
 abbrev pub plan_with : List LinkPlan → Result (List NodePlan) SourceFault → System
 plan_with links (Err fault) = Source fault.node fault.line fault.kind

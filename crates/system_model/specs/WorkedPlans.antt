@@ -4,7 +4,7 @@ use Rattle.xs_text.specs.Lines.{lines_of}
 use Rattle.xs_instructions.specs.Image.{ImageRec}
 use Rattle.sys_plan.specs.Plan.{PlanRec}
 use Rattle.system_model.specs.declared.SysKind.{SysKind}
-use Rattle.system_model.specs.declared.SysKind.TheVariants.{FirstLine, BadLine, GivenTwice, IdTwice, LinkToItself, NumberOutOfRange, NodeWithoutSource, SectionNotEnded, TooLong, BitTwice, NoSuchNode}
+use Rattle.system_model.specs.declared.SysKind.TheVariants.{FirstLine, BadLine, GivenTwice, IdTwice, LinkEndTwice, LinkToItself, NumberOutOfRange, NodeWithoutSource, SectionNotEnded, TooLong, BitTwice, NoSuchNode, TooMany}
 use Rattle.system_model.specs.Frame.{Framed, Whole, framed}
 use Rattle.system_model.specs.System.{Plan, Frame, plan_of, system_of}
 
@@ -87,33 +87,26 @@ bad_lines =
     ∷ (codes "xs1 1\nnode 0 id 0\nsource 0\nend\nend\n", 5, BadLine)
     ∷ []
 
--- lines of no form, by what the lines before them gave, and forms that are not built
+-- lines of no form
 abbrev pub bad_pair_lines : Refusals
 bad_pair_lines =
-    (two_nodes (codes "node 4 id 4\n"), 4, BadLine)
-    ∷ (two_nodes (codes "node 7 id 1\n"), 4, BadLine)
-    ∷ (two_nodes (codes "node 100 id 65536\n"), 4, BadLine)
-    ∷ (linked (codes "link 7:0 3:0 delay 5 gap 4\n"), 5, BadLine)
-    ∷ (linked (codes "link 100:0 3:0 delay 0 gap 0\n"), 5, BadLine)
-    ∷ (two_nodes (codes "link 7:1 3:0 delay 5 gap 4\n"), 4, BadLine)
-    ∷ (two_nodes (codes "link 7:0 3:8 delay 5 gap 4\n"), 4, BadLine)
-    ∷ (two_nodes (codes "link 100:8 3:0 delay 5 gap 4\n"), 4, BadLine)
-    ∷ (two_nodes (codes "link 7 :0 3:0 delay 5 gap 4\n"), 4, BadLine)
+    (two_nodes (codes "link 7 :0 3:0 delay 5 gap 4\n"), 4, BadLine)
     ∷ (two_nodes (codes "link 7: 3:0 delay 5 gap 4\n"), 4, BadLine)
     ∷ (two_nodes (codes "link :0 3:0 delay 5 gap 4\n"), 4, BadLine)
     ∷ (two_nodes (codes "link 7:0:0 3:0 delay 5 gap 4\n"), 4, BadLine)
+    ∷ (two_nodes (codes "link 7:x 3:0 delay 5 gap 4\n"), 4, BadLine)
     ∷ (two_nodes (codes "link 7 3 delay 5 gap 4\n"), 4, BadLine)
     ∷ (two_nodes (codes "link 7:0 3:0 gap 4 delay 5\n"), 4, BadLine)
     ∷ (two_nodes (codes "link 7:0 3:0 delay 5\n"), 4, BadLine)
     ∷ (two_nodes (codes "link 7:0 3:0 delay 5 gap 4 net 0\n"), 4, BadLine)
-    ∷ (two_nodes (codes "link 100:0 3:0 delay 0 gap x\n"), 4, BadLine)
+    ∷ (two_nodes (codes "link 100:8 3:0 delay 0 gap x\n"), 4, BadLine)
     ∷ (linked (codes "bit 7 0\n"), 5, BadLine)
-    ∷ (linked (codes "bit 7 0 1\n"), 5, BadLine)
-    ∷ (linked (codes "bit 7 0 8\n"), 5, BadLine)
-    ∷ (linked (codes "bit 7 0 0 0\n"), 5, BadLine)
-    ∷ (linked (codes "bit 7 0 0 0 0 0 0 0 0 0 0 0\n"), 5, BadLine)
+    ∷ (linked (codes "bit 7 0 x\n"), 5, BadLine)
+    ∷ (linked (codes "bit 7 0 0 0x\n"), 5, BadLine)
     ∷ (linked (codes "bit 7 x 0\n"), 5, BadLine)
-    ∷ (linked (codes "bit 100 16 1\n"), 5, BadLine)
+    -- nine link ends, which are out of range too
+    ∷ (linked (codes "bit 7 0 0 1 2 3 4 5 6 7 0\n"), 5, BadLine)
+    ∷ (linked (codes "bit 7 0 8 8 8 8 8 8 8 8 8\n"), 5, BadLine)
     ∷ []
 
 -- numbers out of range
@@ -131,11 +124,17 @@ wide_numbers =
     ∷ (two_nodes (codes "link 7:0 3:0 delay 1001 gap 4\n"), 4, NumberOutOfRange)
     ∷ (two_nodes (codes "link 7:0 3:0 delay 5 gap 3\n"), 4, NumberOutOfRange)
     ∷ (two_nodes (codes "link 7:0 3:0 delay 5 gap 1001\n"), 4, NumberOutOfRange)
+    ∷ (two_nodes (codes "link 7:8 3:0 delay 5 gap 4\n"), 4, NumberOutOfRange)
+    ∷ (two_nodes (codes "link 7:0 3:8 delay 5 gap 4\n"), 4, NumberOutOfRange)
     ∷ (linked (codes "bit 100 0 0\n"), 5, NumberOutOfRange)
     ∷ (linked (codes "bit 7 16 0\n"), 5, NumberOutOfRange)
+    ∷ (linked (codes "bit 7 0 8\n"), 5, NumberOutOfRange)
+    ∷ (linked (codes "bit 7 0 0 1 2 3 4 5 6 8\n"), 5, NumberOutOfRange)
     -- they come before a node that is not given, a number given twice, and a link to itself
     ∷ (two_nodes (codes "link 4:0 3:0 delay 0 gap 4\n"), 4, NumberOutOfRange)
     ∷ (two_nodes (codes "link 7:0 7:0 delay 5 gap 0\n"), 4, NumberOutOfRange)
+    ∷ (linked (codes "link 7:0 3:8 delay 5 gap 4\n"), 5, NumberOutOfRange)
+    ∷ (linked (codes "bit 4 0 8 8\n"), 5, NumberOutOfRange)
     ∷ (codes "xs1 1\nnode 7 id 1\nnode 7 id 65536\n", 3, NumberOutOfRange)
     ∷ []
 
@@ -149,6 +148,12 @@ missing =
     ∷ (codes "xs1 1\nnode 7 id 1\nlink 7:0 3:0 delay 5 gap 4\nnode 3 id 0\n", 3, NoSuchNode)
     ∷ (two_nodes (codes "bit 7 0 0\nlink 7:0 3:0 delay 5 gap 4\n"), 4, NoSuchNode)
     ∷ (linked (codes "bit 4 0 0\n"), 5, NoSuchNode)
+    -- a link end that no link has, alone and beside one that a link has; before one that is given twice
+    ∷ (linked (codes "bit 7 0 1\n"), 5, NoSuchNode)
+    ∷ (linked (codes "bit 7 0 0 1\n"), 5, NoSuchNode)
+    ∷ (linked (codes "bit 7 0 1 1\n"), 5, NoSuchNode)
+    ∷ (linked (codes "bit 7 0 0\nbit 7 0 0 1\n"), 6, NoSuchNode)
+    ∷ (linked (codes "link 4:0 3:0 delay 5 gap 4\n"), 5, NoSuchNode)
     ∷ (codes "xs1 1\nsource 0\nend\nnode 0 id 0\n", 2, NoSuchNode)
     ∷ (two_nodes (codes "source 99\nend\n"), 4, NoSuchNode)
     ∷ []
@@ -162,7 +167,33 @@ twice =
     ∷ (codes "xs1 1\nnode 7 id 1\nnode 3 id 0x1\n", 3, IdTwice)
     ∷ (two_nodes (codes "link 7:0 7:0 delay 5 gap 4\n"), 4, LinkToItself)
     ∷ (codes "xs1 1\nnode 0 id 0\nlink 0:0 0:0 delay 5 gap 4\n", 3, LinkToItself)
+    ∷ (codes "xs1 1\nnode 0 id 0\nlink 0:0 0:1 delay 5 gap 4\n", 3, LinkToItself)
+    ∷ (linked (codes "link 7:0 7:1 delay 5 gap 4\n"), 5, LinkToItself)
+    -- a link end that a link has, as the first one and as the second one; and one that a bit's line gives twice
+    ∷ (linked (codes "link 7:0 3:1 delay 5 gap 4\n"), 5, LinkEndTwice)
+    ∷ (linked (codes "link 7:1 3:0 delay 5 gap 4\n"), 5, LinkEndTwice)
+    ∷ (linked (codes "link 3:0 7:1 delay 5 gap 4\n"), 5, LinkEndTwice)
+    ∷ (linked (codes "bit 7 0 0 0\n"), 5, LinkEndTwice)
+    ∷ (linked (codes "bit 7 0 0 0 0 0 0 0 0 0\n"), 5, LinkEndTwice)
+    ∷ (linked (codes "bit 7 0 0\nbit 7 0 0 0\n"), 6, LinkEndTwice)
     ∷ (linked (codes "bit 7 0 0\nbit 3 0 0\nbit 0x7 0x0 0\n"), 7, BitTwice)
+    ∷ []
+
+-- sixteen nodes
+abbrev pub sixteen : List ℕ
+sixteen =
+    codes "xs1 1\nnode 0 id 0\nnode 1 id 1\nnode 2 id 2\nnode 3 id 3\nnode 4 id 4\nnode 5 id 5\nnode 6 id 6\nnode 7 id 7\n"
+    ++ codes "node 8 id 8\nnode 9 id 9\nnode 10 id 10\nnode 11 id 11\nnode 12 id 12\nnode 13 id 13\nnode 14 id 14\nnode 15 id 15\n"
+
+-- the 17th node: that it is one too many is tested last
+abbrev pub many : Refusals
+many =
+    (sixteen ++ codes "node 16 id 16\n", 18, TooMany)
+    ∷ (sixteen ++ codes "node 3 id 16\n", 18, GivenTwice)
+    ∷ (sixteen ++ codes "node 16 id 3\n", 18, IdTwice)
+    ∷ (sixteen ++ codes "node 100 id 3\n", 18, NumberOutOfRange)
+    -- the 16th is none too many
+    ∷ (sixteen, 2, NodeWithoutSource)
     ∷ []
 
 -- the end of the text
@@ -188,6 +219,7 @@ pub record WorkedRefusals : Type 0 where
   pub wide : AreRefused wide_numbers
   pub none : AreRefused missing
   pub again : AreRefused twice
+  pub too_many : AreRefused many
   pub at_the_end : AreRefused ends
 
 -- Systems
@@ -199,14 +231,21 @@ frame text = framed (lines_of text)
 abbrev pub mixed : List ℕ
 mixed =
     codes "# a pair\r\n\n  xs1\t1 // edition\nnode 007 id 0x1\nsource 0x7//x\nend:\n pins\nxs1 1\nend # of it\nnode 3 id 00\n"
-    ++ codes "link 0x3:0x0 07:00 delay 0x3e8 gap 1000\nbit 7 0xf 0x0#\nsource 3\nend\nbit 7 0 0\nbit 3 15 0"
+    ++ codes "link 0x3:0x0 07:00 delay 0x3e8 gap 1000\nbit 7 0xf 0x0#\nsource 3\nend\nlink 7:7 3:1 delay 1 gap 4\nbit 7 0 7 0x0\nbit 3 15 0"
 
 abbrev pub mixed_frame : Framed
 mixed_frame = Whole (record {
   begun = true;
   nodes = record { line = 10; number = 3; id = 0 } ∷ record { line = 4; number = 7; id = 1 } ∷ [];
-  links = record { a = 3; b = 7; delay = 1000; gap = 1000 } ∷ [];
-  bits = record { node = 7; bit = 15 } ∷ record { node = 7; bit = 0 } ∷ record { node = 3; bit = 15 } ∷ [];
+  links =
+      record { a = record { node = 3; end = 0 }; b = record { node = 7; end = 0 }; delay = 1000; gap = 1000 }
+      ∷ record { a = record { node = 7; end = 7 }; b = record { node = 3; end = 1 }; delay = 1; gap = 4 }
+      ∷ [];
+  bits =
+      record { node = 7; bit = 15; ends = 0 ∷ [] }
+      ∷ record { node = 7; bit = 0; ends = 7 ∷ 0 ∷ [] }
+      ∷ record { node = 3; bit = 15; ends = 0 ∷ [] }
+      ∷ [];
   sources =
       record { number = 7; line = 5; lines = codes "end:" ∷ codes " pins" ∷ codes "xs1 1" ∷ [] }
       ∷ record { number = 3; line = 13; lines = [] }
@@ -232,6 +271,26 @@ plan_of_3_and_7 = record {
   links = record { a = 1; a_end = 0; b = 0; b_end = 0; delay = 5; gap = 4 } ∷ [];
 }
 
+-- a line of three nodes whose numbers do not rise with their place in it; node 5 has two ways for bit 1
+abbrev pub line_of_three : List ℕ
+line_of_three =
+    codes "xs1 1\nnode 9 id 0\nnode 2 id 3\nnode 5 id 1\nlink 5:1 2:6 delay 7 gap 4\nlink 9:0 5:3 delay 5 gap 9\nlink 5:4 2:0 delay 6 gap 5\n"
+    ++ codes "bit 5 1 4 1\nbit 9 1 0\nbit 5 0 3\nsource 2\nend\nsource 5\nend\nsource 9\nend\n"
+
+abbrev pub plan_of_three : PlanRec
+plan_of_three = record {
+  nodes =
+      record { number = 2; id = 3; image = empty_image; ways = replicate 16 0 }
+      ∷ record { number = 5; id = 1; image = empty_image; ways = 8 ∷ 18 ∷ replicate 14 0 }
+      ∷ record { number = 9; id = 0; image = empty_image; ways = 0 ∷ 1 ∷ replicate 14 0 }
+      ∷ [];
+  links =
+      record { a = 1; a_end = 1; b = 0; b_end = 6; delay = 7; gap = 4 }
+      ∷ record { a = 2; a_end = 0; b = 1; b_end = 3; delay = 5; gap = 9 }
+      ∷ record { a = 1; a_end = 4; b = 0; b_end = 0; delay = 6; gap = 5 }
+      ∷ [];
+}
+
 -- two nodes that no link joins, at the edges of their numbers
 abbrev pub plan_of_0_and_99 : PlanRec
 plan_of_0_and_99 = record {
@@ -246,6 +305,7 @@ pub record WorkedPlans : Type 0 where
   pub any_order : frame mixed ≡ mixed_frame
   -- nodes by number, and the link and the bits by their places
   pub plan : system_of linked_7_and_3 ≡ Plan plan_of_3_and_7
+  pub three : system_of line_of_three ≡ Plan plan_of_three
   pub edges : system_of (codes "xs1 1\nnode 99 id 0\nnode 0 id 65535\nsource 99\nend\nsource 0\nend\n") ≡ Plan plan_of_0_and_99
   pub no_node : system_of (codes "xs1 1") ≡ Plan (record { nodes = []; links = [] })
 

@@ -1,3 +1,6 @@
+use arrayvec::ArrayVec;
+use std::marker::Model;
+
 /// A node's line: the node's number, 0 to 99, and its id.
 #[derive(Clone, Copy)]
 pub struct NodeLine {
@@ -5,32 +8,47 @@ pub struct NodeLine {
     pub id: u16,
 }
 
-/// A link's line: the numbers of the two nodes that it joins, each by its link end 0, and its delay (1 to 1,000) and
-/// gap (4 to 1,000) in slots.
+/// A link end by its name `N:E`: link end E, 0 to 7, of the node with the number N.
+#[derive(Clone, Copy)]
+pub struct EndName {
+    pub node: u8,
+    pub end: u8,
+}
+
+/// A link's line: the two link ends that it joins, and its delay (1 to 1,000) and gap (4 to 1,000) in slots.
 #[derive(Clone, Copy)]
 pub struct LinkLine {
-    pub a: u8,
-    pub b: u8,
+    pub a: EndName,
+    pub b: EndName,
     pub delay: u32,
     pub gap: u32,
 }
 
-/// A bit's line: the node with this number sends what differs from its id at this bit first, 0 to 15, by its link
-/// end 0.
-#[derive(Clone, Copy)]
+/// A bit's line: the node with this number sends what differs from its id at this bit first, 0 to 15, by one of these link
+/// ends, one to eight of them, each 0 to 7. Contracts see it as a `BitRec` of `Rattle.system_model.specs.Bits`.
+#[derive(Drop)]
 pub struct BitLine {
     pub node: u8,
     pub bit: u8,
+    pub ends: ArrayVec<u8, 8>,
+}
+
+impl Model for BitLine {
+    ghost use Rattle.system_model.specs.Bits.{BitRec};
+
+    ghost Value = { BitRec };
+
+    ghost view = { λ line. record { node = line.node; bit = line.bit; ends = line.ends.items } };
 }
 
 /// A line of the frame of a system text, but for the first. See docs/SYSTEM_TEXT.md.
-#[derive(Clone, Copy)]
+#[derive(Drop)]
 pub enum FrameLine {
     /// `node N id ID`.
     Node(NodeLine),
-    /// `link N:0 M:0 delay D gap G`.
+    /// `link N:E M:F delay D gap G`.
     Link(LinkLine),
-    /// `bit N B 0`.
+    /// `bit N B E`, with up to seven more link ends.
     Bit(BitLine),
     /// `source N`: it begins the source of the node with this number.
     Source(u8),

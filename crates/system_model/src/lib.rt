@@ -8,7 +8,7 @@ mod first_fault;
 mod frame_line;
 
 pub use first_fault::least_faulty_line_decides;
-pub use frame_line::{BitLine, FrameLine, GivenNode, LinkLine, NodeLine};
+pub use frame_line::{BitLine, EndName, FrameLine, GivenNode, LinkLine, NodeLine};
 
 /// Why the frame of a system text is refused. See docs/SYSTEM_TEXT.md.
 #[derive(Clone, Copy, PartialEq, Eq, Debug)]
@@ -37,6 +37,8 @@ pub enum SysKind {
     BitTwice,
     /// S12: a node or a link end that no earlier line gave.
     NoSuchNode,
+    /// S13: the 17th node, or the 49th link.
+    TooMany,
 }
 
 /// The definitions give what was worked out by hand: the refusals of frames, the plans of those that are accepted, and how

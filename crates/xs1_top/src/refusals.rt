@@ -60,6 +60,7 @@ fn text_of_sys_kind(kind: SysKind) -> &'static [u8]
         SysKind::TooLong => b"S10 input too long",
         SysKind::BitTwice => b"S11 bit twice",
         SysKind::NoSuchNode => b"S12 no such node or link end",
+        SysKind::TooMany => b"S13 too many nodes or links",
     }
 }
 

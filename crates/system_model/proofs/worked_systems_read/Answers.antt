@@ -12,12 +12,13 @@ returns-clause-refusals c = record {
   wide = refl;
   none = refl;
   again = refl;
+  too_many = refl;
   at_the_end = refl;
 }
 
 pub returns-clause-systems : goal.returns-clause-systems
 unfolding computes
-returns-clause-systems c = record { any_order = refl; plan = refl; edges = refl; no_node = refl }
+returns-clause-systems c = record { any_order = refl; plan = refl; three = refl; edges = refl; no_node = refl }
 
 pub returns-clause-length : goal.returns-clause-length
 unfolding system_of
