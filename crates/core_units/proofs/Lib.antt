@@ -1,6 +1,5 @@
 pub mod Able
 pub mod Unbuilt
-pub mod FirstChan
 pub mod Settles
 pub mod Parts
 pub mod Members

@@ -7,3 +7,4 @@ pub mod Named
 pub mod Targets
 pub mod Freed
 pub mod Here
+pub mod Actions

@@ -1,77 +1,70 @@
 //! The rows on channel ends. See docs/LINKS.md.
-ghost use Rattle.std.specs.Prelude.{◌≡◌, ◌<◌, if◌then◌else◌, take, []};
-ghost use Rattle.xs_base.specs.declared.numbers.TheConstants.{THREADS};
+ghost use Rattle.std.specs.Prelude.{◌≡◌, ◌<◌, if◌then◌else◌, [], IfSome};
+ghost use Rattle.xs_base.specs.declared.numbers.TheConstants.{THREADS, CHAN_ENDS};
 ghost use Rattle.xs_model.specs.declared.traps.TheConstants.{RESOURCE_DEPENDENCY};
+ghost use Rattle.xs_model.specs.Record.{thread_of, with_thread};
 ghost use Rattle.xs_model.specs.Waits.{is_waited_at};
-ghost use Rattle.net_model.specs.Chans.{chan_named, free_chan, put_token, check_token, take_dest};
+ghost use Rattle.net_model.specs.Chans.{chan_named, free_chan};
 ghost use Rattle.chan_ends.specs.Ends.{with_got};
-ghost use Rattle.step_model.specs.Effect.{Pause, Trap};
-ghost use Rattle.step_model.specs.ResourceRows.{chans_built, on_named, room, tokens, no_wait, takes_nothing};
+ghost use Rattle.step_model.specs.Effect.{Pause, Trap, reg, after_it};
+ghost use Rattle.step_model.specs.ResourceRows.{at_chan, on_named};
 ghost use Rattle.core_units.specs.Units.{Ends};
 ghost use Rattle.core_units.specs.Found.{name_of_got};
+ghost use Rattle.core_units.specs.Actions.{does, waits, takes};
 
+use crate::actions::Action;
 use crate::named::chan_named;
 use crate::refused::illegal;
 use crate::units::Units;
-use chan_ends::{ChanEnds, Put, Take};
-use xs_base::{Token, chan_id};
+use chan_ends::{ChanEnds, Take};
+use xs_base::chan_id;
 use xs_model::traps::RESOURCE_DEPENDENCY;
 use xs_model::{Outcome, Wait};
 
 impl Units {
-    // The channel end that a word names takes a destination.
-    pub(crate) fn set_dest(&mut self, id: u16, k: u8, name: u32, dest: u32) -> Outcome
-        requires { k < THREADS }
-        ensures { Ends result self.old self.new (on_named self.old k name no_wait (take_dest dest) takes_nothing (chan_named id name)) }
+    /// A row on the channel end that register s names. The word that is found goes into a register, where one is to
+    /// have it.
+    pub(crate) fn on_chan(&mut self, id: u16, k: u8, s: u8, action: Action, into: Option<u8>) -> Outcome
+        requires thread { k < THREADS }
+        requires source { s < 12 }
+        requires target { IfSome into (λ d. d < 12) }
+        ensures { Ends result self.old self.new
+            (on_named self.old k (reg self.old k s) (waits action) (does action) (takes into) (chan_named id (reg self.old k s))) }
     {
-        let Some(c) = chan_named(id, name) else {
-            return illegal(name);
-        };
-        self.able = None;
-        match self.chans.set_dest(c, dest) {
-            Ok(()) => {
-                self.go_on(k);
-                Outcome::Done
-            }
-            Err(_) => illegal(name),
+        let name = self.reg(k, s);
+        match chan_named(id, name) {
+            Some(c) => self.at_chan(k, name, c, action, into),
+            None => illegal(name),
         }
     }
 
-    // A token is put into the channel end that a word names.
-    pub(crate) fn put(&mut self, id: u16, k: u8, name: u32, token: Token) -> Outcome
-        requires { k < THREADS }
-        ensures { Ends result self.old self.new (on_named self.old k name (room 1) (put_token token) takes_nothing (chan_named id name)) }
+    /// The same on channel end c, which the word `name` names.
+    pub(crate) fn at_chan(&mut self, k: u8, name: u32, c: u8, action: Action, into: Option<u8>) -> Outcome
+        requires thread { k < THREADS }
+        requires chan { c < CHAN_ENDS }
+        requires target { IfSome into (λ d. d < 12) }
+        ensures { Ends result self.old self.new (at_chan self.old k name (waits action) (does action) (takes into) c) }
     {
-        let Some(c) = chan_named(id, name) else {
-            return illegal(name);
-        };
         self.able = None;
-        match self.chans.put(c, token) {
-            Put::Done => {
-                self.go_on(k);
+        match action.at(&mut self.chans, c) {
+            Take::Got(word) => {
+                self.take(k, into, word);
                 Outcome::Done
             }
-            Put::Full => self.wait(name, Wait::Room { chan: c, count: 1 }),
-            Put::Bad => illegal(name),
-        }
-    }
-
-    // The control token of a value is taken from the channel end that a word names.
-    pub(crate) fn check(&mut self, id: u16, k: u8, name: u32, value: u32) -> Outcome
-        requires { k < THREADS }
-        ensures { Ends result self.old self.new (on_named self.old k name (tokens 1) (check_token value) takes_nothing (chan_named id name)) }
-    {
-        let Some(c) = chan_named(id, name) else {
-            return illegal(name);
-        };
-        self.able = None;
-        match self.chans.check(c, value) {
-            Take::Got(_) => {
-                self.go_on(k);
-                Outcome::Done
-            }
-            Take::Wait => self.wait(name, Wait::Tokens { chan: c, count: 1 }),
+            Take::Wait => self.wait(name, action.wait(c)),
             Take::Bad => illegal(name),
+        }
+    }
+
+    // The thread takes a word into a register, where one is to have it, and goes on.
+    fn take(&mut self, k: u8, into: Option<u8>, word: u32)
+        requires thread { k < THREADS }
+        requires target { IfSome into (λ d. d < 12) }
+        ensures { self.new ≡ with_thread self.old k (after_it (takes into word (thread_of self.old k))) }
+    {
+        match into {
+            None => self.go_on(k),
+            Some(d) => self.go_on_with(k, d, word),
         }
     }
 
@@ -90,14 +83,11 @@ impl Units {
     }
 }
 
-// Gets the one channel end that a program may get so far: its identifier, or 0 where it is in use.
+/// Gets the lowest channel end that is not in use: its identifier, or 0 where all are.
 pub(crate) fn got_chan(id: u16, chans: &mut ChanEnds) -> u32
-    ensures name { result ≡ name_of_got id (free_chan (take chans_built chans.old) 0) }
-    ensures got { chans.new ≡ with_got chans.old (free_chan (take chans_built chans.old) 0) }
+    ensures name { result ≡ name_of_got id (free_chan chans.old 0) }
+    ensures got { chans.new ≡ with_got chans.old (free_chan chans.old 0) }
 {
-    if chans.used(0) {
-        return 0;
-    }
     match chans.alloc() {
         Some(c) => chan_id(id, c),
         None => 0,

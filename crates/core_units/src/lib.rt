@@ -2,9 +2,11 @@
 //! issue in a slot. See docs/MACHINE.md and docs/INSTRUCTIONS.md.
 #![tactic(auto)]
 
+mod actions;
 mod chans;
 mod holders;
 mod issue;
+mod locks;
 mod named;
 mod program;
 mod refused;

@@ -10,7 +10,7 @@ use xs_base::numbers::{
     CHAN_END_KIND, CHAN_ENDS, LOCK_KIND, LOCKS, SYNCHRONISER_KIND, SYNCHRONISERS, THREAD_KIND,
     THREADS,
 };
-use xs_model::Resource;
+use xs_model::{Dest, Resource};
 
 /// What a word names on the node with this id, in use or not: `None` exactly where it names nothing that is built.
 pub(crate) fn resource_named(id: u16, name: u32) -> Option<Resource>
@@ -44,9 +44,9 @@ pub(crate) fn chan_named(id: u16, name: u32) -> Option<u8>
     ensures value { result ≡ chan_named id name }
     ensures within { IfSome result (λ c. c < CHAN_ENDS) }
 {
-    let number = (name / 256 % 256) as u8;
-    if name == chan_id(id, number) && number < CHAN_ENDS {
-        Some(number)
+    let chan = Dest::of_id(name).chan;
+    if name == chan_id(id, chan) && chan < CHAN_ENDS {
+        Some(chan)
     } else {
         None
     }

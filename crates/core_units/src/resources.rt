@@ -1,10 +1,10 @@
 //! The rows on resources. See docs/THREADS.md and docs/LINKS.md.
-ghost use Rattle.std.specs.Prelude.{ℕ, ◌≡◌, ◌<◌, IsTrue};
+ghost use Rattle.std.specs.Prelude.{ℕ, ◌≡◌, ◌<◌, ◌%◌, IsTrue};
 ghost use Rattle.xs_base.specs.declared.numbers.TheConstants.{THREADS};
 ghost use Rattle.xs_instructions.specs.Rows.{is_built};
 ghost use Rattle.xs_instructions.specs.Operands.{row_of_resources};
 ghost use Rattle.xs_instructions.specs.Instr.{ResourcesInRange};
-ghost use Rattle.step_model.specs.Effect.{Setting, goes_on_with};
+ghost use Rattle.step_model.specs.Effect.{Setting, reg, goes_on_with};
 ghost use Rattle.step_model.specs.Named.{resource_named};
 ghost use Rattle.step_model.specs.ResourceRows.{resources_row, resource_got, without, freed, takes_in, puts_out};
 ghost use Rattle.core_units.specs.Here.{IsHere, AreBusy};
@@ -13,16 +13,16 @@ ghost use Rattle.core_units.specs.Named.{IsWithin};
 ghost use Rattle.core_units.specs.Found.{name_of};
 ghost use Rattle.core_units.specs.Freed.{IsFreed};
 
+use crate::actions::Action;
 use crate::chans::got_chan;
 use crate::holders::Holders;
 use crate::named::resource_named;
 use crate::refused::illegal;
 use crate::units::Units;
-use sync_locks::Claim;
 use xs_base::numbers::{CHAN_END_KIND, LOCK_KIND, SYNCHRONISER_KIND, THREAD_KIND};
 use xs_base::{Token, res_id};
 use xs_instructions::ResIns;
-use xs_model::{Outcome, Resource, Wait};
+use xs_model::{Outcome, Resource};
 
 impl Units {
     // On the node with this id, in a slot.
@@ -45,30 +45,32 @@ impl Units {
                 self.go_on_with(k, d, name);
                 Outcome::Done
             }
-            ResIns::Freer(s) => {
-                let name = self.reg(k, s);
-                self.freer(id, k, holders, name)
+            ResIns::Freer(s) => self.freer(id, k, holders, s),
+            ResIns::Out(s, x) => self.put_out(id, k, s, x),
+            ResIns::Outt(s, x) => {
+                let t = Token::Byte(low_byte(self.reg(k, x)));
+                self.on_chan(id, k, s, Action::Put(t), None)
             }
+            ResIns::Outct(s, x) => {
+                let t = Token::Ctrl(low_byte(self.reg(k, x)));
+                self.on_chan(id, k, s, Action::Put(t), None)
+            }
+            ResIns::OutctImm(s, i) => self.on_chan(id, k, s, Action::Put(Token::Ctrl(i)), None),
+            ResIns::In(d, s) => self.take_in(id, k, d, s),
+            ResIns::Int(d, s) => self.on_chan(id, k, s, Action::TakeByte, Some(d)),
+            ResIns::Inct(d, s) => self.on_chan(id, k, s, Action::TakeCtrl, Some(d)),
+            ResIns::Chkct(s, x) => {
+                let value = self.reg(k, x);
+                self.on_chan(id, k, s, Action::Check(value), None)
+            }
+            ResIns::ChkctImm(s, i) => self.on_chan(id, k, s, Action::Check(u32::from(i)), None),
+            ResIns::Testct(d, s) => self.on_chan(id, k, s, Action::Look, Some(d)),
+            ResIns::Testwct(d, s) => self.on_chan(id, k, s, Action::LookWord, Some(d)),
             ResIns::Setd(s, x) => {
-                let (name, dest) = (self.reg(k, s), self.reg(k, x));
-                self.set_dest(id, k, name, dest)
+                let dest = self.reg(k, x);
+                self.on_chan(id, k, s, Action::SetDest(dest), None)
             }
-            ResIns::OutctImm(s, i) => {
-                let name = self.reg(k, s);
-                self.put(id, k, name, Token::Ctrl(i))
-            }
-            ResIns::ChkctImm(s, i) => {
-                let name = self.reg(k, s);
-                self.check(id, k, name, u32::from(i))
-            }
-            ResIns::In(d, s) => {
-                let name = self.reg(k, s);
-                self.take_in(id, k, d, name)
-            }
-            ResIns::Out(s, _) => {
-                let name = self.reg(k, s);
-                self.put_out(id, k, name)
-            }
+            ResIns::Getd(d, s) => self.on_chan(id, k, s, Action::TellDest, Some(d)),
             _ => unreachable!(),
         }
     }
@@ -88,11 +90,14 @@ impl Units {
         }
     }
 
-    // Frees the resource that a word names.
-    fn freer<H: Holders>(&mut self, id: u16, k: u8, holders: &H, name: u32) -> Outcome
-        requires { k < THREADS }
-        ensures { (here : Setting) → AreBusy (H.busy holders.now) here → Ends result self.old self.new (freed here self.old k name (resource_named id name)) }
+    // Frees the resource that register s names.
+    fn freer<H: Holders>(&mut self, id: u16, k: u8, holders: &H, s: u8) -> Outcome
+        requires thread { k < THREADS }
+        requires source { s < 12 }
+        ensures { (here : Setting) → AreBusy (H.busy holders.now) here →
+            Ends result self.old self.new (freed here self.old k (reg self.old k s) (resource_named id (reg self.old k s))) }
     {
+        let name = self.reg(k, s);
         let Some(resource) = resource_named(id, name) else {
             return illegal(name);
         };
@@ -118,41 +123,37 @@ impl Units {
         }
     }
 
-    // Thread k owns the lock that a word names, or waits until nobody does.
-    fn take_in(&mut self, id: u16, k: u8, d: u8, name: u32) -> Outcome
+    // A word from the channel end that register s names goes into register d, or thread k owns the lock that it names.
+    fn take_in(&mut self, id: u16, k: u8, d: u8, s: u8) -> Outcome
         requires thread { k < THREADS }
         requires target { d < 12 }
-        ensures { Ends result self.old self.new (takes_in self.old k d name (resource_named id name)) }
+        requires source { s < 12 }
+        ensures { Ends result self.old self.new (takes_in self.old k d (reg self.old k s) (resource_named id (reg self.old k s))) }
     {
-        let Some(Resource::Lock { lock }) = resource_named(id, name) else {
-            return illegal(name);
-        };
-        self.able = None;
-        match self.syncs.claim(lock, k) {
-            Claim::Got => {
-                self.go_on_with(k, d, name);
-                Outcome::Done
+        let name = self.reg(k, s);
+        match resource_named(id, name) {
+            Some(Resource::Chan { chan }) => {
+                self.at_chan(k, name, chan, Action::TakeWord, Some(d))
             }
-            Claim::Held => Outcome::Pause(Wait::Lock { lock }),
-            Claim::Bad => illegal(name),
+            Some(Resource::Lock { lock }) => self.claim(k, d, name, lock),
+            _ => illegal(name),
         }
     }
 
-    // Thread k gives up the lock that a word names.
-    fn put_out(&mut self, id: u16, k: u8, name: u32) -> Outcome
-        requires { k < THREADS }
-        ensures { Ends result self.old self.new (puts_out self.old k name (resource_named id name)) }
+    // The word of register x goes to the channel end that register s names, or thread k gives up the lock that it names.
+    fn put_out(&mut self, id: u16, k: u8, s: u8, x: u8) -> Outcome
+        requires thread { k < THREADS }
+        requires source { s < 12 }
+        requires value { x < 12 }
+        ensures { Ends result self.old self.new (puts_out self.old k (reg self.old k s) (reg self.old k x) (resource_named id (reg self.old k s))) }
     {
-        let Some(Resource::Lock { lock }) = resource_named(id, name) else {
-            return illegal(name);
-        };
-        self.able = None;
-        match self.syncs.release(lock, k) {
-            Ok(()) => {
-                self.go_on(k);
-                Outcome::Done
+        let (name, word) = (self.reg(k, s), self.reg(k, x));
+        match resource_named(id, name) {
+            Some(Resource::Chan { chan }) => {
+                self.at_chan(k, name, chan, Action::PutWord(word), None)
             }
-            Err(_) => illegal(name),
+            Some(Resource::Lock { lock }) => self.release(k, name, lock),
+            _ => illegal(name),
         }
     }
 }
@@ -165,4 +166,10 @@ fn name_of(number: Option<u8>, kind: u8) -> u32
         Some(number) => res_id(number, kind),
         None => 0,
     }
+}
+
+fn low_byte(word: u32) -> u8
+    ensures { result ≡ word % 256 }
+{
+    (word % 256) as u8
 }
