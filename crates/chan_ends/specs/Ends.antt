@@ -1,11 +1,23 @@
 -- A core's channel ends, as a list of 32 by their numbers, and what calls leave of them.
-use Rattle.std.specs.Prelude.{Option, Some, None, List, slice_index_or, slice_set}
+use Rattle.std.specs.Prelude.{Bool, true, false, Option, Some, None, List, [], ◌∷◌, slice_index_or, slice_set}
+use Rattle.xs_base.specs.declared.token.Token.{Token}
 use Rattle.xs_base.specs.Numbers.{ChanNumber}
 use Rattle.xs_model.specs.Record.{ChanRec, unused_chan}
 use Rattle.net_model.specs.Chans.{Found, Got, Waits, Refused, got_chan}
 
 abbrev pub chan_at : List ChanRec → ChanNumber → ChanRec
 chan_at chans c = slice_index_or chans c unused_chan
+
+-- whether a token waits in a buffer
+abbrev pub waits_in : List Token → Bool
+waits_in [] = false
+waits_in (t ∷ tokens) = true
+
+abbrev pub has_output : ChanRec → Bool
+has_output chan = waits_in chan.output
+
+abbrev pub has_input : ChanRec → Bool
+has_input chan = waits_in chan.input
 
 -- the channel ends after a program found this at one of them
 abbrev pub chans_after : List ChanRec → ChanNumber → Found → List ChanRec

@@ -1,11 +1,12 @@
 //! `ChanEnd`, one channel end.
-ghost use Rattle.std.specs.Prelude.{◌≡◌, ◌↔◌, true, false, Some, None, [], ◌∷◌, ◌++◌, drop, slice_get, IsOk, OnOk, OnErr, IsTrue, IsFalse};
+ghost use Rattle.std.specs.Prelude.{◌≡◌, ◌↔◌, ◌<◌, ◌||◌, true, false, nat_lt, if◌then◌else◌, Some, None, [], ◌∷◌, ◌++◌, length, take, drop, slice_get, IsOk, OnOk, OnErr, IsTrue, IsFalse};
 ghost use Rattle.std.specs.List.{list_any};
 ghost use Rattle.xs_model.specs.Record.{unused_chan};
 ghost use Rattle.xs_model.specs.Waits.{has_room, has_tokens, is_control};
-ghost use Rattle.net_model.specs.Chans.{Got, Refused, got_chan, freed_chan, found_at, put_token, check_token, take_dest, chan_after};
-ghost use Rattle.chan_ends.specs.Ends.{chan_where_freed};
+ghost use Rattle.net_model.specs.Chans.{Got, Refused, got_chan, freed_chan, found_at, put_tokens, put_token, bytes_of_word, put_word, joined, take_word, take_byte, take_ctrl, check_token, look, control_place, look_word, take_dest, chan_after};
+ghost use Rattle.chan_ends.specs.Ends.{has_output, has_input, chan_where_freed};
 ghost use Rattle.chan_ends.specs.Answers.{put_answer, take_answer};
+ghost use Rattle.chan_ends.specs.declared.answers.Take.TheVariants as taken;
 
 use crate::answers::{Bad, Put, Take};
 use arrayvec::ArrayVec;
@@ -117,14 +118,76 @@ impl ChanEnd {
         ensures answer { result ≡ put_answer (found_at (put_token t) self.old) }
         ensures after { self.new ≡ chan_after self.old (found_at (put_token t) self.old) }
     {
+        self.put_tokens(&[t])
+    }
+
+    /// Puts a word at the end of the output buffer.
+    pub(crate) fn put_word(&mut self, w: u32) -> Put
+        ensures answer { result ≡ put_answer (found_at (put_word w) self.old) }
+        ensures after { self.new ≡ chan_after self.old (found_at (put_word w) self.old) }
+    {
+        self.put_tokens(&bytes_of_word(w))
+    }
+
+    // Puts tokens at the end of the output buffer, all or none.
+    fn put_tokens(&mut self, tokens: &[Token]) -> Put
+        ensures answer { result ≡ put_answer (found_at (put_tokens tokens.now) self.old) }
+        ensures after { self.new ≡ chan_after self.old (found_at (put_tokens tokens.now) self.old) }
+    {
         if !self.used || self.dest.is_none() {
             return Put::Bad;
         }
-        if self.output.is_full() {
-            return Put::Full;
+        match self.output.try_extend_from_slice(tokens) {
+            Ok(()) => Put::Done,
+            Err(_) => Put::Full,
         }
-        self.output.push(t);
-        Put::Done
+    }
+
+    /// Takes four data bytes from the front of the input buffer, as a word.
+    pub(crate) fn take_word(&mut self) -> Take
+        ensures answer { result ≡ take_answer (found_at take_word self.old) }
+        ensures after { self.new ≡ chan_after self.old (found_at take_word self.old) }
+    {
+        if !self.used || control_place(self.input.as_slice()) > 0 {
+            return Take::Bad;
+        }
+        match first_word(self.input.as_slice()) {
+            Some(word) => {
+                drop(self.input.drain(..4));
+                Take::Got(word)
+            }
+            None => Take::Wait,
+        }
+    }
+
+    /// Takes a data byte from the front of the input buffer.
+    pub(crate) fn take_byte(&mut self) -> Take
+        ensures answer { result ≡ take_answer (found_at take_byte self.old) }
+        ensures after { self.new ≡ chan_after self.old (found_at take_byte self.old) }
+    {
+        if !self.used {
+            return Take::Bad;
+        }
+        match first_of(&self.input) {
+            None => Take::Wait,
+            Some(Token::Byte(value)) => self.take_first(value),
+            Some(Token::Ctrl(_)) => Take::Bad,
+        }
+    }
+
+    /// Takes a control token from the front of the input buffer.
+    pub(crate) fn take_ctrl(&mut self) -> Take
+        ensures answer { result ≡ take_answer (found_at take_ctrl self.old) }
+        ensures after { self.new ≡ chan_after self.old (found_at take_ctrl self.old) }
+    {
+        if !self.used {
+            return Take::Bad;
+        }
+        match first_of(&self.input) {
+            None => Take::Wait,
+            Some(Token::Ctrl(value)) => self.take_first(value),
+            Some(Token::Byte(_)) => Take::Bad,
+        }
     }
 
     /// Takes the control token of a value from the front of the input buffer.
@@ -137,12 +200,64 @@ impl ChanEnd {
         }
         match first_of(&self.input) {
             None => Take::Wait,
-            Some(Token::Ctrl(value)) if u32::from(value) == v => {
-                self.input.remove(0);
-                Take::Got(v)
-            }
+            Some(Token::Ctrl(value)) if u32::from(value) == v => self.take_first(value),
             Some(_) => Take::Bad,
         }
+    }
+
+    // Takes the first token of the input buffer, which is there and has this value.
+    fn take_first(&mut self, value: u8) -> Take
+        requires { 0 < length self.old.input }
+        ensures answer { result ≡ taken.Got value }
+        ensures after { self.new ≡ record self.old { input = drop 1 self.old.input } }
+    {
+        self.input.remove(0);
+        Take::Got(u32::from(value))
+    }
+
+    /// Whether the first token of the input buffer is a control token.
+    pub(crate) fn look(&mut self) -> Take
+        ensures answer { result ≡ take_answer (found_at look self.old) }
+        ensures after { self.new ≡ chan_after self.old (found_at look self.old) }
+    {
+        if !self.used {
+            return Take::Bad;
+        }
+        match first_of(&self.input) {
+            None => Take::Wait,
+            Some(Token::Ctrl(_)) => Take::Got(1),
+            Some(Token::Byte(_)) => Take::Got(0),
+        }
+    }
+
+    /// The place of the first control token among the first four of the input buffer.
+    pub(crate) fn look_word(&mut self) -> Take
+        ensures answer { result ≡ take_answer (found_at look_word self.old) }
+        ensures after { self.new ≡ chan_after self.old (found_at look_word self.old) }
+    {
+        if !self.used {
+            return Take::Bad;
+        }
+        let place = control_place(self.input.as_slice());
+        if place > 0 || self.input.len() >= 4 {
+            Take::Got(place)
+        } else {
+            Take::Wait
+        }
+    }
+
+    /// Whether a token waits in the output buffer.
+    pub(crate) fn has_output(&self) -> bool
+        ensures { result ≡ has_output self.now }
+    {
+        !self.output.is_empty()
+    }
+
+    /// Whether a token waits in the input buffer.
+    pub(crate) fn has_input(&self) -> bool
+        ensures { result ≡ has_input self.now }
+    {
+        !self.input.is_empty()
     }
 
     /// Whether so many tokens still fit into the output buffer.
@@ -205,6 +320,49 @@ fn is_control(token: &Token) -> bool
     ensures { result ≡ is_control token.now }
 {
     matches!(token, Token::Ctrl(_))
+}
+
+/// A word as four data bytes, the most significant first.
+fn bytes_of_word(w: u32) -> [Token; 4]
+    ensures { result ≡ bytes_of_word w }
+{
+    let [a, b, c, d] = w.to_be_bytes();
+    [
+        Token::Byte(a),
+        Token::Byte(b),
+        Token::Byte(c),
+        Token::Byte(d),
+    ]
+}
+
+/// The word that the first four tokens are, the most significant byte first: `None` where they are no four data bytes.
+fn first_word(tokens: &[Token]) -> Option<u32>
+    ensures { result ≡ (if list_any is_control (take 4 tokens.now) || nat_lt (length tokens.now) 4 then None else Some (joined 0 (take 4 tokens.now))) }
+{
+    match tokens {
+        [
+            Token::Byte(a),
+            Token::Byte(b),
+            Token::Byte(c),
+            Token::Byte(d),
+            ..
+        ] => { Some(u32::from_be_bytes([*a, *b, *c, *d])) }
+        _ => None,
+    }
+}
+
+/// The place, 1 to 4, of the first control token among the first four tokens; 0 where there is none.
+fn control_place(tokens: &[Token]) -> u32
+    ensures place { result ≡ control_place 1 (take 4 tokens.now) }
+    ensures any { list_any is_control (take 4 tokens.now) ≡ nat_lt 0 result }
+{
+    match tokens {
+        [Token::Ctrl(_), ..] => 1,
+        [_, Token::Ctrl(_), ..] => 2,
+        [_, _, Token::Ctrl(_), ..] => 3,
+        [_, _, _, Token::Ctrl(_), ..] => 4,
+        _ => 0,
+    }
 }
 
 /// The token that waits longest in a buffer.

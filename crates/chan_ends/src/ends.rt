@@ -1,10 +1,11 @@
 //! `ChanEnds`, the channel ends of a core.
-ghost use Rattle.std.specs.Prelude.{ℕ, ◌≡◌, ◌<◌, ◌↔◌, true, false, Some, None, [], ◌∷◌, ◌++◌, drop, length, replicate, slice_get, slice_set, IsOk, OnOk, OnErr, IfSome, IsTrue, IsFalse};
+ghost use Rattle.std.specs.Prelude.{ℕ, ◌≡◌, ◌<◌, ◌↔◌, ◌==◌, if◌then◌else◌, true, false, Some, None, [], ◌∷◌, ◌++◌, drop, length, replicate, slice_get, slice_set, IsOk, OnOk, OnErr, IfSome, IsTrue, IsFalse};
 ghost use Rattle.xs_base.specs.declared.numbers.TheConstants.{CHAN_ENDS};
 ghost use Rattle.xs_model.specs.Record.{unused_chan};
+ghost use Rattle.xs_model.specs.Masks.{in_mask};
 ghost use Rattle.xs_model.specs.Waits.{has_room, has_tokens};
-ghost use Rattle.net_model.specs.Chans.{Got, Refused, free_chan, freed_chan, found_at, put_token, check_token, take_dest};
-ghost use Rattle.chan_ends.specs.Ends.{chan_at, with_got, with_freed, chans_after};
+ghost use Rattle.net_model.specs.Chans.{Got, Refused, free_chan, freed_chan, found_at, put_token, put_word, take_word, take_byte, take_ctrl, check_token, look, look_word, take_dest};
+ghost use Rattle.chan_ends.specs.Ends.{chan_at, has_output, has_input, with_got, with_freed, chans_after};
 ghost use Rattle.chan_ends.specs.Answers.{put_answer, take_answer};
 
 use crate::answers::{Bad, Put, Take};
@@ -115,6 +116,55 @@ impl ChanEnds {
         self.ends[c as usize].put(t)
     }
 
+    /// Puts a word at the end of the output buffer of channel end `c`, 0 to 31, as four data bytes, the most significant
+    /// first. `Bad` comes exactly where it is not in use or has no destination, and `Full` exactly where it has one and
+    /// more than 4 tokens are there; then nothing changes. See docs/LINKS.md.
+    pub fn put_word(&mut self, c: u8, w: u32) -> Put
+        requires { c < CHAN_ENDS }
+        ensures answer { result ≡ put_answer (found_at (put_word w) (chan_at self.old c)) }
+        ensures after { self.new ≡ chans_after self.old c (found_at (put_word w) (chan_at self.old c)) }
+        ensures count { length self.new ≡ CHAN_ENDS }
+    {
+        self.ends[c as usize].put_word(w)
+    }
+
+    /// Takes four data bytes from the front of the input buffer of channel end `c`, 0 to 31, and answers `Got` with the
+    /// word of which the first is the most significant byte. `Bad` comes exactly where it is not in use or one of the
+    /// first four tokens is a control token, and `Wait` exactly where it is in use, and fewer than four tokens are
+    /// there and all are data bytes; then nothing changes. See docs/LINKS.md.
+    pub fn take_word(&mut self, c: u8) -> Take
+        requires { c < CHAN_ENDS }
+        ensures answer { result ≡ take_answer (found_at take_word (chan_at self.old c)) }
+        ensures after { self.new ≡ chans_after self.old c (found_at take_word (chan_at self.old c)) }
+        ensures count { length self.new ≡ CHAN_ENDS }
+    {
+        self.ends[c as usize].take_word()
+    }
+
+    /// Takes a data byte from the front of the input buffer of channel end `c`, 0 to 31, and answers `Got` with its value,
+    /// 0 to 255. `Wait` comes exactly where it is in use and no token is there, and `Bad` exactly where it is not in use
+    /// or a control token is first; then nothing changes. See docs/LINKS.md.
+    pub fn take_byte(&mut self, c: u8) -> Take
+        requires { c < CHAN_ENDS }
+        ensures answer { result ≡ take_answer (found_at take_byte (chan_at self.old c)) }
+        ensures after { self.new ≡ chans_after self.old c (found_at take_byte (chan_at self.old c)) }
+        ensures count { length self.new ≡ CHAN_ENDS }
+    {
+        self.ends[c as usize].take_byte()
+    }
+
+    /// Takes a control token from the front of the input buffer of channel end `c`, 0 to 31, and answers `Got` with its
+    /// value, 0 to 255. `Wait` comes exactly where it is in use and no token is there, and `Bad` exactly where it is not
+    /// in use or a data byte is first; then nothing changes. See docs/LINKS.md.
+    pub fn take_ctrl(&mut self, c: u8) -> Take
+        requires { c < CHAN_ENDS }
+        ensures answer { result ≡ take_answer (found_at take_ctrl (chan_at self.old c)) }
+        ensures after { self.new ≡ chans_after self.old c (found_at take_ctrl (chan_at self.old c)) }
+        ensures count { length self.new ≡ CHAN_ENDS }
+    {
+        self.ends[c as usize].take_ctrl()
+    }
+
     /// Takes the control token of value `v` from the front of the input buffer of channel end `c`, 0 to 31, and
     /// answers `Got(v)`. `Wait` comes exactly where it is in use and no token is there, and `Bad` exactly where it
     /// is not in use or another token is first; then nothing changes. See docs/LINKS.md.
@@ -125,6 +175,55 @@ impl ChanEnds {
         ensures count { length self.new ≡ CHAN_ENDS }
     {
         self.ends[c as usize].check(v)
+    }
+
+    /// Looks at the first token of the input buffer of channel end `c`, 0 to 31, and takes none: `Got(1)` where it is a
+    /// control token, and `Got(0)` where it is a data byte. `Wait` comes exactly where it is in use and no token is
+    /// there, and `Bad` exactly where it is not in use. Nothing changes. See docs/LINKS.md.
+    pub fn look(&mut self, c: u8) -> Take
+        requires { c < CHAN_ENDS }
+        ensures answer { result ≡ take_answer (found_at look (chan_at self.old c)) }
+        ensures after { self.new ≡ chans_after self.old c (found_at look (chan_at self.old c)) }
+        ensures count { length self.new ≡ CHAN_ENDS }
+    {
+        self.ends[c as usize].look()
+    }
+
+    /// Looks at the first four tokens of the input buffer of channel end `c`, 0 to 31, and takes none: `Got` with the
+    /// place, 1 to 4, of the first control token among them, and `Got(0)` where all four are data bytes. `Wait` comes
+    /// exactly where it is in use, and fewer than four tokens are there and all are data bytes, and `Bad` exactly where
+    /// it is not in use. Nothing changes. See docs/LINKS.md.
+    pub fn look_word(&mut self, c: u8) -> Take
+        requires { c < CHAN_ENDS }
+        ensures answer { result ≡ take_answer (found_at look_word (chan_at self.old c)) }
+        ensures after { self.new ≡ chans_after self.old c (found_at look_word (chan_at self.old c)) }
+        ensures count { length self.new ≡ CHAN_ENDS }
+    {
+        self.ends[c as usize].look_word()
+    }
+
+    /// The channel ends with a token in their output buffer: bit `c` is that of channel end `c`, 0 to 31.
+    pub fn sending(&self) -> u32
+        ensures value { (c : ℕ) → c < CHAN_ENDS → in_mask result c ≡ has_output (chan_at self.now c) }
+        ensures count { length self.now ≡ CHAN_ENDS }
+    {
+        let mut mask = 0;
+        for c in 0..CHAN_ENDS {
+            mask = with_bit(mask, c, self.ends[c as usize].has_output());
+        }
+        mask
+    }
+
+    /// The channel ends with a token in their input buffer: bit `c` is that of channel end `c`, 0 to 31.
+    pub fn ready(&self) -> u32
+        ensures value { (c : ℕ) → c < CHAN_ENDS → in_mask result c ≡ has_input (chan_at self.now c) }
+        ensures count { length self.now ≡ CHAN_ENDS }
+    {
+        let mut mask = 0;
+        for c in 0..CHAN_ENDS {
+            mask = with_bit(mask, c, self.ends[c as usize].has_input());
+        }
+        mask
     }
 
     /// Whether `count` tokens still fit into the output buffer of channel end `c`, which holds 8. With a `c` of 32 or
@@ -208,4 +307,13 @@ fn first_free(ends: &[ChanEnd; 32]) -> Option<u8>
         }
     }
     None
+}
+
+/// The mask with bit `c`, 0 to 31, set where this holds, and else cleared.
+fn with_bit(mask: u32, c: u8, holds: bool) -> u32
+    requires { c < CHAN_ENDS }
+    ensures { (k : ℕ) → k < CHAN_ENDS → in_mask result k ≡ (if k == c then holds else in_mask mask k) }
+{
+    let bit = 1 << c;
+    if holds { mask | bit } else { mask & !bit }
 }

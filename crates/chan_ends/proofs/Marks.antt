@@ -1,0 +1,23 @@
+-- One bit of a mask is set or cleared, and the others stay.
+use Rattle.std.proofs.Common.{ℕ, ◌≡◌, ◌≢◌, ◌-◌, ◌*◌, ◌^◌, ◌%◌, ◌<◌, Bool, true, false, cond, eqb, ap, sym, ◌∙◌, inl, inr}
+use Rattle.std.specs.Prelude.{◌==◌, bit_or, bit_and}
+use Rattle.std.specs.Int.{w32}
+use Rattle.std.proofs.lemmas.Bool.{eq-eqb, ne_eqb, cond-true, cond-false, cases_eq}
+use Rattle.std.proofs.lemmas.Nat.Bits.{bit_at_set_same, bit_at_set_other, bit_at_clear_same, bit_at_clear_other}
+use Rattle.xs_model.specs.Masks.{in_mask}
+
+-- a bit that is changed reads as it was written, and the others as before
+one_changed : (mask new c k : ℕ) (holds : Bool) → in_mask new c ≡ holds → (k ≢ c → in_mask new k ≡ in_mask mask k) → in_mask new k ≡ cond (k == c) holds (in_mask mask k)
+one_changed mask new c k holds here others =
+    elim (cases_eq k c) [
+      | inl e ↦ ap (in_mask new) e ∙ here ∙ sym (cond-true (eqb k c) _ _ (eq-eqb k c e))
+      | inr ne ↦ others ne ∙ sym (cond-false (eqb k c) _ _ (ne_eqb k c ne))
+    ]
+
+pub bit_set : (mask c k : ℕ) → c < 32 → in_mask (bit_or mask (1 * 2 ^ c % 2 ^ 32)) k ≡ cond (k == c) true (in_mask mask k)
+bit_set mask c k within =
+    one_changed mask _ c k true (ap (λ b. eqb b 1) (bit_at_set_same w32 mask c within)) (λ ne. ap (λ b. eqb b 1) (bit_at_set_other w32 mask c within k ne))
+
+pub bit_cleared : (mask c k : ℕ) → c < 32 → k < 32 → in_mask (bit_and mask (2 ^ 32 - 1 - 1 * 2 ^ c % 2 ^ 32)) k ≡ cond (k == c) false (in_mask mask k)
+bit_cleared mask c k within below =
+    one_changed mask _ c k false (ap (λ b. eqb b 1) (bit_at_clear_same w32 mask c within)) (λ ne. ap (λ b. eqb b 1) (bit_at_clear_other w32 mask c within k below ne))
