@@ -24,7 +24,14 @@ use xs_model::{Outcome, Wait};
 impl Units {
     /// A row on the channel end that register s names. The word that is found goes into a register, where one is to
     /// have it.
-    pub(crate) fn on_chan(&mut self, id: u16, k: u8, s: u8, action: Action, into: Option<u8>) -> Outcome
+    pub(crate) fn on_chan(
+        &mut self,
+        id: u16,
+        k: u8,
+        s: u8,
+        action: Action,
+        into: Option<u8>,
+    ) -> Outcome
         requires thread { k < THREADS }
         requires source { s < 12 }
         requires target { IfSome into (λ d. d < 12) }
@@ -39,7 +46,14 @@ impl Units {
     }
 
     /// The same on channel end c, which the word `name` names.
-    pub(crate) fn at_chan(&mut self, k: u8, name: u32, c: u8, action: Action, into: Option<u8>) -> Outcome
+    pub(crate) fn at_chan(
+        &mut self,
+        k: u8,
+        name: u32,
+        c: u8,
+        action: Action,
+        into: Option<u8>,
+    ) -> Outcome
         requires thread { k < THREADS }
         requires chan { c < CHAN_ENDS }
         requires target { IfSome into (λ d. d < 12) }
