@@ -1,0 +1,3 @@
+pub mod SlotAtEnd
+pub mod SlotAtEndMoves
+pub mod SlotAtEndStep
