@@ -1,3 +1,4 @@
 pub mod SlotAtEnd
+pub mod SlotAtEndLists
 pub mod SlotAtEndMoves
 pub mod SlotAtEndStep

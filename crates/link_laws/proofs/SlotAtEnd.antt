@@ -1,4 +1,4 @@
--- A link end within a slot: what a token that leaves its buffer changes, and one that leaves by it.
+-- A link end within a slot: what it changes that a token leaves its buffer, or leaves by it.
 use Rattle.std.proofs.Common.{◌≡◌, ℕ, ◌+◌, ◌≤◌, Bool, true, false, ◌&&◌, nat_lt, nat_le, Option, Some, None, List, [], ◌∷◌, ◌++◌, length, drop, filter, slice_index, refl, ap, ap₂, sym, ◌∙◌, append-nil, true≢false, arith}
 use Rattle.std.proofs.lemmas.Bool.{and_parts, leb-true}
 use Rattle.xs_base.specs.Numbers.{Slot, EndNumber}
@@ -20,8 +20,11 @@ begins_so gap slot (Some link) = record {
   credited = refl;
 }
 
--- the first token leaves the buffer
-pub takes_so : (gap : ℕ) (slot : Slot) (before now : Option LinkRec) (token : Option Token) (t : Token) (rest : List Token) → buffer_of_link now ≡ t ∷ rest → LinkSlotAt gap slot before now token false → LinkSlotAt gap slot before (link_without_first now) token true
+-- the first token leaves the buffer, and a credit by the link end
+pub takes_so : (gap : ℕ) (slot : Slot) (before now : Option LinkRec) (token : Option Token) (t : Token) (rest : List Token) →
+    buffer_of_link now ≡ t ∷ rest →
+    LinkSlotAt gap slot before now token false →
+    LinkSlotAt gap slot before (link_without_first now) token true
 takes_so gap slot None None token t rest waits h = cc
 takes_so gap slot None (Some now) token t rest waits h = absurd h
 takes_so gap slot (Some before) None token t rest waits h = absurd h
@@ -35,46 +38,56 @@ takes_so gap slot (Some before) (Some now) token t rest waits h = record {
 
 -- ---- Whether it may send
 
--- by its two lists of slots
-abbrev may_by : ℕ → Slot → List Slot → List Slot → Bool
-may_by gap slot sent credited =
+-- whether fewer tokens than the window's are without a credit, of those sent before a slot
+abbrev window_is_open : Slot → List Slot → List Slot → Bool
+window_is_open slot sent credited =
     nat_lt (length (filter (λ s. nat_lt s slot) sent)) (WINDOW_TOKENS + length (filter (λ s. nat_le s slot) credited))
-    && gap_is_over gap slot (latest sent)
 
-may_as : (gap : ℕ) (slot : Slot) (before now : LinkRec) → now.sent ≡ before.sent → now.credited ≡ before.credited → may_send gap slot now ≡ may_send gap slot before
-may_as gap slot before now sent credited = ap₂ (may_by gap slot) sent credited
+-- it goes by the two lists of slots alone
+abbrev may_by : ℕ → Slot → List Slot → List Slot → Bool
+may_by gap slot sent credited = window_is_open slot sent credited && gap_is_over gap slot (latest sent)
+
+may_as_before : (gap : ℕ) (slot : Slot) (before now : LinkRec) →
+    now.sent ≡ before.sent → now.credited ≡ before.credited → may_send gap slot now ≡ may_send gap slot before
+may_as_before gap slot before now sent credited = ap₂ (may_by gap slot) sent credited
 
 latest_is : (slots : List Slot) (slot : Slot) → latest (slots ++ slot ∷ []) ≡ Some slot
 latest_is [] slot = refl
 latest_is (s ∷ []) slot = refl
 latest_is (s ∷ r ∷ rest) slot = latest_is (r ∷ rest) slot
 
--- it sends no second time in a slot
-sends_once : (gap : ℕ) (slot : Slot) (now : LinkRec) (slots : List Slot) → 1 ≤ gap → now.sent ≡ slots ++ slot ∷ [] → may_send gap slot now ≡ true → ⊥
+-- a second token may not leave in the same slot
+sends_once : (gap : ℕ) (slot : Slot) (now : LinkRec) (slots : List Slot) →
+    1 ≤ gap → now.sent ≡ slots ++ slot ∷ [] → may_send gap slot now ≡ true → ⊥
 sends_once gap slot now slots long sent may =
-    let parts : (nat_lt (length (filter (λ s. nat_lt s slot) now.sent)) (WINDOW_TOKENS + length (filter (λ s. nat_le s slot) now.credited)) ≡ true) × (gap_is_over gap slot (latest now.sent) ≡ true) = and_parts _ _ may in
     let last : latest now.sent ≡ Some slot = ap latest sent ∙ latest_is slots slot in
+    let parts : (window_is_open slot now.sent now.credited ≡ true) × (gap_is_over gap slot (latest now.sent) ≡ true) = and_parts _ _ may in
     let over : gap_is_over gap slot (Some slot) ≡ true = ap (gap_is_over gap slot) (sym last) ∙ parts.1 in
     omega (arith, leb-true (slot + gap) slot over)
 
--- a token leaves by it
-pub sends_so : (routes : Routes) (slot : Slot) (e : EndNumber) (before now : Option LinkRec) (token : Option Token) (credit : Bool) (t : Token) → 1 ≤ slice_index routes.gaps e → end_may_send routes slot e now ≡ true → LinkSlotAt (slice_index routes.gaps e) slot before now token credit → LinkSlotAt (slice_index routes.gaps e) slot before (sent_in slot now) (Some t) credit
+-- a token leaves by the link end
+pub sends_so : (routes : Routes) (slot : Slot) (e : EndNumber) (before now : Option LinkRec) (token : Option Token) (credit : Bool) (t : Token) →
+    let gap = slice_index routes.gaps e in
+    1 ≤ gap →
+    end_may_send routes slot e now ≡ true →
+    LinkSlotAt gap slot before now token credit →
+    LinkSlotAt gap slot before (sent_in slot now) (Some t) credit
 sends_so routes slot e before None token credit t long may h = absurd (true≢false (sym may))
 sends_so routes slot e None (Some now) token credit t long may h = absurd h
 sends_so routes slot e (Some before) (Some now) (Some u) credit t long may h =
     absurd (sends_once (slice_index routes.gaps e) slot now before.sent long h.sent may)
 sends_so routes slot e (Some before) (Some now) None credit t long may h =
-    let gap = slice_index routes.gaps e in
     let same : now.sent ≡ before.sent = h.sent ∙ append-nil before.sent in
     record {
       buffer = h.buffer;
       waited = h.waited;
-      allowed = λ _. sym (may_as gap slot before now same h.credited) ∙ may;
+      allowed = λ _. sym (may_as_before (slice_index routes.gaps e) slot before now same h.credited) ∙ may;
       sent = ap (λ slots. slots ++ slot ∷ []) same;
       credited = h.credited;
     }
 
--- a token that leaves the buffer does not change whether it may
-pub may_without : (routes : Routes) (slot : Slot) (e : EndNumber) (link : Option LinkRec) → end_may_send routes slot e (link_without_first link) ≡ end_may_send routes slot e link
+-- a token that leaves the buffer does not change whether it may send
+pub may_without : (routes : Routes) (slot : Slot) (e : EndNumber) (link : Option LinkRec) →
+    end_may_send routes slot e (link_without_first link) ≡ end_may_send routes slot e link
 may_without routes slot e None = refl
 may_without routes slot e (Some link) = refl
