@@ -1,3 +1,3 @@
 pub mod Free
 pub mod Unused
-pub mod Marks
+pub mod OneBit

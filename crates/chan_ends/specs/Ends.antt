@@ -1,7 +1,9 @@
 -- A core's channel ends, as a list of 32 by their numbers, and what calls leave of them.
-use Rattle.std.specs.Prelude.{Bool, true, false, Option, Some, None, List, [], ◌∷◌, slice_index_or, slice_set}
+use Rattle.std.specs.Prelude.{ℕ, ◌≡◌, ◌<◌, Bool, true, false, Option, Some, None, List, [], ◌∷◌, slice_index_or, slice_set}
 use Rattle.xs_base.specs.declared.token.Token.{Token}
 use Rattle.xs_base.specs.Numbers.{ChanNumber}
+use Rattle.xs_base.specs.declared.numbers.TheConstants.{CHAN_ENDS}
+use Rattle.xs_model.specs.Masks.{in_mask}
 use Rattle.xs_model.specs.Record.{ChanRec, unused_chan}
 use Rattle.net_model.specs.Chans.{Found, Got, Waits, Refused, got_chan}
 
@@ -18,6 +20,10 @@ has_output chan = waits_in chan.output
 
 abbrev pub has_input : ChanRec → Bool
 has_input chan = waits_in chan.input
+
+-- a mask has the bits of exactly those channel ends that pass a test
+abbrev pub IsMask : (ChanRec → Bool) → ℕ → List ChanRec → Type 0
+IsMask test mask chans = (c : ℕ) → c < CHAN_ENDS → in_mask mask c ≡ test (chan_at chans c)
 
 -- the channel ends after a program found this at one of them
 abbrev pub chans_after : List ChanRec → ChanNumber → Found → List ChanRec

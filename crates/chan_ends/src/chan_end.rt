@@ -148,7 +148,7 @@ impl ChanEnd {
         ensures answer { result ≡ take_answer (found_at take_word self.old) }
         ensures after { self.new ≡ chan_after self.old (found_at take_word self.old) }
     {
-        if !self.used || control_place(self.input.as_slice()) > 0 {
+        if !self.used {
             return Take::Bad;
         }
         match first_word(self.input.as_slice()) {
@@ -156,6 +156,7 @@ impl ChanEnd {
                 drop(self.input.drain(..4));
                 Take::Got(word)
             }
+            None if control_place(self.input.as_slice()) > 0 => Take::Bad,
             None => Take::Wait,
         }
     }
@@ -216,9 +217,9 @@ impl ChanEnd {
     }
 
     /// Whether the first token of the input buffer is a control token.
-    pub(crate) fn look(&mut self) -> Take
-        ensures answer { result ≡ take_answer (found_at look self.old) }
-        ensures after { self.new ≡ chan_after self.old (found_at look self.old) }
+    pub(crate) fn look(&self) -> Take
+        ensures answer { result ≡ take_answer (found_at look self.now) }
+        ensures same { chan_after self.now (found_at look self.now) ≡ self.now }
     {
         if !self.used {
             return Take::Bad;
@@ -231,9 +232,9 @@ impl ChanEnd {
     }
 
     /// The place of the first control token among the first four of the input buffer.
-    pub(crate) fn look_word(&mut self) -> Take
-        ensures answer { result ≡ take_answer (found_at look_word self.old) }
-        ensures after { self.new ≡ chan_after self.old (found_at look_word self.old) }
+    pub(crate) fn look_word(&self) -> Take
+        ensures answer { result ≡ take_answer (found_at look_word self.now) }
+        ensures same { chan_after self.now (found_at look_word self.now) ≡ self.now }
     {
         if !self.used {
             return Take::Bad;

@@ -1,5 +1,5 @@
 //! `ChanEnds`, the channel ends of a core.
-ghost use Rattle.std.specs.Prelude.{ℕ, ◌≡◌, ◌<◌, ◌↔◌, ◌==◌, if◌then◌else◌, true, false, Some, None, [], ◌∷◌, ◌++◌, drop, length, replicate, slice_get, slice_set, IsOk, OnOk, OnErr, IfSome, IsTrue, IsFalse};
+ghost use Rattle.std.specs.Prelude.{ℕ, ◌≡◌, ◌<◌, ◌↔◌, true, false, Some, None, [], ◌∷◌, ◌++◌, drop, length, replicate, slice_get, slice_set, IsOk, OnOk, OnErr, IfSome, IsTrue, IsFalse};
 ghost use Rattle.xs_base.specs.declared.numbers.TheConstants.{CHAN_ENDS};
 ghost use Rattle.xs_model.specs.Record.{unused_chan};
 ghost use Rattle.xs_model.specs.Masks.{in_mask};
@@ -10,6 +10,7 @@ ghost use Rattle.chan_ends.specs.Answers.{put_answer, take_answer};
 
 use crate::answers::{Bad, Put, Take};
 use crate::chan_end::ChanEnd;
+use crate::marks::Marks;
 use std::marker::Model;
 use xs_base::Token;
 use xs_base::numbers::{BUFFER_TOKENS, CHAN_ENDS};
@@ -19,6 +20,7 @@ use xs_base::numbers::{BUFFER_TOKENS, CHAN_ENDS};
 #[derive(Drop)]
 pub struct ChanEnds {
     ends: [ChanEnd; 32],
+    marks: Marks,
 }
 
 impl Model for ChanEnds {
@@ -29,7 +31,9 @@ impl Model for ChanEnds {
 
     ghost view = { λ core. core.ends };
 
-    ghost invariant = { λ core. length core.ends ≡ 32 };
+    ghost use Rattle.chan_ends.specs.Ends.{IsMask, has_output, has_input};
+
+    ghost invariant = { λ core. (length core.ends ≡ 32) × IsMask has_output core.marks.sending core.ends × IsMask has_input core.marks.ready core.ends };
 }
 
 impl ChanEnds {
@@ -40,6 +44,7 @@ impl ChanEnds {
     {
         ChanEnds {
             ends: Default::default(),
+            marks: Marks::default(),
         }
     }
 
@@ -54,7 +59,9 @@ impl ChanEnds {
     {
         let free = first_free(&self.ends);
         if let Some(c) = free {
-            self.ends[c as usize].get();
+            let end = &mut self.ends[c as usize];
+            end.get();
+            self.marks.note(c, end);
         }
         free
     }
@@ -71,7 +78,10 @@ impl ChanEnds {
         ensures unchanged { OnErr result (self.new ≡ self.old) }
         ensures count { length self.new ≡ CHAN_ENDS }
     {
-        self.ends[c as usize].free(held)
+        let end = &mut self.ends[c as usize];
+        let answer = end.free(held);
+        self.marks.note(c, end);
+        answer
     }
 
     /// Whether channel end `c`, 0 to 31, is in use.
@@ -101,7 +111,10 @@ impl ChanEnds {
         ensures after { self.new ≡ chans_after self.old c (found_at (take_dest id) (chan_at self.old c)) }
         ensures count { length self.new ≡ CHAN_ENDS }
     {
-        self.ends[c as usize].set_dest(id)
+        let end = &mut self.ends[c as usize];
+        let answer = end.set_dest(id);
+        self.marks.note(c, end);
+        answer
     }
 
     /// Puts a token at the end of the output buffer of channel end `c`, 0 to 31. `Bad` comes exactly where it is not
@@ -113,7 +126,10 @@ impl ChanEnds {
         ensures after { self.new ≡ chans_after self.old c (found_at (put_token t) (chan_at self.old c)) }
         ensures count { length self.new ≡ CHAN_ENDS }
     {
-        self.ends[c as usize].put(t)
+        let end = &mut self.ends[c as usize];
+        let answer = end.put(t);
+        self.marks.note(c, end);
+        answer
     }
 
     /// Puts a word at the end of the output buffer of channel end `c`, 0 to 31, as four data bytes, the most significant
@@ -125,7 +141,10 @@ impl ChanEnds {
         ensures after { self.new ≡ chans_after self.old c (found_at (put_word w) (chan_at self.old c)) }
         ensures count { length self.new ≡ CHAN_ENDS }
     {
-        self.ends[c as usize].put_word(w)
+        let end = &mut self.ends[c as usize];
+        let answer = end.put_word(w);
+        self.marks.note(c, end);
+        answer
     }
 
     /// Takes four data bytes from the front of the input buffer of channel end `c`, 0 to 31, and answers `Got` with the
@@ -138,7 +157,10 @@ impl ChanEnds {
         ensures after { self.new ≡ chans_after self.old c (found_at take_word (chan_at self.old c)) }
         ensures count { length self.new ≡ CHAN_ENDS }
     {
-        self.ends[c as usize].take_word()
+        let end = &mut self.ends[c as usize];
+        let answer = end.take_word();
+        self.marks.note(c, end);
+        answer
     }
 
     /// Takes a data byte from the front of the input buffer of channel end `c`, 0 to 31, and answers `Got` with its value,
@@ -150,7 +172,10 @@ impl ChanEnds {
         ensures after { self.new ≡ chans_after self.old c (found_at take_byte (chan_at self.old c)) }
         ensures count { length self.new ≡ CHAN_ENDS }
     {
-        self.ends[c as usize].take_byte()
+        let end = &mut self.ends[c as usize];
+        let answer = end.take_byte();
+        self.marks.note(c, end);
+        answer
     }
 
     /// Takes a control token from the front of the input buffer of channel end `c`, 0 to 31, and answers `Got` with its
@@ -162,7 +187,10 @@ impl ChanEnds {
         ensures after { self.new ≡ chans_after self.old c (found_at take_ctrl (chan_at self.old c)) }
         ensures count { length self.new ≡ CHAN_ENDS }
     {
-        self.ends[c as usize].take_ctrl()
+        let end = &mut self.ends[c as usize];
+        let answer = end.take_ctrl();
+        self.marks.note(c, end);
+        answer
     }
 
     /// Takes the control token of value `v` from the front of the input buffer of channel end `c`, 0 to 31, and
@@ -174,7 +202,10 @@ impl ChanEnds {
         ensures after { self.new ≡ chans_after self.old c (found_at (check_token v) (chan_at self.old c)) }
         ensures count { length self.new ≡ CHAN_ENDS }
     {
-        self.ends[c as usize].check(v)
+        let end = &mut self.ends[c as usize];
+        let answer = end.check(v);
+        self.marks.note(c, end);
+        answer
     }
 
     /// Looks at the first token of the input buffer of channel end `c`, 0 to 31, and takes none: `Got(1)` where it is a
@@ -207,11 +238,7 @@ impl ChanEnds {
         ensures value { (c : ℕ) → c < CHAN_ENDS → in_mask result c ≡ has_output (chan_at self.now c) }
         ensures count { length self.now ≡ CHAN_ENDS }
     {
-        let mut mask = 0;
-        for c in 0..CHAN_ENDS {
-            mask = with_bit(mask, c, self.ends[c as usize].has_output());
-        }
-        mask
+        self.marks.sending
     }
 
     /// The channel ends with a token in their input buffer: bit `c` is that of channel end `c`, 0 to 31.
@@ -219,11 +246,7 @@ impl ChanEnds {
         ensures value { (c : ℕ) → c < CHAN_ENDS → in_mask result c ≡ has_input (chan_at self.now c) }
         ensures count { length self.now ≡ CHAN_ENDS }
     {
-        let mut mask = 0;
-        for c in 0..CHAN_ENDS {
-            mask = with_bit(mask, c, self.ends[c as usize].has_input());
-        }
-        mask
+        self.marks.ready
     }
 
     /// Whether `count` tokens still fit into the output buffer of channel end `c`, which holds 8. With a `c` of 32 or
@@ -270,7 +293,10 @@ impl ChanEnds {
         ensures rest { self.new ≡ slice_set self.old c (record (chan_at self.old c) { output = drop 1 (chan_at self.old c).output }) }
         ensures count { length self.new ≡ CHAN_ENDS }
     {
-        self.ends[c as usize].pop_out()
+        let end = &mut self.ends[c as usize];
+        let answer = end.pop_out();
+        self.marks.note(c, end);
+        answer
     }
 
     /// The token that waits longest in the input buffer of channel end `c`, 0 to 31: `None` exactly where none is
@@ -292,7 +318,10 @@ impl ChanEnds {
         ensures unchanged { IsFalse result → self.new ≡ self.old }
         ensures count { length self.new ≡ CHAN_ENDS }
     {
-        self.ends[c as usize].push_in(t)
+        let end = &mut self.ends[c as usize];
+        let answer = end.push_in(t);
+        self.marks.note(c, end);
+        answer
     }
 }
 
@@ -307,13 +336,4 @@ fn first_free(ends: &[ChanEnd; 32]) -> Option<u8>
         }
     }
     None
-}
-
-/// The mask with bit `c`, 0 to 31, set where this holds, and else cleared.
-fn with_bit(mask: u32, c: u8, holds: bool) -> u32
-    requires { c < CHAN_ENDS }
-    ensures { (k : ℕ) → k < CHAN_ENDS → in_mask result k ≡ (if k == c then holds else in_mask mask k) }
-{
-    let bit = 1 << c;
-    if holds { mask | bit } else { mask & !bit }
 }

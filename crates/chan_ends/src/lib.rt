@@ -4,6 +4,7 @@
 mod answers;
 mod chan_end;
 mod ends;
+mod marks;
 #[cfg(test)]
 mod tests;
 

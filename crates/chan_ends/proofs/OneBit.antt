@@ -1,10 +1,13 @@
--- One bit of a mask is set or cleared, and the others stay.
-use Rattle.std.proofs.Common.{ℕ, ◌≡◌, ◌≢◌, ◌-◌, ◌*◌, ◌^◌, ◌%◌, ◌<◌, Bool, true, false, cond, eqb, ap, sym, ◌∙◌, inl, inr}
+-- One bit of a mask is written, and the others stay.
+use Rattle.std.proofs.Common.{ℕ, ◌≡◌, ◌≢◌, ◌-◌, ◌*◌, ◌^◌, ◌%◌, ◌<◌, List, length, get_or, set, Bool, true, false, cond, eqb, ap, sym, ◌∙◌, inl, inr, arith}
 use Rattle.std.specs.Prelude.{◌==◌, bit_or, bit_and}
 use Rattle.std.specs.Int.{w32}
 use Rattle.std.proofs.lemmas.Bool.{eq-eqb, ne_eqb, cond-true, cond-false, cases_eq}
 use Rattle.std.proofs.lemmas.Nat.Bits.{bit_at_set_same, bit_at_set_other, bit_at_clear_same, bit_at_clear_other}
+use Rattle.std.proofs.lemmas.List.{get_or-set_same, get_or-set_other}
 use Rattle.xs_model.specs.Masks.{in_mask}
+use Rattle.xs_model.specs.Record.{ChanRec, unused_chan}
+use Rattle.chan_ends.specs.Ends.{IsMask}
 
 -- a bit that is changed reads as it was written, and the others as before
 one_changed : (mask new c k : ℕ) (holds : Bool) → in_mask new c ≡ holds → (k ≢ c → in_mask new k ≡ in_mask mask k) → in_mask new k ≡ cond (k == c) holds (in_mask mask k)
@@ -21,3 +24,11 @@ bit_set mask c k within =
 pub bit_cleared : (mask c k : ℕ) → c < 32 → k < 32 → in_mask (bit_and mask (2 ^ 32 - 1 - 1 * 2 ^ c % 2 ^ 32)) k ≡ cond (k == c) false (in_mask mask k)
 bit_cleared mask c k within below =
     one_changed mask _ c k false (ap (λ b. eqb b 1) (bit_at_clear_same w32 mask c within)) (λ ne. ap (λ b. eqb b 1) (bit_at_clear_other w32 mask c within k below ne))
+
+-- where the bit of one channel end says what it is now, and the others are as before, the mask is exact again
+pub is_mask_still : (test : ChanRec → Bool) (mask new c : ℕ) (end : ChanRec) (chans : List ChanRec) → length chans ≡ 32 → c < 32 → IsMask test mask chans → ((k : ℕ) → k < 32 → in_mask new k ≡ cond (k == c) (test end) (in_mask mask k)) → IsMask test new (set chans c end)
+is_mask_still test mask new c end chans long within exact written k below =
+    elim (cases_eq k c) [
+      | inl e ↦ written k below ∙ cond-true (eqb k c) _ _ (eq-eqb k c e) ∙ ap test (sym (ap (λ i. get_or (set chans c end) i unused_chan) e ∙ get_or-set_same chans c end unused_chan (omega (arith, long))))
+      | inr ne ↦ written k below ∙ cond-false (eqb k c) _ _ (ne_eqb k c ne) ∙ exact k below ∙ ap test (sym (get_or-set_other chans c k end unused_chan ne))
+    ]
