@@ -2,3 +2,4 @@ pub mod SlotAtEnd
 pub mod SlotAtEndLists
 pub mod SlotAtEndMoves
 pub mod SlotAtEndStep
+pub mod TravelLists
