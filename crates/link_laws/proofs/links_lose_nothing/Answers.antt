@@ -1,4 +1,4 @@
-use Rattle.link_laws.proofs.TravelLists.{tokens-append}
+use Rattle.link_laws.proofs.TravelKept.{leave-keeps}
 use Rattle.link_laws.proofs.links_lose_nothing.Goals as goal
 
 pub returns-clause-window : goal.returns-clause-window
