@@ -1,3 +1,5 @@
+use Rattle.link_laws.proofs.SerialSteps.{credit-at}
+use Rattle.link_laws.proofs.SerialPlan.{gap-at}
 use Rattle.link_laws.proofs.TravelKept.{leave-keeps}
 use Rattle.link_laws.proofs.links_lose_nothing.Goals as goal
 

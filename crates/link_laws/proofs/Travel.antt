@@ -1,0 +1,1 @@
+-- A directed link of the serial machine.
