@@ -7,4 +7,4 @@ pub mod TravelEnds
 pub mod TravelKept
 pub mod SerialPlan
 pub mod SerialSteps
-pub mod Travel
+pub mod TravelSerial

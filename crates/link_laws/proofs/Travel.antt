@@ -1,1 +1,0 @@
--- A directed link of the serial machine.

@@ -1,0 +1,175 @@
+-- The directed links of the serial machine: what holds of each before each slot.
+use Rattle.std.proofs.Common.{◌≡◌, ℕ, zero, suc, ◌+◌, ◌<◌, ◌≤◌, Option, Some, None, List, [], ◌∷◌, ◌++◌, length, drop, map, get_or, slice_get, slice_index, option_to_list, refl, sym, ap, ◌∙◌, subst, arith, length-append}
+use Rattle.std.proofs.Math.Seq.{drop-append_seam}
+use Rattle.std.proofs.lemmas.Option.{get_or_from_slice_get}
+use Rattle.xs_base.specs.declared.numbers.TheConstants.{BUFFER_TOKENS, WINDOW_TOKENS}
+use Rattle.xs_base.specs.declared.token.Token.{Token}
+use Rattle.xs_base.specs.declared.entry.Entry.{Entry}
+use Rattle.xs_model.specs.Record.{NodeRec, LinkRec, first_node}
+use Rattle.net_model.specs.Links.{fresh_link}
+use Rattle.net_model.specs.Switch.{link_at}
+use Rattle.sys_plan.specs.declared.NodePlan.{NodePlan}
+use Rattle.sys_plan.specs.Plan.{PlanRec, Direction, IsPlan, directions, gaps_of}
+use Rattle.step_model.specs.Start.{node_of}
+use Rattle.step_model.specs.Step.{Stepped}
+use Rattle.serial_model.specs.Serial.{SystemRec, system_at_start, system_step, steps_of, serial, sent_by, emitted_by, arriving, token_among, credit_among}
+use Rattle.link_laws.specs.LinkSlot.{SlotAtLinkEnd}
+use Rattle.link_laws.specs.Travel.{Travel, travel_of, link_end, opposite, OfEnds, OfEachLink, Window, Arrives, Order, tokens_of, credits_of, in_flight}
+use Rattle.link_laws.proofs.TravelLists.{one_if, sent_in, tokens-arrive, credits-arrive}
+use Rattle.link_laws.proofs.TravelKept.{Kept, kept-at-start, sent-parts, token-fits, credit-is-due, arrive-keeps, leave-keeps}
+use Rattle.link_laws.proofs.SerialPlan.{turned, opposite-at, IsDirected, directed, gap-at}
+use Rattle.link_laws.proofs.SerialSteps.{found, map-at, node-at-start, link-at-start, step_at, steps-at, end-slot, emitted-at, history-at, token-at, credit-at}
+
+-- directed link l of a system before a slot: its nodes, its link ends, and its histories
+pub record Joined (system : SystemRec) (slot l : ℕ) (d : Direction) : Type 0 where
+  pub from_node : NodeRec
+  pub to_node : NodeRec
+  pub sender : LinkRec
+  pub receiver : LinkRec
+  pub forth : List Entry
+  pub back : List Entry
+  pub taken : List Token
+  pub from_is : slice_get system.nodes d.from ≡ Some from_node
+  pub to_is : slice_get system.nodes d.to ≡ Some to_node
+  pub sender_is : link_at from_node d.from_end ≡ Some sender
+  pub receiver_is : link_at to_node d.to_end ≡ Some receiver
+  pub forth_is : slice_get system.histories l ≡ Some forth
+  pub back_is : slice_get system.histories (opposite l) ≡ Some back
+  pub kept : Kept slot d.delay sender receiver forth back taken
+
+module _ (plan : PlanRec) (is : IsPlan plan) (l : ℕ) (d : Direction) (here : slice_get (directions plan.links) l ≡ Some d) where
+  abbrev there : slice_get (directions plan.links) (opposite l) ≡ Some (turned d)
+  there = opposite-at plan.links l d here
+
+  abbrev within : IsDirected (length plan.nodes) d
+  within = directed plan is l d here
+
+  from_gap : 1 ≤ slice_index (gaps_of plan d.from) d.from_end
+  from_gap = omega (arith, gap-at plan is l d here, within.gap)
+
+  to_gap : 1 ≤ slice_index (gaps_of plan d.to) d.to_end
+  to_gap = omega (arith, gap-at plan is (opposite l) (turned d) there, within.gap)
+
+  joined-start : Joined (system_at_start plan) 0 l d
+  joined-start =
+      let from = found plan.nodes d.from within.from in
+      let to = found plan.nodes d.to within.to in
+      record {
+        from_node = node_of from.0 (gaps_of plan d.from);
+        to_node = node_of to.0 (gaps_of plan d.to);
+        sender = fresh_link;
+        receiver = fresh_link;
+        forth = [];
+        back = [];
+        taken = [];
+        from_is = node-at-start plan 0 plan.nodes d.from d.from from.0 (omega arith) from.1;
+        to_is = node-at-start plan 0 plan.nodes d.to d.to to.0 (omega arith) to.1;
+        sender_is = link-at-start plan d.from d.from_end from.0 within.from_end from_gap;
+        receiver_is = link-at-start plan d.to d.to_end to.0 within.to_end to_gap;
+        forth_is = map-at (λ (d : Direction). []) (directions plan.links) l d here;
+        back_is = map-at (λ (d : Direction). []) (directions plan.links) (opposite l) (turned d) there;
+        kept = kept-at-start d.delay;
+      }
+
+  module _ (at_end : SlotAtLinkEnd) (system : SystemRec) (slot : ℕ) (j : Joined system slot l d) where
+    joined-next : Joined (system_step plan slot system) (suc slot) l d
+    joined-next =
+        let from = found plan.nodes d.from within.from in
+        let to = found plan.nodes d.to within.to in
+        let steps = steps_of plan slot system in
+        let from_step = step_at plan system.histories slot d.from from.0 j.from_node in
+        let to_step = step_at plan system.histories slot d.to to.0 j.to_node in
+        let from_at : slice_get steps d.from ≡ Some from_step = steps-at plan system.histories slot 0 plan.nodes system.nodes d.from d.from from.0 j.from_node (omega arith) from.1 j.from_is in
+        let to_at : slice_get steps d.to ≡ Some to_step = steps-at plan system.histories slot 0 plan.nodes system.nodes d.to d.to to.0 j.to_node (omega arith) to.1 j.to_is in
+        let sends =
+            end-slot plan system.histories slot at_end d.from d.from_end from.0 j.from_node j.sender (token_among (arriving slot d.delay j.back)) (credit_among (arriving slot d.delay j.back)) within.from_end from_gap j.sender_is
+            (token-at plan is system.histories slot (opposite l) (turned d) there j.back j.back_is within.from_end) (credit-at plan is system.histories slot (opposite l) (turned d) there j.back j.back_is within.from_end) in
+        let receives =
+            end-slot plan system.histories slot at_end d.to d.to_end to.0 j.to_node j.receiver (token_among (arriving slot d.delay j.forth)) (credit_among (arriving slot d.delay j.forth)) within.to_end to_gap j.receiver_is
+            (token-at plan is system.histories slot l d here j.forth j.forth_is within.to_end) (credit-at plan is system.histories slot l d here j.forth j.forth_is within.to_end) in
+        let forth_at = history-at slot steps (directions plan.links) system.histories l d j.forth here j.forth_is in
+        let back_at = history-at slot steps (directions plan.links) system.histories (opposite l) (turned d) j.back there j.back_is in
+        let arrived = arrive-keeps slot d.delay j.sender j.receiver j.forth j.back j.taken j.kept (token_among (arriving slot d.delay j.back)) (credit_among (arriving slot d.delay j.forth)) in
+        record {
+          from_node = from_step.rec;
+          to_node = to_step.rec;
+          sender = sends.0;
+          receiver = receives.0;
+          forth = j.forth ++ sent_by slot from_step.emitted d.from_end;
+          back = j.back ++ sent_by slot to_step.emitted d.to_end;
+          taken = _;
+          from_is = map-at (λ (s : Stepped). s.rec) steps d.from from_step from_at;
+          to_is = map-at (λ (s : Stepped). s.rec) steps d.to to_step to_at;
+          sender_is = sends.1;
+          receiver_is = receives.1;
+          forth_is = forth_at ∙ ap (λ e. Some (j.forth ++ sent_by slot e d.from_end)) (emitted-at steps d.from from_step from_at);
+          back_is = back_at ∙ ap (λ e. Some (j.back ++ sent_by slot e d.to_end)) (emitted-at steps d.to to_step to_at);
+          kept = leave-keeps slot d.delay _ _ j.forth j.back j.taken arrived _ _ sends.0 receives.0 _ _ _ _ sends.2 receives.2 within.delay;
+        }
+
+  pub joined : SlotAtLinkEnd → (slot : ℕ) → Joined (serial plan slot) slot l d
+  unfolding serial
+  joined at_end zero = joined-start
+  joined at_end (suc slot) = joined-next at_end (serial plan slot) slot (joined at_end slot)
+
+-- ---- What that says of the directed link
+
+module _ (system : SystemRec) (slot l : ℕ) (d : Direction) (j : Joined system slot l d) where
+  abbrev travel : Travel
+  travel = record { slot = slot; delay = d.delay; sender = Some j.sender; receiver = Some j.receiver; forth = j.forth; back = j.back }
+
+  end-is : (node end : ℕ) (rec : NodeRec) (link : LinkRec) → slice_get system.nodes node ≡ Some rec → link_at rec end ≡ Some link → link_end system node end ≡ Some link
+  end-is node end rec link h g = ap (λ (r : NodeRec). link_at r end) (get_or_from_slice_get system.nodes node rec (first_node 0 0 []) h) ∙ g
+
+  travel-is : travel_of system slot l d ≡ travel
+  travel-is =
+      let sender = end-is d.from d.from_end j.from_node j.sender j.from_is j.sender_is in
+      let receiver = end-is d.to d.to_end j.to_node j.receiver j.to_is j.receiver_is in
+      let forth = get_or_from_slice_get system.histories l j.forth [] j.forth_is in
+      let back = get_or_from_slice_get system.histories (opposite l) j.back [] j.back_is in
+      λ i. record { slot = slot; delay = d.delay; sender = sender i; receiver = receiver i; forth = forth i; back = back i }
+
+  of-ends : (holds : Travel → LinkRec → LinkRec → Type 0) → holds travel j.sender j.receiver → OfEnds holds (travel_of system slot l d) (travel_of system slot l d).sender (travel_of system slot l d).receiver
+  of-ends holds h = subst (λ (t : Travel). OfEnds holds t t.sender t.receiver) (sym travel-is) h
+
+  abbrev k : Kept slot d.delay j.sender j.receiver j.forth j.back j.taken
+  k = j.kept
+
+  parts : length j.sender.sent ≡ credits_of j.back + (length j.receiver.buffer + length (tokens_of (in_flight slot d.delay j.forth)))
+  parts = sent-parts slot d.delay j.sender j.receiver j.forth j.back j.taken k
+
+  pub window-of : OfEnds Window (travel_of system slot l d) (travel_of system slot l d).sender (travel_of system slot l d).receiver
+  window-of = of-ends Window (record {
+    open_tokens = omega (arith, parts, k.credited);
+    few = k.few;
+    fits = omega (arith, parts, k.credited, k.few);
+  })
+
+  pub arrives-of : OfEnds Arrives (travel_of system slot l d) (travel_of system slot l d).sender (travel_of system slot l d).receiver
+  arrives-of = of-ends Arrives (record {
+    one_token = tokens-arrive slot d.delay j.forth k.forth_history;
+    one_credit = k.back_history.one_credit slot;
+    token_fits = omega (arith, ap length (tokens-arrive slot d.delay j.forth k.forth_history), token-fits slot d.delay j.sender j.receiver j.forth j.back j.taken k);
+    credit_is_due = omega (arith, credits-arrive slot d.delay j.back k.back_history, credit-is-due slot d.delay j.sender j.receiver j.forth j.back j.taken k);
+  })
+
+  pub order-of : OfEnds Order (travel_of system slot l d) (travel_of system slot l d).sender (travel_of system slot l d).receiver
+  order-of =
+      let rest = j.receiver.buffer ++ tokens_of (in_flight slot d.delay j.forth) in
+      let others : drop (credits_of j.back) (tokens_of j.forth) ≡ rest =
+          ap (λ (l : List Token). drop (credits_of j.back) l) k.order ∙ ap (λ (n : ℕ). drop n (j.taken ++ rest)) (sym k.taken_credits) ∙ drop-append_seam j.taken rest in
+      of-ends Order (record {
+        taken = omega (arith, k.taken_credits, ap length k.order, length-append j.taken rest);
+        others = others;
+      })
+
+-- for every plan, before every slot, for each directed link
+module _ (at_end : SlotAtLinkEnd) where
+  pub window-is-kept : OfEachLink Window
+  window-is-kept plan slot l d is here = window-of (serial plan slot) slot l d (joined plan is l d here at_end slot)
+
+  pub fits-where-it-arrives : OfEachLink Arrives
+  fits-where-it-arrives plan slot l d is here = arrives-of (serial plan slot) slot l d (joined plan is l d here at_end slot)
+
+  pub keeps-its-order : OfEachLink Order
+  keeps-its-order plan slot l d is here = order-of (serial plan slot) slot l d (joined plan is l d here at_end slot)
