@@ -1,5 +1,5 @@
 -- A directed link of a plan: the one that goes back, the link ends that it joins, and their gaps.
-use Rattle.std.proofs.Common.{◌≡◌, ◌≢◌, ℕ, zero, suc, ◌+◌, ◌-◌, ◌%◌, ◌<◌, ◌≤◌, Bool, true, false, cond, ◌&&◌, eqb, Option, Some, None, List, [], ◌∷◌, length, map, get_or, slice_get, slice_index, option_map, refl, sym, ap, ◌∙◌, subst, arith, inl, inr}
+use Rattle.std.proofs.Common.{◌≡◌, ◌≢◌, ℕ, zero, suc, ◌+◌, ◌-◌, ◌%◌, ◌<◌, ◌≤◌, Bool, true, false, ◌&&◌, eqb, Some, List, [], ◌∷◌, length, map, get_or, slice_get, slice_index, option_map, refl, sym, ap, ◌∙◌, subst, arith, inl, inr}
 use mathlib.Core.Logic.{◌⊎◌}
 use Rattle.std.specs.List.{AllByRecursion}
 use Rattle.std.proofs.lemmas.Bool.{eq-eqb, ne_eqb, eqb-true, eqb-false, cases_Bool, and_left, and_right}
@@ -94,6 +94,7 @@ not-both a b c d ne = by-first (cases_Bool (eqb a c)) (cases_Bool (eqb b d))
     by-first (inl same) (inr other) = and_right (eqb a c) (eqb b d) other
     by-first (inl same) (inl also) = absurd (ne (λ i. (eqb-true a c same i, eqb-true b d also i)))
 
+-- the first directed link at a place, by a test of its place
 module _ (place : Direction → Place) (test : Place → Direction → Bool) (hits : (d : Direction) → test (place d) d ≡ true) (misses : (p : Place) (d : Direction) → (place d ≡ p → ⊥) → test p d ≡ false) where
   not-among : (x : Direction) (ds : List Direction) (l : ℕ) (d : Direction) → AllByRecursion (λ y. place x ≢ y) (map place ds) → slice_get ds l ≡ Some d → place x ≡ place d → ⊥
   not-among x [] l d all h same = none-some d h
@@ -138,11 +139,14 @@ module _ (plan : PlanRec) (is : IsPlan plan) (l : ℕ) (d : Direction) (here : s
       (directions plan.links) 0 l d (to-distinct plan.links is.places) here
       ∙ ap (λ (k : ℕ). Some k) zero-on
 
+  at-number : (f : Direction → ℕ) → get_or (map f (directions plan.links)) l 0 ≡ f d
+  at-number f = get_or_from_slice_get (map f (directions plan.links)) l (f d) 0 (slice_get-map f (directions plan.links) l ∙ ap (option_map f) here)
+
   pub delay-is : delay_of plan l ≡ d.delay
-  delay-is = get_or_from_slice_get (map (λ (d : Direction). d.delay) (directions plan.links)) l d.delay 0 (slice_get-map (λ (d : Direction). d.delay) (directions plan.links) l ∙ ap (option_map (λ (d : Direction). d.delay)) here)
+  delay-is = at-number (λ (d : Direction). d.delay)
 
   gap-is : gap_of plan l ≡ d.gap
-  gap-is = get_or_from_slice_get (map (λ (d : Direction). d.gap) (directions plan.links)) l d.gap 0 (slice_get-map (λ (d : Direction). d.gap) (directions plan.links) l ∙ ap (option_map (λ (d : Direction). d.gap)) here)
+  gap-is = at-number (λ (d : Direction). d.gap)
 
   pub directed : IsDirected (length plan.nodes) d
   directed = directed-at (length plan.nodes) plan.links l d is.links here

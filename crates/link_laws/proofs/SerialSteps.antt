@@ -1,15 +1,15 @@
 -- The serial machine as it starts, and one slot of it at a node and at a directed link.
-use Rattle.std.proofs.Common.{◌≡◌, ℕ, zero, suc, ◌+◌, ◌<◌, ◌≤◌, Bool, true, false, Option, Some, None, List, [], ◌∷◌, ◌++◌, length, map, get_or, slice_get, slice_index, slice_index_or, option_map, refl, sym, ap, ◌∙◌, subst, arith}
+use Rattle.std.proofs.Common.{◌≡◌, ℕ, zero, suc, ◌+◌, ◌<◌, ◌≤◌, Bool, false, Option, Some, None, List, [], ◌∷◌, ◌++◌, length, map, get_or, slice_get, slice_index, slice_index_or, option_map, refl, ap, ◌∙◌, subst, arith}
 use Rattle.std.proofs.lemmas.Bool.{ne_eqb}
 use Rattle.std.proofs.lemmas.Option.{none-some, same_Some, slice_get-map, get_or_from_slice_get}
 use Rattle.xs_base.specs.declared.token.Token.{Token}
 use Rattle.xs_base.specs.declared.entry.Entry.{Entry}
 use Rattle.xs_model.specs.Record.{NodeRec, LinkRec}
-use Rattle.xs_model.specs.Outside.{Emitted, emitted_events}
+use Rattle.xs_model.specs.Outside.{emitted_events}
 use Rattle.net_model.specs.Links.{fresh_link, link_after_arrivals}
 use Rattle.net_model.specs.Switch.{link_at}
 use Rattle.sys_plan.specs.declared.NodePlan.{NodePlan}
-use Rattle.sys_plan.specs.Plan.{PlanRec, Direction, IsPlan, directions, incoming, delay_of, gaps_of, link_ends}
+use Rattle.sys_plan.specs.Plan.{PlanRec, Direction, IsPlan, directions, incoming, gaps_of}
 use Rattle.step_model.specs.Start.{fixed_of, node_of, link_with_gap}
 use Rattle.step_model.specs.Step.{Stepped, node_step}
 use Rattle.serial_model.specs.Serial.{nodes_at_start, arriving, arriving_by, token_among, credit_among, arrivals_at, pins_at, steps_from, sent_by, emitted_by, longer_histories}
@@ -28,7 +28,8 @@ map-at f xs k x h = slice_get-map f xs k ∙ ap (option_map f) h
 
 -- ---- The start
 
-pub node-at-start : (plan : PlanRec) (n : ℕ) (nodes : List NodePlan) (k m : ℕ) (node : NodePlan) → m ≡ n + k → slice_get nodes k ≡ Some node → slice_get (nodes_at_start plan n nodes) k ≡ Some (node_of node (gaps_of plan m))
+pub node-at-start : (plan : PlanRec) (n : ℕ) (nodes : List NodePlan) (k m : ℕ) (node : NodePlan) → m ≡ n + k → slice_get nodes k ≡ Some node
+    → slice_get (nodes_at_start plan n nodes) k ≡ Some (node_of node (gaps_of plan m))
 node-at-start plan n [] k m node e h = absurd (none-some node h)
 node-at-start plan n (x ∷ nodes) zero m node e h =
     let same : n ≡ m = omega arith in
@@ -70,25 +71,38 @@ module _ (plan : PlanRec) (histories : List (List Entry)) (slot : ℕ) where
   end-slot-of gap before None token credit h = absurd h
   end-slot-of gap before (Some after) token credit h = (after, refl, h)
 
-  pub end-slot : SlotAtLinkEnd → (n end : ℕ) (node : NodePlan) (rec : NodeRec) (link : LinkRec) (token : Option Token) (credit : Bool) → end < 8 → 1 ≤ slice_index (gaps_of plan n) end → link_at rec end ≡ Some link
-      → slice_index_or (arrivals_at plan histories slot n).tokens end None ≡ token → slice_index_or (arrivals_at plan histories slot n).credits end false ≡ credit
-      → (after : LinkRec) × (link_at (step_at n node rec).rec end ≡ Some after)
-      × LinkSlot (slice_index (gaps_of plan n) end) slot (arrived slot token credit link) after
-      (slice_index_or (step_at n node rec).emitted.tokens end None) (slice_index_or (step_at n node rec).emitted.credits end false)
-  end-slot at_end n end node rec link token credit inside gap is is_token is_credit =
-      let does = at_end (fixed_of node (gaps_of plan n)) rec slot (arrivals_at plan histories slot n) (pins_at plan n slot) end inside gap in
-      let then : link_after_arrivals slot (slice_index_or (arrivals_at plan histories slot n).tokens end None) (slice_index_or (arrivals_at plan histories slot n).credits end false) (link_at rec end) ≡ Some (arrived slot token credit link) =
-          λ i. link_after_arrivals slot (is_token i) (is_credit i) (is i) in
-      end-slot-of (slice_index (gaps_of plan n) end) (arrived slot token credit link) (link_at (step_at n node rec).rec end) _ _
-      (subst (λ (o : Option LinkRec). LinkSlotAt (slice_index (gaps_of plan n) end) slot o (link_at (step_at n node rec).rec end)
-      (slice_index_or (step_at n node rec).emitted.tokens end None) (slice_index_or (step_at n node rec).emitted.credits end false)) then does)
+  -- what arrives at a link end of the node at a position
+  abbrev pub token_to : ℕ → ℕ → Option Token
+  token_to n end = slice_index_or (arrivals_at plan histories slot n).tokens end None
+
+  abbrev pub credit_to : ℕ → ℕ → Bool
+  credit_to n end = slice_index_or (arrivals_at plan histories slot n).credits end false
+
+  -- a link end before and after a slot, where this arrives at it
+  module _ (at_end : SlotAtLinkEnd) (n end : ℕ) (node : NodePlan) (rec : NodeRec) (before : LinkRec) (token : Option Token) (credit : Bool) where
+    abbrev gap : ℕ
+    gap = slice_index (gaps_of plan n) end
+
+    abbrev step : Stepped
+    step = step_at n node rec
+
+    abbrev DoesSo : Option LinkRec → Option LinkRec → Type 0
+    DoesSo now after = LinkSlotAt gap slot now after (slice_index_or step.emitted.tokens end None) (slice_index_or step.emitted.credits end false)
+
+    pub end-slot : end < 8 → 1 ≤ gap → link_at rec end ≡ Some before → token_to n end ≡ token → credit_to n end ≡ credit
+        → (after : LinkRec) × (link_at step.rec end ≡ Some after)
+        × LinkSlot gap slot (arrived slot token credit before) after (slice_index_or step.emitted.tokens end None) (slice_index_or step.emitted.credits end false)
+    end-slot inside has_gap is is_token is_credit =
+        let does = at_end (fixed_of node (gaps_of plan n)) rec slot (arrivals_at plan histories slot n) (pins_at plan n slot) end inside has_gap in
+        let now : link_after_arrivals slot (token_to n end) (credit_to n end) (link_at rec end) ≡ Some (arrived slot token credit before) = λ i. link_after_arrivals slot (is_token i) (is_credit i) (is i) in
+        end-slot-of gap (arrived slot token credit before) (link_at step.rec end) _ _ (subst (λ (o : Option LinkRec). DoesSo o (link_at step.rec end)) now does)
 
 -- what the node at a position emitted
 pub emitted-at : (steps : List Stepped) (k : ℕ) (s : Stepped) → slice_get steps k ≡ Some s → emitted_by steps k ≡ s.emitted
 emitted-at steps k s h = get_or_from_slice_get (map (λ (s : Stepped). s.emitted) steps) k s.emitted (emitted_events []) (map-at (λ (s : Stepped). s.emitted) steps k s h)
 
-pub history-at : (slot : ℕ) (steps : List Stepped) (ds : List Direction) (histories : List (List Entry)) (l : ℕ) (d : Direction) (history : List Entry) → slice_get ds l ≡ Some d → slice_get histories l ≡ Some history
-    → slice_get (longer_histories slot steps ds histories) l ≡ Some (history ++ sent_by slot (emitted_by steps d.from) d.from_end)
+pub history-at : (slot : ℕ) (steps : List Stepped) (ds : List Direction) (histories : List (List Entry)) (l : ℕ) (d : Direction) (history : List Entry)
+    → slice_get ds l ≡ Some d → slice_get histories l ≡ Some history → slice_get (longer_histories slot steps ds histories) l ≡ Some (history ++ sent_by slot (emitted_by steps d.from) d.from_end)
 history-at slot steps [] histories l d history h g = absurd (none-some d h)
 history-at slot steps (x ∷ ds) [] l d history h g = absurd (none-some history g)
 history-at slot steps (x ∷ ds) (y ∷ histories) zero d history h g =
@@ -97,14 +111,21 @@ history-at slot steps (x ∷ ds) (y ∷ histories) (suc l) d history h g = histo
 
 -- ---- What arrives at the link end that a directed link comes to
 
-module _ (plan : PlanRec) (is : IsPlan plan) (histories : List (List Entry)) (slot l : ℕ) (d : Direction) (here : slice_get (directions plan.links) l ≡ Some d) (history : List Entry) (at : slice_get histories l ≡ Some history) (inside : d.to_end < 8) where
-  arriving-is : arriving_by plan histories slot (incoming plan d.to d.to_end) ≡ arriving slot d.delay history
-  arriving-is =
-      ap (arriving_by plan histories slot) (incoming-is plan is l d here)
-      ∙ (λ i. arriving slot (delay-is plan is l d here i) (get_or_from_slice_get histories l history [] at i))
+module _ (plan : PlanRec) (histories : List (List Entry)) (slot l : ℕ) (d : Direction) (history : List Entry) where
+  -- directed link l is d, and this is its history
+  pub record IsHistory : Type 0 where
+    pub plan_is : IsPlan plan
+    pub here : slice_get (directions plan.links) l ≡ Some d
+    pub history_is : slice_get histories l ≡ Some history
+    pub inside : d.to_end < 8
 
-  pub token-at : slice_index_or (arrivals_at plan histories slot d.to).tokens d.to_end None ≡ token_among (arriving slot d.delay history)
-  token-at = at-link-end (λ end. token_among (arriving_by plan histories slot (incoming plan d.to end))) None d.to_end inside ∙ ap token_among arriving-is
+  arriving-is : IsHistory → arriving_by plan histories slot (incoming plan d.to d.to_end) ≡ arriving slot d.delay history
+  arriving-is is =
+      ap (arriving_by plan histories slot) (incoming-is plan is.plan_is l d is.here)
+      ∙ (λ i. arriving slot (delay-is plan is.plan_is l d is.here i) (get_or_from_slice_get histories l history [] is.history_is i))
 
-  pub credit-at : slice_index_or (arrivals_at plan histories slot d.to).credits d.to_end false ≡ credit_among (arriving slot d.delay history)
-  credit-at = at-link-end (λ end. credit_among (arriving_by plan histories slot (incoming plan d.to end))) false d.to_end inside ∙ ap credit_among arriving-is
+  pub token-at : IsHistory → token_to plan histories slot d.to d.to_end ≡ token_among (arriving slot d.delay history)
+  token-at is = at-link-end (λ end. token_among (arriving_by plan histories slot (incoming plan d.to end))) None d.to_end is.inside ∙ ap token_among (arriving-is is)
+
+  pub credit-at : IsHistory → credit_to plan histories slot d.to d.to_end ≡ credit_among (arriving slot d.delay history)
+  credit-at is = at-link-end (λ end. credit_among (arriving_by plan histories slot (incoming plan d.to end))) false d.to_end is.inside ∙ ap credit_among (arriving-is is)

@@ -1,8 +1,8 @@
 -- What arrives at a link end, and when it may send.
-use Rattle.std.proofs.Common.{◌≡◌, ℕ, zero, suc, ◌+◌, ◌<◌, ◌≤◌, Bool, true, false, cond, ltb, leb, Option, Some, None, List, [], ◌∷◌, ◌++◌, length, drop, filter, refl, sym, ap, ◌∙◌, subst, arith}
+use Rattle.std.proofs.Common.{◌≡◌, ℕ, suc, ◌+◌, ◌<◌, ◌≤◌, Bool, true, false, cond, ltb, leb, Option, Some, None, List, [], ◌∷◌, ◌++◌, length, drop, filter, refl, sym, ap, ◌∙◌, arith}
 use Rattle.std.specs.Prelude.{option_to_list}
 use Rattle.std.specs.List.{AllByRecursion}
-use Rattle.std.proofs.lemmas.Bool.{and_parts, ltb-true, lt-ltb, le-leb, true≢false}
+use Rattle.std.proofs.lemmas.Bool.{and_parts, ltb-true, lt-ltb, le-leb}
 use Rattle.std.proofs.lemmas.List.{append-nil}
 use Rattle.xs_base.specs.declared.numbers.TheConstants.{BUFFER_TOKENS, WINDOW_TOKENS}
 use Rattle.xs_base.specs.declared.token.Token.{Token}
@@ -14,7 +14,8 @@ use Rattle.link_laws.proofs.TravelLists.{all-map, one_if}
 -- ---- A token arrives
 
 -- it is put into the buffer, where that has room
-pub token-buffer : (token : Option Token) (link : LinkRec) → length link.buffer + length (option_to_list token) ≤ BUFFER_TOKENS → (token_arrives token link).buffer ≡ link.buffer ++ option_to_list token
+pub token-buffer : (token : Option Token) (link : LinkRec) → length link.buffer + length (option_to_list token) ≤ BUFFER_TOKENS
+    → (token_arrives token link).buffer ≡ link.buffer ++ option_to_list token
 token-buffer None link h = sym (append-nil link.buffer)
 token-buffer (Some t) link h =
     let lt : ltb (length link.buffer) BUFFER_TOKENS ≡ true = lt-ltb (length link.buffer) BUFFER_TOKENS (omega arith) in
@@ -47,7 +48,8 @@ counted-length slot true = omega arith
 counted-length slot false = refl
 
 -- it is counted, where a token that was sent has none yet
-credit-credited : (slot : ℕ) (credit : Bool) (link : LinkRec) → length link.credited + one_if credit ≤ length link.sent → (credit_arrives slot credit link).credited ≡ link.credited ++ counted slot credit
+credit-credited : (slot : ℕ) (credit : Bool) (link : LinkRec) → length link.credited + one_if credit ≤ length link.sent
+    → (credit_arrives slot credit link).credited ≡ link.credited ++ counted slot credit
 credit-credited slot false link h = sym (append-nil link.credited)
 credit-credited slot true link h =
     let lt : ltb (length link.credited) (length link.sent) ≡ true = lt-ltb (length link.credited) (length link.sent) (omega arith) in

@@ -1,5 +1,5 @@
 -- What holds of a directed link before each slot, and that a slot keeps it.
-use Rattle.std.proofs.Common.{◌≡◌, ℕ, zero, suc, ◌+◌, ◌<◌, ◌≤◌, Bool, true, false, cond, Option, Some, None, List, [], ◌∷◌, ◌++◌, length, drop, refl, sym, ap, ◌∙◌, subst, arith, append_assoc, length-append}
+use Rattle.std.proofs.Common.{◌≡◌, ℕ, suc, ◌+◌, ◌<◌, ◌≤◌, Bool, true, Option, Some, None, List, [], ◌++◌, length, refl, sym, ap, ◌∙◌, subst, arith, append_assoc, length-append}
 use Rattle.std.specs.Prelude.{is_some, option_to_list}
 use Rattle.std.specs.List.{AllByRecursion}
 use Rattle.xs_base.specs.declared.numbers.TheConstants.{BUFFER_TOKENS, WINDOW_TOKENS}
@@ -61,8 +61,14 @@ module _ (slot delay : ℕ) (sender receiver : LinkRec) (forth back : List Entry
   -- the tokens that were sent, by where they are
   pub sent-parts : length sender.sent ≡ credits_of back + (length receiver.buffer + length (tokens_of (in_flight slot delay forth)))
   sent-parts =
-      omega (arith, k.sent, ap length k.order, length-append taken (receiver.buffer ++ tokens_of (in_flight slot delay forth)),
-        length-append receiver.buffer (tokens_of (in_flight slot delay forth)), k.taken_credits)
+      omega (
+        arith,
+        k.sent,
+        ap length k.order,
+        length-append taken (receiver.buffer ++ tokens_of (in_flight slot delay forth)),
+        length-append receiver.buffer (tokens_of (in_flight slot delay forth)),
+        k.taken_credits,
+      )
 
   flight-parts : length (tokens_of (in_flight slot delay forth)) ≡ length (option_to_list token) + length (tokens_of (in_flight (suc slot) delay forth))
   flight-parts =
@@ -154,6 +160,12 @@ module _ (slot delay : ℕ) (sender receiver : LinkRec) (forth back : List Entry
           let in_flight_then = ap (λ l. (taken ++ first) ++ (receiver_after.buffer ++ l)) (sym (tokens-flight-next slot delay forth a.forth_history token other_credit d)) in
           sent ∙ were ∙ regroup taken first receiver_after.buffer flight more ∙ in_flight_then
 
+      credited-after : credits_of back_after ≡ length after.credited + credits_of (in_flight (suc slot) delay back_after)
+      credited-after =
+          let gone = credits-next slot delay back a.back_history other_token credit in
+          let flight = credits-flight-next slot delay back a.back_history other_token credit d in
+          omega (arith, a.credited, ap length s.credited, gone, flight)
+
       pub leave-keeps : Kept (suc slot) delay after receiver_after forth_after back_after (taken ++ first)
       leave-keeps = record {
         forth_history = next-history slot delay forth a.forth_history token other_credit;
@@ -167,7 +179,7 @@ module _ (slot delay : ℕ) (sender receiver : LinkRec) (forth back : List Entry
             subst (AllByRecursion (λ (n : ℕ). n < suc slot)) (sym s.credited)
             (all-map (λ (n : ℕ). n ≤ slot) (λ (n : ℕ). n < suc slot) (λ n l. omega (arith, l)) sender.credited a.credited_by);
         sent = omega (arith, sent-length, a.sent, ap length (tokens-next slot delay forth a.forth_history token other_credit), length-append (tokens_of forth) (option_to_list token));
-        credited = omega (arith, a.credited, ap length s.credited, credits-next slot delay back a.back_history other_token credit, credits-flight-next slot delay back a.back_history other_token credit d);
+        credited = credited-after;
         order = order-after;
         taken_credits = omega (arith, a.taken_credits, length-append taken first, taken-length credit receiver.buffer r.waited, credits-next slot delay back a.back_history other_token credit);
         few = omega (arith, sent-length, ap length s.credited, few-after token refl);

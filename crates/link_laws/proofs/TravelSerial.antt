@@ -1,24 +1,22 @@
 -- The directed links of the serial machine: what holds of each before each slot.
-use Rattle.std.proofs.Common.{◌≡◌, ℕ, zero, suc, ◌+◌, ◌<◌, ◌≤◌, Option, Some, None, List, [], ◌∷◌, ◌++◌, length, drop, map, get_or, slice_get, slice_index, option_to_list, refl, sym, ap, ◌∙◌, subst, arith, length-append}
+use Rattle.std.proofs.Common.{◌≡◌, ℕ, zero, suc, ◌+◌, ◌≤◌, Bool, Option, Some, List, [], ◌++◌, length, drop, slice_get, slice_index, sym, ap, ◌∙◌, subst, arith, length-append}
 use Rattle.std.proofs.Math.Seq.{drop-append_seam}
 use Rattle.std.proofs.lemmas.Option.{get_or_from_slice_get}
-use Rattle.xs_base.specs.declared.numbers.TheConstants.{BUFFER_TOKENS, WINDOW_TOKENS}
 use Rattle.xs_base.specs.declared.token.Token.{Token}
 use Rattle.xs_base.specs.declared.entry.Entry.{Entry}
 use Rattle.xs_model.specs.Record.{NodeRec, LinkRec, first_node}
 use Rattle.net_model.specs.Links.{fresh_link}
 use Rattle.net_model.specs.Switch.{link_at}
-use Rattle.sys_plan.specs.declared.NodePlan.{NodePlan}
 use Rattle.sys_plan.specs.Plan.{PlanRec, Direction, IsPlan, directions, gaps_of}
 use Rattle.step_model.specs.Start.{node_of}
 use Rattle.step_model.specs.Step.{Stepped}
-use Rattle.serial_model.specs.Serial.{SystemRec, system_at_start, system_step, steps_of, serial, sent_by, emitted_by, arriving, token_among, credit_among}
+use Rattle.serial_model.specs.Serial.{SystemRec, system_at_start, system_step, steps_of, serial, sent_by, arriving, token_among, credit_among}
 use Rattle.link_laws.specs.LinkSlot.{SlotAtLinkEnd}
 use Rattle.link_laws.specs.Travel.{Travel, travel_of, link_end, opposite, OfEnds, OfEachLink, Window, Arrives, Order, tokens_of, credits_of, in_flight}
-use Rattle.link_laws.proofs.TravelLists.{one_if, sent_in, tokens-arrive, credits-arrive}
+use Rattle.link_laws.proofs.TravelLists.{tokens-arrive, credits-arrive}
 use Rattle.link_laws.proofs.TravelKept.{Kept, kept-at-start, sent-parts, token-fits, credit-is-due, arrive-keeps, leave-keeps}
 use Rattle.link_laws.proofs.SerialPlan.{turned, opposite-at, IsDirected, directed, gap-at}
-use Rattle.link_laws.proofs.SerialSteps.{found, map-at, node-at-start, link-at-start, step_at, steps-at, end-slot, emitted-at, history-at, token-at, credit-at}
+use Rattle.link_laws.proofs.SerialSteps.{found, map-at, node-at-start, link-at-start, step_at, steps-at, end-slot, emitted-at, history-at, IsHistory, token-at, credit-at}
 
 -- directed link l of a system before a slot: its nodes, its link ends, and its histories
 pub record Joined (system : SystemRec) (slot l : ℕ) (d : Direction) : Type 0 where
@@ -72,24 +70,47 @@ module _ (plan : PlanRec) (is : IsPlan plan) (l : ℕ) (d : Direction) (here : s
       }
 
   module _ (at_end : SlotAtLinkEnd) (system : SystemRec) (slot : ℕ) (j : Joined system slot l d) where
+    abbrev steps : List Stepped
+    steps = steps_of plan slot system
+
+    -- what arrives at the sender, and at the receiver
+    abbrev back_token : Option Token
+    back_token = token_among (arriving slot d.delay j.back)
+
+    abbrev back_credit : Bool
+    back_credit = credit_among (arriving slot d.delay j.back)
+
+    abbrev forth_token : Option Token
+    forth_token = token_among (arriving slot d.delay j.forth)
+
+    abbrev forth_credit : Bool
+    forth_credit = credit_among (arriving slot d.delay j.forth)
+
+    forth-history : IsHistory plan system.histories slot l d j.forth
+    forth-history = record { plan_is = is; here = here; history_is = j.forth_is; inside = within.to_end }
+
+    back-history : IsHistory plan system.histories slot (opposite l) (turned d) j.back
+    back-history = record { plan_is = is; here = there; history_is = j.back_is; inside = within.from_end }
+
     joined-next : Joined (system_step plan slot system) (suc slot) l d
     joined-next =
         let from = found plan.nodes d.from within.from in
         let to = found plan.nodes d.to within.to in
-        let steps = steps_of plan slot system in
         let from_step = step_at plan system.histories slot d.from from.0 j.from_node in
         let to_step = step_at plan system.histories slot d.to to.0 j.to_node in
-        let from_at : slice_get steps d.from ≡ Some from_step = steps-at plan system.histories slot 0 plan.nodes system.nodes d.from d.from from.0 j.from_node (omega arith) from.1 j.from_is in
-        let to_at : slice_get steps d.to ≡ Some to_step = steps-at plan system.histories slot 0 plan.nodes system.nodes d.to d.to to.0 j.to_node (omega arith) to.1 j.to_is in
-        let sends =
-            end-slot plan system.histories slot at_end d.from d.from_end from.0 j.from_node j.sender (token_among (arriving slot d.delay j.back)) (credit_among (arriving slot d.delay j.back)) within.from_end from_gap j.sender_is
-            (token-at plan is system.histories slot (opposite l) (turned d) there j.back j.back_is within.from_end) (credit-at plan is system.histories slot (opposite l) (turned d) there j.back j.back_is within.from_end) in
-        let receives =
-            end-slot plan system.histories slot at_end d.to d.to_end to.0 j.to_node j.receiver (token_among (arriving slot d.delay j.forth)) (credit_among (arriving slot d.delay j.forth)) within.to_end to_gap j.receiver_is
-            (token-at plan is system.histories slot l d here j.forth j.forth_is within.to_end) (credit-at plan is system.histories slot l d here j.forth j.forth_is within.to_end) in
+        let from_at = steps-at plan system.histories slot 0 plan.nodes system.nodes d.from d.from from.0 j.from_node (omega arith) from.1 j.from_is in
+        let to_at = steps-at plan system.histories slot 0 plan.nodes system.nodes d.to d.to to.0 j.to_node (omega arith) to.1 j.to_is in
+        let token_back = token-at plan system.histories slot (opposite l) (turned d) j.back back-history in
+        let credit_back = credit-at plan system.histories slot (opposite l) (turned d) j.back back-history in
+        let token_forth = token-at plan system.histories slot l d j.forth forth-history in
+        let credit_forth = credit-at plan system.histories slot l d j.forth forth-history in
+        let sender_slot = end-slot plan system.histories slot at_end d.from d.from_end from.0 j.from_node j.sender back_token back_credit in
+        let receiver_slot = end-slot plan system.histories slot at_end d.to d.to_end to.0 j.to_node j.receiver forth_token forth_credit in
+        let sends = sender_slot within.from_end from_gap j.sender_is token_back credit_back in
+        let receives = receiver_slot within.to_end to_gap j.receiver_is token_forth credit_forth in
         let forth_at = history-at slot steps (directions plan.links) system.histories l d j.forth here j.forth_is in
         let back_at = history-at slot steps (directions plan.links) system.histories (opposite l) (turned d) j.back there j.back_is in
-        let arrived = arrive-keeps slot d.delay j.sender j.receiver j.forth j.back j.taken j.kept (token_among (arriving slot d.delay j.back)) (credit_among (arriving slot d.delay j.forth)) in
+        let arrived = arrive-keeps slot d.delay j.sender j.receiver j.forth j.back j.taken j.kept back_token forth_credit in
         record {
           from_node = from_step.rec;
           to_node = to_step.rec;
@@ -129,7 +150,10 @@ module _ (system : SystemRec) (slot l : ℕ) (d : Direction) (j : Joined system 
       let back = get_or_from_slice_get system.histories (opposite l) j.back [] j.back_is in
       λ i. record { slot = slot; delay = d.delay; sender = sender i; receiver = receiver i; forth = forth i; back = back i }
 
-  of-ends : (holds : Travel → LinkRec → LinkRec → Type 0) → holds travel j.sender j.receiver → OfEnds holds (travel_of system slot l d) (travel_of system slot l d).sender (travel_of system slot l d).receiver
+  abbrev Holds : (Travel → LinkRec → LinkRec → Type 0) → Type 0
+  Holds holds = let t = travel_of system slot l d in OfEnds holds t t.sender t.receiver
+
+  of-ends : (holds : Travel → LinkRec → LinkRec → Type 0) → holds travel j.sender j.receiver → Holds holds
   of-ends holds h = subst (λ (t : Travel). OfEnds holds t t.sender t.receiver) (sym travel-is) h
 
   abbrev k : Kept slot d.delay j.sender j.receiver j.forth j.back j.taken
@@ -138,14 +162,14 @@ module _ (system : SystemRec) (slot l : ℕ) (d : Direction) (j : Joined system 
   parts : length j.sender.sent ≡ credits_of j.back + (length j.receiver.buffer + length (tokens_of (in_flight slot d.delay j.forth)))
   parts = sent-parts slot d.delay j.sender j.receiver j.forth j.back j.taken k
 
-  pub window-of : OfEnds Window (travel_of system slot l d) (travel_of system slot l d).sender (travel_of system slot l d).receiver
+  pub window-of : Holds Window
   window-of = of-ends Window (record {
     open_tokens = omega (arith, parts, k.credited);
     few = k.few;
     fits = omega (arith, parts, k.credited, k.few);
   })
 
-  pub arrives-of : OfEnds Arrives (travel_of system slot l d) (travel_of system slot l d).sender (travel_of system slot l d).receiver
+  pub arrives-of : Holds Arrives
   arrives-of = of-ends Arrives (record {
     one_token = tokens-arrive slot d.delay j.forth k.forth_history;
     one_credit = k.back_history.one_credit slot;
@@ -153,11 +177,11 @@ module _ (system : SystemRec) (slot l : ℕ) (d : Direction) (j : Joined system 
     credit_is_due = omega (arith, credits-arrive slot d.delay j.back k.back_history, credit-is-due slot d.delay j.sender j.receiver j.forth j.back j.taken k);
   })
 
-  pub order-of : OfEnds Order (travel_of system slot l d) (travel_of system slot l d).sender (travel_of system slot l d).receiver
+  pub order-of : Holds Order
   order-of =
       let rest = j.receiver.buffer ++ tokens_of (in_flight slot d.delay j.forth) in
       let others : drop (credits_of j.back) (tokens_of j.forth) ≡ rest =
-          ap (λ (l : List Token). drop (credits_of j.back) l) k.order ∙ ap (λ (n : ℕ). drop n (j.taken ++ rest)) (sym k.taken_credits) ∙ drop-append_seam j.taken rest in
+      ap (λ (l : List Token). drop (credits_of j.back) l) k.order ∙ ap (λ (n : ℕ). drop n (j.taken ++ rest)) (sym k.taken_credits) ∙ drop-append_seam j.taken rest in
       of-ends Order (record {
         taken = omega (arith, k.taken_credits, ap length k.order, length-append j.taken rest);
         others = others;

@@ -1,15 +1,15 @@
 -- What travels on a link: the tokens of one direction, and the credits that go back for them.
-use Rattle.std.specs.Prelude.{ℕ, ◌≡◌, ◌+◌, ◌-◌, ◌%◌, ◌<◌, ◌≤◌, ◌==◌, nat_le, true, if◌then◌else◌, Option, Some, None, option_to_list, List, [], ◌∷◌, ◌++◌, length, drop, filter, slice_get, slice_index_or}
+use Rattle.std.specs.Prelude.{ℕ, ◌≡◌, ◌+◌, ◌-◌, ◌%◌, ◌≤◌, ◌==◌, nat_le, if◌then◌else◌, Option, Some, option_to_list, List, [], ◌∷◌, ◌++◌, length, drop, filter, slice_get, slice_index_or}
 use Rattle.xs_base.specs.Numbers.{Slot, Position, EndNumber, LinkNumber}
 use Rattle.xs_base.specs.declared.numbers.TheConstants.{BUFFER_TOKENS, WINDOW_TOKENS}
 use Rattle.xs_base.specs.declared.token.Token.{Token}
 use Rattle.xs_base.specs.declared.entry.Entry.{Entry}
 use Rattle.xs_base.specs.declared.entry.What.{What}
 use Rattle.xs_base.specs.declared.entry.What.TheVariants as what
-use Rattle.xs_model.specs.Record.{NodeRec, LinkRec, first_node}
+use Rattle.xs_model.specs.Record.{LinkRec, first_node}
 use Rattle.net_model.specs.Switch.{link_at}
 use Rattle.sys_plan.specs.Plan.{PlanRec, IsPlan, Direction, directions}
-use Rattle.serial_model.specs.Serial.{SystemRec, serial, arriving, token_among, credit_among}
+use Rattle.serial_model.specs.Serial.{SystemRec, serial, arriving, token_among}
 
 -- the directed link that goes back: 2k + 1 for 2k, and 2k for 2k + 1
 abbrev pub opposite : LinkNumber → LinkNumber
