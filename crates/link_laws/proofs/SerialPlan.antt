@@ -1,11 +1,13 @@
 -- A directed link of a plan: the one that goes back, the link ends that it joins, and their gaps.
-use Rattle.std.proofs.Common.{◌≡◌, ◌≢◌, ℕ, zero, suc, ◌+◌, ◌-◌, ◌%◌, ◌<◌, ◌≤◌, Bool, true, false, ◌&&◌, eqb, Some, List, [], ◌∷◌, length, map, get_or, slice_get, slice_index, option_map, refl, sym, ap, ◌∙◌, subst, arith, inl, inr}
+use Rattle.std.proofs.Common.{◌≡◌, ◌≢◌, ℕ, zero, suc, ◌+◌, ◌-◌, ◌%◌, ◌<◌, ◌≤◌, Bool, true, false, ◌&&◌, eqb, Some, List, [], ◌∷◌}
+use Rattle.std.proofs.Common.{length, map, get_or, slice_get, slice_index, option_map, refl, sym, ap, ◌∙◌, subst, arith, inl, inr}
 use mathlib.Core.Logic.{◌⊎◌}
 use Rattle.std.specs.List.{AllByRecursion}
 use Rattle.std.proofs.lemmas.Bool.{eq-eqb, ne_eqb, eqb-true, eqb-false, cases_Bool, and_left, and_right}
 use Rattle.std.proofs.lemmas.Option.{none-some, same_Some, slice_get-map, get_or_from_slice_get}
 use Rattle.sys_plan.specs.declared.LinkPlan.{LinkPlan}
-use Rattle.sys_plan.specs.Plan.{PlanRec, Direction, IsPlan, IsLink, AreDistinct, forth, back, directions, places_of, leaves_by, comes_to, first_link, outgoing, incoming, delay_of, gap_of, gap_by, gaps_of, link_ends}
+use Rattle.sys_plan.specs.Plan.{PlanRec, Direction, IsPlan, IsLink, AreDistinct, forth, back, directions, places_of, leaves_by}
+use Rattle.sys_plan.specs.Plan.{comes_to, first_link, outgoing, incoming, delay_of, gap_of, gap_by, gaps_of, link_ends}
 use Rattle.link_laws.specs.Travel.{opposite}
 
 -- ---- The directed link that goes back
@@ -95,7 +97,9 @@ not-both a b c d ne = by-first (cases_Bool (eqb a c)) (cases_Bool (eqb b d))
     by-first (inl same) (inl also) = absurd (ne (λ i. (eqb-true a c same i, eqb-true b d also i)))
 
 -- the first directed link at a place, by a test of its place
-module _ (place : Direction → Place) (test : Place → Direction → Bool) (hits : (d : Direction) → test (place d) d ≡ true) (misses : (p : Place) (d : Direction) → (place d ≡ p → ⊥) → test p d ≡ false) where
+module _ (place : Direction → Place) (test : Place → Direction → Bool)
+    (hits : (d : Direction) → test (place d) d ≡ true)
+    (misses : (p : Place) (d : Direction) → (place d ≡ p → ⊥) → test p d ≡ false) where
   not-among : (x : Direction) (ds : List Direction) (l : ℕ) (d : Direction) → AllByRecursion (λ y. place x ≢ y) (map place ds) → slice_get ds l ≡ Some d → place x ≡ place d → ⊥
   not-among x [] l d all h same = none-some d h
   not-among x (y ∷ ds) zero d all h same = all.0 (same ∙ ap place (sym (same_Some y d h)))

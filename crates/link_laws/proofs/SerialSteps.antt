@@ -1,5 +1,6 @@
 -- The serial machine as it starts, and one slot of it at a node and at a directed link.
-use Rattle.std.proofs.Common.{◌≡◌, ℕ, zero, suc, ◌+◌, ◌<◌, ◌≤◌, Bool, false, Option, Some, None, List, [], ◌∷◌, ◌++◌, length, map, get_or, slice_get, slice_index, slice_index_or, option_map, refl, ap, ◌∙◌, subst, arith}
+use Rattle.std.proofs.Common.{◌≡◌, ℕ, zero, suc, ◌+◌, ◌<◌, ◌≤◌, Bool, false, Option, Some, None, List, [], ◌∷◌, ◌++◌, length}
+use Rattle.std.proofs.Common.{map, get_or, slice_get, slice_index, slice_index_or, option_map, refl, ap, ◌∙◌, subst, arith}
 use Rattle.std.proofs.lemmas.Bool.{ne_eqb}
 use Rattle.std.proofs.lemmas.Option.{none-some, same_Some, slice_get-map, get_or_from_slice_get}
 use Rattle.xs_base.specs.declared.token.Token.{Token}
@@ -13,7 +14,7 @@ use Rattle.sys_plan.specs.Plan.{PlanRec, Direction, IsPlan, directions, incoming
 use Rattle.step_model.specs.Start.{fixed_of, node_of, link_with_gap}
 use Rattle.step_model.specs.Step.{Stepped, node_step}
 use Rattle.serial_model.specs.Serial.{nodes_at_start, arriving, arriving_by, token_among, credit_among, arrivals_at, pins_at, steps_from, sent_by, emitted_by, longer_histories}
-use Rattle.link_laws.specs.LinkSlot.{LinkSlot, LinkSlotAt, SlotAtLinkEnd}
+use Rattle.link_laws.specs.LinkSlot.{LinkSlot, LinkSlotAt, arrived_at, SlotAtLinkEnd}
 use Rattle.link_laws.proofs.TravelEnds.{arrived}
 use Rattle.link_laws.proofs.SerialPlan.{at-link-end, incoming-is, delay-is}
 
@@ -94,7 +95,7 @@ module _ (plan : PlanRec) (histories : List (List Entry)) (slot : ℕ) where
         × LinkSlot gap slot (arrived slot token credit before) after (slice_index_or step.emitted.tokens end None) (slice_index_or step.emitted.credits end false)
     end-slot inside has_gap is is_token is_credit =
         let does = at_end (fixed_of node (gaps_of plan n)) rec slot (arrivals_at plan histories slot n) (pins_at plan n slot) end inside has_gap in
-        let now : link_after_arrivals slot (token_to n end) (credit_to n end) (link_at rec end) ≡ Some (arrived slot token credit before) = λ i. link_after_arrivals slot (is_token i) (is_credit i) (is i) in
+        let now : arrived_at rec slot (arrivals_at plan histories slot n) end ≡ Some (arrived slot token credit before) = λ i. link_after_arrivals slot (is_token i) (is_credit i) (is i) in
         end-slot-of gap (arrived slot token credit before) (link_at step.rec end) _ _ (subst (λ (o : Option LinkRec). DoesSo o (link_at step.rec end)) now does)
 
 -- what the node at a position emitted

@@ -10,8 +10,10 @@ use Rattle.net_model.specs.Links.{fresh_link, may_send}
 use Rattle.serial_model.specs.Serial.{arriving, token_among, credit_among}
 use Rattle.link_laws.specs.LinkSlot.{LinkSlot, slots_of}
 use Rattle.link_laws.specs.Travel.{tokens_of, credits_of, in_flight}
-use Rattle.link_laws.proofs.TravelLists.{all-map, all-append, one_if, sent_in, History, empty-history, next-history, tokens-next, credits-next, tokens-flight-next, credits-flight-next, tokens-split, credits-split}
-use Rattle.link_laws.proofs.TravelEnds.{arrived, arrived-buffer, arrived-sent, arrived-credited, counted, counted-length, counted-by, few-where-allowed, slots-length, slots-before, taken_by, taken-and-rest, taken-length}
+use Rattle.link_laws.proofs.TravelLists.{all-map, all-append, one_if, sent_in, History, empty-history, next-history, tokens-next}
+use Rattle.link_laws.proofs.TravelLists.{credits-next, tokens-flight-next, credits-flight-next, tokens-split, credits-split}
+use Rattle.link_laws.proofs.TravelEnds.{arrived, arrived-buffer, arrived-sent, arrived-credited, counted, counted-length, counted-by}
+use Rattle.link_laws.proofs.TravelEnds.{few-where-allowed, slots-length, slots-before, taken_by, taken-and-rest, taken-length}
 
 -- the tokens that were sent are those that were taken from the receiver's buffer, those in it, and those in flight;
 -- a credit went back for each that was taken, and was counted or is in flight
