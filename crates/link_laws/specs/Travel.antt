@@ -7,9 +7,10 @@ use Rattle.xs_base.specs.declared.entry.Entry.{Entry}
 use Rattle.xs_base.specs.declared.entry.What.{What}
 use Rattle.xs_base.specs.declared.entry.What.TheVariants as what
 use Rattle.xs_model.specs.Record.{LinkRec, first_node}
+use Rattle.net_model.specs.Links.{token_arrives, credit_arrives}
 use Rattle.net_model.specs.Switch.{link_at}
 use Rattle.sys_plan.specs.Plan.{PlanRec, IsPlan, Direction, directions}
-use Rattle.serial_model.specs.Serial.{SystemRec, serial, arriving, token_among}
+use Rattle.serial_model.specs.Serial.{SystemRec, serial, arriving, token_among, credit_among}
 
 -- the directed link that goes back: 2k + 1 for 2k, and 2k for 2k + 1
 abbrev pub opposite : LinkNumber → LinkNumber
@@ -77,6 +78,8 @@ OfEachLink holds = (plan : PlanRec) (slot : Slot) (l : LinkNumber) (d : Directio
 -- ---- The window. A token that was sent has no credit yet while it is in flight, while it is in the receiver's buffer, and
 -- while its credit is in flight; there are never more than 8 of these.
 pub record Window (t : Travel) (sender receiver : LinkRec) : Type 0 where
+  -- the sender notes a slot for each token that was sent
+  pub noted : length sender.sent ≡ length (tokens_of t.forth)
   pub open_tokens : length sender.sent
       ≡ length sender.credited + (length (tokens_of (in_flight t.slot t.delay t.forth)) + (length receiver.buffer + credits_of (in_flight t.slot t.delay t.back)))
   pub few : length sender.sent ≤ length sender.credited + WINDOW_TOKENS
@@ -86,12 +89,15 @@ abbrev pub WindowIsKept : Type 0
 WindowIsKept = OfEachLink Window
 
 -- ---- What arrives: at most one token and one credit in a slot; the token has room in the receiver's buffer, and the credit
--- is for a token that has none yet.
+-- is for a token that has none yet; so neither is dropped.
 pub record Arrives (t : Travel) (sender receiver : LinkRec) : Type 0 where
   pub one_token : tokens_of (arriving t.slot t.delay t.forth) ≡ option_to_list (token_among (arriving t.slot t.delay t.forth))
   pub one_credit : credits_of (arriving t.slot t.delay t.back) ≤ 1
   pub token_fits : length receiver.buffer + length (tokens_of (arriving t.slot t.delay t.forth)) ≤ BUFFER_TOKENS
   pub credit_is_due : length sender.credited + credits_of (arriving t.slot t.delay t.back) ≤ length sender.sent
+  pub token_kept : (token_arrives (token_among (arriving t.slot t.delay t.forth)) receiver).buffer ≡ receiver.buffer ++ tokens_of (arriving t.slot t.delay t.forth)
+  pub credit_counted : length (credit_arrives t.slot (credit_among (arriving t.slot t.delay t.back)) sender).credited
+      ≡ length sender.credited + credits_of (arriving t.slot t.delay t.back)
 
 abbrev pub FitsWhereItArrives : Type 0
 FitsWhereItArrives = OfEachLink Arrives
