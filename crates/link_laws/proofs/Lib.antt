@@ -5,6 +5,3 @@ pub mod SlotAtEndStep
 pub mod TravelLists
 pub mod TravelEnds
 pub mod TravelKept
-pub mod SerialPlan
-pub mod SerialSteps
-pub mod TravelSerial
