@@ -5,3 +5,6 @@ pub mod SlotAtEndStep
 pub mod TravelLists
 pub mod TravelEnds
 pub mod TravelKept
+pub mod SerialPlan
+pub mod SerialSteps
+pub mod TravelSerial
