@@ -11,13 +11,21 @@ enum Call {
     SetDest(u32, Result<(), Bad>),
     Dest(Option<u32>),
     Put(Token, Put),
+    PutWord(u32, Put),
     FirstOut(Option<Token>),
     PopOut(Option<Token>),
     PushIn(Token, bool),
     FirstIn(Option<Token>),
     HasRoom(u8, bool),
     HasTokens(u8, bool),
+    TakeWord(Take),
+    TakeByte(Take),
+    TakeCtrl(Take),
     Check(u32, Take),
+    Look(Take),
+    LookWord(Take),
+    Sending(u32),
+    Ready(u32),
 }
 
 const END: Token = Token::Ctrl(1);
@@ -64,13 +72,90 @@ const OF_USED: [Call; 38] = [
     Call::FirstIn(Some(Token::Byte(1))),
 ];
 
-/// The calls on channel end 2, which is not.
-const OF_UNUSED: [Call; 5] = [
+/// What is taken from channel end 1, and what is seen there.
+const OF_TAKES: [Call; 40] = [
+    // Nothing is there.
+    Call::Ready(0),
+    Call::TakeWord(Take::Wait),
+    Call::TakeByte(Take::Wait),
+    Call::TakeCtrl(Take::Wait),
+    Call::Look(Take::Wait),
+    Call::LookWord(Take::Wait),
+    // Two bytes, and then a control token.
+    Call::PushIn(Token::Byte(5), true),
+    Call::PushIn(Token::Byte(6), true),
+    Call::Ready(0b10),
+    Call::LookWord(Take::Wait),
+    Call::PushIn(END, true),
+    Call::TakeWord(Take::Bad),
+    Call::LookWord(Take::Got(3)),
+    Call::Look(Take::Got(0)),
+    Call::TakeCtrl(Take::Bad),
+    Call::TakeByte(Take::Got(5)),
+    Call::TakeByte(Take::Got(6)),
+    Call::Look(Take::Got(1)),
+    Call::LookWord(Take::Got(1)),
+    Call::TakeByte(Take::Bad),
+    Call::Ready(0b10),
+    Call::TakeCtrl(Take::Got(1)),
+    Call::Ready(0),
+    // Three bytes, a fourth, and what is behind the four.
+    Call::PushIn(Token::Byte(1), true),
+    Call::PushIn(Token::Byte(2), true),
+    Call::PushIn(Token::Byte(3), true),
+    Call::TakeWord(Take::Wait),
+    Call::LookWord(Take::Wait),
+    Call::TakeCtrl(Take::Bad),
+    Call::PushIn(Token::Byte(4), true),
+    Call::LookWord(Take::Got(0)),
+    Call::TakeWord(Take::Got(0x01020304)),
+    Call::Look(Take::Wait),
+    Call::PushIn(Token::Byte(0xFF), true),
+    Call::PushIn(Token::Byte(0), true),
+    Call::PushIn(Token::Byte(0), true),
+    Call::PushIn(Token::Byte(1), true),
+    Call::PushIn(END, true),
+    Call::TakeWord(Take::Got(0xFF000001)),
+    Call::TakeCtrl(Take::Got(1)),
+];
+
+/// Words that are put into channel end 1.
+const OF_WORDS: [Call; 20] = [
+    Call::PutWord(1, Put::Bad),
+    Call::Sending(0),
+    Call::SetDest(0x00030102, Ok(())),
+    Call::PutWord(0xAABBCCDD, Put::Done),
+    Call::Sending(0b10),
+    Call::Put(END, Put::Done),
+    Call::PutWord(0x01020304, Put::Full),
+    Call::PopOut(Some(Token::Byte(0xAA))),
+    Call::PutWord(0x01020304, Put::Done),
+    Call::PutWord(0, Put::Full),
+    Call::PopOut(Some(Token::Byte(0xBB))),
+    Call::PopOut(Some(Token::Byte(0xCC))),
+    Call::PopOut(Some(Token::Byte(0xDD))),
+    Call::PopOut(Some(END)),
+    Call::PopOut(Some(Token::Byte(1))),
+    Call::PopOut(Some(Token::Byte(2))),
+    Call::PopOut(Some(Token::Byte(3))),
+    Call::Sending(0b10),
+    Call::PopOut(Some(Token::Byte(4))),
+    Call::Sending(0),
+];
+
+/// The calls on channel end 2, which is not in use.
+const OF_UNUSED: [Call; 11] = [
     Call::Used(false),
     Call::SetDest(0x00030102, Err(Bad)),
     Call::Dest(None),
     Call::Put(END, Put::Bad),
+    Call::PutWord(1, Put::Bad),
+    Call::TakeWord(Take::Bad),
+    Call::TakeByte(Take::Bad),
+    Call::TakeCtrl(Take::Bad),
     Call::Check(1, Take::Bad),
+    Call::Look(Take::Bad),
+    Call::LookWord(Take::Bad),
 ];
 
 fn make(rt: &impl Abort, ends: &mut ChanEnds, c: u8, call: Call)
@@ -81,13 +166,21 @@ fn make(rt: &impl Abort, ends: &mut ChanEnds, c: u8, call: Call)
         Call::SetDest(id, want) => assert_eq!(rt; ends.set_dest(c, id), want),
         Call::Dest(want) => assert_eq!(rt; ends.dest(c), want),
         Call::Put(t, want) => assert_eq!(rt; ends.put(c, t), want),
+        Call::PutWord(w, want) => assert_eq!(rt; ends.put_word(c, w), want),
         Call::FirstOut(want) => assert_eq!(rt; ends.first_out(c), want),
         Call::PopOut(want) => assert_eq!(rt; ends.pop_out(c), want),
         Call::PushIn(t, want) => assert_eq!(rt; ends.push_in(c, t), want),
         Call::FirstIn(want) => assert_eq!(rt; ends.first_in(c), want),
         Call::HasRoom(count, want) => assert_eq!(rt; ends.has_room(c, count), want),
         Call::HasTokens(count, want) => assert_eq!(rt; ends.has_tokens(c, count), want),
+        Call::TakeWord(want) => assert_eq!(rt; ends.take_word(c), want),
+        Call::TakeByte(want) => assert_eq!(rt; ends.take_byte(c), want),
+        Call::TakeCtrl(want) => assert_eq!(rt; ends.take_ctrl(c), want),
         Call::Check(v, want) => assert_eq!(rt; ends.check(c, v), want),
+        Call::Look(want) => assert_eq!(rt; ends.look(c), want),
+        Call::LookWord(want) => assert_eq!(rt; ends.look_word(c), want),
+        Call::Sending(want) => assert_eq!(rt; ends.sending(), want),
+        Call::Ready(want) => assert_eq!(rt; ends.ready(), want),
     }
 }
 
@@ -101,6 +194,19 @@ fn calls_answer_in_turn(rt: HostRuntime) {
     }
     for call in OF_UNUSED {
         make(&rt, &mut ends, 2, call);
+    }
+}
+
+#[test]
+fn tokens_and_words_are_taken_and_put(rt: HostRuntime) {
+    let mut ends = ChanEnds::new(3);
+    assert_eq!(rt; ends.alloc(), Some(0));
+    assert_eq!(rt; ends.alloc(), Some(1));
+    for call in OF_TAKES {
+        make(&rt, &mut ends, 1, call);
+    }
+    for call in OF_WORDS {
+        make(&rt, &mut ends, 1, call);
     }
 }
 
@@ -130,4 +236,21 @@ fn thirty_two_are_there(rt: HostRuntime) {
         assert_eq!(rt; ends.alloc(), Some(c));
     }
     assert_eq!(rt; ends.alloc(), None);
+}
+
+#[test]
+fn masks_tell_where_tokens_wait(rt: HostRuntime) {
+    let mut ends = ChanEnds::new(3);
+    assert_eq!(rt; ends.alloc(), Some(0));
+    assert_eq!(rt; ends.alloc(), Some(1));
+    assert_eq!(rt; ends.set_dest(1, 0x00030102), Ok(()));
+    assert_eq!(rt; ends.put(1, END), Put::Done);
+    assert_eq!(rt; ends.push_in(0, END), true);
+    assert_eq!(rt; ends.push_in(31, END), true);
+    assert_eq!(rt; ends.sending(), 0x00000002);
+    assert_eq!(rt; ends.ready(), 0x80000001);
+    assert_eq!(rt; ends.check(0, 1), Take::Got(1));
+    assert_eq!(rt; ends.ready(), 0x80000000);
+    assert_eq!(rt; ends.pop_out(1), Some(END));
+    assert_eq!(rt; ends.sending(), 0);
 }
