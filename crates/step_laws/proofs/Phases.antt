@@ -6,10 +6,12 @@ use Rattle.xs_base.specs.declared.token.Token.{Token}
 use Rattle.xs_base.specs.declared.token.Token.TheVariants.{Byte, Ctrl}
 use Rattle.xs_model.specs.declared.outside.Arrivals.{Arrivals}
 use Rattle.xs_model.specs.declared.outside.PinView.{PinView}
+use Rattle.xs_model.specs.declared.dest.Dest.{Dest}
+use Rattle.xs_model.specs.Dests.{dest_of}
 use Rattle.xs_model.specs.Record.{CoreRec, NodeRec, InputRec, Idle, Head1, Head2, Want, Local, Out, Lost, chan_of}
 use Rattle.xs_model.specs.Waits.{has_room}
 use Rattle.xs_model.specs.AtWork.{AtWork, slot_begins}
-use Rattle.net_model.specs.Ways.{Way, Here, Behind, chan_of_dest, way_to}
+use Rattle.net_model.specs.Ways.{Way, Here, Behind, way_to}
 use Rattle.net_model.specs.Links.{arrive}
 use Rattle.net_model.specs.Switch.{Routes, is_link_input, chan_of_input, to_state, waiting_at, state_at, chan_is_held, link_at, free_end, take_first, end_may_send, start_packet, packet_step, head_step, hold_end, is_pause, local_step, out_token, out_step, lost_step, want_way, want_step, step_at, moves_from}
 use Rattle.step_model.specs.Fixed.{Fixed}
@@ -42,31 +44,31 @@ module _ (core : CoreRec) where
   lost_keeps i (t ∷ rest) m h = take_keeps i m h
 
   module _ (routes : Routes) (slot : Slot) (i : InputNumber) where
-    token_keeps : (e : EndNumber) (headers : ℕ) (dest : Identifier) (waiting : List Token) (m : AtWork) → Keeps core m → Keeps core (out_token slot i e headers dest waiting m)
+    token_keeps : (e : EndNumber) (headers : ℕ) (dest : Dest) (waiting : List Token) (m : AtWork) → Keeps core m → Keeps core (out_token slot i e headers dest waiting m)
     token_keeps e headers dest [] m h = h
     token_keeps e headers dest (t ∷ rest) m h = take_keeps i m h
 
-    out_keeps : (e : EndNumber) (headers : ℕ) (dest : Identifier) (m : AtWork) → Keeps core m → Keeps core (out_step routes slot i e headers dest m)
+    out_keeps : (e : EndNumber) (headers : ℕ) (dest : Dest) (m : AtWork) → Keeps core m → Keeps core (out_step routes slot i e headers dest m)
     out_keeps e headers dest m h =
         either (end_may_send routes slot e (link_at m.rec e)) _ m (either (nat_lt headers HEADER_BYTES) _ _ h (token_keeps e headers dest (waiting_at m.rec i) m h)) h
 
-    hold_keeps : (dest : Identifier) (end : Option EndNumber) (m : AtWork) → Keeps core m → Keeps core (hold_end (λ e m. out_step routes slot i e 0 dest m) i dest end m)
+    hold_keeps : (dest : Dest) (end : Option EndNumber) (m : AtWork) → Keeps core m → Keeps core (hold_end (λ e m. out_step routes slot i e 0 dest m) i dest end m)
     hold_keeps dest None m h = h
     hold_keeps dest (Some e) m h = out_keeps e 0 dest _ h
 
-    way_keeps : (dest : Identifier) (way : Way) (m : AtWork) → Keeps core m → Keeps core (want_way routes slot i dest way m)
+    way_keeps : (dest : Dest) (way : Way) (m : AtWork) → Keeps core m → Keeps core (want_way routes slot i dest way m)
     way_keeps dest Here m h =
-        let n = chan_of_dest dest in
-        let held = to_state i (Local n) m in
-        either (not (nat_lt n CHAN_ENDS) || not (chan_of m.rec.core n).used) _ _ h (either (chan_is_held m.rec n) m _ h (local_keeps i n (waiting_at held.rec i) held h))
+        let held = to_state i (Local dest.chan) m in
+        either (not (nat_lt dest.chan CHAN_ENDS) || not (chan_of m.rec.core dest.chan).used) _ _ h
+        (either (chan_is_held m.rec dest.chan) m _ h (local_keeps i dest.chan (waiting_at held.rec i) held h))
     way_keeps dest (Behind mask) m h = either (mask == 0) _ _ h (hold_keeps dest (free_end m.rec mask 0 LINK_ENDS) m h)
 
-    want_keeps : (dest : Identifier) (m : AtWork) → Keeps core m → Keeps core (want_step routes slot i dest m)
-    want_keeps dest m h = way_keeps dest (way_to routes.id routes.ways dest) m h
+    want_keeps : (dest : Dest) (m : AtWork) → Keeps core m → Keeps core (want_step routes slot i dest m)
+    want_keeps dest m h = way_keeps dest (way_to routes.id routes.ways dest.node) m h
 
     start_keeps : (dest : Option Identifier) (m : AtWork) → Keeps core m → Keeps core (start_packet (want_step routes slot i) i dest m)
     start_keeps None m h = h
-    start_keeps (Some dest) m h = want_keeps dest _ h
+    start_keeps (Some id) m h = want_keeps (dest_of id) _ h
 
     packet_keeps : (waiting : List Token) (m : AtWork) → Keeps core m → Keeps core (packet_step (want_step routes slot i) i waiting m)
     packet_keeps [] m h = h

@@ -1,7 +1,7 @@
 -- What an instruction does to last issues: it changes none but that of a thread that it gets, which was free.
-use Rattle.std.proofs.Common.{◌≡◌, ℕ, Bool, true, false, ◌==◌, if◌then◌else◌, Option, Some, None, List, [], slice_set, refl}
+use Rattle.std.proofs.Common.{◌≡◌, ℕ, ◌%◌, Bool, true, false, ◌==◌, if◌then◌else◌, Option, Some, None, List, [], slice_set, refl}
 use Rattle.xs_base.specs.Numbers.{Slot, Word, Register, ThreadNumber, ChanNumber, Kind, Identifier}
-use Rattle.xs_base.specs.declared.token.Token.TheVariants.{Ctrl}
+use Rattle.xs_base.specs.declared.token.Token.TheVariants.{Byte, Ctrl}
 use Rattle.xs_base.specs.declared.numbers.TheConstants.{CHAN_END_KIND, SYNCHRONISER_KIND, THREAD_KIND, LOCK_KIND}
 use Rattle.xs_model.specs.declared.thread.Thread.{Thread}
 use Rattle.xs_model.specs.declared.thread.Run.TheVariants.{Going}
@@ -18,11 +18,11 @@ use Rattle.xs_instructions.specs.declared.instr.ThreadIns.{ThreadIns}
 use Rattle.xs_instructions.specs.declared.instr.ThreadIns.TheVariants as threads
 use Rattle.xs_instructions.specs.declared.instr.ResIns.{ResIns}
 use Rattle.xs_instructions.specs.declared.instr.ResIns.TheVariants as resources
-use Rattle.net_model.specs.Chans.{Found, Got, Waits, Refused, put_token, check_token, take_dest}
+use Rattle.net_model.specs.Chans.{Found, Got, Waits, Refused, put_token, take_byte, take_ctrl, check_token, look, look_word, take_dest, tell_dest}
 use Rattle.step_model.specs.Effect.{Setting, Effect, Done, Pause, Trap, Gone, Unbuilt, Leaving, Leaves, Traps, NotBuilt, Local, on_local, on_registers, reg}
 use Rattle.step_model.specs.Named.{resource_named}
 use Rattle.step_model.specs.ThreadRows.{is_taken, thread_to_get, slave_got, by_master, as_master, slaves_go, slaves_are_freed, when_all_in, on_named_thread, on_thread, is_slave, may_start, sets_other, threads_row}
-use Rattle.step_model.specs.ResourceRows.{resources_row, resource_got, chan_was_got, sync_was_got, thread_was_got, lock_was_got, without_chan, without_sync, without_lock, without, goes_on_in, freed, claimed_there, takes_in, puts_out, found_there, on_named, room, tokens, no_wait, takes_nothing}
+use Rattle.step_model.specs.ResourceRows.{resources_row, resource_got, chan_was_got, sync_was_got, thread_was_got, lock_was_got, without_chan, without_sync, without_lock, without, goes_on_in, freed, claimed_there, takes_in, puts_out, found_there, on_named, room, tokens, no_wait, takes_nothing, takes_into}
 use Rattle.step_model.specs.Rows.{effect}
 use Rattle.step_laws.proofs.Free.{lowest_is_free}
 
@@ -157,19 +157,6 @@ module _ (here : Setting) (core : CoreRec) (k : ThreadNumber) where
   freed_lasts name None = tt
   freed_lasts name (Some r) = either (is_paused_on core r) _ _ tt (goes_on_lasts name _ (without_lasts r))
 
-  puts_out_lasts : (name : Identifier) (named : Option Resource) → EffectLasts core here.slot (puts_out core k name named)
-  puts_out_lasts name (Some (resource.Lock n)) = goes_on_lasts name _ (without_lock_lasts n _)
-  puts_out_lasts name _ = tt
-
-  claimed_lasts : (d : Register) (name : Identifier) (n : ℕ) (found : Claimed) → EffectLasts core here.slot (claimed_there core k d name n found)
-  claimed_lasts d name n (Owns lock) = as_before
-  claimed_lasts d name n IsHeld = as_before
-  claimed_lasts d name n IsRefused = tt
-
-  takes_in_lasts : (d : Register) (name : Identifier) (named : Option Resource) → EffectLasts core here.slot (takes_in core k d name named)
-  takes_in_lasts d name (Some (resource.Lock n)) = claimed_lasts d name n _
-  takes_in_lasts d name _ = tt
-
   there_lasts : (name : Identifier) (c : ChanNumber) (wait : Wait) (takes : Word → Thread → Thread) (found : Found) → EffectLasts core here.slot (found_there core k name c wait takes found)
   there_lasts name c wait takes (Got chan word) = as_before
   there_lasts name c wait takes Waits = either (is_waited_at core wait) _ _ tt as_before
@@ -179,14 +166,37 @@ module _ (here : Setting) (core : CoreRec) (k : ThreadNumber) where
   named_lasts name wait does takes None = tt
   named_lasts name wait does takes (Some c) = there_lasts name c (wait c) takes _
 
+  puts_out_lasts : (name : Identifier) (word : Word) (named : Option Resource) → EffectLasts core here.slot (puts_out core k name word named)
+  puts_out_lasts name word (Some (resource.Chan c)) = there_lasts name c (room 4 c) takes_nothing _
+  puts_out_lasts name word (Some (resource.Lock n)) = goes_on_lasts name _ (without_lock_lasts n _)
+  puts_out_lasts name word _ = tt
+
+  claimed_lasts : (d : Register) (name : Identifier) (n : ℕ) (found : Claimed) → EffectLasts core here.slot (claimed_there core k d name n found)
+  claimed_lasts d name n (Owns lock) = as_before
+  claimed_lasts d name n IsHeld = as_before
+  claimed_lasts d name n IsRefused = tt
+
+  takes_in_lasts : (d : Register) (name : Identifier) (named : Option Resource) → EffectLasts core here.slot (takes_in core k d name named)
+  takes_in_lasts d name (Some (resource.Chan c)) = there_lasts name c (tokens 4 c) (takes_into d) _
+  takes_in_lasts d name (Some (resource.Lock n)) = claimed_lasts d name n _
+  takes_in_lasts d name _ = tt
+
   resources_lasts : (ins : ResIns) → EffectLasts core here.slot (resources_row here core k ins)
   resources_lasts (resources.Getr d i) = got_lasts d i
   resources_lasts (resources.Freer s) = freed_lasts _ _
-  resources_lasts (resources.Out s x) = puts_out_lasts _ _
-  resources_lasts (resources.In d s) = takes_in_lasts d _ _
-  resources_lasts (resources.Setd s x) = named_lasts _ no_wait (take_dest (reg core k x)) takes_nothing _
+  resources_lasts (resources.Out s x) = puts_out_lasts _ _ _
+  resources_lasts (resources.Outt s x) = named_lasts _ (room 1) (put_token (Byte (reg core k x % 256))) takes_nothing _
+  resources_lasts (resources.Outct s x) = named_lasts _ (room 1) (put_token (Ctrl (reg core k x % 256))) takes_nothing _
   resources_lasts (resources.OutctImm s i) = named_lasts _ (room 1) (put_token (Ctrl i)) takes_nothing _
+  resources_lasts (resources.In d s) = takes_in_lasts d _ _
+  resources_lasts (resources.Int d s) = named_lasts _ (tokens 1) take_byte (takes_into d) _
+  resources_lasts (resources.Inct d s) = named_lasts _ (tokens 1) take_ctrl (takes_into d) _
+  resources_lasts (resources.Chkct s x) = named_lasts _ (tokens 1) (check_token (reg core k x)) takes_nothing _
   resources_lasts (resources.ChkctImm s i) = named_lasts _ (tokens 1) (check_token i) takes_nothing _
+  resources_lasts (resources.Testct d s) = named_lasts _ (tokens 1) look (takes_into d) _
+  resources_lasts (resources.Testwct d s) = named_lasts _ (tokens 4) look_word (takes_into d) _
+  resources_lasts (resources.Setd s x) = named_lasts _ no_wait (take_dest (reg core k x)) takes_nothing _
+  resources_lasts (resources.Getd d s) = named_lasts _ no_wait tell_dest (takes_into d) _
   resources_lasts _ = tt
 
   pub effect_lasts : (ins : Instr) → EffectLasts core here.slot (effect here core k ins)

@@ -1,5 +1,5 @@
 -- The lines of links, and nodes whose numbers and link ends differ, worked out by hand.
-use Rattle.std.specs.Prelude.{ℕ, ◌≡◌, List, [], ◌∷◌, codes}
+use Rattle.std.specs.Prelude.{◌≡◌, List, [], ◌∷◌, codes}
 use Rattle.xs_base.specs.declared.entry.Entry.{Entry}
 use Rattle.xs_base.specs.declared.entry.What.TheVariants as what
 use Rattle.xs_base.specs.declared.token.Token.TheVariants.{Ctrl}
