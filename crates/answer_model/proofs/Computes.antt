@@ -3,9 +3,9 @@ use Rattle.std.specs.Fmt.{digits}
 use Rattle.xs_text.specs.Words.{without_comment, parted}
 use Rattle.xs_text.specs.Lines.{lines_of}
 use Rattle.xs_text.specs.Tokens.{tokens_after}
-use Rattle.system_model.specs.FrameLines.{node_line, node_of_end, link_line, bit_line, source_line, frame_line}
+use Rattle.system_model.specs.FrameLines.{node_line, end_name, link_line, numbers_of, bit_line, source_line, frame_line}
 use Rattle.system_model.specs.Frame.{frame_from, framed}
-use Rattle.system_model.specs.System.{node_plans, system_of}
+use Rattle.system_model.specs.System.{mask_where, node_plans, system_of}
 use Rattle.answer_model.specs.Top.{form_of_words, answer}
 use Rattle.xs_instructions.specs.Words.{register_number, fixed}
 use Rattle.xs_instructions.specs.Find.{find, known}
@@ -30,5 +30,5 @@ use Rattle.trace_model.specs.Trace.{halted_lines, memory_lines, by_position, eve
 
 -- names them all on its own line, so that they unfold where it does
 unfoldable pub computes : Type 0
-unfolding digits without_comment parted lines_of tokens_after node_line node_of_end link_line bit_line source_line frame_line frame_from framed node_plans system_of form_of_words answer register_number fixed find known behind_labels first_name_at all_some operands_after values_from labels_first after_labels place_of define_all after_lines defines_twice first_fault code_of_lines bytes_of_lines best_from words_of first_difference links_after_arrivals lowest_free free_end moves_from node_step serial hex_word merged halted_lines memory_lines by_position events_in_order trace_text
+unfolding digits without_comment parted lines_of tokens_after node_line end_name link_line numbers_of bit_line source_line frame_line frame_from framed mask_where node_plans system_of form_of_words answer register_number fixed find known behind_labels first_name_at all_some operands_after values_from labels_first after_labels place_of define_all after_lines defines_twice first_fault code_of_lines bytes_of_lines best_from words_of first_difference links_after_arrivals lowest_free free_end moves_from node_step serial hex_word merged halted_lines memory_lines by_position events_in_order trace_text
 computes = Unit {0}

@@ -53,7 +53,7 @@ pub record WorkedAnswers : Type 0 where
   pub open_section : answer (run_for (codes "1")) (codes "xs1 1\nnode 0 id 0\nsource 0\n") ≡ frame_refused (codes "system line 3: S9 section not ended\n")
   pub comments : answer (run_for (codes "0")) (codes "# a system\r\n\nxs1 1 // edition 1\n  node 007 id 0xFf\nsource 7\n foo: # here\nend # of it\n\n//") ≡ done (codes "end 0\n")
   pub unknown_name : answer (run_for (codes "1")) (lone (codes "foo\n")) ≡ source_refused (codes "source 0 line 1: A2 unknown name\n")
-  pub not_built : answer (run_for (codes "1")) (lone (codes "outt res[r0], r1\n")) ≡ source_refused (codes "source 0 line 1: A2 unknown name\n")
+  pub not_built : answer (run_for (codes "1")) (lone (codes "inshr r1, res[r0]\n")) ≡ source_refused (codes "source 0 line 1: A2 unknown name\n")
   pub label_twice : answer (run_for (codes "1")) (lone (codes "a: nop\na: nop\n")) ≡ source_refused (codes "source 0 line 2: A5 label defined twice\n")
   pub no_such_label : answer (run_for (codes "1")) (lone (codes "bu gone\n")) ≡ source_refused (codes "source 0 line 1: A6 label missing\n")
   pub two_labels : answer (run_for (codes "1")) (lone (codes "a: b: nop\n")) ≡ done (codes "end 1\n")

@@ -9,7 +9,7 @@ use Rattle.xs_instructions.specs.declared.instr.WordIns.TheVariants.{AddImm, Shl
 use Rattle.xs_instructions.specs.declared.instr.MemIns.TheVariants.{LdwDp, LdwCp, StwDp, LdawBack}
 use Rattle.xs_instructions.specs.declared.instr.FlowIns.TheVariants.{Bu, Bt, Bl}
 use Rattle.xs_instructions.specs.declared.instr.KernelIns.TheVariants.{KcallImm, LdwSpc}
-use Rattle.xs_instructions.specs.declared.instr.ResIns.TheVariants.{OutctImm}
+use Rattle.xs_instructions.specs.declared.instr.ResIns.TheVariants.{Outct, OutctImm}
 use Rattle.xs_instructions.specs.declared.rows.Row.TheVariants as row
 use Rattle.source_model.specs.declared.AsmKind.TheVariants.{BadByte, UnknownName, WrongOperands, NumberOutOfRange, LabelTwice, LabelMissing, DirectiveNotAllowed, TooManyInstructions, TooManyBytes}
 use Rattle.source_model.specs.declared.layout.Section.TheVariants.{Data, Constants}
@@ -62,9 +62,10 @@ pub record WorkedUnknownNames : Type 0 where
   -- a row that is not built is as no row
   pub not_built : assembled (codes "inshr r1, res[r0]") ≡ Fault 1 UnknownName
   pub not_built_out_of_range : assembled (codes "setsr 65536") ≡ Fault 1 UnknownName
-  pub not_built_misshapen : assembled (codes "outt res[r0]") ≡ Fault 1 WrongOperands
-  -- of two rows with a name one may be built
-  pub not_built_beside_one : assembled (codes "setd res[r0], r1\nsetc res[r0], r1") ≡ Fault 2 UnknownName
+  pub not_built_misshapen : assembled (codes "inshr r1") ≡ Fault 1 WrongOperands
+  pub not_built_after_one : assembled (codes "setd res[r0], r1\nsetc res[r0], r1") ≡ Fault 2 UnknownName
+  -- of two rows with a name both are built
+  pub both_built : code_of_source (codes "outct res[r0], 1\noutct res[r0], r1") ≡ Some (Resources (OutctImm 0 1) ∷ Resources (Outct 0 1) ∷ [])
 
 -- shapes
 pub record WorkedShapes : Type 0 where

@@ -1,7 +1,5 @@
 -- The table of names.
-use Rattle.std.specs.Prelude.{ℕ, ◌≡◌, List, [], ◌∷◌, length, take, IsTrue}
-use Rattle.std.specs.List.{AllByRecursion}
-use Rattle.xs_text.specs.Tokens.{is_name}
+use Rattle.std.specs.Prelude.{ℕ, ◌≡◌, List, [], ◌∷◌, length, take}
 use Rattle.xs_instructions.specs.Image.{Symbol}
 use Rattle.source_model.specs.declared.layout.Place.{Place}
 use Rattle.source_model.specs.Layout.{Label}

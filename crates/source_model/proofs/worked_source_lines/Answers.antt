@@ -17,7 +17,7 @@ returns-clause-bad_bytes c = record { tab = refl; in_a_comment = refl; returns =
 
 pub returns-clause-unknown_names : goal.returns-clause-unknown_names
 unfolding lines_of tokens_after register_number fixed find known operands_after all_some values_from labels_first after_labels place_of define_all after_lines defines_twice first_fault code_of_lines bytes_of_lines
-returns-clause-unknown_names c = record { no_row = refl; capitals = refl; register = refl; status_register = refl; label = refl; after_a_reserved_label = refl; malformed_number = refl; not_built = refl; not_built_out_of_range = refl; not_built_misshapen = refl; not_built_beside_one = refl }
+returns-clause-unknown_names c = record { no_row = refl; capitals = refl; register = refl; status_register = refl; label = refl; after_a_reserved_label = refl; malformed_number = refl; not_built = refl; not_built_out_of_range = refl; not_built_misshapen = refl; not_built_after_one = refl; both_built = refl }
 
 pub returns-clause-shapes : goal.returns-clause-shapes
 unfolding lines_of tokens_after register_number fixed find known operands_after all_some values_from labels_first after_labels place_of define_all after_lines defines_twice first_fault code_of_lines bytes_of_lines
