@@ -128,7 +128,7 @@ look_word chan = if has_tokens 4 chan.input then Got chan (control_place 1 (take
 abbrev pub is_chan_id : Identifier → Bool
 is_chan_id id = id % 256 == CHAN_END_KIND
 
--- takes a destination, which is refused where it is no identifier of a channel end
+-- takes a destination, which is refused where its low byte is not that of channel ends, whatever node and number it has
 abbrev pub take_dest : Identifier → ChanRec → Found
 take_dest dest chan = if is_chan_id dest then Got (record chan { dest = Some dest }) 0 else Refused
 

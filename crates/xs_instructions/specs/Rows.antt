@@ -177,7 +177,7 @@ name_of r = shown (λ name. name.now) NAMES (row_number r)
 abbrev pub parts_of : Row → List Part
 parts_of r = shown (λ parts. parts.now) PARTS (row_number r)
 
--- whether a row is one of those up to `getd`: on words, memory, the flow of control, the kernel, threads and channel ends
+-- whether a row is one of those up to `getd`: on words, memory, the flow of control, the kernel and threads, and those on resources up to it
 abbrev pub is_up_to_getd : Row → Bool
 is_up_to_getd r = nat_le (row_number r) (row_number row.Getd)
 
