@@ -22,3 +22,4 @@ pub mod WorkedTurns
 pub mod WorkedThreads
 pub mod WorkedSyncs
 pub mod WorkedLocks
+pub mod WorkedTokens

@@ -11,6 +11,7 @@ ghost use Rattle.step_model.specs.WorkedWaits.{WorkedWaits, WorkedThings, Worked
 ghost use Rattle.step_model.specs.WorkedThreads.{WorkedThreads};
 ghost use Rattle.step_model.specs.WorkedSyncs.{WorkedSyncs};
 ghost use Rattle.step_model.specs.WorkedLocks.{WorkedLocks};
+ghost use Rattle.step_model.specs.WorkedTokens.{WorkedTokens};
 ghost use Rattle.step_model.specs.WorkedTurns.{WorkedTurns};
 
 /// The definitions give what was worked out by hand: what a node keeps after its first slots, for small code.
@@ -30,4 +31,5 @@ pub fn worked_slots()
     ensures syncs { WorkedSyncs }
     ensures locks { WorkedLocks }
     ensures turns { WorkedTurns }
+    ensures tokens { WorkedTokens }
 {}
