@@ -6,3 +6,5 @@ pub mod Quiet
 pub mod Worked
 pub mod WorkedThree
 pub mod WorkedSteps
+pub mod WorkedChans
+pub mod WorkedRoutes

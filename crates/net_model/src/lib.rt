@@ -3,6 +3,8 @@
 
 ghost use Rattle.net_model.specs.Quiet.{QuietSwitch};
 ghost use Rattle.net_model.specs.Worked.{WorkedPair, WorkedLost, WorkedFull, WorkedLate};
+ghost use Rattle.net_model.specs.WorkedChans.{WorkedChans};
+ghost use Rattle.net_model.specs.WorkedRoutes.{WorkedRoutes};
 ghost use Rattle.net_model.specs.WorkedThree.{WorkedThree};
 ghost use Rattle.net_model.specs.WorkedSteps.{WorkedLinkEnds, WorkedSteps, WorkedLastChan};
 
@@ -49,4 +51,14 @@ pub fn worked_steps()
 /// Steps to and from the last channel end, and its name.
 pub fn worked_last_chan()
     ensures { WorkedLastChan }
+{}
+
+/// What programs find at a channel end.
+pub fn worked_chan_ends()
+    ensures { WorkedChans }
+{}
+
+/// Routes over several link ends: which one a packet takes, a router with packets both ways, and packets that are lost.
+pub fn worked_routes()
+    ensures { WorkedRoutes }
 {}
