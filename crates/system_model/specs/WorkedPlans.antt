@@ -1,5 +1,6 @@
 -- Frames of systems, read by hand.
 use Rattle.std.specs.Prelude.{ℕ, ◌≡◌, true, None, List, [], ◌∷◌, ◌++◌, length, map, codes, replicate}
+use Rattle.std.specs.List.{flat_map}
 use Rattle.xs_text.specs.Lines.{lines_of}
 use Rattle.xs_instructions.specs.Image.{ImageRec}
 use Rattle.sys_plan.specs.Plan.{PlanRec}
@@ -135,6 +136,7 @@ wide_numbers =
     ∷ (two_nodes (codes "link 7:0 7:0 delay 5 gap 0\n"), 4, NumberOutOfRange)
     ∷ (linked (codes "link 7:0 3:8 delay 5 gap 4\n"), 5, NumberOutOfRange)
     ∷ (linked (codes "bit 4 0 8 8\n"), 5, NumberOutOfRange)
+    ∷ (linked (codes "bit 7 0 0\nbit 7 0 8\n"), 6, NumberOutOfRange)
     ∷ (codes "xs1 1\nnode 7 id 1\nnode 7 id 65536\n", 3, NumberOutOfRange)
     ∷ []
 
@@ -148,11 +150,13 @@ missing =
     ∷ (codes "xs1 1\nnode 7 id 1\nlink 7:0 3:0 delay 5 gap 4\nnode 3 id 0\n", 3, NoSuchNode)
     ∷ (two_nodes (codes "bit 7 0 0\nlink 7:0 3:0 delay 5 gap 4\n"), 4, NoSuchNode)
     ∷ (linked (codes "bit 4 0 0\n"), 5, NoSuchNode)
-    -- a link end that no link has, alone and beside one that a link has; before one that is given twice
+    -- a link end that no link has at that node, alone and beside one that a link has; before one that is given twice
     ∷ (linked (codes "bit 7 0 1\n"), 5, NoSuchNode)
     ∷ (linked (codes "bit 7 0 0 1\n"), 5, NoSuchNode)
     ∷ (linked (codes "bit 7 0 1 1\n"), 5, NoSuchNode)
     ∷ (linked (codes "bit 7 0 0\nbit 7 0 0 1\n"), 6, NoSuchNode)
+    ∷ (two_nodes (codes "link 7:0 3:1 delay 5 gap 4\nbit 7 0 1\n"), 5, NoSuchNode)
+    ∷ (two_nodes (codes "link 7:0 3:1 delay 5 gap 4\nbit 3 0 0\n"), 5, NoSuchNode)
     ∷ (linked (codes "link 4:0 3:0 delay 5 gap 4\n"), 5, NoSuchNode)
     ∷ (codes "xs1 1\nsource 0\nend\nnode 0 id 0\n", 2, NoSuchNode)
     ∷ (two_nodes (codes "source 99\nend\n"), 4, NoSuchNode)
@@ -175,6 +179,7 @@ twice =
     ∷ (linked (codes "link 3:0 7:1 delay 5 gap 4\n"), 5, LinkEndTwice)
     ∷ (linked (codes "bit 7 0 0 0\n"), 5, LinkEndTwice)
     ∷ (linked (codes "bit 7 0 0 0 0 0 0 0 0 0\n"), 5, LinkEndTwice)
+    ∷ (linked (codes "link 7:1 3:1 delay 5 gap 4\nbit 7 0 0 1 0\n"), 6, LinkEndTwice)
     ∷ (linked (codes "bit 7 0 0\nbit 7 0 0 0\n"), 6, LinkEndTwice)
     ∷ (linked (codes "bit 7 0 0\nbit 3 0 0\nbit 0x7 0x0 0\n"), 7, BitTwice)
     ∷ []
@@ -194,6 +199,35 @@ many =
     ∷ (sixteen ++ codes "node 100 id 3\n", 18, NumberOutOfRange)
     -- the 16th is none too many
     ∷ (sixteen, 2, NodeWithoutSource)
+    ∷ []
+
+-- a link of two nodes by their numbers, at both by the link end with a number
+abbrev pub one_link : List ℕ → List ℕ → List ℕ → List ℕ
+one_link a b end =
+    codes "link " ++ (a ++ (codes ":" ++ (end ++ (codes " " ++ (b ++ (codes ":" ++ (end ++ codes " delay 5 gap 4\n")))))))
+
+-- as many of them as they have link ends
+abbrev pub eight_links : List ℕ → List ℕ → List ℕ
+eight_links a b =
+    flat_map (one_link a b) (codes "0" ∷ codes "1" ∷ codes "2" ∷ codes "3" ∷ codes "4" ∷ codes "5" ∷ codes "6" ∷ codes "7" ∷ [])
+
+-- sixteen nodes, of which twelve have eight link ends each: 48 links, up to line 65
+abbrev pub linked_48 : List ℕ
+linked_48 =
+    sixteen
+    ++ (eight_links (codes "0") (codes "1") ++ (eight_links (codes "2") (codes "3") ++ (eight_links (codes "4") (codes "5")
+    ++ (eight_links (codes "6") (codes "7") ++ (eight_links (codes "8") (codes "9") ++ eight_links (codes "10") (codes "11"))))))
+
+-- the 49th link: that it is one too many is tested last
+abbrev pub many_links : Refusals
+many_links =
+    (linked_48 ++ codes "link 12:0 13:0 delay 5 gap 4\n", 66, TooMany)
+    ∷ (linked_48 ++ codes "link 12:0 11:7 delay 5 gap 4\n", 66, LinkEndTwice)
+    ∷ (linked_48 ++ codes "link 12:0 12:1 delay 5 gap 4\n", 66, LinkToItself)
+    ∷ (linked_48 ++ codes "link 12:0 16:0 delay 5 gap 4\n", 66, NoSuchNode)
+    ∷ (linked_48 ++ codes "link 12:0 13:0 delay 5 gap 3\n", 66, NumberOutOfRange)
+    -- the 48th is none too many
+    ∷ (linked_48, 2, NodeWithoutSource)
     ∷ []
 
 -- the end of the text
@@ -220,6 +254,7 @@ pub record WorkedRefusals : Type 0 where
   pub none : AreRefused missing
   pub again : AreRefused twice
   pub too_many : AreRefused many
+  pub too_many_links : AreRefused many_links
   pub at_the_end : AreRefused ends
 
 -- Systems
@@ -291,6 +326,21 @@ plan_of_three = record {
       ∷ [];
 }
 
+-- two nodes with eight links between them, all of them for a bit at one and one for each of two bits at the other
+abbrev pub eight_between : List ℕ
+eight_between =
+    two_nodes (eight_links (codes "3") (codes "7") ++ codes "bit 7 0 7 6 5 4 3 2 1 0\nbit 3 0 7\nbit 3 8 3\nsource 7\nend\nsource 3\nend\n")
+
+abbrev pub plan_of_eight : PlanRec
+plan_of_eight = record {
+  nodes =
+      record { number = 3; id = 0; image = empty_image; ways = 128 ∷ replicate 7 0 ++ 8 ∷ replicate 7 0 }
+      ∷ record { number = 7; id = 1; image = empty_image; ways = 255 ∷ replicate 15 0 }
+      ∷ [];
+  links =
+      map (λ end. record { a = 0; a_end = end; b = 1; b_end = end; delay = 5; gap = 4 }) (0 ∷ 1 ∷ 2 ∷ 3 ∷ 4 ∷ 5 ∷ 6 ∷ 7 ∷ []);
+}
+
 -- two nodes that no link joins, at the edges of their numbers
 abbrev pub plan_of_0_and_99 : PlanRec
 plan_of_0_and_99 = record {
@@ -306,6 +356,7 @@ pub record WorkedPlans : Type 0 where
   -- nodes by number, and the link and the bits by their places
   pub plan : system_of linked_7_and_3 ≡ Plan plan_of_3_and_7
   pub three : system_of line_of_three ≡ Plan plan_of_three
+  pub eight : system_of eight_between ≡ Plan plan_of_eight
   pub edges : system_of (codes "xs1 1\nnode 99 id 0\nnode 0 id 65535\nsource 99\nend\nsource 0\nend\n") ≡ Plan plan_of_0_and_99
   pub no_node : system_of (codes "xs1 1") ≡ Plan (record { nodes = []; links = [] })
 

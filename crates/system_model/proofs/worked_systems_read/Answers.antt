@@ -13,12 +13,13 @@ returns-clause-refusals c = record {
   none = refl;
   again = refl;
   too_many = refl;
+  too_many_links = refl;
   at_the_end = refl;
 }
 
 pub returns-clause-systems : goal.returns-clause-systems
 unfolding computes
-returns-clause-systems c = record { any_order = refl; plan = refl; three = refl; edges = refl; no_node = refl }
+returns-clause-systems c = record { any_order = refl; plan = refl; three = refl; eight = refl; edges = refl; no_node = refl }
 
 pub returns-clause-length : goal.returns-clause-length
 unfolding system_of
