@@ -1,41 +1,56 @@
--- The lines of a frame as the reader takes them.
-use Rattle.std.specs.Prelude.{ℕ, Bool, true, false, if◌then◌else◌, Option, Some, None, Result, Ok, Err}
+-- The lines of a frame as the reader takes them: no form is a bad line, and else each number has to be in its range.
+use Rattle.std.specs.Prelude.{ℕ, ◌≡◌, Bool, true, not, ◌&&◌, nat_le, if◌then◌else◌, is_some, min, Option, Some, None, Result, Ok, Err, List, map}
+use Rattle.std.specs.List.{list_all, list_any}
+use Rattle.arrayvec.specs.ArrayVec.{ArrayVec}
+use Rattle.xs_text.specs.Numbers.{number_of, at_most}
 use Rattle.system_model.specs.declared.SysKind.{SysKind}
 use Rattle.system_model.specs.declared.SysKind.TheVariants.{BadLine, NumberOutOfRange}
+use Rattle.system_model.specs.declared.frame_line.EndName.{EndName}
 use Rattle.system_model.specs.declared.frame_line.FrameLine.{FrameLine}
-use Rattle.system_model.specs.declared.frame_line.FrameLine.TheVariants.{Node, Link}
 use Rattle.system_model.specs.FrameLines.{are_numbers_in_range}
+use Rattle.system_text.specs.declared.frame_lines.NamedEnd.{NamedEnd}
 
-abbrev pub when : {A : Type 0} → Bool → A → Option A
-when b x = if b then Some x else None
+-- a value that passes the test of its range
+abbrev pub ranged : {A : Type 0} → Bool → A → Result A SysKind
+ranged test x = if test then Ok x else Err NumberOutOfRange
 
--- a line whose numbers are within their ranges
-abbrev pub in_range : FrameLine → Option FrameLine
-in_range l = when (are_numbers_in_range l) l
-
--- the same, if there is room for it
-abbrev pub in_room : Bool → Option FrameLine → Result FrameLine SysKind
-in_room false l = Err BadLine
-in_room true None = Err NumberOutOfRange
-in_room true (Some l) = Ok l
-
--- whether there is room for a line, by the room for nodes and for links
-abbrev pub room_for : Bool → Bool → FrameLine → Bool
-room_for nodes links (Node node) = nodes
-room_for nodes links (Link link) = links
-room_for nodes links _ = true
+-- a value that is there
+abbrev pub or_bad : {A : Type 0} → Option A → Result A SysKind
+or_bad None = Err BadLine
+or_bad (Some x) = Ok x
 
 -- a line by its form
-abbrev pub formed : Bool → Bool → Option FrameLine → Result FrameLine SysKind
-formed nodes links None = Err BadLine
-formed nodes links (Some l) = in_room (room_for nodes links l) (in_range l)
+abbrev pub formed : Option FrameLine → Result FrameLine SysKind
+formed None = Err BadLine
+formed (Some l) = ranged (are_numbers_in_range l) l
 
--- a line of two numbers, if both are there
-abbrev pub of_both : (ℕ → ℕ → FrameLine) → Option ℕ → Option ℕ → Option FrameLine
-of_both line (Some m) (Some n) = Some (line m n)
-of_both line _ _ = None
+-- A number as it is read: one that is greater than any range counts as the greatest of 32 bits.
+abbrev pub capped : ℕ → ℕ
+capped n = min n 4294967295
 
--- a line of four numbers, if all are there
-abbrev pub of_all : (ℕ → ℕ → ℕ → ℕ → FrameLine) → Option ℕ → Option ℕ → Option ℕ → Option ℕ → Option FrameLine
-of_all line (Some k) (Some l) (Some m) (Some n) = Some (line k l m n)
-of_all line _ _ _ _ = None
+-- the same of a link end
+abbrev pub capped_end : EndName → NamedEnd
+capped_end name = record { node = capped name.node; end = capped name.end }
+
+abbrev pub is_in_range : NamedEnd → Bool
+is_in_range name = nat_le name.node 99 && nat_le name.end 7
+
+abbrev pub end_of : NamedEnd → EndName
+end_of name = record { node = name.node; end = name.end }
+
+-- whether all words are numbers
+abbrev pub are_numbers : List (List ℕ) → Bool
+are_numbers words = list_all (λ (word : List ℕ). is_some (number_of word)) words
+
+-- the number that a word is, if it is a link end's
+abbrev pub end_number : List ℕ → Option ℕ
+end_number word = at_most 7 (number_of word)
+
+-- whether a word is no link end's number
+abbrev pub is_no_end : List ℕ → Bool
+is_no_end word = not (is_some (end_number word))
+
+-- the numbers that words are, which are those of link ends, or one is not
+abbrev pub GivesEnds : List (List ℕ) → Result (ArrayVec ℕ) SysKind → Type 0
+GivesEnds words (Ok ends) = map end_number words ≡ map Some ends.items
+GivesEnds words (Err kind) = (kind ≡ NumberOutOfRange) × (list_any is_no_end words ≡ true)

@@ -1,9 +1,9 @@
 -- What the reader finds of a line of the frame.
 use Rattle.std.specs.Prelude.{ℕ, ◌≡◌, Option, Some, None, List, [], ◌∷◌, ◌++◌, Result, Ok, Err}
 use Rattle.system_model.specs.declared.SysKind.{SysKind}
-use Rattle.system_model.specs.declared.SysKind.TheVariants.{GivenTwice, IdTwice, LinkEndTwice, LinkToItself, BitTwice, NoSuchNode}
+use Rattle.system_model.specs.declared.SysKind.TheVariants.{GivenTwice, IdTwice, LinkEndTwice, LinkToItself, BitTwice, NoSuchNode, TooMany}
 use Rattle.system_model.specs.declared.frame_line.FrameLine.{FrameLine}
-use Rattle.system_model.specs.Frame.{SourceText, Given, FrameSays, Blank, Header, Form, says, fault_of, first_that_holds, names_none, is_given_twice, is_id_twice, is_link_to_itself, is_link_end_twice, is_bit_twice}
+use Rattle.system_model.specs.Frame.{SourceText, Given, FrameSays, Blank, Header, Form, says, fault_of, first_that_holds, names_none, is_given_twice, is_id_twice, is_link_to_itself, is_link_end_twice, is_bit_twice, is_too_many}
 use Rattle.system_text.specs.declared.frame.Said.{Said}
 use Rattle.system_text.specs.declared.frame.Said.TheVariants as said
 
@@ -26,6 +26,7 @@ later_fault given form = first_that_holds (
     ∷ (LinkToItself, is_link_to_itself (Form form))
     ∷ (LinkEndTwice, is_link_end_twice given (Form form))
     ∷ (BitTwice, is_bit_twice given (Form form))
+    ∷ (TooMany, is_too_many given (Form form))
     ∷ []
     )
 

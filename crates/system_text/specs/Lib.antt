@@ -1,3 +1,4 @@
+pub mod LineWords
 pub mod Forms
 pub mod Ranges
 pub mod Judged

@@ -2,7 +2,7 @@ ghost use Rattle.std.specs.Prelude.{◌≡◌, ◌≤◌, ℕ, true, false, ◌=
 ghost use Rattle.std.specs.List.{list_any, prefix_len};
 ghost use Rattle.xs_text.specs.Lines.{lines_of};
 ghost use Rattle.xs_text.specs.Words.{words_of_line};
-ghost use Rattle.system_model.specs.Frame.{Given, Form, nothing_given, is_empty, has_node, has_link_end, has_source, given_with, without_source};
+ghost use Rattle.system_model.specs.Frame.{Given, Form, nothing_given, is_empty, has_node, has_link_end, has_link_ends, is_same_end, has_source, stands_twice, given_with, without_source};
 ghost use Rattle.system_model.specs.System.{source_of};
 ghost use Rattle.system_text.specs.Judged.{Judges, said_by, later_fault, with_source};
 ghost use Rattle.system_text.specs.Ranges.{IsShortSource};
@@ -11,11 +11,16 @@ use crate::frame_lines::frame_line;
 use crate::words::{is_empty, is_header};
 use std::alloc::{AllocError, Global};
 use std::marker::Model;
-use system_model::{BitLine, FrameLine, GivenNode, LinkLine, NodeLine, SysKind};
+use system_model::{BitLine, EndName, FrameLine, GivenNode, LinkLine, NodeLine, SysKind};
 use xs_text::all_allowed;
 
+// A system has at most so many nodes and so many links.
+const MOST_NODES: usize = 16;
+
+const MOST_LINKS: usize = 48;
+
 // What a line of the frame without a fault says.
-#[derive(Clone, Copy)]
+#[derive(Drop)]
 pub enum Said {
     // It has no words.
     Blank,
@@ -95,8 +100,8 @@ impl<'a> Frame<'a> {
         if !all_allowed(line) {
             return Err(SysKind::BadLine);
         }
-        match frame_line(line, self.nodes().len() < 2, self.links().is_empty()) {
-            Ok(form) => match self.fault(form) {
+        match frame_line(line) {
+            Ok(form) => match self.fault(&form) {
                 Some(kind) => Err(kind),
                 None => Ok(Said::Form(form)),
             },
@@ -105,14 +110,14 @@ impl<'a> Frame<'a> {
     }
 
     // What the lines before it have against a line whose form and numbers are good.
-    fn fault(&self, form: FrameLine) -> Option<SysKind>
-        ensures { result ≡ later_fault self.now form }
+    fn fault(&self, form: &FrameLine) -> Option<SysKind>
+        ensures { result ≡ later_fault self.now form.now }
     {
         match form {
-            FrameLine::Node(node) => self.node_fault(node),
-            FrameLine::Link(link) => self.link_fault(link),
+            FrameLine::Node(node) => self.node_fault(*node),
+            FrameLine::Link(link) => self.link_fault(*link),
             FrameLine::Bit(bit) => self.bit_fault(bit),
-            FrameLine::Source(number) => self.source_fault(number),
+            FrameLine::Source(number) => self.source_fault(*number),
         }
     }
 
@@ -123,6 +128,8 @@ impl<'a> Frame<'a> {
             Some(SysKind::GivenTwice)
         } else if self.has_id(node.id) {
             Some(SysKind::IdTwice)
+        } else if self.nodes().len() >= MOST_NODES {
+            Some(SysKind::TooMany)
         } else {
             None
         }
@@ -131,23 +138,27 @@ impl<'a> Frame<'a> {
     fn link_fault(&self, link: LinkLine) -> Option<SysKind>
         ensures { result ≡ later_fault self.now (FrameLine.Link link) }
     {
-        if !(self.has_node(link.a) && self.has_node(link.b)) {
+        if !(self.has_node(link.a.node) && self.has_node(link.b.node)) {
             Some(SysKind::NoSuchNode)
-        } else if link.a == link.b {
+        } else if link.a.node == link.b.node {
             Some(SysKind::LinkToItself)
         } else if self.has_link_end(link.a) || self.has_link_end(link.b) {
             Some(SysKind::LinkEndTwice)
+        } else if self.links().len() >= MOST_LINKS {
+            Some(SysKind::TooMany)
         } else {
             None
         }
     }
 
-    fn bit_fault(&self, bit: BitLine) -> Option<SysKind>
-        ensures { result ≡ later_fault self.now (FrameLine.Bit bit) }
+    fn bit_fault(&self, bit: &BitLine) -> Option<SysKind>
+        ensures { result ≡ later_fault self.now (FrameLine.Bit bit.now) }
     {
-        if !(self.has_node(bit.node) && self.has_link_end(bit.node)) {
+        if !(self.has_node(bit.node) && self.has_link_ends(bit.node, &bit.ends)) {
             Some(SysKind::NoSuchNode)
-        } else if self.has_bit(bit) {
+        } else if stands_twice(&bit.ends) {
+            Some(SysKind::LinkEndTwice)
+        } else if self.has_bit(bit.node, bit.bit) {
             Some(SysKind::BitTwice)
         } else {
             None
@@ -178,21 +189,27 @@ impl<'a> Frame<'a> {
         self.nodes.iter().any(|node| node.id == id)
     }
 
-    // Whether link end 0 of a node is in a link.
-    fn has_link_end(&self, number: u8) -> bool
-        ensures { result ≡ has_link_end self.now.links number }
+    // Whether a link end is in a link.
+    fn has_link_end(&self, name: EndName) -> bool
+        ensures { result ≡ has_link_end self.now.links name }
     {
-        self.links
-            .iter()
-            .any(|link| link.a == number || link.b == number)
+        self.links.iter().any(|link| is_same_end(link.a, name) || is_same_end(link.b, name))
     }
 
-    fn has_bit(&self, bit: BitLine) -> bool
-        ensures { result ≡ list_any (λ other. (other.node == bit.node) && (other.bit == bit.bit)) self.now.bits }
+    // Whether all of these link ends of a node are.
+    fn has_link_ends(&self, node: u8, ends: &[u8]) -> bool
+        ensures { result ≡ has_link_ends self.now.links node ends.now }
+    {
+        ends.iter()
+            .all(|end| self.has_link_end(EndName { node, end: *end }))
+    }
+
+    fn has_bit(&self, node: u8, bit: u8) -> bool
+        ensures { result ≡ list_any (λ other. (other.node == node) && (other.bit == bit)) self.now.bits }
     {
         self.bits
             .iter()
-            .any(|other| other.node == bit.node && other.bit == bit.bit)
+            .any(|other| other.node == node && other.bit == bit)
     }
 
     fn has_source(&self, number: u8) -> bool
@@ -282,6 +299,22 @@ impl<'a> Frame<'a> {
             }
         }
         b""
+    }
+}
+
+fn is_same_end(a: EndName, b: EndName) -> bool
+    ensures { result ≡ is_same_end a b }
+{
+    a.node == b.node && a.end == b.end
+}
+
+// Whether a link end stands twice.
+fn stands_twice(ends: &[u8]) -> bool
+    ensures { result ≡ stands_twice ends.now }
+{
+    match ends {
+        [] => false,
+        [end, others @ ..] => others.iter().any(|other| other == end) || stands_twice(others),
     }
 }
 

@@ -1,242 +1,172 @@
-ghost use Rattle.std.specs.Prelude.{◌≡◌, ◌≤◌, ◌<◌, ◌∷◌, [], None, IfSome, IfNone, MatchOption, length, option_map, nat_le};
+ghost use Rattle.std.specs.Prelude.{◌≡◌, ◌≤◌, ◌∷◌, codes, length, nat_le, option_map, IfOk};
 ghost use Rattle.xs_text.specs.Words.{words_of_line};
 ghost use Rattle.xs_text.specs.Numbers.{number_of};
-ghost use Rattle.system_model.specs.FrameLines.{node_line, link_line, bit_line, source_line, frame_line, node_of_end, before_colon, is_between};
-ghost use Rattle.system_text.specs.Forms.{formed, in_room, in_range, when, of_both, of_all};
+ghost use Rattle.system_model.specs.FrameLines.{node_line, link_line, bit_line, source_line, frame_line, end_name, before_colon, is_between};
+ghost use Rattle.system_text.specs.Forms.{formed, ranged, or_bad, capped, capped_end, is_in_range, end_of, are_numbers, GivesEnds};
+ghost use Rattle.system_text.specs.LineWords.{bytes_of};
 
-use system_model::{BitLine, FrameLine, LinkLine, NodeLine, SysKind};
+use crate::words::{Word, line_words};
+use arrayvec::ArrayVec;
+use system_model::{BitLine, EndName, FrameLine, LinkLine, NodeLine, SysKind};
 use xs_instructions::same_name;
-use xs_text::{is_plain_number, next_word, number};
+use xs_text::{is_plain_number, number};
 
-// A line of the frame, by whether there is room for one more node and for one more link. The error is that it has no
-// form or no room, or else that a number is out of range.
-#[tactic(auto, unfolding(system_model::specs::FrameLines::frame_line))]
-pub fn frame_line(line: &[u8], node_room: bool, link_room: bool) -> Result<FrameLine, SysKind>
-    ensures { result ≡ formed node_room link_room (frame_line (words_of_line line.now)) }
+// A link end as its name has it, before the ranges of its numbers are looked at.
+#[derive(Clone, Copy)]
+struct NamedEnd {
+    node: u32,
+    end: u32,
+}
+
+// A line of the frame. The error is that it has no form, or else that a number is out of range.
+pub fn frame_line(line: &[u8]) -> Result<FrameLine, SysKind>
+    ensures { result ≡ formed (frame_line (words_of_line line.now)) }
 {
-    if let Some(node) = node_line(line) {
-        return in_room(node_room, node);
-    }
-    if let Some(link) = link_line(line) {
-        return in_room(link_room, link);
-    }
-    if let Some(bit) = bit_line(line) {
-        return in_room(true, bit);
-    }
-    match source_line(line) {
-        Some(source) => in_room(true, source),
-        None => Err(SysKind::BadLine),
+    match line_words(line) {
+        Ok(words) => form_of(&words),
+        Err(kind) => Err(kind),
     }
 }
 
-// A line of a form whose numbers are within their ranges, if there is room for one more.
-fn in_room(room: bool, line: Option<FrameLine>) -> Result<FrameLine, SysKind>
-    ensures { result ≡ in_room room line }
+// The same by the words.
+fn form_of(words: &[Word]) -> Result<FrameLine, SysKind>
+    ensures { result ≡ formed (frame_line (bytes_of words.now)) }
 {
-    if !room {
+    let [name, rest @ ..] = words else {
+        return Err(SysKind::BadLine);
+    };
+    if same_name(b"node", name.bytes) {
+        node_line(rest)
+    } else if same_name(b"link", name.bytes) {
+        link_line(rest)
+    } else if same_name(b"bit", name.bytes) {
+        bit_line(rest)
+    } else if same_name(b"source", name.bytes) {
+        source_line(rest)
+    } else {
+        Err(SysKind::BadLine)
+    }
+}
+
+// `N id ID` after `node`.
+fn node_line(words: &[Word]) -> Result<FrameLine, SysKind>
+    ensures { result ≡ formed (option_map FrameLine.Node (node_line (codes "node" ∷ bytes_of words.now))) }
+{
+    let [number, word, id] = words else {
+        return Err(SysKind::BadLine);
+    };
+    if !same_name(b"id", word.bytes) {
         return Err(SysKind::BadLine);
     }
-    match line {
-        Some(line) => Ok(line),
-        None => Err(SysKind::NumberOutOfRange),
-    }
-}
-
-// `node N id ID`, or Some(None) where a number is out of range.
-#[tactic(auto, unfolding(system_model::specs::FrameLines::node_line))]
-fn node_line(line: &[u8]) -> Option<Option<FrameLine>>
-    ensures { result ≡ option_map (λ node. in_range (FrameLine.Node node)) (node_line (words_of_line line.now)) }
-{
-    let (node, digits, word, id_digits) = four_words(line)?;
-    if !same_name(b"node", node) {
-        return None;
-    }
-    if !same_name(b"id", word) {
-        return None;
-    }
-    let number = up_to(digits, 99)?;
-    let id = up_to(id_digits, 65_535)?;
-    Some(node_of(number, id))
-}
-
-// The line of a node whose number and id are within their ranges.
-fn node_of(number: Option<u32>, id: Option<u32>) -> Option<FrameLine>
-    requires number { IfSome number (λ n. n ≤ 99) }
-    requires id { IfSome id (λ n. n ≤ 65535) }
-    ensures { result ≡ of_both (λ n i. FrameLine.Node (record { number = n; id = i })) number id }
-{
-    Some(FrameLine::Node(NodeLine {
-        number: number? as u8,
-        id: id? as u16,
+    let number = any_number(number.bytes)?;
+    let id = any_number(id.bytes)?;
+    Ok(FrameLine::Node(NodeLine {
+        number: up_to(number, 99)? as u8,
+        id: up_to(id, 65_535)? as u16,
     }))
 }
 
-// A number of at most a limit: None where the word is no number, and Some(None) where it is greater.
-fn up_to(word: &[u8], most: u32) -> Option<Option<u32>>
-    ensures value { result ≡ option_map (λ n. when (nat_le n most) n) (number_of word.now) }
-    ensures most { IfSome result (λ number. IfSome number (λ n. n ≤ most)) }
+// `N:E M:F delay D gap G` after `link`.
+fn link_line(words: &[Word]) -> Result<FrameLine, SysKind>
+    ensures { result ≡ formed (option_map FrameLine.Link (link_line (codes "link" ∷ bytes_of words.now))) }
 {
-    if is_plain_number(word) {
-        Some(number(word, most))
+    let [a, b, delay_word, delay, gap_word, gap] = words else {
+        return Err(SysKind::BadLine);
+    };
+    if !(same_name(b"delay", delay_word.bytes) && same_name(b"gap", gap_word.bytes)) {
+        return Err(SysKind::BadLine);
+    }
+    let a = end_name(a.bytes)?;
+    let b = end_name(b.bytes)?;
+    let delay = any_number(delay.bytes)?;
+    let gap = any_number(gap.bytes)?;
+    Ok(FrameLine::Link(LinkLine {
+        a: end_in_range(a)?,
+        b: end_in_range(b)?,
+        delay: between(delay, 1, 1000)?,
+        gap: between(gap, 4, 1000)?,
+    }))
+}
+
+// `N B E` after `bit`, with up to seven more link ends.
+fn bit_line(words: &[Word]) -> Result<FrameLine, SysKind>
+    ensures { result ≡ formed (option_map FrameLine.Bit (bit_line (codes "bit" ∷ bytes_of words.now))) }
+{
+    let [node, bit, ends @ ..] = words else {
+        return Err(SysKind::BadLine);
+    };
+    if ends.is_empty() || ends.len() > 8 {
+        return Err(SysKind::BadLine);
+    }
+    let node = any_number(node.bytes)?;
+    let bit = any_number(bit.bytes)?;
+    if !are_numbers(ends) {
+        return Err(SysKind::BadLine);
+    }
+    Ok(FrameLine::Bit(BitLine {
+        node: up_to(node, 99)? as u8,
+        bit: up_to(bit, 15)? as u8,
+        ends: end_numbers(ends)?,
+    }))
+}
+
+// `N` after `source`.
+fn source_line(words: &[Word]) -> Result<FrameLine, SysKind>
+    ensures { result ≡ formed (option_map FrameLine.Source (source_line (codes "source" ∷ bytes_of words.now))) }
+{
+    let [number] = words else {
+        return Err(SysKind::BadLine);
+    };
+    let number = any_number(number.bytes)?;
+    Ok(FrameLine::Source(up_to(number, 99)? as u8))
+}
+
+// The number that a word is, or the greatest number of 32 bits where it is greater than that. A word that is no
+// number makes a bad line.
+fn any_number(word: &[u8]) -> Result<u32, SysKind>
+    ensures { result ≡ or_bad (option_map capped (number_of word.now)) }
+{
+    if !is_plain_number(word) {
+        return Err(SysKind::BadLine);
+    }
+    Ok(number(word, u32::MAX).unwrap_or(u32::MAX))
+}
+
+// A number that is at most a limit, or else it is out of range.
+fn up_to(value: u32, most: u32) -> Result<u32, SysKind>
+    ensures value { result ≡ ranged (nat_le value most) value }
+    ensures most { IfOk result (λ n. n ≤ most) }
+{
+    if value <= most {
+        Ok(value)
     } else {
-        None
+        Err(SysKind::NumberOutOfRange)
     }
 }
 
-// The words of a line that has four, as a node's and a bit's line have.
-#[tactic(auto, unfolding(system_model::specs::FrameLines::node_line, system_model::specs::FrameLines::bit_line))]
-fn four_words(line: &[u8]) -> Option<(&[u8], &[u8], &[u8], &[u8])>
-    ensures words { IfSome result (λ w. words_of_line line.now ≡ w.0.now ∷ w.1.now ∷ w.2.now ∷ w.3.now ∷ []) }
-    ensures no_node { IfNone result (node_line (words_of_line line.now) ≡ None) }
-    ensures no_bit { IfNone result (bit_line (words_of_line line.now) ≡ None) }
+// A number from one limit to another, or else it is out of range.
+fn between(value: u32, least: u32, most: u32) -> Result<u32, SysKind>
+    ensures { result ≡ ranged (is_between least most value) value }
 {
-    let (a, rest) = next_word(line)?;
-    let (b, rest) = next_word(rest)?;
-    let (c, rest) = next_word(rest)?;
-    let (d, rest) = next_word(rest)?;
-    match next_word(rest) {
-        Some(_) => None,
-        None => Some((a, b, c, d)),
+    if least <= value && value <= most {
+        Ok(value)
+    } else {
+        Err(SysKind::NumberOutOfRange)
     }
 }
 
-// `bit N B 0`, or Some(None) where a number is out of range.
-#[tactic(auto, unfolding(system_model::specs::FrameLines::bit_line))]
-fn bit_line(line: &[u8]) -> Option<Option<FrameLine>>
-    ensures { result ≡ option_map (λ bit. in_range (FrameLine.Bit bit)) (bit_line (words_of_line line.now)) }
-{
-    let (name, node_digits, bit_digits, end_digits) = four_words(line)?;
-    if !same_name(b"bit", name) {
-        return None;
-    }
-    let node = up_to(node_digits, 99)?;
-    let bit = up_to(bit_digits, 15)?;
-    let _end = number(end_digits, 0)?;
-    Some(bit_of(node, bit))
-}
-
-// The line of a bit whose numbers are within their ranges.
-fn bit_of(node: Option<u32>, bit: Option<u32>) -> Option<FrameLine>
-    requires node { IfSome node (λ n. n ≤ 99) }
-    requires bit { IfSome bit (λ n. n ≤ 15) }
-    ensures { result ≡ of_both (λ n b. FrameLine.Bit (record { node = n; bit = b })) node bit }
-{
-    Some(FrameLine::Bit(BitLine {
-        node: node? as u8,
-        bit: bit? as u8,
-    }))
-}
-
-// `source N`, or Some(None) where the number is out of range.
-#[tactic(auto, unfolding(system_model::specs::FrameLines::source_line))]
-fn source_line(line: &[u8]) -> Option<Option<FrameLine>>
-    ensures { result ≡ option_map (λ n. in_range (FrameLine.Source n)) (source_line (words_of_line line.now)) }
-{
-    let (source, digits) = two_words(line)?;
-    if !same_name(b"source", source) {
-        return None;
-    }
-    let number = up_to(digits, 99)?;
-    Some(number.map(|n| FrameLine::Source(n as u8)))
-}
-
-// The words of a line that has two, as a source's first line has.
-#[tactic(auto, unfolding(system_model::specs::FrameLines::source_line))]
-fn two_words(line: &[u8]) -> Option<(&[u8], &[u8])>
-    ensures words { IfSome result (λ w. words_of_line line.now ≡ w.0.now ∷ w.1.now ∷ []) }
-    ensures no_source { IfNone result (source_line (words_of_line line.now) ≡ None) }
-{
-    let (a, rest) = next_word(line)?;
-    let (b, rest) = next_word(rest)?;
-    match next_word(rest) {
-        Some(_) => None,
-        None => Some((a, b)),
-    }
-}
-
-// `link N:0 M:0 delay D gap G`, or Some(None) where a number is out of range.
-#[tactic(auto, unfolding(system_model::specs::FrameLines::link_line))]
-fn link_line(line: &[u8]) -> Option<Option<FrameLine>>
-    ensures { result ≡ option_map (λ link. in_range (FrameLine.Link link)) (link_line (words_of_line line.now)) }
-{
-    let (name, a_end, b_end, delay_word, delay_digits, gap_word, gap_digits) = seven_words(line)?;
-    if !same_name(b"link", name) {
-        return None;
-    }
-    if !same_name(b"delay", delay_word) {
-        return None;
-    }
-    if !same_name(b"gap", gap_word) {
-        return None;
-    }
-    let a = node_of_end(a_end)?;
-    let b = node_of_end(b_end)?;
-    let delay = between(delay_digits, 1, 1000)?;
-    let gap = between(gap_digits, 4, 1000)?;
-    Some(link_of(a, b, delay, gap))
-}
-
-// The line of a link whose numbers are within their ranges.
-fn link_of(
-    a: Option<u32>,
-    b: Option<u32>,
-    delay: Option<u32>,
-    gap: Option<u32>,
-) -> Option<FrameLine>
-    requires a { IfSome a (λ n. n ≤ 99) }
-    requires b { IfSome b (λ n. n ≤ 99) }
-    ensures { result ≡ of_all (λ m n d g. FrameLine.Link (record { a = m; b = n; delay = d; gap = g })) a b delay gap }
-{
-    Some(FrameLine::Link(LinkLine {
-        a: a? as u8,
-        b: b? as u8,
-        delay: delay?,
-        gap: gap?,
-    }))
-}
-
-// The words of a line that has seven, as a link's line has.
-#[tactic(auto, unfolding(system_model::specs::FrameLines::link_line))]
-fn seven_words(line: &[u8]) -> Option<(&[u8], &[u8], &[u8], &[u8], &[u8], &[u8], &[u8])>
-    ensures words { IfSome result (λ w. words_of_line line.now ≡ w.0.now ∷ w.1.now ∷ w.2.now ∷ w.3.now ∷ w.4.now ∷ w.5.now ∷ w.6.now ∷ []) }
-    ensures no_link { IfNone result (link_line (words_of_line line.now) ≡ None) }
-{
-    let (a, rest) = next_word(line)?;
-    let (b, rest) = next_word(rest)?;
-    let (c, rest) = next_word(rest)?;
-    let (d, rest) = next_word(rest)?;
-    let (e, rest) = next_word(rest)?;
-    let (f, rest) = next_word(rest)?;
-    let (g, rest) = next_word(rest)?;
-    match next_word(rest) {
-        Some(_) => None,
-        None => Some((a, b, c, d, e, f, g)),
-    }
-}
-
-// A number from one limit to another: None where the word is no number, and Some(None) where it is outside.
-fn between(word: &[u8], least: u32, most: u32) -> Option<Option<u32>>
-    ensures { result ≡ option_map (λ n. when (is_between least most n) n) (number_of word.now) }
-{
-    match up_to(word, most)? {
-        Some(value) if least <= value => Some(Some(value)),
-        _ => Some(None),
-    }
-}
-
-// `N:0`: the number N of a node, or Some(None) where it is out of range.
-#[tactic(auto, unfolding(system_model::specs::FrameLines::node_of_end))]
-fn node_of_end(word: &[u8]) -> Option<Option<u32>>
-    ensures value { result ≡ option_map (λ n. when (nat_le n 99) n) (node_of_end word.now) }
-    ensures most { IfSome result (λ number. IfSome number (λ n. n ≤ 99)) }
+// `N:E`: link end E of the node with the number N.
+fn end_name(word: &[u8]) -> Result<NamedEnd, SysKind>
+    ensures { result ≡ or_bad (option_map capped_end (end_name word.now)) }
 {
     let colon = before_colon(word);
     if colon == word.len() {
-        return None;
+        return Err(SysKind::BadLine);
     }
-    let node = up_to(&word[..colon], 99)?;
-    let _end = number(&word[colon + 1..], 0)?;
-    Some(node)
+    Ok(NamedEnd {
+        node: any_number(&word[..colon])?,
+        end: any_number(&word[colon + 1..])?,
+    })
 }
 
 // How many bytes of a word stand before its first colon.
@@ -245,4 +175,36 @@ fn before_colon(word: &[u8]) -> usize
     ensures within { result ≤ length word.now }
 {
     word.iter().take_while(|b| **b != b':').count()
+}
+
+// A link end whose numbers are within their ranges.
+fn end_in_range(name: NamedEnd) -> Result<EndName, SysKind>
+    ensures { result ≡ ranged (is_in_range name) (end_of name) }
+{
+    Ok(EndName {
+        node: up_to(name.node, 99)? as u8,
+        end: up_to(name.end, 7)? as u8,
+    })
+}
+
+// Whether all words are numbers.
+fn are_numbers(words: &[Word]) -> bool
+    ensures { result ≡ are_numbers (bytes_of words.now) }
+{
+    words.iter().all(|word| is_plain_number(word.bytes))
+}
+
+// The link ends with the numbers that these words are, or else one is out of range.
+fn end_numbers(words: &[Word]) -> Result<ArrayVec<u8, 8>, SysKind>
+    requires { length words.now ≤ 8 }
+    ensures { GivesEnds (bytes_of words.now) result }
+{
+    let mut ends = ArrayVec::new();
+    for word in words {
+        match number(word.bytes, 7) {
+            Some(end) => ends.push(end as u8),
+            None => return Err(SysKind::NumberOutOfRange),
+        }
+    }
+    Ok(ends)
 }

@@ -5,22 +5,22 @@ use std::alloc::{AllocError, Global};
 use sys_plan::LinkPlan;
 use system_model::{GivenNode, LinkLine};
 
-// The plans of links between one or two nodes.
+// The plans of links between nodes.
 pub fn link_plans(
     alloc: Global,
     nodes: &[GivenNode],
     links: &[LinkLine],
 ) -> Result<Vec<LinkPlan>, AllocError>
-    requires few { length nodes.now ≤ 2 }
+    requires few { length nodes.now ≤ 16 }
     ensures plans { IfOk result (λ plans. plans.items ≡ map (link_plan nodes.now) links.now) }
 {
     let mut plans = Vec::new(alloc);
     for link in links {
         plans.push(LinkPlan {
-            a: position_by_number(nodes, link.a),
-            a_end: 0,
-            b: position_by_number(nodes, link.b),
-            b_end: 0,
+            a: position_by_number(nodes, link.a.node),
+            a_end: link.a.end,
+            b: position_by_number(nodes, link.b.node),
+            b_end: link.b.end,
             delay: link.delay,
             gap: link.gap,
         })?;
@@ -30,7 +30,7 @@ pub fn link_plans(
 
 // Where a node stands by ascending number: the count of the nodes of lesser numbers.
 fn position_by_number(nodes: &[GivenNode], number: u8) -> u8
-    requires few { length nodes.now ≤ 2 }
+    requires few { length nodes.now ≤ 16 }
     ensures { result ≡ position_by_number nodes.now number }
 {
     nodes.iter().filter(|node| node.number < number).count() as u8

@@ -1,7 +1,7 @@
-ghost use Rattle.std.specs.Prelude.{◌≡◌, ◌==◌, ◌&&◌};
+ghost use Rattle.std.specs.Prelude.{◌≡◌, ◌==◌};
 ghost use Rattle.std.specs.List.{list_any};
 ghost use Rattle.source_model.specs.Source.{assembled_lines};
-ghost use Rattle.system_model.specs.System.{node_plans, planned, source_of, ways_of, way};
+ghost use Rattle.system_model.specs.System.{node_plans, planned, source_of, ways_of, way, ends_for, mask_where};
 ghost use Rattle.system_text.specs.Plans.{GivesNode, GivesNodes};
 
 use crate::frame::Frame;
@@ -70,17 +70,34 @@ fn ways_of(bits: &[BitLine], number: u8) -> [u8; 16]
     ]
 }
 
-// The link ends by which a node sends what differs from its id at a bit first.
+// The link ends by which a node sends what differs from its id at a bit first, as a mask: 1 is link end 0 alone.
 fn way(bits: &[BitLine], number: u8, bit: u8) -> u8
     ensures { result ≡ way bits.now number bit }
 {
-    if has_way(bits, number, bit) { 1 } else { 0 }
+    mask_of(ends_for(bits, number, bit))
 }
 
-// Whether a line gives this bit of the node.
-fn has_way(bits: &[BitLine], number: u8, bit: u8) -> bool
-    ensures { result ≡ list_any (λ named. (named.node == number) && (named.bit == bit)) bits.now }
+// The link ends of the line of this bit of the node, none where no line gives it.
+fn ends_for(bits: &[BitLine], number: u8, bit: u8) -> &[u8]
+    ensures { result.now ≡ ends_for bits.now number bit }
 {
-    bits.iter()
-        .any(|named| named.node == number && named.bit == bit)
+    for line in bits {
+        if line.node == number && line.bit == bit {
+            return &line.ends;
+        }
+    }
+    &[]
+}
+
+// These link ends as a mask.
+fn mask_of(ends: &[u8]) -> u8
+    ensures { result ≡ mask_where (λ end. list_any (λ e. e == end) ends.now) 8 }
+{
+    let mut mask = 0;
+    for end in 0..8u8 {
+        if ends.iter().any(|e| *e == end) {
+            mask |= 1 << end;
+        }
+    }
+    mask
 }
