@@ -1,124 +1,253 @@
 -- The forms of lines, from their words.
-use Rattle.std.proofs.Common.{◌≡◌, ℕ, ◌+◌, Bool, true, false, ◌&&◌, List, [], ◌∷◌, length, Option, Some, None, refl, sym, ap, ◌∙◌, option_map, nat_le, take, drop, ◌-◌, length-drop, arith}
-use Rattle.std.specs.Prelude.{codes, if◌then◌else◌}
-use Rattle.std.proofs.lemmas.List.{take_all}
+use Rattle.std.proofs.Common.{◌≡◌, ℕ, ◌+◌, ◌≤◌, ◌<◌, get_or, Bool, true, false, ◌&&◌, List, [], ◌∷◌, length, Option, Some, None, Result, Ok, Err, refl, sym, ap, ◌∙◌, option_map, nat_le, min, take, drop, ◌-◌, length-drop, arith}
+use Rattle.std.specs.Prelude.{codes, if◌then◌else◌, is_some, IsErrAnd}
+use Rattle.std.specs.List.{list_all}
+use Rattle.std.proofs.lemmas.Bool.Decides.{nat_tests}
 use Rattle.xs_text.specs.Numbers.{number_of, at_most}
 use Rattle.xs_instructions.specs.Image.{same_name}
-use Rattle.system_model.specs.declared.frame_line.BitLine.{BitLine}
+use Rattle.system_model.specs.declared.SysKind.{SysKind}
+use Rattle.system_model.specs.declared.SysKind.TheVariants.{BadLine, NumberOutOfRange}
+use Rattle.system_model.specs.declared.frame_line.EndName.{EndName}
 use Rattle.system_model.specs.declared.frame_line.FrameLine.{FrameLine}
-use Rattle.system_model.specs.declared.frame_line.FrameLine.TheVariants.{Node, Link, Bit}
+use Rattle.system_model.specs.declared.frame_line.FrameLine.TheVariants.{Node, Link, Bit, Source}
 use Rattle.system_model.specs.declared.frame_line.LinkLine.{LinkLine}
 use Rattle.system_model.specs.declared.frame_line.NodeLine.{NodeLine}
-use Rattle.system_model.specs.FrameLines.{◌>>=◌, node_line, link_line, bit_line, node_of_end, before_colon, is_between}
-use Rattle.system_text.specs.Forms.{when, in_range, of_both, of_all}
+use Rattle.system_model.specs.Bits.{BitRec}
+use Rattle.system_model.specs.FrameLines.{◌>>=◌, node_line, link_line, bit_line, source_line, frame_line, or_line, numbers_of, end_name, before_colon, is_between, is_end_in_range, is_end_number}
+use Rattle.system_text.specs.declared.frame_lines.NamedEnd.{NamedEnd}
+use Rattle.system_text.specs.declared.words.Word.{Word}
+use Rattle.system_text.specs.Forms.{ranged, or_bad, formed, capped, capped_end, is_in_range, end_of, are_numbers, end_number, end_numbers, in_front}
+use Rattle.system_text.specs.LineWords.{bytes_of}
+use Rattle.system_text.proofs.Lists.{none_left, suffix}
 
--- a number as it is read, by whether it is within its range
-abbrev pub tested : (ℕ → Bool) → Option ℕ → Option (Option ℕ)
-tested test o = option_map (λ n. when (test n) n) o
+-- the next step of a reading, or its error
+abbrev pub chain : {A B : Type 0} → Result A SysKind → (A → Result B SysKind) → Result B SysKind
+chain (Ok x) f = f x
+chain (Err kind) f = Err kind
 
-abbrev most : ℕ → ℕ → Bool
-most limit n = nat_le n limit
+-- a number as it is read
+abbrev pub read : Option ℕ → Result ℕ SysKind
+read o = or_bad (option_map capped o)
 
-value_is : (test : ℕ → Bool) (n : ℕ) (value : Option ℕ) → Some value ≡ tested test (Some n) → value ≡ when (test n) n
-value_is test n value e = cc
+ranged_by : (b : Bool) (m n : ℕ) → (b ≡ true → m ≡ n) → ranged b m ≡ ranged b n
+ranged_by true m n h = ap (λ (k : ℕ). Ok k) (h refl)
+ranged_by false m n h = refl
 
-both_when : (line : ℕ → ℕ → FrameLine) (p q : Bool) (m n : ℕ) → of_both line (when p m) (when q n) ≡ when (p && q) (line m n)
-both_when line true true m n = refl
-both_when line true false m n = refl
-both_when line false q m n = refl
+-- a range ends below the greatest number, so it holds the numbers that it holds
+pub up_to_capped : (most n : ℕ) → most ≤ 65535 → ranged (nat_le (capped n) most) (capped n) ≡ ranged (nat_le n most) n
+up_to_capped most n h =
+    let same : nat_le (capped n) most ≡ nat_le n most = grind (arith, nat_tests) in
+    rw same (ranged_by (nat_le n most) (capped n) n (λ e. grind (arith, nat_tests)))
 
-all_when : (line : ℕ → ℕ → ℕ → ℕ → FrameLine) (p q r s : Bool) (k l m n : ℕ) → of_all line (when p k) (when q l) (when r m) (when s n) ≡ when (p && (q && (r && s))) (line k l m n)
-all_when line true true true true k l m n = refl
-all_when line true true true false k l m n = refl
-all_when line true true false s k l m n = refl
-all_when line true false r s k l m n = refl
-all_when line false q r s k l m n = refl
+-- Nodes
 
-abbrev node_from : ℕ → ℕ → FrameLine
-node_from n i = Node (record { number = n; id = i })
+abbrev node_of : Option ℕ → Option ℕ → Option NodeLine
+node_of p q = p >>= λ number. q >>= λ id. Some (record { number = number; id = id })
 
-abbrev bit_from : ℕ → ℕ → FrameLine
-bit_from n b = Bit (record { node = n; bit = b })
+both_ranged : (b c : Bool) (n i : ℕ) → ranged (b && c) (Node (record { number = n; id = i })) ≡ chain (ranged b n) (λ m. chain (ranged c i) (λ j. Ok (Node (record { number = m; id = j }))))
+both_ranged true true n i = refl
+both_ranged true false n i = refl
+both_ranged false c n i = refl
 
-abbrev link_from : ℕ → ℕ → ℕ → ℕ → FrameLine
-link_from m n d g = Link (record { a = m; b = n; delay = d; gap = g })
+abbrev pub node_ranged : ℕ → ℕ → Result FrameLine SysKind
+node_ranged n i = chain (ranged (nat_le n 99) n) (λ m. chain (ranged (nat_le i 65535) i) (λ j. Ok (Node (record { number = m; id = j }))))
 
-node_by : (s t : Bool) (p q : Option ℕ) (number id : Option ℕ) → s ≡ true → t ≡ true → Some number ≡ tested (most 99) p → Some id ≡ tested (most 65535) q → Some (of_both node_from number id) ≡ option_map (λ (node : NodeLine). in_range (Node node)) (if s && t then (p >>= λ number. q >>= λ id. Some (record { number = number; id = id })) else None)
-node_by false t p q number id e f h k = cc
-node_by true false p q number id e f h k = cc
-node_by true true None q number id e f h k = cc
-node_by true true (Some n) None number id e f h k = cc
-node_by true true (Some n) (Some i) number id e f h k =
-    rw (value_is (most 99) n number h, value_is (most 65535) i id k, both_when node_from (nat_le n 99) (nat_le i 65535) n i) refl
+node_steps : (p q : Option ℕ) → formed (option_map (λ (l : NodeLine). Node l) (node_of p q)) ≡ chain (read p) (λ n. chain (read q) (λ i. node_ranged n i))
+node_steps None q = refl
+node_steps (Some n) None = refl
+node_steps (Some n) (Some i) =
+    rw (up_to_capped 99 n (omega arith), up_to_capped 65535 i (omega arith)) (both_ranged (nat_le n 99) (nat_le i 65535) n i)
 
-pub node_found : (words : List (List ℕ)) (a n b i : List ℕ) (number id : Option ℕ) → words ≡ a ∷ n ∷ b ∷ i ∷ [] → same_name (codes "node") a ≡ true → same_name (codes "id") b ≡ true → Some number ≡ tested (most 99) (number_of n) → Some id ≡ tested (most 65535) (number_of i) → Some (of_both node_from number id) ≡ option_map (λ (node : NodeLine). in_range (Node node)) (node_line words)
+pub node_other : (words : List Word) → (length words ≡ 3 → ⊥) → Err BadLine ≡ formed (option_map (λ (l : NodeLine). Node l) (node_line (codes "node" ∷ bytes_of words)))
 unfolding node_line
-node_found words a n b i number id is e f h k = rw is (node_by (same_name (codes "node") a) (same_name (codes "id") b) (number_of n) (number_of i) number id e f h k)
+node_other [] h = refl
+node_other (a ∷ []) h = refl
+node_other (a ∷ b ∷ []) h = refl
+node_other (a ∷ b ∷ c ∷ []) h = absurd (h refl)
+node_other (a ∷ b ∷ c ∷ d ∷ words) h = refl
 
-bit_by : (s : Bool) (p q r : Option ℕ) (first bit : Option ℕ) (end : ℕ) → s ≡ true → Some first ≡ tested (most 99) p → Some bit ≡ tested (most 15) q → Some end ≡ r → Some (of_both bit_from first bit) ≡ option_map (λ (b : BitLine). in_range (Bit b)) (if s then (p >>= λ node. q >>= λ bit. r >>= λ end. Some (record { node = node; bit = bit })) else None)
-bit_by false p q r first bit end e h k m = cc
-bit_by true None q r first bit end e h k m = cc
-bit_by true (Some n) None r first bit end e h k m = cc
-bit_by true (Some n) (Some b) None first bit end e h k m = cc
-bit_by true (Some n) (Some b) (Some c) first bit end e h k m =
-    rw (value_is (most 99) n first h, value_is (most 15) b bit k, both_when bit_from (nat_le n 99) (nat_le b 15) n b) refl
+-- the word that is read where there is none
+abbrev pub blank : Word
+blank = record { bytes = record { ref_ptr = (0, 0); now = [] } }
 
-pub bit_found : (words : List (List ℕ)) (a n b c : List ℕ) (first bit : Option ℕ) (end : ℕ) → words ≡ a ∷ n ∷ b ∷ c ∷ [] → same_name (codes "bit") a ≡ true → Some first ≡ tested (most 99) (number_of n) → Some bit ≡ tested (most 15) (number_of b) → Some end ≡ at_most 0 (number_of c) → Some (of_both bit_from first bit) ≡ option_map (λ (l : BitLine). in_range (Bit l)) (bit_line words)
-unfolding bit_line
-bit_found words a n b c first bit end is e h k m = rw is (bit_by (same_name (codes "bit") a) (number_of n) (number_of b) (at_most 0 (number_of c)) first bit end e h k m)
+abbrev pub word_at : List Word → ℕ → List ℕ
+word_at words k = (get_or words k blank).bytes.now
 
-abbrev link_of : Bool → Bool → Bool → Option ℕ → Option ℕ → Option ℕ → Option ℕ → Option LinkLine
-link_of s t u p q d g = if s && (t && u) then (p >>= λ a. q >>= λ b. d >>= λ delay. g >>= λ gap. Some (record { a = a; b = b; delay = delay; gap = gap })) else None
+-- what a reading tells that stops at an error
+pub told : {A : Type 0} (r f : Result A SysKind) (kind : SysKind) → IsErrAnd r (λ e. e ≡ kind) → Err kind ≡ f → r ≡ f
+told (Ok x) f kind h e = absurd h
+told (Err k) f kind h e = ap (λ (x : SysKind). Err x) h ∙ e
 
-link_by : (s t u : Bool) (p q r v : Option ℕ) (a b d g : Option ℕ) → s ≡ true → t ≡ true → u ≡ true → Some a ≡ tested (most 99) p → Some b ≡ tested (most 99) q → Some d ≡ tested (is_between 1 1000) r → Some g ≡ tested (is_between 4 1000) v → Some (of_all link_from a b d g) ≡ option_map (λ (link : LinkLine). in_range (Link link)) (link_of s t u p q r v)
-link_by false t u p q r v a b d g e f i h k m n = cc
-link_by true false u p q r v a b d g e f i h k m n = cc
-link_by true true false p q r v a b d g e f i h k m n = cc
-link_by true true true None q r v a b d g e f i h k m n = cc
-link_by true true true (Some w) None r v a b d g e f i h k m n = cc
-link_by true true true (Some w) (Some x) None v a b d g e f i h k m n = cc
-link_by true true true (Some w) (Some x) (Some y) None a b d g e f i h k m n = cc
-link_by true true true (Some w) (Some x) (Some y) (Some z) a b d g e f i h k m n =
-    rw (value_is (most 99) w a h, value_is (most 99) x b k, value_is (is_between 1 1000) y d m, value_is (is_between 4 1000) z g n, all_when link_from (nat_le w 99) (nat_le x 99) (is_between 1 1000 y) (is_between 4 1000 z) w x y z) refl
+node_by : (s : Bool) (p q : Option ℕ) → s ≡ true → formed (option_map (λ (l : NodeLine). Node l) (if s then node_of p q else None)) ≡ chain (read p) (λ n. chain (read q) (λ i. node_ranged n i))
+node_by true p q e = node_steps p q
+node_by false p q e = cc
 
-pub link_found : (words : List (List ℕ)) (l x y v d w g : List ℕ) (a b delay gap : Option ℕ) → words ≡ l ∷ x ∷ y ∷ v ∷ d ∷ w ∷ g ∷ [] → same_name (codes "link") l ≡ true → same_name (codes "delay") v ≡ true → same_name (codes "gap") w ≡ true → Some a ≡ tested (most 99) (node_of_end x) → Some b ≡ tested (most 99) (node_of_end y) → Some delay ≡ tested (is_between 1 1000) (number_of d) → Some gap ≡ tested (is_between 4 1000) (number_of g) → Some (of_all link_from a b delay gap) ≡ option_map (λ (link : LinkLine). in_range (Link link)) (link_line words)
+pub node_is : (words : List Word) → 3 ≤ length words → length words < 4 → same_name (codes "id") (word_at words 1) ≡ true → formed (option_map (λ (l : NodeLine). Node l) (node_line (codes "node" ∷ bytes_of words))) ≡ chain (read (number_of (word_at words 0))) (λ n. chain (read (number_of (word_at words 2))) (λ i. node_ranged n i))
+unfolding node_line
+node_is [] h k e = absurd (omega (arith, h))
+node_is (a ∷ []) h k e = absurd (omega (arith, h))
+node_is (a ∷ b ∷ []) h k e = absurd (omega (arith, h))
+node_is (a ∷ b ∷ c ∷ []) h k e = node_by (same_name (codes "id") b.bytes.now) (number_of a.bytes.now) (number_of c.bytes.now) e
+node_is (a ∷ b ∷ c ∷ d ∷ words) h k e = absurd (omega (arith, k))
+
+pub node_not : (words : List Word) → 3 ≤ length words → length words < 4 → same_name (codes "id") (word_at words 1) ≡ false → Err BadLine ≡ formed (option_map (λ (l : NodeLine). Node l) (node_line (codes "node" ∷ bytes_of words)))
+unfolding node_line
+node_not [] h k e = refl
+node_not (a ∷ []) h k e = refl
+node_not (a ∷ b ∷ []) h k e = refl
+node_not (a ∷ b ∷ c ∷ []) h k e = rw e refl
+node_not (a ∷ b ∷ c ∷ d ∷ words) h k e = refl
+
+-- Sources
+
+pub source_other : (words : List Word) → (length words ≡ 1 → ⊥) → Err BadLine ≡ formed (option_map (λ (n : ℕ). Source n) (source_line (codes "source" ∷ bytes_of words)))
+unfolding source_line
+source_other [] h = refl
+source_other (a ∷ []) h = absurd (h refl)
+source_other (a ∷ b ∷ words) h = refl
+
+abbrev pub source_ranged : ℕ → Result FrameLine SysKind
+source_ranged n = chain (ranged (nat_le n 99) n) (λ m. Ok (Source m))
+
+one_ranged : (b : Bool) (n : ℕ) → ranged b (Source n) ≡ chain (ranged b n) (λ m. Ok (Source m))
+one_ranged true n = refl
+one_ranged false n = refl
+
+source_steps : (p : Option ℕ) → formed (option_map (λ (n : ℕ). Source n) p) ≡ chain (read p) (λ n. source_ranged n)
+source_steps None = refl
+source_steps (Some n) = rw (up_to_capped 99 n (omega arith)) (one_ranged (nat_le n 99) n)
+
+pub source_is : (words : List Word) → 1 ≤ length words → length words < 2 → formed (option_map (λ (n : ℕ). Source n) (source_line (codes "source" ∷ bytes_of words))) ≡ chain (read (number_of (word_at words 0))) (λ n. source_ranged n)
+unfolding source_line
+source_is [] h k = absurd (omega (arith, h))
+source_is (a ∷ []) h k = source_steps (number_of a.bytes.now)
+source_is (a ∷ b ∷ words) h k = absurd (omega (arith, k))
+
+-- The names of link ends
+
+name_steps : (p q : Option ℕ) → or_bad (option_map capped_end (p >>= λ node. q >>= λ end. Some (record { node = node; end = end }))) ≡ chain (read p) (λ n. chain (read q) (λ e. Ok (record { node = n; end = e })))
+name_steps None q = refl
+name_steps (Some n) None = refl
+name_steps (Some n) (Some e) = refl
+
+pub name_is : (word : List ℕ) (colon : ℕ) → colon ≡ before_colon word → or_bad (option_map capped_end (end_name word)) ≡ chain (read (number_of (take colon word))) (λ n. chain (read (number_of (take (length word - (colon + 1)) (drop (colon + 1) word)))) (λ e. Ok (record { node = n; end = e })))
+unfolding end_name
+name_is word colon is = rw (suffix word (colon + 1), sym is) (name_steps (number_of (take colon word)) (number_of (drop (colon + 1) word)))
+
+none_by : (p q : Option ℕ) → q ≡ None → Err BadLine ≡ or_bad (option_map capped_end (p >>= λ node. q >>= λ end. Some (record { node = node; end = end })))
+none_by None q e = refl
+none_by (Some n) q e = rw e refl
+
+pub name_none : (word : List ℕ) (colon : ℕ) → colon ≡ before_colon word → colon ≡ length word → Err BadLine ≡ or_bad (option_map capped_end (end_name word))
+unfolding end_name
+name_none word colon is past =
+    let none : drop (before_colon word + 1) word ≡ [] = none_left word (before_colon word + 1) (omega arith) in
+    none_by (number_of (take (before_colon word) word)) (number_of (drop (before_colon word + 1) word)) (ap (λ w. number_of w) none)
+
+-- Links
+
+end_by : (b c : Bool) (m n k l : ℕ) → (b ≡ true → m ≡ n) → (c ≡ true → k ≡ l) → ranged {A = EndName} (b && c) (record { node = m; end = k }) ≡ ranged (b && c) (record { node = n; end = l })
+end_by true true m n k l f g = rw (f refl, g refl) refl
+end_by true false m n k l f g = refl
+end_by false c m n k l f g = refl
+
+end_capped : (name : EndName) → ranged (is_in_range (capped_end name)) (end_of (capped_end name)) ≡ ranged (is_end_in_range name) name
+end_capped name =
+    let node : nat_le (capped name.node) 99 ≡ nat_le name.node 99 = grind (arith, nat_tests) in
+    let end : nat_le (capped name.end) 7 ≡ nat_le name.end 7 = grind (arith, nat_tests) in
+    rw (node, end) (end_by (nat_le name.node 99) (nat_le name.end 7) (capped name.node) name.node (capped name.end) name.end (λ e. grind (arith, nat_tests)) (λ e. grind (arith, nat_tests)))
+
+past_by : (b c : Bool) (m n : ℕ) → ranged (b && false) m ≡ ranged (c && false) n
+past_by true true m n = refl
+past_by true false m n = refl
+past_by false true m n = refl
+past_by false false m n = refl
+
+between_by : (least most n : ℕ) (b : Bool) → most ≤ 65535 → nat_le n most ≡ b → ranged (is_between least most (capped n)) (capped n) ≡ ranged (is_between least most n) n
+between_by least most n true h e = let same : capped n ≡ n = grind (arith, nat_tests) in rw same refl
+between_by least most n false h e =
+    let past : nat_le (capped n) most ≡ false = grind (arith, nat_tests) in
+    rw (past, e) (past_by (nat_le least (capped n)) (nat_le least n) (capped n) n)
+
+between_capped : (least most n : ℕ) → most ≤ 65535 → ranged (is_between least most (capped n)) (capped n) ≡ ranged (is_between least most n) n
+between_capped least most n h = between_by least most n (nat_le n most) h refl
+
+abbrev link_of : Option EndName → Option EndName → Option ℕ → Option ℕ → Option LinkLine
+link_of p q d g = p >>= λ a. q >>= λ b. d >>= λ delay. g >>= λ gap. Some (record { a = a; b = b; delay = delay; gap = gap })
+
+abbrev made_link : EndName → EndName → ℕ → ℕ → FrameLine
+made_link a b delay gap = Link (record { a = a; b = b; delay = delay; gap = gap })
+
+all_ranged : (s t u v : Bool) (a b : EndName) (d g : ℕ) → ranged (s && (t && (u && v))) (made_link a b d g) ≡ chain (ranged s a) (λ x. chain (ranged t b) (λ y. chain (ranged u d) (λ m. chain (ranged v g) (λ n. Ok (made_link x y m n)))))
+all_ranged true true true true a b d g = refl
+all_ranged true true true false a b d g = refl
+all_ranged true true false v a b d g = refl
+all_ranged true false u v a b d g = refl
+all_ranged false t u v a b d g = refl
+
+abbrev pub link_ranged : NamedEnd → NamedEnd → ℕ → ℕ → Result FrameLine SysKind
+link_ranged a b d g =
+    chain (ranged (is_in_range a) (end_of a)) (λ x. chain (ranged (is_in_range b) (end_of b)) (λ y. chain (ranged (is_between 1 1000 d) d) (λ m. chain (ranged (is_between 4 1000 g) g) (λ n. Ok (Link (record { a = x; b = y; delay = m; gap = n }))))))
+
+-- a link end as it is read
+abbrev pub read_end : Option EndName → Result NamedEnd SysKind
+read_end o = or_bad (option_map capped_end o)
+
+link_steps : (p q : Option EndName) (d g : Option ℕ) → formed (option_map (λ (l : LinkLine). Link l) (link_of p q d g)) ≡ chain (read_end p) (λ a. chain (read_end q) (λ b. chain (read d) (λ m. chain (read g) (λ n. link_ranged a b m n))))
+link_steps None q d g = refl
+link_steps (Some a) None d g = refl
+link_steps (Some a) (Some b) None g = refl
+link_steps (Some a) (Some b) (Some m) None = refl
+link_steps (Some a) (Some b) (Some m) (Some n) =
+    rw (end_capped a, end_capped b, between_capped 1 1000 m (omega arith), between_capped 4 1000 n (omega arith)) (all_ranged (is_end_in_range a) (is_end_in_range b) (is_between 1 1000 m) (is_between 4 1000 n) a b m n)
+
+link_by : (s t : Bool) (p q : Option EndName) (d g : Option ℕ) → s ≡ true → t ≡ true → formed (option_map (λ (l : LinkLine). Link l) (if s && t then link_of p q d g else None)) ≡ chain (read_end p) (λ a. chain (read_end q) (λ b. chain (read d) (λ m. chain (read g) (λ n. link_ranged a b m n))))
+link_by true true p q d g e f = link_steps p q d g
+link_by true false p q d g e f = cc
+link_by false t p q d g e f = cc
+
+pub link_is : (words : List Word) → 6 ≤ length words → length words < 7 → same_name (codes "delay") (word_at words 2) ≡ true → same_name (codes "gap") (word_at words 4) ≡ true → formed (option_map (λ (l : LinkLine). Link l) (link_line (codes "link" ∷ bytes_of words))) ≡ chain (read_end (end_name (word_at words 0))) (λ a. chain (read_end (end_name (word_at words 1))) (λ b. chain (read (number_of (word_at words 3))) (λ m. chain (read (number_of (word_at words 5))) (λ n. link_ranged a b m n))))
 unfolding link_line
-link_found words l x y v d w g a b delay gap is e f i h k m n =
-    rw is (link_by (same_name (codes "link") l) (same_name (codes "delay") v) (same_name (codes "gap") w) (node_of_end x) (node_of_end y) (number_of d) (number_of g) a b delay gap e f i h k m n)
+link_is [] h k e f = absurd (omega (arith, h))
+link_is (a ∷ []) h k e f = absurd (omega (arith, h))
+link_is (a ∷ b ∷ []) h k e f = absurd (omega (arith, h))
+link_is (a ∷ b ∷ v ∷ []) h k e f = absurd (omega (arith, h))
+link_is (a ∷ b ∷ v ∷ d ∷ []) h k e f = absurd (omega (arith, h))
+link_is (a ∷ b ∷ v ∷ d ∷ w ∷ []) h k e f = absurd (omega (arith, h))
+link_is (a ∷ b ∷ v ∷ d ∷ w ∷ g ∷ []) h k e f =
+    link_by (same_name (codes "delay") v.bytes.now) (same_name (codes "gap") w.bytes.now) (end_name a.bytes.now) (end_name b.bytes.now) (number_of d.bytes.now) (number_of g.bytes.now) e f
+link_is (a ∷ b ∷ v ∷ d ∷ w ∷ g ∷ x ∷ words) h k e f = absurd (omega (arith, k))
 
-no_gap_by : (s t u : Bool) (p q r v : Option ℕ) → None ≡ tested (is_between 4 1000) v → None ≡ option_map (λ (link : LinkLine). in_range (Link link)) (link_of s t u p q r v)
-no_gap_by s t u p q r (Some z) e = cc
-no_gap_by false t u p q r None e = refl
-no_gap_by true false u p q r None e = refl
-no_gap_by true true false p q r None e = refl
-no_gap_by true true true None q r None e = refl
-no_gap_by true true true (Some w) None r None e = refl
-no_gap_by true true true (Some w) (Some x) None None e = refl
-no_gap_by true true true (Some w) (Some x) (Some y) None e = refl
+not_by : (s t : Bool) (o : Option LinkLine) → (s && t) ≡ false → Err BadLine ≡ formed (option_map (λ (l : LinkLine). Link l) (if s && t then o else None))
+not_by s t o e = rw e refl
 
-pub no_gap : (words : List (List ℕ)) (l x y v d w g : List ℕ) → words ≡ l ∷ x ∷ y ∷ v ∷ d ∷ w ∷ g ∷ [] → None ≡ tested (is_between 4 1000) (number_of g) → None ≡ option_map (λ (link : LinkLine). in_range (Link link)) (link_line words)
+pub link_not : (words : List Word) → 6 ≤ length words → length words < 7 → (same_name (codes "delay") (word_at words 2) && same_name (codes "gap") (word_at words 4)) ≡ false → Err BadLine ≡ formed (option_map (λ (l : LinkLine). Link l) (link_line (codes "link" ∷ bytes_of words)))
 unfolding link_line
-no_gap words l x y v d w g is e = rw is (no_gap_by (same_name (codes "link") l) (same_name (codes "delay") v) (same_name (codes "gap") w) (node_of_end x) (node_of_end y) (number_of d) (number_of g) e)
+link_not [] h k e = refl
+link_not (a ∷ []) h k e = refl
+link_not (a ∷ b ∷ []) h k e = refl
+link_not (a ∷ b ∷ v ∷ []) h k e = refl
+link_not (a ∷ b ∷ v ∷ d ∷ []) h k e = refl
+link_not (a ∷ b ∷ v ∷ d ∷ w ∷ []) h k e = refl
+link_not (a ∷ b ∷ v ∷ d ∷ w ∷ g ∷ []) h k e =
+    not_by (same_name (codes "delay") v.bytes.now) (same_name (codes "gap") w.bytes.now) (link_of (end_name a.bytes.now) (end_name b.bytes.now) (number_of d.bytes.now) (number_of g.bytes.now)) e
+link_not (a ∷ b ∷ v ∷ d ∷ w ∷ g ∷ x ∷ words) h k e = refl
 
-suffix : (s : List ℕ) (k : ℕ) → take (length s - k) (drop k s) ≡ drop k s
-suffix s k = take_all (length s - k) (drop k s) (omega (arith, length-drop k s))
+pub no_delay : (b c : Bool) → b ≡ false → (b && c) ≡ false
+no_delay true c e = cc
+no_delay false c e = refl
 
-end_by : (p q : Option ℕ) (first : Option ℕ) (end : ℕ) → Some first ≡ tested (most 99) p → Some end ≡ q → Some first ≡ tested (most 99) (p >>= λ number. q >>= λ end. Some number)
-end_by None q first end h k = cc
-end_by (Some n) None first end h k = cc
-end_by (Some n) (Some m) first end h k = h
+pub no_gap : (b c : Bool) → b ≡ true → c ≡ false → (b && c) ≡ false
+no_gap true c e f = f
+no_gap false c e f = refl
 
-pub end_found : (word : List ℕ) (colon : ℕ) (first : Option ℕ) (end : ℕ) → colon ≡ before_colon word → Some first ≡ tested (most 99) (number_of (take colon word)) → Some end ≡ at_most 0 (number_of (take (length word - (colon + 1)) (drop (colon + 1) word))) → Some first ≡ tested (most 99) (node_of_end word)
-unfolding node_of_end
-end_found word colon first end is h k =
-    rw (sym is) (end_by (number_of (take colon word)) (at_most 0 (number_of (drop (colon + 1) word))) first end h (k ∙ ap (λ s. at_most 0 (number_of s)) (suffix word (colon + 1))))
-
-no_end_by : (p q : Option ℕ) → None ≡ q → None ≡ tested (most 99) (p >>= λ number. q >>= λ end. Some number)
-no_end_by None q k = refl
-no_end_by (Some n) None k = refl
-no_end_by (Some n) (Some m) k = cc
-
-pub no_end : (word : List ℕ) (colon : ℕ) → colon ≡ before_colon word → None ≡ at_most 0 (number_of (take (length word - (colon + 1)) (drop (colon + 1) word))) → None ≡ tested (most 99) (node_of_end word)
-unfolding node_of_end
-no_end word colon is k =
-    rw (sym is) (no_end_by (number_of (take colon word)) (at_most 0 (number_of (drop (colon + 1) word))) (k ∙ ap (λ s. at_most 0 (number_of s)) (suffix word (colon + 1))))
+pub link_other : (words : List Word) → (length words ≡ 6 → ⊥) → Err BadLine ≡ formed (option_map (λ (l : LinkLine). Link l) (link_line (codes "link" ∷ bytes_of words)))
+unfolding link_line
+link_other [] h = refl
+link_other (a ∷ []) h = refl
+link_other (a ∷ b ∷ []) h = refl
+link_other (a ∷ b ∷ v ∷ []) h = refl
+link_other (a ∷ b ∷ v ∷ d ∷ []) h = refl
+link_other (a ∷ b ∷ v ∷ d ∷ w ∷ []) h = refl
+link_other (a ∷ b ∷ v ∷ d ∷ w ∷ g ∷ []) h = absurd (h refl)
+link_other (a ∷ b ∷ v ∷ d ∷ w ∷ g ∷ x ∷ words) h = refl

@@ -14,12 +14,9 @@ use Rattle.system_model.specs.declared.frame_line.GivenNode.{GivenNode}
 use Rattle.system_model.specs.FrameLines.{is_header, frame_line, are_numbers_in_range}
 use Rattle.system_model.specs.Frame.{SourceText, Given, FrameSays, Blank, Header, NoHeader, Form, says_in_frame, says_by, says_form, says, is_empty, fault_of, first_that_holds, tests, put_by_number}
 use Rattle.system_model.specs.System.{source_of}
-use Rattle.system_text.specs.Forms.{when, in_range, in_room, formed}
+use Rattle.system_text.specs.Forms.{ranged, formed}
 use Rattle.system_text.specs.Judged.{later_fault}
-
-pub list_any_map : {X Y : Type 0} (p : Y → Bool) (f : X → Y) (xs : List X) → list_any p (map f xs) ≡ list_any (λ x. p (f x)) xs
-list_any_map p f [] = refl
-list_any_map p f (x ∷ xs) = rw (list_any_map p f xs) refl
+use Rattle.system_text.proofs.Lists.{none_left}
 
 abbrev lesser : ℕ → GivenNode → Bool
 lesser number node = nat_lt node.number number
@@ -95,78 +92,49 @@ bad_form given (Some (Source n)) = refl
 pub form_not_allowed : (given : Given) (l : List ℕ) → given.begun ≡ true → given.reading ≡ None → is_empty (words_of_line l) ≡ false → all_allowed l ≡ false → fault_of given l ≡ Some BadLine
 form_not_allowed given l b r e a = fault_is given l false _ a (form_said given l b r e) ∙ bad_form given (frame_line (words_of_line l))
 
--- the tests on form and numbers, before the others
-abbrev checked : Bool → Bool → Option SysKind → Option SysKind
-checked room range later = if not room then Some BadLine else (if not range then Some NumberOutOfRange else later)
+-- the test on numbers, before the others
+abbrev checked : Bool → Option SysKind → Option SysKind
+checked range later = if not range then Some NumberOutOfRange else later
 
-checked_refused : (room range : Bool) (f : FrameLine) (later : Option SysKind) (kind : SysKind) → Err kind ≡ in_room room (when range f) → checked room range later ≡ Some kind
-checked_refused false range f later kind e = cc
-checked_refused true false f later kind e = cc
-checked_refused true true f later kind e = cc
+checked_refused : (range : Bool) (f : FrameLine) (later : Option SysKind) (kind : SysKind) → Err kind ≡ ranged range f → checked range later ≡ Some kind
+checked_refused false f later kind e = cc
+checked_refused true f later kind e = cc
 
-checked_good : (room range : Bool) (f form : FrameLine) (later : Option SysKind) → Ok form ≡ in_room room (when range f) → (checked room range later ≡ later) × (f ≡ form)
-checked_good false range f form later e = absurd cc
-checked_good true false f form later e = absurd cc
-checked_good true true f form later e = (refl, cc)
+checked_good : (range : Bool) (f form : FrameLine) (later : Option SysKind) → Ok form ≡ ranged range f → (checked range later ≡ later) × (f ≡ form)
+checked_good false f form later e = absurd cc
+checked_good true f form later e = (refl, cc)
 
--- the room that the nodes and the links so far leave
-abbrev pub node_room : Given → Bool
-node_room given = nat_lt (length given.nodes) 2
-
-abbrev pub link_room : Given → Bool
-link_room given = nat_lt (length given.links) 1
-
-pub room_one : (n : ℕ) → (n == 0) ≡ nat_lt n 1
-room_one n = grind (arith, nat_tests)
-
-refused_by : (given : Given) (o : Option FrameLine) (kind : SysKind) → Err kind ≡ formed (node_room given) (link_room given) o → fault_by given true (says_form o) ≡ Some kind
+refused_by : (given : Given) (o : Option FrameLine) (kind : SysKind) → Err kind ≡ formed o → fault_by given true (says_form o) ≡ Some kind
 refused_by given None kind e = cc
-refused_by given (Some (Node node)) kind e = checked_refused (node_room given) (are_numbers_in_range (Node node)) (Node node) (later_fault given (Node node)) kind e
-refused_by given (Some (Link link)) kind e = checked_refused (link_room given) (are_numbers_in_range (Link link)) (Link link) (later_fault given (Link link)) kind e
-refused_by given (Some (Bit bit)) kind e = checked_refused true (are_numbers_in_range (Bit bit)) (Bit bit) (later_fault given (Bit bit)) kind e
-refused_by given (Some (Source n)) kind e = checked_refused true (are_numbers_in_range (Source n)) (Source n) (later_fault given (Source n)) kind e
+refused_by given (Some f) kind e = checked_refused (are_numbers_in_range f) f (later_fault given f) kind e
 
 -- the fault of a line whose form and numbers are good
 record IsGood (given : Given) (o : Option FrameLine) (form : FrameLine) : Type 0 where
   pub fault : fault_by given true (says_form o) ≡ later_fault given form
   pub said : says_form o ≡ Form form
 
-good_by : (given : Given) (f form : FrameLine) (room : Bool) → Ok form ≡ in_room room (in_range f) → fault_by given true (Form f) ≡ checked room (are_numbers_in_range f) (later_fault given f) → IsGood given (Some f) form
-good_by given f form room e is =
-    let both = checked_good room (are_numbers_in_range f) f form (later_fault given f) e in
-    record { fault = is ∙ (both.0 ∙ ap (λ x. later_fault given x) both.1); said = ap (λ x. Form x) both.1 }
-
-good : (given : Given) (o : Option FrameLine) (form : FrameLine) → Ok form ≡ formed (node_room given) (link_room given) o → IsGood given o form
+good : (given : Given) (o : Option FrameLine) (form : FrameLine) → Ok form ≡ formed o → IsGood given o form
 good given None form e = absurd cc
-good given (Some (Node node)) form e = good_by given (Node node) form (node_room given) e refl
-good given (Some (Link link)) form e = good_by given (Link link) form (link_room given) e refl
-good given (Some (Bit bit)) form e = good_by given (Bit bit) form true e refl
-good given (Some (Source n)) form e = good_by given (Source n) form true e refl
+good given (Some f) form e =
+    let both = checked_good (are_numbers_in_range f) f form (later_fault given f) e in
+    record { fault = both.0 ∙ ap (λ x. later_fault given x) both.1; said = ap (λ x. Form x) both.1 }
 
-pub form_refused : (given : Given) (l : List ℕ) (nodes links : Bool) (kind : SysKind) → given.begun ≡ true → given.reading ≡ None → is_empty (words_of_line l) ≡ false → all_allowed l ≡ true → nodes ≡ node_room given → links ≡ link_room given → Err kind ≡ formed nodes links (frame_line (words_of_line l)) → fault_of given l ≡ Some kind
-form_refused given l nodes links kind b r e a n m f =
-    fault_is given l true _ a (form_said given l b r e) ∙ refused_by given (frame_line (words_of_line l)) kind (rw (sym n, sym m) f)
+pub form_refused : (given : Given) (l : List ℕ) (kind : SysKind) → given.begun ≡ true → given.reading ≡ None → is_empty (words_of_line l) ≡ false → all_allowed l ≡ true → Err kind ≡ formed (frame_line (words_of_line l)) → fault_of given l ≡ Some kind
+form_refused given l kind b r e a f = fault_is given l true _ a (form_said given l b r e) ∙ refused_by given (frame_line (words_of_line l)) kind f
 
-pub form_faulty : (given : Given) (l : List ℕ) (nodes links : Bool) (form : FrameLine) (kind : SysKind) → given.begun ≡ true → given.reading ≡ None → is_empty (words_of_line l) ≡ false → all_allowed l ≡ true → nodes ≡ node_room given → links ≡ link_room given → Ok form ≡ formed nodes links (frame_line (words_of_line l)) → Some kind ≡ later_fault given form → fault_of given l ≡ Some kind
-form_faulty given l nodes links form kind b r e a n m f k =
-    let is = good given (frame_line (words_of_line l)) form (rw (sym n, sym m) f) in
+pub form_faulty : (given : Given) (l : List ℕ) (form : FrameLine) (kind : SysKind) → given.begun ≡ true → given.reading ≡ None → is_empty (words_of_line l) ≡ false → all_allowed l ≡ true → Ok form ≡ formed (frame_line (words_of_line l)) → Some kind ≡ later_fault given form → fault_of given l ≡ Some kind
+form_faulty given l form kind b r e a f k =
+    let is = good given (frame_line (words_of_line l)) form f in
     fault_is given l true _ a (form_said given l b r e) ∙ (is.fault ∙ sym k)
 
-pub form_good : (given : Given) (l : List ℕ) (nodes links : Bool) (form : FrameLine) → given.begun ≡ true → given.reading ≡ None → is_empty (words_of_line l) ≡ false → all_allowed l ≡ true → nodes ≡ node_room given → links ≡ link_room given → Ok form ≡ formed nodes links (frame_line (words_of_line l)) → None ≡ later_fault given form → (fault_of given l ≡ None) × (says given l ≡ Form form)
-form_good given l nodes links form b r e a n m f k =
-    let is = good given (frame_line (words_of_line l)) form (rw (sym n, sym m) f) in
+pub form_good : (given : Given) (l : List ℕ) (form : FrameLine) → given.begun ≡ true → given.reading ≡ None → is_empty (words_of_line l) ≡ false → all_allowed l ≡ true → Ok form ≡ formed (frame_line (words_of_line l)) → None ≡ later_fault given form → (fault_of given l ≡ None) × (says given l ≡ Form form)
+form_good given l form b r e a f k =
+    let is = good given (frame_line (words_of_line l)) form f in
     (fault_is given l true _ a (form_said given l b r e) ∙ (is.fault ∙ sym k), form_said given l b r e ∙ is.said)
 
 lines_of-none : lines_of [] ≡ []
 unfolding lines_of
 lines_of-none = refl
-
-pub no_more : {X : Type 0} (ys : List X) → length ys ≡ 0 → ys ≡ []
-no_more [] e = refl
-no_more (y ∷ ys) e = absurd (omega (arith, e))
-
-none_left : {X : Type 0} (xs : List X) (i : ℕ) → length xs ≤ i → drop i xs ≡ []
-none_left xs i h = no_more (drop i xs) (omega (arith, h, length-drop i xs))
 
 -- no source is left to be looked at
 pub no_source_left : {X : Type 0} (f : X → SourceText) (xs : List X) (i number : ℕ) → length xs ≤ i → lines_of [] ≡ source_of (map f (drop i xs)) number

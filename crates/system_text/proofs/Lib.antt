@@ -1,4 +1,7 @@
+pub mod Lists
 pub mod Forms
+pub mod BitForms
+pub mod FormNames
 pub mod Judged
 pub mod Sections
 pub mod Walk

@@ -1,6 +1,6 @@
 -- The lines of a frame as the reader takes them: no form is a bad line, and else each number has to be in its range.
-use Rattle.std.specs.Prelude.{ℕ, ◌≡◌, Bool, true, not, ◌&&◌, nat_le, if◌then◌else◌, is_some, min, Option, Some, None, Result, Ok, Err, List, map}
-use Rattle.std.specs.List.{list_all, list_any}
+use Rattle.std.specs.Prelude.{ℕ, ◌≡◌, Bool, ◌&&◌, nat_le, if◌then◌else◌, is_some, min, Option, Some, None, Result, Ok, Err, List, [], ◌∷◌}
+use Rattle.std.specs.List.{list_all}
 use Rattle.arrayvec.specs.ArrayVec.{ArrayVec}
 use Rattle.xs_text.specs.Numbers.{number_of, at_most}
 use Rattle.system_model.specs.declared.SysKind.{SysKind}
@@ -46,11 +46,17 @@ are_numbers words = list_all (λ (word : List ℕ). is_some (number_of word)) wo
 abbrev pub end_number : List ℕ → Option ℕ
 end_number word = at_most 7 (number_of word)
 
--- whether a word is no link end's number
-abbrev pub is_no_end : List ℕ → Bool
-is_no_end word = not (is_some (end_number word))
+-- a number in front of those of the words after it
+abbrev pub in_front : Option ℕ → Result (List ℕ) SysKind → Result (List ℕ) SysKind
+in_front None after = Err NumberOutOfRange
+in_front (Some n) (Err kind) = Err kind
+in_front (Some n) (Ok ns) = Ok (n ∷ ns)
 
 -- the numbers that words are, which are those of link ends, or one is not
-abbrev pub GivesEnds : List (List ℕ) → Result (ArrayVec ℕ) SysKind → Type 0
-GivesEnds words (Ok ends) = map end_number words ≡ map Some ends.items
-GivesEnds words (Err kind) = (kind ≡ NumberOutOfRange) × (list_any is_no_end words ≡ true)
+unfoldable pub end_numbers : List (List ℕ) → Result (List ℕ) SysKind
+end_numbers [] = Ok []
+end_numbers (word ∷ words) = in_front (end_number word) (end_numbers words)
+
+abbrev pub GivesEnds : Result (List ℕ) SysKind → Result (ArrayVec ℕ) SysKind → Type 0
+GivesEnds numbers (Ok ends) = numbers ≡ Ok ends.items
+GivesEnds numbers (Err kind) = numbers ≡ Err kind

@@ -2,11 +2,12 @@ ghost use Rattle.std.specs.Prelude.{◌≡◌, ◌≤◌, ℕ, true, false, ◌=
 ghost use Rattle.std.specs.List.{list_any, prefix_len};
 ghost use Rattle.xs_text.specs.Lines.{lines_of};
 ghost use Rattle.xs_text.specs.Words.{words_of_line};
-ghost use Rattle.system_model.specs.Frame.{Given, Form, nothing_given, is_empty, has_node, has_link_end, has_link_ends, is_same_end, has_source, stands_twice, given_with, without_source};
+ghost use Rattle.system_model.specs.Frame.{Given, Form, nothing_given, is_empty, has_node, has_link_end, has_link_ends, is_same_end, has_source, given_with, without_source};
 ghost use Rattle.system_model.specs.System.{source_of};
 ghost use Rattle.system_text.specs.Judged.{Judges, said_by, later_fault, with_source};
 ghost use Rattle.system_text.specs.Ranges.{IsShortSource};
 
+use crate::end_numbers::stands_twice;
 use crate::frame_lines::frame_line;
 use crate::words::{is_empty, is_header};
 use std::alloc::{AllocError, Global};
@@ -306,16 +307,6 @@ fn is_same_end(a: EndName, b: EndName) -> bool
     ensures { result ≡ is_same_end a b }
 {
     a.node == b.node && a.end == b.end
-}
-
-// Whether a link end stands twice.
-fn stands_twice(ends: &[u8]) -> bool
-    ensures { result ≡ stands_twice ends.now }
-{
-    match ends {
-        [] => false,
-        [end, others @ ..] => others.iter().any(|other| other == end) || stands_twice(others),
-    }
 }
 
 // Whether one of the sources is that of the node with this number.

@@ -1,8 +1,9 @@
-ghost use Rattle.std.specs.Prelude.{◌≡◌, ◌≤◌, ◌∷◌, codes, length, nat_le, option_map, IfOk};
+ghost use Rattle.std.specs.Prelude.{◌≡◌, ◌≤◌, ◌∷◌, codes, is_some, length, nat_le, option_map, IfOk};
+ghost use Rattle.std.specs.List.{list_all};
 ghost use Rattle.xs_text.specs.Words.{words_of_line};
 ghost use Rattle.xs_text.specs.Numbers.{number_of};
 ghost use Rattle.system_model.specs.FrameLines.{node_line, link_line, bit_line, source_line, frame_line, end_name, before_colon, is_between};
-ghost use Rattle.system_text.specs.Forms.{formed, ranged, or_bad, capped, capped_end, is_in_range, end_of, are_numbers, GivesEnds};
+ghost use Rattle.system_text.specs.Forms.{formed, ranged, or_bad, capped, capped_end, is_in_range, end_of, end_numbers, GivesEnds};
 ghost use Rattle.system_text.specs.LineWords.{bytes_of};
 
 use crate::words::{Word, line_words};
@@ -30,6 +31,7 @@ pub fn frame_line(line: &[u8]) -> Result<FrameLine, SysKind>
 
 // The same by the words.
 fn form_of(words: &[Word]) -> Result<FrameLine, SysKind>
+    requires { length words.now ≤ 11 }
     ensures { result ≡ formed (frame_line (bytes_of words.now)) }
 {
     let [name, rest @ ..] = words else {
@@ -73,7 +75,10 @@ fn link_line(words: &[Word]) -> Result<FrameLine, SysKind>
     let [a, b, delay_word, delay, gap_word, gap] = words else {
         return Err(SysKind::BadLine);
     };
-    if !(same_name(b"delay", delay_word.bytes) && same_name(b"gap", gap_word.bytes)) {
+    if !same_name(b"delay", delay_word.bytes) {
+        return Err(SysKind::BadLine);
+    }
+    if !same_name(b"gap", gap_word.bytes) {
         return Err(SysKind::BadLine);
     }
     let a = end_name(a.bytes)?;
@@ -90,12 +95,13 @@ fn link_line(words: &[Word]) -> Result<FrameLine, SysKind>
 
 // `N B E` after `bit`, with up to seven more link ends.
 fn bit_line(words: &[Word]) -> Result<FrameLine, SysKind>
+    requires { length words.now ≤ 10 }
     ensures { result ≡ formed (option_map FrameLine.Bit (bit_line (codes "bit" ∷ bytes_of words.now))) }
 {
     let [node, bit, ends @ ..] = words else {
         return Err(SysKind::BadLine);
     };
-    if ends.is_empty() || ends.len() > 8 {
+    if ends.is_empty() {
         return Err(SysKind::BadLine);
     }
     let node = any_number(node.bytes)?;
@@ -189,7 +195,7 @@ fn end_in_range(name: NamedEnd) -> Result<EndName, SysKind>
 
 // Whether all words are numbers.
 fn are_numbers(words: &[Word]) -> bool
-    ensures { result ≡ are_numbers (bytes_of words.now) }
+    ensures { result ≡ list_all (λ word. is_some (number_of word.bytes.now)) words.now }
 {
     words.iter().all(|word| is_plain_number(word.bytes))
 }
@@ -197,7 +203,7 @@ fn are_numbers(words: &[Word]) -> bool
 // The link ends with the numbers that these words are, or else one is out of range.
 fn end_numbers(words: &[Word]) -> Result<ArrayVec<u8, 8>, SysKind>
     requires { length words.now ≤ 8 }
-    ensures { GivesEnds (bytes_of words.now) result }
+    ensures { GivesEnds (end_numbers (bytes_of words.now)) result }
 {
     let mut ends = ArrayVec::new();
     for word in words {

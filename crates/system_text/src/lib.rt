@@ -1,6 +1,7 @@
 //! Reads a system text: the frame of a system, and the sources of its nodes. See docs/SYSTEM_TEXT.md.
 #![tactic(auto)]
 
+mod end_numbers;
 mod frame;
 mod frame_lines;
 mod frame_reader;

@@ -4,6 +4,7 @@ ghost use Rattle.source_model.specs.Source.{assembled_lines};
 ghost use Rattle.system_model.specs.System.{node_plans, planned, source_of, ways_of, way, ends_for, mask_where};
 ghost use Rattle.system_text.specs.Plans.{GivesNode, GivesNodes};
 
+use crate::end_numbers::is_among;
 use crate::frame::Frame;
 use crate::system_error::SystemError;
 use std::alloc::Global;
@@ -95,7 +96,7 @@ fn mask_of(ends: &[u8]) -> u8
 {
     let mut mask = 0;
     for end in 0..8u8 {
-        if ends.iter().any(|e| *e == end) {
+        if is_among(ends, end) {
             mask |= 1 << end;
         }
     }

@@ -2,7 +2,7 @@ use Rattle.std.proofs.Common.{sym, ap, ◌∙◌}
 use Rattle.std.specs.List.{list_any}
 use Rattle.std.specs.Prelude.{◌==◌}
 use Rattle.system_model.specs.Frame.{has_source}
-use Rattle.system_text.proofs.Judged.{list_any_map}
+use Rattle.system_text.proofs.Lists.{list_any_map}
 use Rattle.system_text.proofs.frame.Frame.has_source.Goals as goal
 
 pub returns : goal.returns

@@ -1,6 +1,5 @@
-use Rattle.std.proofs.Common.{sym, ap, ◌∙◌, length, nat_lt}
-use Rattle.std.specs.Prelude.{◌==◌}
-use Rattle.system_text.proofs.Judged.{form_not_allowed, form_refused, form_faulty, form_good, room_one}
+use Rattle.std.proofs.Common.{sym, ◌∙◌}
+use Rattle.system_text.proofs.Judged.{form_not_allowed, form_refused, form_faulty, form_good}
 use Rattle.system_text.proofs.frame.Frame.judge_form.Goals as goal
 
 pub returns-then-not-all_allowed : goal.returns-then-not-all_allowed
@@ -9,21 +8,12 @@ returns-then-not-all_allowed c =
 
 pub returns-in-Some : goal.returns-in-Some
 returns-in-Some c =
-    form_faulty c.args.self.now c.args.line.now (nat_lt (length c.nodes.result.now) 2) c.is_empty.result c.in-Ok.form c.in-Some.kind c.requires.begun c.requires.outside c.requires.words (sym c.all_allowed.ensures ∙ c.if-not-all_allowed.false)
-    (ap (λ nodes. nat_lt (length nodes) 2) c.nodes.ensures)
-    (c.is_empty.ensures ∙ (ap (λ links. length links == 0) c.links.ensures ∙ room_one (length c.args.self.now.links)))
-    c.in-Ok.ensures c.in-Some.ensures
+    form_faulty c.args.self.now c.args.line.now c.in-Ok.form c.in-Some.kind c.requires.begun c.requires.outside c.requires.words (sym c.all_allowed.ensures ∙ c.if-not-all_allowed.false) c.in-Ok.ensures c.in-Some.ensures
 
 pub returns-in-None : goal.returns-in-None
 returns-in-None c =
-    form_good c.args.self.now c.args.line.now (nat_lt (length c.nodes.result.now) 2) c.is_empty.result c.in-Ok.form c.requires.begun c.requires.outside c.requires.words (sym c.all_allowed.ensures ∙ c.if-not-all_allowed.false)
-    (ap (λ nodes. nat_lt (length nodes) 2) c.nodes.ensures)
-    (c.is_empty.ensures ∙ (ap (λ links. length links == 0) c.links.ensures ∙ room_one (length c.args.self.now.links)))
-    c.in-Ok.ensures c.in-None.ensures
+    form_good c.args.self.now c.args.line.now c.in-Ok.form c.requires.begun c.requires.outside c.requires.words (sym c.all_allowed.ensures ∙ c.if-not-all_allowed.false) c.in-Ok.ensures c.in-None.ensures
 
 pub returns-in-Err : goal.returns-in-Err
 returns-in-Err c =
-    form_refused c.args.self.now c.args.line.now (nat_lt (length c.nodes.result.now) 2) c.is_empty.result c.in-Err.kind c.requires.begun c.requires.outside c.requires.words (sym c.all_allowed.ensures ∙ c.if-not-all_allowed.false)
-    (ap (λ nodes. nat_lt (length nodes) 2) c.nodes.ensures)
-    (c.is_empty.ensures ∙ (ap (λ links. length links == 0) c.links.ensures ∙ room_one (length c.args.self.now.links)))
-    c.in-Err.ensures
+    form_refused c.args.self.now c.args.line.now c.in-Err.kind c.requires.begun c.requires.outside c.requires.words (sym c.all_allowed.ensures ∙ c.if-not-all_allowed.false) c.in-Err.ensures
