@@ -1,19 +1,21 @@
 -- What a frame keeps whose lines have no fault.
-use Rattle.std.proofs.Common.{◌≡◌, ℕ, ◌+◌, ◌≤◌, Bool, true, false, not, ◌&&◌, ◌||◌, List, [], ◌∷◌, ◌++◌, length, Option, Some, None, refl, sym, ◌∙◌, cond, nat_lt, nat_le, subst, arith}
-use Rattle.std.specs.Prelude.{◌≢◌, ◌==◌}
-use Rattle.std.specs.List.{AllByRecursion, list_any}
+use Rattle.std.proofs.Common.{◌≡◌, ℕ, suc, ◌+◌, ◌<◌, ◌≤◌, Bool, true, false, not, ◌&&◌, ◌||◌, List, [], ◌∷◌, ◌++◌, length, map, Option, Some, None, refl, sym, ap, ◌∙◌, cond, nat_lt, nat_le, subst, length-append, arith}
+use Rattle.std.specs.Prelude.{◌≢◌, ◌==◌, if◌then◌else◌}
+use Rattle.std.specs.List.{AllByRecursion, list_any, list_all}
 use Rattle.std.proofs.lemmas.Bool.Decides.{nat_tests}
+use Rattle.sys_plan.specs.Plan.{AreAscending, AreDistinct}
 use Rattle.xs_text.specs.Bytes.{all_allowed}
 use Rattle.system_model.specs.declared.SysKind.{SysKind}
-use Rattle.system_model.specs.declared.SysKind.TheVariants.{FirstLine, BadLine, GivenTwice, IdTwice, LinkEndTwice, LinkToItself, NumberOutOfRange, BitTwice, NoSuchNode}
-use Rattle.system_model.specs.declared.frame_line.BitLine.{BitLine}
+use Rattle.system_model.specs.declared.SysKind.TheVariants.{FirstLine, BadLine, GivenTwice, IdTwice, LinkEndTwice, LinkToItself, NumberOutOfRange, BitTwice, NoSuchNode, TooMany}
+use Rattle.system_model.specs.declared.frame_line.EndName.{EndName}
 use Rattle.system_model.specs.declared.frame_line.FrameLine.{FrameLine}
 use Rattle.system_model.specs.declared.frame_line.FrameLine.TheVariants.{Node, Link, Bit, Source}
 use Rattle.system_model.specs.declared.frame_line.GivenNode.{GivenNode}
 use Rattle.system_model.specs.declared.frame_line.LinkLine.{LinkLine}
-use Rattle.system_model.specs.FrameLines.{are_numbers_in_range, is_node_number, is_between}
-use Rattle.system_model.specs.Frame.{SourceText, Given, FrameSays, Own, End, Blank, Header, NoHeader, NoForm, Form, says, is_line_built, names_none, is_given_twice, is_id_twice, is_link_to_itself, is_link_end_twice, is_bit_twice, fault_of, first_that_holds, given_with, given_after, put_by_number, has_node, has_link_end, unless_faulty, at_the_end, whole_but_for, without_source, Framed, Whole, Refused, frame_from, framed, nothing_given, have_no_words}
-use Rattle.system_text.specs.Accepted.{IsLinkOf, AreAccepted, IsAccepted}
+use Rattle.system_model.specs.Bits.{BitRec}
+use Rattle.system_model.specs.FrameLines.{are_numbers_in_range, is_node_number, is_end_number, is_end_in_range, is_between}
+use Rattle.system_model.specs.Frame.{SourceText, Given, FrameSays, Own, End, Blank, Header, NoHeader, NoForm, Form, says, names_none, is_given_twice, is_id_twice, is_link_to_itself, is_link_end_twice, is_bit_twice, is_too_many, fault_of, first_that_holds, given_with, given_after, put_by_number, has_node, has_link_end, has_link_ends, is_same_end, unless_faulty, at_the_end, whole_but_for, without_source, Framed, Whole, Refused, frame_from, framed, nothing_given, have_no_words}
+use Rattle.system_text.specs.Accepted.{IsLinkOf, ends_of, AreAccepted, IsAccepted}
 use Rattle.system_text.proofs.Judged.{fault_by}
 use Rattle.system_text.proofs.Walk.{from-cons, from-end, framed_is}
 
@@ -25,21 +27,37 @@ both : (a b : Bool) → (a && b) ≡ true → (a ≡ true) × (b ≡ true)
 both true b e = (refl, e)
 both false b e = cc
 
-either : (a b : Bool) → (a || b) ≡ false → (a ≡ false) × (b ≡ false)
-either true b e = absurd cc
-either false b e = (refl, e)
+neither : (a b : Bool) → (a || b) ≡ false → (a ≡ false) × (b ≡ false)
+neither true b e = absurd cc
+neither false b e = (refl, e)
+
+or_first : (a b : Bool) → a ≡ true → (a || b) ≡ true
+or_first true b e = refl
+or_first false b e = cc
+
+or_second : (a b : Bool) → b ≡ true → (a || b) ≡ true
+or_second true b e = refl
+or_second false b e = e
+
+or_more : (a b c : Bool) → (a || b) ≡ true → (b ≡ true → c ≡ true) → (a || c) ≡ true
+or_more true b c e h = refl
+or_more false b c e h = h e
+
+differ : (m n : ℕ) → (m == n) ≡ false → m ≢ n
+differ m n e same = grind (arith, nat_tests)
 
 -- what a good line of a form has passed
 record Passes (given : Given) (form : FrameLine) : Type 0 where
-  pub built : is_line_built given form ≡ true
   pub ranged : are_numbers_in_range form ≡ true
   pub known : names_none given (Form form) ≡ false
   pub new : is_given_twice given (Form form) ≡ false
   pub new_id : is_id_twice given (Form form) ≡ false
   pub apart : is_link_to_itself (Form form) ≡ false
+  pub new_ends : is_link_end_twice given (Form form) ≡ false
+  pub few : is_too_many given (Form form) ≡ false
 
-abbrev first_of_eight : Bool → Bool → Bool → Bool → Bool → Bool → Bool → Bool → Option SysKind
-first_of_eight a b c d e f g h = first_that_holds (
+abbrev first_of_nine : Bool → Bool → Bool → Bool → Bool → Bool → Bool → Bool → Bool → Option SysKind
+first_of_nine a b c d e f g h i = first_that_holds (
     (BadLine, a)
     ∷ (NumberOutOfRange, b)
     ∷ (NoSuchNode, c)
@@ -48,128 +66,245 @@ first_of_eight a b c d e f g h = first_that_holds (
     ∷ (LinkToItself, f)
     ∷ (LinkEndTwice, g)
     ∷ (BitTwice, h)
+    ∷ (TooMany, i)
     ∷ []
     )
 
-none_of_eight : (a b c d e f g h : Bool) → first_of_eight a b c d e f g h ≡ None → (a ≡ false) × (b ≡ false) × (c ≡ false) × (d ≡ false) × (e ≡ false) × (f ≡ false)
-none_of_eight true b c d e f g h i = absurd cc
-none_of_eight false true c d e f g h i = absurd cc
-none_of_eight false false true d e f g h i = absurd cc
-none_of_eight false false false true e f g h i = absurd cc
-none_of_eight false false false false true f g h i = absurd cc
-none_of_eight false false false false false true g h i = absurd cc
-none_of_eight false false false false false false g h i = (refl, refl, refl, refl, refl, refl)
+none_of_nine : (a b c d e f g h i : Bool) → first_of_nine a b c d e f g h i ≡ None → (b ≡ false) × (c ≡ false) × (d ≡ false) × (e ≡ false) × (f ≡ false) × (g ≡ false) × (i ≡ false)
+none_of_nine true b c d e f g h i j = absurd cc
+none_of_nine false true c d e f g h i j = absurd cc
+none_of_nine false false true d e f g h i j = absurd cc
+none_of_nine false false false true e f g h i j = absurd cc
+none_of_nine false false false false true f g h i j = absurd cc
+none_of_nine false false false false false true g h i j = absurd cc
+none_of_nine false false false false false false true h i j = absurd cc
+none_of_nine false false false false false false false true i j = absurd cc
+none_of_nine false false false false false false false false true j = absurd cc
+none_of_nine false false false false false false false false false j = (refl, refl, refl, refl, refl, refl, refl)
 
 passed : (given : Given) (allowed : Bool) (form : FrameLine) → fault_by given allowed (Form form) ≡ None → Passes given form
 passed given allowed form e =
-    let none = none_of_eight (not allowed || not (is_line_built given form)) (not (are_numbers_in_range form)) (names_none given (Form form)) (is_given_twice given (Form form)) (is_id_twice given (Form form)) (is_link_to_itself (Form form)) (is_link_end_twice given (Form form)) (is_bit_twice given (Form form)) e in
-    record {
-      built = not_false _ (either (not allowed) (not (is_line_built given form)) none.0).1;
-      ranged = not_false _ none.1;
-      known = none.2;
-      new = none.3;
-      new_id = none.4;
-      apart = none.5;
-    }
+    let none = none_of_nine (not allowed || false) (not (are_numbers_in_range form)) (names_none given (Form form)) (is_given_twice given (Form form)) (is_id_twice given (Form form)) (is_link_to_itself (Form form)) (is_link_end_twice given (Form form)) (is_bit_twice given (Form form)) (is_too_many given (Form form)) e in
+    record { ranged = not_false _ none.0; known = none.1; new = none.2; new_id = none.3; apart = none.4; new_ends = none.5; few = none.6 }
 
--- Links and bits stay good with one more node or link.
-
-more_links : (nodes more : List GivenNode) (links : List LinkLine) → ((n : ℕ) → has_node nodes n ≡ true → has_node more n ≡ true) → AllByRecursion (IsLinkOf nodes) links → AllByRecursion (IsLinkOf more) links
-more_links nodes more [] h k = tt
-more_links nodes more (link ∷ links) h k = (
-  record { a = h link.a k.0.a; b = h link.b k.0.b; apart = k.0.apart; least_delay = k.0.least_delay; most_delay = k.0.most_delay; least_gap = k.0.least_gap; most_gap = k.0.most_gap },
-  more_links nodes more links h k.1,
-)
-
-more_bits : (links more : List LinkLine) (bits : List BitLine) → ((n : ℕ) → has_link_end links n ≡ true → has_link_end more n ≡ true) → AllByRecursion (λ (bit : BitLine). has_link_end links bit.node ≡ true) bits → AllByRecursion (λ (bit : BitLine). has_link_end more bit.node ≡ true) bits
-more_bits links more [] h k = tt
-more_bits links more (bit ∷ bits) h k = (h bit.node k.0, more_bits links more bits h k.1)
+-- Lists with one element more
 
 one_more : {X : Type 0} (P : X → Type 0) (xs : List X) (x : X) → AllByRecursion P xs → P x → AllByRecursion P (xs ++ x ∷ [])
 one_more P [] x h p = (p, tt)
 one_more P (y ∷ ys) x h p = (h.0, one_more P ys x h.1 p)
 
+all_more : (p q : ℕ → Bool) (xs : List ℕ) → ((x : ℕ) → p x ≡ true → q x ≡ true) → list_all p xs ≡ true → list_all q xs ≡ true
+all_more p q [] h e = refl
+all_more p q (x ∷ xs) h e = let is = both (p x) (list_all p xs) e in rw (h x is.0) (all_more p q xs h is.1)
+
 -- One more node
 
-differ : (m n : ℕ) → ((m == n) || false) ≡ false → m ≢ n
-differ m n e = grind (arith, nat_tests)
+put_length_by : (b : Bool) (node m : GivenNode) (nodes : List GivenNode) → length (put_by_number node nodes) ≡ suc (length nodes) → length (if b then m ∷ put_by_number node nodes else node ∷ (m ∷ nodes)) ≡ suc (length (m ∷ nodes))
+put_length_by true node m nodes rest = ap suc rest
+put_length_by false node m nodes rest = refl
 
-or_true : (a b : Bool) → b ≡ true → (a || b) ≡ true
-or_true true b e = refl
-or_true false b e = e
+put_length : (node : GivenNode) (nodes : List GivenNode) → length (put_by_number node nodes) ≡ suc (length nodes)
+put_length node [] = refl
+put_length node (m ∷ nodes) = put_length_by (nat_lt m.number node.number) node m nodes (put_length node nodes)
 
-or_first : (a : Bool) → (a || false) ≡ true → (a || true) ≡ true
-or_first a e = or_true a true refl
+put_all_by : (b : Bool) (P : GivenNode → Type 0) (node m : GivenNode) (nodes : List GivenNode) → AllByRecursion P (m ∷ nodes) → P node → AllByRecursion P (put_by_number node nodes) → AllByRecursion P (if b then m ∷ put_by_number node nodes else node ∷ (m ∷ nodes))
+put_all_by true P node m nodes h p rest = (h.0, rest)
+put_all_by false P node m nodes h p rest = (p, h)
 
-front_or : (a b : Bool) → (a || false) ≡ true → (a || (b || false)) ≡ true
-front_or true b e = refl
-front_or false b e = cc
+put_all : (P : GivenNode → Type 0) (node : GivenNode) (nodes : List GivenNode) → AllByRecursion P nodes → P node → AllByRecursion P (put_by_number node nodes)
+put_all P node [] h p = (p, tt)
+put_all P node (m ∷ nodes) h p = put_all_by (nat_lt m.number node.number) P node m nodes h p (put_all P node nodes h.1 p)
 
-node_put : (first : Bool) (m node : GivenNode) (links : List LinkLine) (bits : List BitLine) → nat_lt m.number node.number ≡ first → node.number ≤ 99 → m.number ≢ node.number → m.id ≢ node.id → AreAccepted (m ∷ []) links bits → AreAccepted (cond first (m ∷ (node ∷ [])) (node ∷ (m ∷ []))) links bits
-node_put true m node links bits e h ne nid k = record {
-  few_nodes = omega arith;
+-- a node that is given is given still
+put_has_by : (b : Bool) (node m : GivenNode) (nodes : List GivenNode) (n : ℕ) → has_node (m ∷ nodes) n ≡ true → (has_node nodes n ≡ true → has_node (put_by_number node nodes) n ≡ true) → has_node (if b then m ∷ put_by_number node nodes else node ∷ (m ∷ nodes)) n ≡ true
+put_has_by true node m nodes n e rest = or_more (m.number == n) (has_node nodes n) (has_node (put_by_number node nodes) n) e rest
+put_has_by false node m nodes n e rest = or_second (node.number == n) (has_node (m ∷ nodes) n) e
+
+put_has : (node : GivenNode) (nodes : List GivenNode) (n : ℕ) → has_node nodes n ≡ true → has_node (put_by_number node nodes) n ≡ true
+put_has node [] n e = cc
+put_has node (m ∷ nodes) n e = put_has_by (nat_lt m.number node.number) node m nodes n e (λ h. put_has node nodes n h)
+
+-- a number is below the first of others
+abbrev IsBelowFirst : ℕ → List ℕ → Type 0
+IsBelowFirst x [] = Unit {0}
+IsBelowFirst x (y ∷ ys) = x < y
+
+ascending_from : (x : ℕ) (xs : List ℕ) → IsBelowFirst x xs → AreAscending xs → AreAscending (x ∷ xs)
+ascending_from x [] h k = tt
+ascending_from x (y ∷ ys) h k = (h, k)
+
+ascending_first : (x : ℕ) (xs : List ℕ) → AreAscending (x ∷ xs) → IsBelowFirst x xs
+ascending_first x [] h = tt
+ascending_first x (y ∷ ys) h = h.0
+
+ascending_rest : (x : ℕ) (xs : List ℕ) → AreAscending (x ∷ xs) → AreAscending xs
+ascending_rest x [] h = tt
+ascending_rest x (y ∷ ys) h = h.1
+
+abbrev numbers : List GivenNode → List ℕ
+numbers nodes = map (λ (node : GivenNode). node.number) nodes
+
+put_first_by : (b : Bool) (x : ℕ) (node m : GivenNode) (nodes : List GivenNode) → x < node.number → x < m.number → IsBelowFirst x (numbers (if b then m ∷ put_by_number node nodes else node ∷ (m ∷ nodes)))
+put_first_by true x node m nodes h k = k
+put_first_by false x node m nodes h k = h
+
+put_first : (x : ℕ) (node : GivenNode) (nodes : List GivenNode) → x < node.number → IsBelowFirst x (numbers nodes) → IsBelowFirst x (numbers (put_by_number node nodes))
+put_first x node [] h k = h
+put_first x node (m ∷ nodes) h k = put_first_by (nat_lt m.number node.number) x node m nodes h k
+
+lesser : (m n : ℕ) → nat_lt m n ≡ true → m < n
+lesser m n e = grind (arith, nat_tests)
+
+greater : (m n : ℕ) → nat_lt m n ≡ false → m ≢ n → n < m
+greater m n e ne = let least : n ≤ m = grind (arith, nat_tests) in omega (arith, least, ne)
+
+put_ascending_by : (b : Bool) (node m : GivenNode) (nodes : List GivenNode) → nat_lt m.number node.number ≡ b → m.number ≢ node.number → AreAscending (numbers (m ∷ nodes)) → AreAscending (numbers (put_by_number node nodes)) → AreAscending (numbers (if b then m ∷ put_by_number node nodes else node ∷ (m ∷ nodes)))
+put_ascending_by true node m nodes b ne k rest =
+    ascending_from m.number (numbers (put_by_number node nodes)) (put_first m.number node nodes (lesser m.number node.number b) (ascending_first m.number (numbers nodes) k)) rest
+put_ascending_by false node m nodes b ne k rest = (greater m.number node.number b ne, k)
+
+put_ascending : (node : GivenNode) (nodes : List GivenNode) → has_node nodes node.number ≡ false → AreAscending (numbers nodes) → AreAscending (numbers (put_by_number node nodes))
+put_ascending node [] e k = tt
+put_ascending node (m ∷ nodes) e k =
+    let new = neither (m.number == node.number) (has_node nodes node.number) e in
+    put_ascending_by (nat_lt m.number node.number) node m nodes refl (differ m.number node.number new.0) k (put_ascending node nodes new.1 (ascending_rest m.number (numbers nodes) k))
+
+abbrev ids : List GivenNode → List ℕ
+ids nodes = map (λ (node : GivenNode). node.id) nodes
+
+ids_differ : (id : ℕ) (nodes : List GivenNode) → list_any (λ (other : GivenNode). other.id == id) nodes ≡ false → AllByRecursion (λ y. id ≢ y) (ids nodes)
+ids_differ id [] e = tt
+ids_differ id (m ∷ nodes) e =
+    let new = neither (m.id == id) (list_any (λ (other : GivenNode). other.id == id) nodes) e in
+    (λ same. differ m.id id new.0 (sym same), ids_differ id nodes new.1)
+
+put_ids_by : (b : Bool) (P : ℕ → Type 0) (node m : GivenNode) (nodes : List GivenNode) → AllByRecursion P (ids (m ∷ nodes)) → P node.id → AllByRecursion P (ids (put_by_number node nodes)) → AllByRecursion P (ids (if b then m ∷ put_by_number node nodes else node ∷ (m ∷ nodes)))
+put_ids_by true P node m nodes h p rest = (h.0, rest)
+put_ids_by false P node m nodes h p rest = (p, h)
+
+put_ids : (P : ℕ → Type 0) (node : GivenNode) (nodes : List GivenNode) → AllByRecursion P (ids nodes) → P node.id → AllByRecursion P (ids (put_by_number node nodes))
+put_ids P node [] h p = (p, tt)
+put_ids P node (m ∷ nodes) h p = put_ids_by (nat_lt m.number node.number) P node m nodes h p (put_ids P node nodes h.1 p)
+
+put_distinct_by : (b : Bool) (node m : GivenNode) (nodes : List GivenNode) → list_any (λ (other : GivenNode). other.id == node.id) (m ∷ nodes) ≡ false → m.id ≢ node.id → AreDistinct (ids (m ∷ nodes)) → AreDistinct (ids (put_by_number node nodes)) → AreDistinct (ids (if b then m ∷ put_by_number node nodes else node ∷ (m ∷ nodes)))
+put_distinct_by true node m nodes e ne k rest = (put_ids (λ y. m.id ≢ y) node nodes k.0 ne, rest)
+put_distinct_by false node m nodes e ne k rest = (ids_differ node.id (m ∷ nodes) e, k)
+
+put_distinct : (node : GivenNode) (nodes : List GivenNode) → list_any (λ (other : GivenNode). other.id == node.id) nodes ≡ false → AreDistinct (ids nodes) → AreDistinct (ids (put_by_number node nodes))
+put_distinct node [] e k = (tt, tt)
+put_distinct node (m ∷ nodes) e k =
+    let new = neither (m.id == node.id) (list_any (λ (other : GivenNode). other.id == node.id) nodes) e in
+    put_distinct_by (nat_lt m.number node.number) node m nodes e (differ m.id node.id new.0) k (put_distinct node nodes new.1 k.1)
+
+still_link : (node : GivenNode) (nodes : List GivenNode) (link : LinkLine) → IsLinkOf nodes link → IsLinkOf (put_by_number node nodes) link
+still_link node nodes link k = record {
+  a = put_has node nodes link.a.node k.a;
+  b = put_has node nodes link.b.node k.b;
+  apart = k.apart;
+  a_end = k.a_end;
+  b_end = k.b_end;
+  least_delay = k.least_delay;
+  most_delay = k.most_delay;
+  least_gap = k.least_gap;
+  most_gap = k.most_gap;
+}
+
+more_nodes : (node : GivenNode) (nodes : List GivenNode) (links : List LinkLine) → AllByRecursion (IsLinkOf nodes) links → AllByRecursion (IsLinkOf (put_by_number node nodes)) links
+more_nodes node nodes [] k = tt
+more_nodes node nodes (link ∷ links) k = (still_link node nodes link k.0, more_nodes node nodes links k.1)
+
+with_node : (nodes : List GivenNode) (node : GivenNode) (links : List LinkLine) (bits : List BitRec) → nat_le 16 (length nodes) ≡ false → node.number ≤ 99 → has_node nodes node.number ≡ false → list_any (λ (other : GivenNode). other.id == node.id) nodes ≡ false → AreAccepted nodes links bits → AreAccepted (put_by_number node nodes) links bits
+with_node nodes node links bits few h new new_id k = record {
+  few_nodes = let more = put_length node nodes in let room : length nodes < 16 = grind (arith, nat_tests) in omega arith;
   few_links = k.few_links;
-  numbers = (k.numbers.0, (h, tt));
-  order = (grind (arith, nat_tests), tt);
-  ids = ((nid, tt), (tt, tt));
-  links = more_links (m ∷ []) (m ∷ (node ∷ [])) links (λ n i. front_or (m.number == n) (node.number == n) i) k.links;
+  numbers = put_all (λ (n : GivenNode). n.number ≤ 99) node nodes k.numbers h;
+  order = put_ascending node nodes new k.order;
+  ids = put_distinct node nodes new_id k.ids;
+  links = more_nodes node nodes links k.links;
+  ends = k.ends;
   bits = k.bits;
 }
-node_put false m node links bits e h ne nid k = record {
-  few_nodes = omega arith;
-  few_links = k.few_links;
-  numbers = (h, (k.numbers.0, tt));
-  order = (grind (arith, nat_tests), tt);
-  ids = ((λ i. nid (sym i), tt), (tt, tt));
-  links = more_links (m ∷ []) (node ∷ (m ∷ [])) links (λ n i. or_true (node.number == n) ((m.number == n) || false) i) k.links;
-  bits = k.bits;
-}
-
-with_node : (nodes : List GivenNode) (node : GivenNode) (links : List LinkLine) (bits : List BitLine) → nat_lt (length nodes) 2 ≡ true → node.number ≤ 99 → has_node nodes node.number ≡ false → list_any (λ (other : GivenNode). other.id == node.id) nodes ≡ false → AreAccepted nodes links bits → AreAccepted (put_by_number node nodes) links bits
-with_node [] node links bits few h new new_id k = record {
-  few_nodes = omega arith;
-  few_links = k.few_links;
-  numbers = (h, tt);
-  order = tt;
-  ids = (tt, tt);
-  links = more_links [] (node ∷ []) links (λ n i. cc) k.links;
-  bits = k.bits;
-}
-with_node (m ∷ []) node links bits few h new new_id k = node_put (nat_lt m.number node.number) m node links bits refl h (differ m.number node.number new) (differ m.id node.id new_id) k
-with_node (m ∷ n ∷ nodes) node links bits few h new new_id k = absurd (grind (arith, nat_tests))
 
 -- One more link
-
-pub no_bits : (bits : List BitLine) → AllByRecursion (λ (bit : BitLine). has_link_end [] bit.node ≡ true) bits → bits ≡ []
-no_bits [] h = refl
-no_bits (bit ∷ bits) h = absurd cc
 
 ranges : (least most n : ℕ) → is_between least most n ≡ true → (least ≤ n) × (n ≤ most)
 ranges least most n e = let b = both (nat_le least n) (nat_le n most) e in (grind (arith, nat_tests), grind (arith, nat_tests))
 
-link_of : (nodes : List GivenNode) (link : LinkLine) → are_numbers_in_range (Link link) ≡ true → not (has_node nodes link.a && has_node nodes link.b) ≡ false → (link.a == link.b) ≡ false → IsLinkOf nodes link
+at_most : (n most : ℕ) → nat_le n most ≡ true → n ≤ most
+at_most n most e = grind (arith, nat_tests)
+
+link_of : (nodes : List GivenNode) (link : LinkLine) → are_numbers_in_range (Link link) ≡ true → not (has_node nodes link.a.node && has_node nodes link.b.node) ≡ false → (link.a.node == link.b.node) ≡ false → IsLinkOf nodes link
 link_of nodes link range known apart =
-    let ends = both (has_node nodes link.a) (has_node nodes link.b) (not_false _ known) in
-    let times = both (is_between 1 1000 link.delay) (is_between 4 1000 link.gap) (both (is_node_number link.b) _ (both (is_node_number link.a) _ range).1).1 in
+    let given = both (has_node nodes link.a.node) (has_node nodes link.b.node) (not_false _ known) in
+    let a = both (is_end_in_range link.a) _ range in
+    let b = both (is_end_in_range link.b) _ a.1 in
+    let times = both (is_between 1 1000 link.delay) (is_between 4 1000 link.gap) b.1 in
     let delay = ranges 1 1000 link.delay times.0 in
     let gap = ranges 4 1000 link.gap times.1 in
-    record { a = ends.0; b = ends.1; apart = λ e. grind (arith, nat_tests); least_delay = delay.0; most_delay = delay.1; least_gap = gap.0; most_gap = gap.1 }
+    record {
+      a = given.0;
+      b = given.1;
+      apart = differ link.a.node link.b.node apart;
+      a_end = at_most link.a.end 7 (both (is_node_number link.a.node) (is_end_number link.a.end) a.0).1;
+      b_end = at_most link.b.end 7 (both (is_node_number link.b.node) (is_end_number link.b.end) b.0).1;
+      least_delay = delay.0;
+      most_delay = delay.1;
+      least_gap = gap.0;
+      most_gap = gap.1;
+    }
 
-with_link : (nodes : List GivenNode) (links : List LinkLine) (link : LinkLine) (bits : List BitLine) → nat_lt (length links) 1 ≡ true → IsLinkOf nodes link → AreAccepted nodes links bits → AreAccepted nodes (links ++ link ∷ []) bits
-with_link nodes [] link bits few h k = record {
-  few_nodes = k.few_nodes;
-  few_links = omega arith;
-  numbers = k.numbers;
-  order = k.order;
-  ids = k.ids;
-  links = (h, tt);
-  bits = more_bits [] (link ∷ []) bits (λ n i. absurd cc) k.bits;
-}
-with_link nodes (l ∷ links) link bits few h k = absurd (grind (arith, nat_tests))
+is_same : (name : EndName) → is_same_end name name ≡ true
+is_same name = grind (arith, nat_tests)
+
+ends_differ : (x y : EndName) → is_same_end x y ≡ false → x ≢ y
+ends_differ x y e same = let is : is_same_end x y ≡ true = rw same (is_same y) in cc
+
+more_ends : (P : EndName → Type 0) (links : List LinkLine) (link : LinkLine) → AllByRecursion P (ends_of links) → P link.a → P link.b → AllByRecursion P (ends_of (links ++ link ∷ []))
+more_ends P [] link h p q = (p, (q, tt))
+more_ends P (l ∷ links) link h p q = (h.0, (h.1.0, more_ends P links link h.1.1 p q))
+
+distinct_ends : (links : List LinkLine) (link : LinkLine) → link.a ≢ link.b → has_link_end links link.a ≡ false → has_link_end links link.b ≡ false → AreDistinct (ends_of links) → AreDistinct (ends_of (links ++ link ∷ []))
+distinct_ends [] link ne e f k = ((ne, tt), (tt, tt))
+distinct_ends (l ∷ links) link ne e f k =
+    let a = neither (is_same_end l.a link.a || is_same_end l.b link.a) (has_link_end links link.a) e in
+    let b = neither (is_same_end l.a link.b || is_same_end l.b link.b) (has_link_end links link.b) f in
+    let to_a = neither (is_same_end l.a link.a) (is_same_end l.b link.a) a.0 in
+    let to_b = neither (is_same_end l.a link.b) (is_same_end l.b link.b) b.0 in
+    (
+      (k.0.0, more_ends (λ y. l.a ≢ y) links link k.0.1 (ends_differ l.a link.a to_a.0) (ends_differ l.a link.b to_b.0)),
+      (more_ends (λ y. l.b ≢ y) links link k.1.0 (ends_differ l.b link.a to_a.1) (ends_differ l.b link.b to_b.1), distinct_ends links link ne a.1 b.1 k.1.1),
+    )
+
+-- a link end in a link is in one still
+still_in : (links : List LinkLine) (link : LinkLine) (name : EndName) → has_link_end links name ≡ true → has_link_end (links ++ link ∷ []) name ≡ true
+still_in [] link name e = cc
+still_in (l ∷ links) link name e = or_more (is_same_end l.a name || is_same_end l.b name) (has_link_end links name) (has_link_end (links ++ link ∷ []) name) e (λ h. still_in links link name h)
+
+more_links : (links : List LinkLine) (link : LinkLine) (bits : List BitRec) → AllByRecursion (λ (bit : BitRec). has_link_ends links bit.node bit.ends ≡ true) bits → AllByRecursion (λ (bit : BitRec). has_link_ends (links ++ link ∷ []) bit.node bit.ends ≡ true) bits
+more_links links link [] k = tt
+more_links links link (bit ∷ bits) k = (
+  all_more (λ end. has_link_end links (record { node = bit.node; end = end })) (λ end. has_link_end (links ++ link ∷ []) (record { node = bit.node; end = end })) bit.ends (λ end h. still_in links link (record { node = bit.node; end = end }) h) k.0,
+  more_links links link bits k.1,
+)
+
+with_link : (nodes : List GivenNode) (links : List LinkLine) (link : LinkLine) (bits : List BitRec) → nat_le 48 (length links) ≡ false → IsLinkOf nodes link → (is_same_end link.a link.b || (has_link_end links link.a || has_link_end links link.b)) ≡ false → AreAccepted nodes links bits → AreAccepted nodes (links ++ link ∷ []) bits
+with_link nodes links link bits few h new k =
+    let ends = neither (is_same_end link.a link.b) (has_link_end links link.a || has_link_end links link.b) new in
+    let each = neither (has_link_end links link.a) (has_link_end links link.b) ends.1 in
+    record {
+      few_nodes = k.few_nodes;
+      few_links = let room : length links < 48 = grind (arith, nat_tests) in let more = length-append links (link ∷ []) in omega arith;
+      numbers = k.numbers;
+      order = k.order;
+      ids = k.ids;
+      links = one_more (IsLinkOf nodes) links link k.links h;
+      ends = distinct_ends links link (ends_differ link.a link.b ends.0) each.0 each.1 k.ends;
+      bits = more_links links link bits k.bits;
+    }
 
 -- One more bit
 
-with_bit : (nodes : List GivenNode) (links : List LinkLine) (bits : List BitLine) (bit : BitLine) → not (has_node nodes bit.node && has_link_end links bit.node) ≡ false → AreAccepted nodes links bits → AreAccepted nodes links (bits ++ bit ∷ [])
+with_bit : (nodes : List GivenNode) (links : List LinkLine) (bits : List BitRec) (bit : BitRec) → not (has_node nodes bit.node && has_link_ends links bit.node bit.ends) ≡ false → AreAccepted nodes links bits → AreAccepted nodes links (bits ++ bit ∷ [])
 with_bit nodes links bits bit known k = record {
   few_nodes = k.few_nodes;
   few_links = k.few_links;
@@ -177,16 +312,16 @@ with_bit nodes links bits bit known k = record {
   order = k.order;
   ids = k.ids;
   links = k.links;
-  bits = one_more (λ (b : BitLine). has_link_end links b.node ≡ true) bits bit k.bits (both (has_node nodes bit.node) (has_link_end links bit.node) (not_false _ known)).1;
+  ends = k.ends;
+  bits = one_more (λ (b : BitRec). has_link_ends links b.node b.ends ≡ true) bits bit k.bits (both (has_node nodes bit.node) (has_link_ends links bit.node bit.ends) (not_false _ known)).1;
 }
 
 -- A line without a fault keeps it all.
 
 form_keeps : (n : ℕ) (l : List ℕ) (form : FrameLine) (given : Given) → Passes given form → IsAccepted given → IsAccepted (given_with n l (Form form) given)
 form_keeps n l (Node node) given p k =
-    let number : node.number ≤ 99 = let is = (both (is_node_number node.number) (nat_le node.id 65535) p.ranged).0 in grind (arith, nat_tests) in
-    with_node given.nodes (record { line = n; number = node.number; id = node.id }) given.links given.bits p.built number p.new p.new_id k
-form_keeps n l (Link link) given p k = with_link given.nodes given.links link given.bits p.built (link_of given.nodes link p.ranged p.known p.apart) k
+    with_node given.nodes (record { line = n; number = node.number; id = node.id }) given.links given.bits p.few (at_most node.number 99 (both (is_node_number node.number) (nat_le node.id 65535) p.ranged).0) p.new p.new_id k
+form_keeps n l (Link link) given p k = with_link given.nodes given.links link given.bits p.few (link_of given.nodes link p.ranged p.known p.apart) p.new_ends k
 form_keeps n l (Bit bit) given p k = with_bit given.nodes given.links given.bits bit p.known k
 form_keeps n l (Source number) given p k = k
 
@@ -220,7 +355,7 @@ from_keeps (l ∷ ls) n given whole e k =
     from_keeps ls (n + 1) (given_after n l given) whole good.1 (line_keeps n l (says given l) given (all_allowed l) good.0 k)
 
 nothing_kept : IsAccepted nothing_given
-nothing_kept = record { few_nodes = omega arith; few_links = omega arith; numbers = tt; order = tt; ids = tt; links = tt; bits = tt }
+nothing_kept = record { few_nodes = omega arith; few_links = omega arith; numbers = tt; order = tt; ids = tt; links = tt; ends = tt; bits = tt }
 
 framed_by : (wordless : Bool) (ls : List (List ℕ)) (whole : Given) → cond wordless (Refused 1 FirstLine) (frame_from 1 nothing_given ls) ≡ Whole whole → IsAccepted whole
 framed_by true ls whole e = absurd cc
