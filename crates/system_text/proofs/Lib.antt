@@ -8,4 +8,7 @@ pub mod Walk
 pub mod Outcomes
 pub mod Plans
 pub mod Accepted
+pub mod Masks
+pub mod Places
+pub mod Ways
 pub mod Planned

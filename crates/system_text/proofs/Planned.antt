@@ -1,215 +1,171 @@
 -- The plan of a frame that is accepted keeps what every plan keeps.
-use Rattle.std.proofs.Common.{◌≡◌, ℕ, zero, suc, ◌+◌, ◌<◌, ◌≤◌, Bool, true, false, ◌&&◌, ◌||◌, List, [], ◌∷◌, length, map, get_or, Some, None, Ok, refl, ap, sym, ◌∙◌, subst, arith}
-use Rattle.std.specs.Prelude.{◌≢◌, ◌⊎◌, ◌==◌, nat_lt, if◌then◌else◌, IsSome}
-use Rattle.std.specs.List.{AllByRecursion, list_any}
-use Rattle.std.specs.Int.{bit_at}
-use Rattle.std.proofs.lemmas.Nat.Bits.{bit_at-zero, bit_at-suc}
-use Rattle.std.proofs.lemmas.Bool.Decides.{nat_tests}
-use Rattle.xs_instructions.specs.Image.{ImageRec}
+use Rattle.std.proofs.Common.{◌≡◌, ℕ, suc, ◌+◌, ◌<◌, ◌≤◌, true, List, [], ◌∷◌, length, map, Result, Ok, Err, refl, ap, sym, ◌∙◌, subst, arith}
+use Rattle.std.specs.Prelude.{◌≢◌}
+use Rattle.std.specs.List.{AllByRecursion}
 use Rattle.source_model.specs.Source.{Assembled, Image, Fault, assembled_lines}
-use Rattle.sys_plan.specs.Plan.{PlanRec, IsPlan, WaysLead, outgoing}
+use Rattle.sys_plan.specs.Plan.{PlanRec, IsPlan, IsLink, AllWaysLead, WaysLead, AreDistinct, AreAscending, places_of}
 use Rattle.sys_plan.specs.declared.LinkPlan.{LinkPlan}
 use Rattle.sys_plan.specs.declared.NodePlan.{NodePlan}
-use Rattle.system_model.specs.declared.frame_line.BitLine.{BitLine}
+use Rattle.system_model.specs.declared.frame_line.EndName.{EndName}
 use Rattle.system_model.specs.declared.frame_line.GivenNode.{GivenNode}
 use Rattle.system_model.specs.declared.frame_line.LinkLine.{LinkLine}
-use Rattle.system_model.specs.Frame.{SourceText, Given}
-use Rattle.system_model.specs.System.{planned, plan_before, source_of, node_plans, link_plan, position_by_number, ways_of, way, id_bits}
-use Rattle.system_text.specs.Accepted.{IsLinkOf, AreAccepted, IsAccepted}
-use Rattle.system_text.proofs.Accepted.{no_bits}
+use Rattle.system_model.specs.Bits.{BitRec}
+use Rattle.system_model.specs.Frame.{SourceText, Given, has_node}
+use Rattle.system_model.specs.System.{SourceFault, planned, plan_before, source_of, node_plans, link_plan, position_by_number, ways_of}
+use Rattle.system_text.specs.Accepted.{IsLinkOf, AreAccepted, IsAccepted, ends_of}
+use Rattle.system_text.proofs.Places.{Stand, stand, within, same_number}
 use Rattle.system_text.proofs.Plans.{node_plans-cons, node_plans-none}
+use Rattle.system_text.proofs.Ways.{ways_lead}
 
--- Ways: 1 or 0, so they name link end 0 at most
+-- The plans of nodes, one for each
 
-end_of_small : (w end : ℕ) → w ≤ 1 → bit_at w end ≡ 1 → end ≡ 0
-end_of_small w zero h e = refl
-end_of_small zero (suc end) h e = absurd (omega (arith, bit_at-zero (suc end), e))
-end_of_small (suc zero) (suc end) h e = absurd (omega (arith, bit_at-suc 1 end, bit_at-zero end, e))
-end_of_small (suc (suc w)) (suc end) h e = absurd (omega (arith, h))
+record PlanOf (bits : List BitRec) (node : GivenNode) (plan : NodePlan) : Type 0 where
+  pub number : plan.number ≡ node.number
+  pub id : plan.id ≡ node.id
+  pub ways : plan.ways ≡ ways_of bits node.number
 
-at : (P : ℕ → Type 0) → P 0 → (ws : List ℕ) (k : ℕ) → AllByRecursion P ws → P (get_or ws k 0)
-at P z [] k all = z
-at P z (w ∷ ws) zero all = all.0
-at P z (w ∷ ws) (suc k) all = at P z ws k all.1
+abbrev PlansOf : List BitRec → List GivenNode → List NodePlan → Type 0
+PlansOf bits [] [] = Unit {0}
+PlansOf bits [] (plan ∷ plans) = ⊥
+PlansOf bits (node ∷ nodes) [] = ⊥
+PlansOf bits (node ∷ nodes) (plan ∷ plans) = PlanOf bits node plan × PlansOf bits nodes plans
 
-one_or_none : (b : Bool) → (if b then 1 else 0) ≤ 1
-one_or_none true = omega arith
-one_or_none false = omega arith
+plan_of_one : (bits : List BitRec) (node : GivenNode) (source : Assembled) (plan : NodePlan) → planned bits node source ≡ Ok plan → PlanOf bits node plan
+plan_of_one bits node (Fault line kind) plan e = absurd cc
+plan_of_one bits node (Image image) plan e =
+    let made : NodePlan = record { number = node.number; id = node.id; image = image; ways = ways_of bits node.number } in
+    let same : made ≡ plan = cc in
+    subst (PlanOf bits node) same (record { number = refl; id = refl; ways = refl })
 
-ways_small : (bits : List BitLine) (number : ℕ) (ns : List ℕ) → AllByRecursion (λ w. w ≤ 1) (map (way bits number) ns)
-ways_small bits number [] = tt
-ways_small bits number (n ∷ ns) = (one_or_none (list_any (λ (b : BitLine). (b.node == number) && (b.bit == n)) bits), ways_small bits number ns)
+plans_by : (bits : List BitRec) (node : GivenNode) (nodes : List GivenNode) (first : Result NodePlan SourceFault) (rest : Result (List NodePlan) SourceFault) (plans : List NodePlan) → ((plan : NodePlan) → first ≡ Ok plan → PlanOf bits node plan) → ((later : List NodePlan) → rest ≡ Ok later → PlansOf bits nodes later) → plan_before first rest ≡ Ok plans → PlansOf bits (node ∷ nodes) plans
+plans_by bits node nodes (Err fault) rest plans h k e = absurd cc
+plans_by bits node nodes (Ok plan) (Err fault) plans h k e = absurd cc
+plans_by bits node nodes (Ok plan) (Ok later) plans h k e =
+    let same : plan ∷ later ≡ plans = cc in
+    subst (PlansOf bits (node ∷ nodes)) same (h plan refl, k later refl)
 
-ways_none : (number : ℕ) (ns : List ℕ) → AllByRecursion (λ w. w ≡ 0) (map (way [] number) ns)
-ways_none number [] = tt
-ways_none number (n ∷ ns) = (refl, ways_none number ns)
+plans_of : (bits : List BitRec) (sources : List SourceText) (nodes : List GivenNode) (plans : List NodePlan) → node_plans bits sources nodes ≡ Ok plans → PlansOf bits nodes plans
+plans_of bits sources [] plans e =
+    let is : Ok [] ≡ Ok plans = sym (node_plans-none bits sources) ∙ e in
+    let same : [] ≡ plans = cc in
+    subst (PlansOf bits []) same tt
+plans_of bits sources (node ∷ nodes) plans e =
+    plans_by bits node nodes (planned bits node (assembled_lines (source_of sources node.number))) (node_plans bits sources nodes) plans (plan_of_one bits node (assembled_lines (source_of sources node.number))) (plans_of bits sources nodes) (sym (node_plans-cons bits sources node nodes) ∙ e)
 
--- where link end 0 of a node leads somewhere, its ways do
-ways_lead : (plan : PlanRec) (node : ℕ) (bits : List BitLine) (number : ℕ) → IsSome (outgoing plan node 0) → WaysLead plan node (ways_of bits number)
-ways_lead plan node bits number there = λ bit end h k e.
-    let first : end ≡ 0 = end_of_small (get_or (ways_of bits number) bit 0) end (at (λ w. w ≤ 1) (omega arith) (ways_of bits number) bit (ways_small bits number id_bits)) e in
-    subst (λ n. IsSome (outgoing plan node n)) (sym first) there
+-- What the plans of nodes keep
 
--- without bits there is no way
-no_ways_lead : (plan : PlanRec) (node number : ℕ) → WaysLead plan node (ways_of [] number)
-no_ways_lead plan node number = λ bit end h k e.
-    let none : get_or (ways_of [] number) bit 0 ≡ 0 = at (λ w. w ≡ 0) refl (ways_of [] number) bit (ways_none number id_bits) in
-    absurd (omega (arith, sym (ap (λ w. bit_at w end) none) ∙ e, bit_at-zero end))
+as_many : (bits : List BitRec) (nodes : List GivenNode) (plans : List NodePlan) → PlansOf bits nodes plans → length nodes ≡ length plans
+as_many bits [] [] k = refl
+as_many bits [] (plan ∷ plans) k = absurd k
+as_many bits (node ∷ nodes) [] k = absurd k
+as_many bits (node ∷ nodes) (plan ∷ plans) k = ap suc (as_many bits nodes plans k.1)
 
--- The plans of nodes whose sources stand for images
+same_numbers : (bits : List BitRec) (nodes : List GivenNode) (plans : List NodePlan) → PlansOf bits nodes plans → map (λ (node : GivenNode). node.number) nodes ≡ map (λ (plan : NodePlan). plan.number) plans
+same_numbers bits [] [] k = refl
+same_numbers bits [] (plan ∷ plans) k = absurd k
+same_numbers bits (node ∷ nodes) [] k = absurd k
+same_numbers bits (node ∷ nodes) (plan ∷ plans) k = rw (k.0.number, same_numbers bits nodes plans k.1) refl
 
-abbrev with_image : List BitLine → GivenNode → ImageRec → NodePlan
-with_image bits node image = record { number = node.number; id = node.id; image = image; ways = ways_of bits node.number }
+same_ids : (bits : List BitRec) (nodes : List GivenNode) (plans : List NodePlan) → PlansOf bits nodes plans → map (λ (node : GivenNode). node.id) nodes ≡ map (λ (plan : NodePlan). plan.id) plans
+same_ids bits [] [] k = refl
+same_ids bits [] (plan ∷ plans) k = absurd k
+same_ids bits (node ∷ nodes) [] k = absurd k
+same_ids bits (node ∷ nodes) (plan ∷ plans) k = rw (k.0.id, same_ids bits nodes plans k.1) refl
 
-abbrev pair : List BitLine → GivenNode → GivenNode → ImageRec → ImageRec → List NodePlan
-pair bits m n i j = with_image bits m i ∷ with_image bits n j ∷ []
+numbers_kept : (bits : List BitRec) (nodes : List GivenNode) (plans : List NodePlan) → PlansOf bits nodes plans → AllByRecursion (λ (node : GivenNode). node.number ≤ 99) nodes → AllByRecursion (λ (plan : NodePlan). plan.number < 100) plans
+numbers_kept bits [] [] k h = tt
+numbers_kept bits [] (plan ∷ plans) k h = absurd k
+numbers_kept bits (node ∷ nodes) [] k h = absurd k
+numbers_kept bits (node ∷ nodes) (plan ∷ plans) k h = (omega (arith, k.0.number, h.0), numbers_kept bits nodes plans k.1 h.1)
 
-of_one : (bits : List BitLine) (m : GivenNode) (a : Assembled) (plans : List NodePlan) (P : List NodePlan → Type 0) → plan_before (planned bits m a) (Ok []) ≡ Ok plans → ((i : ImageRec) → P (with_image bits m i ∷ [])) → P plans
-of_one bits m (Fault line kind) plans P e f = absurd cc
-of_one bits m (Image i) plans P e f = let same : with_image bits m i ∷ [] ≡ plans = cc in subst P same (f i)
+-- where the ways of each node lead out, those of its plan do
+ways_kept : (plan : PlanRec) (bits : List BitRec) (place : ℕ → ℕ) → ((number : ℕ) → WaysLead plan (place number) (ways_of bits number)) → (n : ℕ) (nodes : List GivenNode) (plans : List NodePlan) → PlansOf bits nodes plans → Stand place n nodes → AllWaysLead plan n plans
+ways_kept plan bits place lead n [] [] k s = tt
+ways_kept plan bits place lead n [] (p ∷ plans) k s = absurd k
+ways_kept plan bits place lead n (node ∷ nodes) [] k s = absurd k
+ways_kept plan bits place lead n (node ∷ nodes) (p ∷ plans) k s = (
+  subst (WaysLead plan n) (sym k.0.ways) (subst (λ i. WaysLead plan i (ways_of bits node.number)) s.0 (lead node.number)),
+  ways_kept plan bits place lead (n + 1) nodes plans k.1 s.1,
+)
 
-of_two : (bits : List BitLine) (m n : GivenNode) (a b : Assembled) (plans : List NodePlan) (P : List NodePlan → Type 0) → plan_before (planned bits m a) (plan_before (planned bits n b) (Ok [])) ≡ Ok plans → ((i j : ImageRec) → P (pair bits m n i j)) → P plans
-of_two bits m n (Fault line kind) b plans P e f = absurd cc
-of_two bits m n (Image i) (Fault line kind) plans P e f = absurd cc
-of_two bits m n (Image i) (Image j) plans P e f = let same : pair bits m n i j ≡ plans = cc in subst P same (f i j)
+-- What the links keep
 
-abbrev source : List SourceText → GivenNode → Assembled
-source sources node = assembled_lines (source_of sources node.number)
-
--- the plans of one node
-last_plan : (bits : List BitLine) (sources : List SourceText) (m : GivenNode) → node_plans bits sources (m ∷ []) ≡ plan_before (planned bits m (source sources m)) (Ok [])
-last_plan bits sources m = node_plans-cons bits sources m [] ∙ ap (plan_before (planned bits m (source sources m))) (node_plans-none bits sources)
-
--- what holds of the plans of one node, or of two, for any images holds of their plans
-one_plan : (bits : List BitLine) (sources : List SourceText) (m : GivenNode) (plans : List NodePlan) (P : List NodePlan → Type 0) → node_plans bits sources (m ∷ []) ≡ Ok plans → ((i : ImageRec) → P (with_image bits m i ∷ [])) → P plans
-one_plan bits sources m plans P e f = of_one bits m (source sources m) plans P (sym (last_plan bits sources m) ∙ e) f
-
-two_plans : (bits : List BitLine) (sources : List SourceText) (m n : GivenNode) (plans : List NodePlan) (P : List NodePlan → Type 0) → node_plans bits sources (m ∷ n ∷ []) ≡ Ok plans → ((i j : ImageRec) → P (pair bits m n i j)) → P plans
-two_plans bits sources m n plans P e f =
-    of_two bits m n (source sources m) (source sources n) plans P
-    (sym (node_plans-cons bits sources m (n ∷ []) ∙ ap (plan_before (planned bits m (source sources m))) (last_plan bits sources n)) ∙ e) f
-
--- Places
-
--- whether a number is the greater one, as a count
-abbrev over : ℕ → ℕ → ℕ
-over number n = if nat_lt n number then 1 else 0
-
-counted : (p q : Bool) (m n : GivenNode) → length (if p then m ∷ (if q then n ∷ [] else []) else (if q then n ∷ [] else [])) ≡ (if p then 1 else 0) + (if q then 1 else 0)
-counted true true m n = refl
-counted true false m n = refl
-counted false true m n = refl
-counted false false m n = refl
-
-place_is : (m n : GivenNode) (k : ℕ) → position_by_number (m ∷ n ∷ []) k ≡ over k m.number + over k n.number
-place_is m n k = counted (nat_lt m.number k) (nat_lt n.number k) m n
-
-record Joins (nodes : List GivenNode) (link : LinkLine) : Type 0 where
-  pub a : position_by_number nodes link.a < 2
-  pub b : position_by_number nodes link.b < 2
-  pub apart : position_by_number nodes link.a ≢ position_by_number nodes link.b
-
-one_of : (x y k : ℕ) → ((x == k) || ((y == k) || false)) ≡ true → (x ≡ k) ⊎ (y ≡ k)
-one_of x y k e = grind (arith, nat_tests)
-
-places_apart : (x y a b : ℕ) → x ≢ y → (x ≡ a) ⊎ (y ≡ a) → (x ≡ b) ⊎ (y ≡ b) → a ≢ b → (over a x + over a y < 2) × (over b x + over b y < 2) × (over a x + over a y ≢ over b x + over b y)
-places_apart x y a b ne p q apart = (grind (arith, nat_tests), grind (arith, nat_tests), λ e. grind (arith, nat_tests))
-
-joins : (m n : GivenNode) (link : LinkLine) → m.number ≢ n.number → IsLinkOf (m ∷ n ∷ []) link → Joins (m ∷ n ∷ []) link
-joins m n link ne is =
-    let apart = places_apart m.number n.number link.a link.b ne (one_of _ _ _ is.a) (one_of _ _ _ is.b) is.apart in
-    record {
-      a = rw (place_is m n link.a) apart.0;
-      b = rw (place_is m n link.b) apart.1;
-      apart = λ same. apart.2 (sym (place_is m n link.a) ∙ (same ∙ place_is m n link.b));
-    }
-
--- Plans by the count of their nodes
-
-none_is_plan : (plans : List NodePlan) → [] ≡ plans → IsPlan (record { nodes = plans; links = [] })
-none_is_plan [] e = record { few_nodes = omega arith; few_links = omega arith; numbers = tt; order = tt; ids = tt; links = tt; places = tt; ways = tt }
-none_is_plan (plan ∷ plans) e = absurd cc
-
-one_is_plan : (m : GivenNode) (i : ImageRec) → m.number ≤ 99 → IsPlan (record { nodes = with_image [] m i ∷ []; links = [] })
-one_is_plan m i h = record {
-  few_nodes = omega arith;
-  few_links = omega arith;
-  numbers = (omega (arith, h), tt);
-  order = tt;
-  ids = (tt, tt);
-  links = tt;
-  places = tt;
-  ways = (no_ways_lead (record { nodes = with_image [] m i ∷ []; links = [] }) 0 m.number, tt);
+link_kept : (nodes : List GivenNode) (count : ℕ) (link : LinkLine) → length nodes ≡ count → IsLinkOf nodes link → IsLink count (link_plan nodes link)
+link_kept nodes count link n k = record {
+  a = omega (arith, within nodes link.a.node k.a, n);
+  b = omega (arith, within nodes link.b.node k.b, n);
+  apart = λ same. k.apart (same_number nodes link.a.node link.b.node k.a k.b same);
+  a_end = omega (arith, k.a_end);
+  b_end = omega (arith, k.b_end);
+  least_delay = k.least_delay;
+  most_delay = k.most_delay;
+  least_gap = k.least_gap;
+  most_gap = k.most_gap;
 }
 
-apart_is_plan : (m n : GivenNode) (i j : ImageRec) (bits : List BitLine) → AreAccepted (m ∷ n ∷ []) [] bits → IsPlan (record { nodes = pair [] m n i j; links = [] })
-apart_is_plan m n i j bits k = record {
-  few_nodes = omega arith;
-  few_links = omega arith;
-  numbers = (omega (arith, k.numbers.0), (omega (arith, k.numbers.1.0), tt));
-  order = k.order;
-  ids = k.ids;
-  links = tt;
-  places = tt;
-  ways = (no_ways_lead (record { nodes = pair [] m n i j; links = [] }) 0 m.number, (no_ways_lead (record { nodes = pair [] m n i j; links = [] }) 1 n.number, tt));
+links_kept : (nodes : List GivenNode) (count : ℕ) (links : List LinkLine) → length nodes ≡ count → AllByRecursion (IsLinkOf nodes) links → AllByRecursion (IsLink count) (map (link_plan nodes) links)
+links_kept nodes count [] n k = tt
+links_kept nodes count (link ∷ links) n k = (link_kept nodes count link n k.0, links_kept nodes count links n k.1)
+
+as_many_links : (nodes : List GivenNode) (links : List LinkLine) → length (map (link_plan nodes) links) ≡ length links
+as_many_links nodes [] = refl
+as_many_links nodes (link ∷ links) = ap suc (as_many_links nodes links)
+
+-- Things that a function keeps apart stay distinct.
+module _ {X Y : Type 0} (f : X → Y) (P : X → Type 0) (one : (x y : X) → P x → P y → f x ≡ f y → x ≡ y) where
+  still_apart : (x : X) (xs : List X) → P x → AllByRecursion P xs → AllByRecursion (λ y. x ≢ y) xs → AllByRecursion (λ y. f x ≢ y) (map f xs)
+  still_apart x [] p ps h = tt
+  still_apart x (y ∷ xs) p ps h = (λ e. h.0 (one x y p ps.0 e), still_apart x xs p ps.1 h.1)
+
+  still_distinct : (xs : List X) → AllByRecursion P xs → AreDistinct xs → AreDistinct (map f xs)
+  still_distinct [] ps h = tt
+  still_distinct (x ∷ xs) ps h = (still_apart x xs ps.0 ps.1 h.0, still_distinct xs ps.1 h.1)
+
+abbrev place : List GivenNode → EndName → ℕ × ℕ
+place nodes name = (position_by_number nodes name.node, name.end)
+
+abbrev IsKnown : List GivenNode → EndName → Type 0
+IsKnown nodes name = has_node nodes name.node ≡ true
+
+abbrev named : ℕ → ℕ → EndName
+named node end = record { node = node; end = end }
+
+same_name : (x y : EndName) → x.node ≡ y.node → x.end ≡ y.end → x ≡ y
+same_name x y e f = ap (λ n. named n x.end) e ∙ ap (named y.node) f
+
+same_place : (nodes : List GivenNode) (x y : EndName) → IsKnown nodes x → IsKnown nodes y → place nodes x ≡ place nodes y → x ≡ y
+same_place nodes x y k l e =
+    same_name x y (same_number nodes x.node y.node k l (ap (λ (p : ℕ × ℕ). p.0) e)) (ap (λ (p : ℕ × ℕ). p.1) e)
+
+all_known : (nodes : List GivenNode) (links : List LinkLine) → AllByRecursion (IsLinkOf nodes) links → AllByRecursion (IsKnown nodes) (ends_of links)
+all_known nodes [] k = tt
+all_known nodes (link ∷ links) k = (k.0.a, (k.0.b, all_known nodes links k.1))
+
+places_are : (nodes : List GivenNode) (links : List LinkLine) → map (place nodes) (ends_of links) ≡ places_of (map (link_plan nodes) links)
+places_are nodes [] = refl
+places_are nodes (link ∷ links) = ap (λ ps. place nodes link.a ∷ (place nodes link.b ∷ ps)) (places_are nodes links)
+
+places_kept : (nodes : List GivenNode) (links : List LinkLine) → AllByRecursion (IsLinkOf nodes) links → AreDistinct (ends_of links) → AreDistinct (places_of (map (link_plan nodes) links))
+places_kept nodes links k h =
+    subst (λ ps. AreDistinct ps) (places_are nodes links) (still_distinct (place nodes) (IsKnown nodes) (same_place nodes) (ends_of links) (all_known nodes links k) h)
+
+-- The whole plan
+
+kept_plan : (nodes : List GivenNode) (links : List LinkLine) (bits : List BitRec) (plans : List NodePlan) → AreAccepted nodes links bits → PlansOf bits nodes plans → IsPlan (record { nodes = plans; links = map (link_plan nodes) links })
+kept_plan nodes links bits plans k p = record {
+  few_nodes = omega (arith, k.few_nodes, as_many bits nodes plans p);
+  few_links = omega (arith, k.few_links, as_many_links nodes links);
+  numbers = numbers_kept bits nodes plans p k.numbers;
+  order = subst AreAscending (same_numbers bits nodes plans p) k.order;
+  ids = subst (λ ids. AreDistinct ids) (same_ids bits nodes plans p) k.ids;
+  links = links_kept nodes (length plans) links (as_many bits nodes plans p) k.links;
+  places = places_kept nodes links k.links k.ends;
+  ways = let plan : PlanRec = record { nodes = plans; links = map (link_plan nodes) links } in
+  ways_kept plan bits (position_by_number nodes) (ways_lead plan nodes links bits refl k.bits) 0 nodes plans p (stand nodes k.order);
 }
-
-abbrev between : ℕ → ℕ → ℕ → ℕ → LinkPlan
-between a b delay gap = record { a = a; a_end = 0; b = b; b_end = 0; delay = delay; gap = gap }
-
-some_of : (p q : Bool) (m n : ℕ) → (p ≡ false → q ≡ true) → IsSome (if p && true then Some m else (if q && true then Some n else None))
-some_of true q m n h = refl
-some_of false true m n h = refl
-some_of false false m n h = cc (h refl)
-
-leaves : (nodes : List NodePlan) (node a b delay gap : ℕ) → node < 2 → a < 2 → b < 2 → a ≢ b → IsSome (outgoing (record { nodes = nodes; links = between a b delay gap ∷ [] }) node 0)
-leaves nodes node a b delay gap h k l ne = some_of (a == node) (b == node) 0 1 (λ e. grind (arith, nat_tests))
-
-joined_is_plan : (bits : List BitLine) (m n : GivenNode) (i j : ImageRec) (link : LinkLine) → AreAccepted (m ∷ n ∷ []) (link ∷ []) bits → Joins (m ∷ n ∷ []) link → IsPlan (record { nodes = pair bits m n i j; links = link_plan (m ∷ n ∷ []) link ∷ [] })
-joined_is_plan bits m n i j link k ends =
-    let a = position_by_number (m ∷ n ∷ []) link.a in
-    let b = position_by_number (m ∷ n ∷ []) link.b in
-    let plan : PlanRec = record { nodes = pair bits m n i j; links = between a b link.delay link.gap ∷ [] } in
-    let good = k.links.0 in
-    record {
-      few_nodes = omega arith;
-      few_links = omega arith;
-      numbers = (omega (arith, k.numbers.0), (omega (arith, k.numbers.1.0), tt));
-      order = k.order;
-      ids = k.ids;
-      links = (record { a = ends.a; b = ends.b; apart = ends.apart; a_end = omega arith; b_end = omega arith; least_delay = good.least_delay; most_delay = good.most_delay; least_gap = good.least_gap; most_gap = good.most_gap }, tt);
-      places = ((λ e. ends.apart (ap (λ (p : ℕ × ℕ). p.0) e), tt), (tt, tt));
-      ways = (ways_lead plan 0 bits m.number (leaves (pair bits m n i j) 0 a b link.delay link.gap (omega arith) ends.a ends.b ends.apart), (ways_lead plan 1 bits n.number (leaves (pair bits m n i j) 1 a b link.delay link.gap (omega arith) ends.a ends.b ends.apart), tt));
-    }
-
-alone : (x a b : ℕ) → ((x == a) || false) ≡ true → ((x == b) || false) ≡ true → a ≢ b → ⊥
-alone x a b p q r = grind (arith, nat_tests)
-
--- without links there are no bits
-without_bits : (nodes : List GivenNode) (bits : List BitLine) (P : List BitLine → Type 0) → AreAccepted nodes [] bits → P [] → P bits
-without_bits nodes bits P k p = subst P (sym (no_bits bits k.bits)) p
-
-below : (m n : ℕ) → m < n → m ≢ n
-below m n h e = omega (arith, h, e)
-
-kept_plan : (nodes : List GivenNode) (links : List LinkLine) (bits : List BitLine) (sources : List SourceText) (plans : List NodePlan) → AreAccepted nodes links bits → node_plans bits sources nodes ≡ Ok plans → IsPlan (record { nodes = plans; links = map (link_plan nodes) links })
-kept_plan [] [] bits sources plans k e = none_is_plan plans (let is : Ok [] ≡ Ok plans = sym (node_plans-none bits sources) ∙ e in cc)
-kept_plan [] (link ∷ links) bits sources plans k e = absurd (let none = k.links.0.a in cc)
-kept_plan (m ∷ []) [] bits sources plans k e =
-    one_plan bits sources m plans (λ ps. IsPlan (record { nodes = ps; links = [] })) e
-    (λ i. without_bits (m ∷ []) bits (λ bs. IsPlan (record { nodes = with_image bs m i ∷ []; links = [] })) k (one_is_plan m i k.numbers.0))
-kept_plan (m ∷ []) (link ∷ links) bits sources plans k e = absurd (alone m.number link.a link.b k.links.0.a k.links.0.b k.links.0.apart)
-kept_plan (m ∷ n ∷ []) [] bits sources plans k e =
-    two_plans bits sources m n plans (λ ps. IsPlan (record { nodes = ps; links = [] })) e
-    (λ i j. without_bits (m ∷ n ∷ []) bits (λ bs. IsPlan (record { nodes = pair bs m n i j; links = [] })) k (apart_is_plan m n i j bits k))
-kept_plan (m ∷ n ∷ []) (link ∷ []) bits sources plans k e =
-    two_plans bits sources m n plans (λ ps. IsPlan (record { nodes = ps; links = link_plan (m ∷ n ∷ []) link ∷ [] })) e
-    (λ i j. joined_is_plan bits m n i j link k (joins m n link (below m.number n.number k.order.0) k.links.0))
-kept_plan (m ∷ n ∷ []) (link ∷ more ∷ links) bits sources plans k e = absurd (let few = k.few_links in omega (arith, few))
-kept_plan (m ∷ n ∷ o ∷ nodes) links bits sources plans k e = absurd (let few = k.few_nodes in omega (arith, few))
 
 -- the plans of the nodes and the links of a frame that is accepted
 pub frame_plan : (given : Given) (nodes : List GivenNode) (links : List LinkLine) (plans : List NodePlan) (joined : List LinkPlan) → IsAccepted given → nodes ≡ given.nodes → links ≡ given.links → node_plans given.bits given.sources given.nodes ≡ Ok plans → joined ≡ map (link_plan nodes) links → IsPlan (record { nodes = plans; links = joined })
 frame_plan given nodes links plans joined k n l e j =
     let same : map (link_plan given.nodes) given.links ≡ joined = sym (j ∙ (ap (λ ns. map (link_plan ns) links) n ∙ ap (map (link_plan given.nodes)) l)) in
-    subst (λ ls. IsPlan (record { nodes = plans; links = ls })) same (kept_plan given.nodes given.links given.bits given.sources plans k e)
+    subst (λ ls. IsPlan (record { nodes = plans; links = ls })) same (kept_plan given.nodes given.links given.bits plans k (plans_of given.bits given.sources given.nodes plans e))
