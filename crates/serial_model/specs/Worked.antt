@@ -120,3 +120,42 @@ pub record LostPacket : Type 0 where
       ≡ (token_sent 13 (Byte 0) ∷ token_sent 17 (Byte 1) ∷ token_sent 21 (Byte 0) ∷ token_sent 25 (Ctrl 1) ∷ [])
       ∷ (credit_sent 18 ∷ credit_sent 22 ∷ credit_sent 26 ∷ credit_sent 30 ∷ [])
       ∷ []
+
+-- Three nodes with the ids 0, 1 and 3 in a line, by two links with a delay of 5 and a gap of 4: node 0 sends END to channel end 0
+-- of the last one, over the node between, which sends PAUSE to the last one's channel end 1.
+abbrev pub line_end : NodePlan
+line_end = record (plain_node 0 (
+    Resources (resources.Getr 0 2) ∷ Memory (memory.LdwDp 1 0) ∷ Resources (resources.Setd 0 1) ∷ Resources (resources.OutctImm 0 1)
+    ∷ Threads threads.Freet ∷ []
+    ) (2 ∷ 0 ∷ 3 ∷ 0 ∷ [])) { ways = 0 ∷ 1 ∷ replicate 14 0 }
+
+abbrev pub line_middle : NodePlan
+line_middle = record (plain_node 1 (
+    Resources (resources.Getr 0 2) ∷ Memory (memory.LdwDp 1 0) ∷ Resources (resources.Setd 0 1)
+    ∷ Words words.Nop ∷ Words words.Nop ∷ Words words.Nop ∷ Words words.Nop ∷ Resources (resources.OutctImm 0 2)
+    ∷ Threads threads.Freet ∷ []
+    ) (2 ∷ 1 ∷ 3 ∷ 0 ∷ [])) { ways = 0 ∷ 2 ∷ replicate 14 0 }
+
+abbrev pub line_other_end : NodePlan
+line_other_end =
+    record (plain_node 3 (Resources (resources.Getr 0 2) ∷ Resources (resources.Getr 1 2) ∷ Threads threads.Freet ∷ []) []) { number = 2 }
+
+abbrev pub line_of_three : PlanRec
+line_of_three = record {
+  nodes = line_end ∷ line_middle ∷ line_other_end ∷ [];
+  links = record { a = 0; a_end = 0; b = 1; b_end = 0; delay = 5; gap = 4 } ∷ record { a = 1; a_end = 1; b = 2; b_end = 0; delay = 5; gap = 4 } ∷ [];
+}
+
+-- The node between passes the packet on from slot 27 to slot 39. Its own waits from slot 29 on and goes out from slot 43 to slot
+-- 55; its PAUSE is not delivered.
+pub record PacketOnItsWay : Type 0 where
+  pub histories : (serial line_of_three 70).histories
+      ≡ (token_sent 13 (Byte 0) ∷ token_sent 17 (Byte 3) ∷ token_sent 21 (Byte 0) ∷ token_sent 25 (Ctrl 1) ∷ [])
+      ∷ (credit_sent 18 ∷ credit_sent 22 ∷ credit_sent 26 ∷ credit_sent 39 ∷ [])
+      ∷ (token_sent 27 (Byte 0) ∷ token_sent 31 (Byte 3) ∷ token_sent 35 (Byte 0) ∷ token_sent 39 (Ctrl 1)
+      ∷ token_sent 43 (Byte 0) ∷ token_sent 47 (Byte 3) ∷ token_sent 51 (Byte 1) ∷ token_sent 55 (Ctrl 2) ∷ [])
+      ∷ (credit_sent 32 ∷ credit_sent 36 ∷ credit_sent 40 ∷ credit_sent 44 ∷ credit_sent 48 ∷ credit_sent 52 ∷ credit_sent 56 ∷ credit_sent 60 ∷ [])
+      ∷ []
+  pub events : (serial line_of_three 70).events ≡ [] ∷ [] ∷ (in_slot 44 (happen.Chan 0 (Ctrl 1)) ∷ []) ∷ []
+  -- before the packet's END came to the node between, its header is already at the last one
+  pub not_delivered : (serial line_of_three 44).events ≡ [] ∷ [] ∷ [] ∷ []

@@ -2,12 +2,13 @@
 //! slots. See docs/DEFINITIONS.md.
 #![tactic(auto)]
 
-ghost use Rattle.serial_model.specs.Worked.{SmallSystems, PairAtWork, SentInOrder, LostPacket};
+ghost use Rattle.serial_model.specs.Worked.{SmallSystems, PairAtWork, SentInOrder, LostPacket, PacketOnItsWay};
 
-/// The definitions give what was worked out by hand for systems of two nodes.
+/// The definitions give what was worked out by hand for systems of two and three nodes.
 pub fn worked_systems()
     ensures small { SmallSystems }
     ensures pair { PairAtWork }
     ensures order { SentInOrder }
     ensures lost { LostPacket }
+    ensures on_its_way { PacketOnItsWay }
 {}

@@ -40,3 +40,7 @@ returns-clause-order c = record { token_first = refl; other_end = refl }
 pub returns-clause-lost : goal.returns-clause-lost
 unfolding best_from first_difference lowest_free links_after_arrivals moves_from free_end node_step serial
 returns-clause-lost c = record { events = refl; not_yet = refl; histories = refl }
+
+pub returns-clause-on_its_way : goal.returns-clause-on_its_way
+unfolding best_from first_difference lowest_free links_after_arrivals moves_from free_end node_step serial
+returns-clause-on_its_way c = record { histories = refl; events = refl; not_delivered = refl }

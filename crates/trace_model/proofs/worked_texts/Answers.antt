@@ -26,5 +26,5 @@ unfolding digits words_of best_from first_difference lowest_free links_after_arr
 returns-clause-traces c = record { delivered = refl; cut = refl; lost = refl; halted = refl }
 
 pub returns-clause-links : goal.returns-clause-links
-unfolding digits words_of best_from lowest_free links_after_arrivals moves_from node_step serial hex_word merged halted_lines memory_lines by_position events_in_order trace_text
-returns-clause-links c = record { link = refl; two_nodes = refl; no_slots = refl }
+unfolding digits words_of best_from first_difference lowest_free links_after_arrivals moves_from free_end node_step serial hex_word merged halted_lines memory_lines by_position events_in_order trace_text
+returns-clause-links c = record { link = refl; two_nodes = refl; no_slots = refl; three_nodes = refl; flooded = refl }
