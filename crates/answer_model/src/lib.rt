@@ -82,7 +82,7 @@ pub fn worked_runs()
     ensures { WorkedRuns }
 {}
 
-/// The same at runs of two nodes.
+/// The same at runs of two and of three nodes.
 pub fn worked_pairs()
     ensures { WorkedPairs }
 {}

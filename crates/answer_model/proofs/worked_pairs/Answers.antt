@@ -10,4 +10,6 @@ returns c = record {
   pair = refl;
   pair_cut = refl;
   lost = refl;
+  three = refl;
+  both_ways = refl;
 }
