@@ -62,7 +62,8 @@ after_next x j k p q false l e h f = grind (arith, nat_tests)
 after : (nodes : List GivenNode) (j k : ℕ) → j < k → has_node nodes j ≡ true → position_by_number nodes j < position_by_number nodes k
 after [] j k h e = absurd cc
 after (m ∷ nodes) j k h e =
-    rw (position-cons m nodes j, position-cons m nodes k) (after_next m.number j k (position_by_number nodes j) (position_by_number nodes k) (has_node nodes j) h e (more nodes j k (omega (arith, h))) (after nodes j k h))
+    rw (position-cons m nodes j, position-cons m nodes k)
+    (after_next m.number j k (position_by_number nodes j) (position_by_number nodes k) (has_node nodes j) h e (more nodes j k (omega (arith, h))) (after nodes j k h))
 
 pub same_number : (nodes : List GivenNode) (j k : ℕ) → has_node nodes j ≡ true → has_node nodes k ≡ true → position_by_number nodes j ≡ position_by_number nodes k → j ≡ k
 same_number nodes j k e f same = by (nat_lt j k) (nat_lt k j) refl refl

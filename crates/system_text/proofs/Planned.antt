@@ -50,7 +50,9 @@ plans_of bits sources [] plans e =
     let same : [] ≡ plans = cc in
     subst (PlansOf bits []) same tt
 plans_of bits sources (node ∷ nodes) plans e =
-    plans_by bits node nodes (planned bits node (assembled_lines (source_of sources node.number))) (node_plans bits sources nodes) plans (plan_of_one bits node (assembled_lines (source_of sources node.number))) (plans_of bits sources nodes) (sym (node_plans-cons bits sources node nodes) ∙ e)
+    let source : Assembled = assembled_lines (source_of sources node.number) in
+    plans_by bits node nodes (planned bits node source) (node_plans bits sources nodes) plans (plan_of_one bits node source) (plans_of bits sources nodes)
+    (sym (node_plans-cons bits sources node nodes) ∙ e)
 
 -- What the plans of nodes keep
 

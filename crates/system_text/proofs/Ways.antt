@@ -30,7 +30,9 @@ leaves : (nodes : List GivenNode) (number end : ℕ) (links : List LinkLine) (n 
 leaves nodes number end [] n e = absurd cc
 leaves nodes number end (link ∷ links) n e =
     let name : EndName = record { node = number; end = end } in
-    leaving (is_same_end link.a name) (is_same_end link.b name) (has_link_end links name) _ _ n (n + 1) _ e (at_place (position_by_number nodes) link.a.node number link.a.end end) (at_place (position_by_number nodes) link.b.node number link.b.end end) (leaves nodes number end links (n + 1 + 1))
+    let place : ℕ → ℕ = position_by_number nodes in
+    leaving (is_same_end link.a name) (is_same_end link.b name) (has_link_end links name) _ _ n (n + 1) _ e
+    (at_place place link.a.node number link.a.end end) (at_place place link.b.node number link.b.end end) (leaves nodes number end links (n + 1 + 1))
 
 -- The link ends of a bit are in links.
 
@@ -58,7 +60,11 @@ this_bit_or_later links number bit end b later true f h k e =
     one_of_these links number end b.ends (subst (λ (n : ℕ). has_link_ends links n b.ends ≡ true) same h) e
 this_bit_or_later links number bit end b later false f h k e = k e
 
-joined : (links : List LinkLine) (number bit end : ℕ) (bits : List BitRec) → AllByRecursion (λ (b : BitRec). has_link_ends links b.node b.ends ≡ true) bits → list_any (λ e. e == end) (ends_for bits number bit) ≡ true → Has links number end
+-- the link ends of each bit are in links
+abbrev AreJoined : List LinkLine → List BitRec → Type 0
+AreJoined links bits = AllByRecursion (λ (b : BitRec). has_link_ends links b.node b.ends ≡ true) bits
+
+joined : (links : List LinkLine) (number bit end : ℕ) (bits : List BitRec) → AreJoined links bits → list_any (λ e. e == end) (ends_for bits number bit) ≡ true → Has links number end
 joined links number bit end [] k e = absurd cc
 joined links number bit end (b ∷ bits) k e =
     this_bit_or_later links number bit end b (ends_for bits number bit) ((b.node == number) && (b.bit == bit)) refl k.0 (joined links number bit end bits k.1) e
@@ -67,7 +73,7 @@ joined links number bit end (b ∷ bits) k e =
 abbrev LeadOut : PlanRec → ℕ → ℕ → Type 0
 LeadOut plan node way = (end : ℕ) → bit_at way end ≡ 1 → IsSome (outgoing plan node end)
 
-module _ (plan : PlanRec) (nodes : List GivenNode) (links : List LinkLine) (bits : List BitRec) (is : plan.links ≡ map (link_plan nodes) links) (kept : AllByRecursion (λ (b : BitRec). has_link_ends links b.node b.ends ≡ true) bits) where
+module _ (plan : PlanRec) (nodes : List GivenNode) (links : List LinkLine) (bits : List BitRec) (is : plan.links ≡ map (link_plan nodes) links) (kept : AreJoined links bits) where
   way_leads : (number bit : ℕ) → LeadOut plan (position_by_number nodes number) (way bits number bit)
   way_leads number bit = λ end e.
       let there = joined links number bit end bits kept (passes (λ n. list_any (λ e. e == n) (ends_for bits number bit)) 8 end e) in
