@@ -1,6 +1,5 @@
 -- The plans of nodes.
-use Rattle.std.proofs.Common.{◌≡◌, ℕ, ◌+◌, ◌<◌, ◌≤◌, List, [], ◌∷◌, ◌++◌, length, drop, get_or, drop-cons, Result, Ok, Err, refl, ap, sym, ◌∙◌, append-nil, append_assoc, length-drop, arith, subst}
-use Prim.Native.Nat.{suc}
+use Rattle.std.proofs.Common.{◌≡◌, ℕ, ◌+◌, ◌<◌, ◌≤◌, List, [], ◌∷◌, ◌++◌, length, drop, get_or, Result, Ok, Err, refl, ap, sym, ◌∙◌, append-nil, append_assoc, subst}
 use Rattle.source_model.specs.Source.{assembled_lines}
 use Rattle.sys_plan.specs.declared.NodePlan.{NodePlan}
 use Rattle.system_model.specs.declared.frame_line.GivenNode.{GivenNode}
