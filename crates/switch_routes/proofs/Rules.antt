@@ -7,7 +7,8 @@ use Rattle.xs_model.specs.Record.{ChanRec, Local, Out, unused_chan, chan_of}
 use Rattle.xs_model.specs.Waits.{has_room}
 use Rattle.xs_model.specs.AtWork.{AtWork, it_happens}
 use Rattle.net_model.specs.Switch.{Routes, node_with_chan, take_first, after_token, put_into, link_without_first, link_at, is_pause, deliver, end_may_send, out_step, out_token, to_state, send, header_byte, waiting_at, loses, local_step, want_way, hold_end, free_end, chan_is_held}
-use Rattle.net_model.specs.Ways.{Here, Behind, chan_of_dest}
+use Rattle.xs_model.specs.declared.dest.Dest.{Dest}
+use Rattle.net_model.specs.Ways.{Here, Behind}
 use Rattle.std.proofs.lemmas.Bool.{eq-eqb, ne_eqb}
 use Rattle.xs_base.specs.declared.token.Token.TheVariants.{Byte}
 
@@ -57,7 +58,7 @@ module _ (i n : ℕ) (t : Token) (m : AtWork) where
       ∙ sym (ap (λ (b : Bool). cond b (after_token i (Local n) t (it_happens (happen.Chan n t) (put_into n t (take_first i m)))) m) room)
       ∙ sym (ap (λ (b : Bool). cond b (after_token i (Local n) t (take_first i m)) (cond (has_room 1 (chan_of m.rec.core n).input) (after_token i (Local n) t (it_happens (happen.Chan n t) (put_into n t (take_first i m)))) m)) other)
 
-module _ (routes : Routes) (slot i e headers dest : ℕ) (m : AtWork) where
+module _ (routes : Routes) (slot i e headers : ℕ) (dest : Dest) (m : AtWork) where
   abbrev out_by : Bool → Bool → AtWork
   out_by may header =
       cond may (cond header (to_state i (Out e (headers + 1) dest) (send slot e (Byte (header_byte dest headers)) m)) (out_token slot i e headers dest (waiting_at m.rec i) m)) m
@@ -72,33 +73,33 @@ module _ (routes : Routes) (slot i e headers dest : ℕ) (m : AtWork) where
 abbrev onward_here : ℕ → ℕ → AtWork → AtWork
 onward_here i n m = local_step i n (waiting_at m.rec i) m
 
-abbrev onward_out : Routes → ℕ → ℕ → ℕ → ℕ → AtWork → AtWork
+abbrev onward_out : Routes → ℕ → ℕ → Dest → ℕ → AtWork → AtWork
 onward_out routes slot i dest e m = out_step routes slot i e 0 dest m
 
 -- to a channel end of this node
-module _ (routes : Routes) (slot i dest : ℕ) (m : AtWork) where
+module _ (routes : Routes) (slot i : ℕ) (dest : Dest) (m : AtWork) where
   abbrev want_by : ℕ → Bool → Bool → AtWork
   want_by n lost held = cond lost (loses i dest m) (cond held m (onward_here i n (to_state i (Local n) m)))
 
   abbrev is_lost : ℕ → Bool
   is_lost n = not (ltb n 32) || not (chan_of m.rec.core n).used
 
-  pub want-lost : (n : ℕ) → n ≡ chan_of_dest dest → is_lost n ≡ true → loses i dest m ≡ want_way routes slot i dest Here m
+  pub want-lost : (n : ℕ) → n ≡ dest.chan → is_lost n ≡ true → loses i dest m ≡ want_way routes slot i dest Here m
   want-lost n its lost =
       sym (ap (λ (b : Bool). want_by n b (chan_is_held m.rec n)) lost) ∙ ap (λ (k : ℕ). want_by k (is_lost k) (chan_is_held m.rec k)) its
 
-  pub want-local : (n : ℕ) → n ≡ chan_of_dest dest → is_lost n ≡ false → chan_is_held m.rec n ≡ false → onward_here i n (to_state i (Local n) m) ≡ want_way routes slot i dest Here m
+  pub want-local : (n : ℕ) → n ≡ dest.chan → is_lost n ≡ false → chan_is_held m.rec n ≡ false → onward_here i n (to_state i (Local n) m) ≡ want_way routes slot i dest Here m
   want-local n its lost held =
       sym (ap (λ (b : Bool). want_by n b (chan_is_held m.rec n)) lost ∙ ap (λ (b : Bool). want_by n false b) held)
       ∙ ap (λ (k : ℕ). want_by k (is_lost k) (chan_is_held m.rec k)) its
 
-  pub want-held : (n : ℕ) → n ≡ chan_of_dest dest → is_lost n ≡ false → chan_is_held m.rec n ≡ true → m ≡ want_way routes slot i dest Here m
+  pub want-held : (n : ℕ) → n ≡ dest.chan → is_lost n ≡ false → chan_is_held m.rec n ≡ true → m ≡ want_way routes slot i dest Here m
   want-held n its lost held =
       sym (ap (λ (b : Bool). want_by n b (chan_is_held m.rec n)) lost ∙ ap (λ (b : Bool). want_by n false b) held)
       ∙ ap (λ (k : ℕ). want_by k (is_lost k) (chan_is_held m.rec k)) its
 
 -- behind some link ends
-module _ (routes : Routes) (slot i dest mask : ℕ) (m : AtWork) where
+module _ (routes : Routes) (slot i : ℕ) (dest : Dest) (mask : ℕ) (m : AtWork) where
   abbrev behind_by : Bool → Option ℕ → AtWork
   behind_by none free = cond none (loses i dest m) (hold_end (λ e m. onward_out routes slot i dest e m) i dest free m)
 

@@ -7,6 +7,7 @@ ghost use Rattle.net_model.specs.Switch.{is_idle, is_local_to, is_out_by};
 ghost use Rattle.switch_routes.specs.Inputs.{state_of, InputFits, idle_inputs};
 
 use std::marker::Model;
+use xs_model::Dest;
 
 /// What an input of the switch is at. See docs/LINKS.md.
 #[derive(Clone, Copy)]
@@ -17,11 +18,11 @@ pub(crate) enum Input {
     /// A link end's, after both bytes of a node's id.
     Head2 { high: u8, low: u8 },
     /// Its packet wants to go to a destination.
-    Want { dest: u32 },
+    Want { dest: Dest },
     /// It holds a channel end of its node, 0 to 31.
     Local { chan: u8 },
     /// It holds a link end, 0 to 7, by which so many header bytes, 0 to 3, went out.
-    Out { end: u8, headers: u8, dest: u32 },
+    Out { end: u8, headers: u8, dest: Dest },
     /// Its packet is lost.
     Lost,
 }

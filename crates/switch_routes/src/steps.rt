@@ -15,9 +15,9 @@ use crate::links::Links;
 use crate::parts::{after_token, first_waiting, send, take_first, tell};
 use chan_ends::ChanEnds;
 use trace_lines::Emissions;
+use xs_base::Token;
 use xs_base::numbers::{HEADER_BYTES, PAUSE};
-use xs_base::{Token, chan_id};
-use xs_model::Happen;
+use xs_model::{Dest, Happen};
 
 /// Whose turn it is in which slot.
 #[derive(Clone, Copy)]
@@ -32,7 +32,7 @@ pub(crate) struct Turn {
 pub(crate) struct Held {
     pub(crate) end: u8,
     pub(crate) headers: u8,
-    pub(crate) dest: u32,
+    pub(crate) dest: Dest,
 }
 
 /// An input that holds channel end `chan`, 0 to 31: the token that waits goes there.
@@ -154,14 +154,17 @@ fn after_header(state: Input, byte: u8) -> Input
         Input::Idle => Input::Head1 { high: byte },
         Input::Head1 { high } => Input::Head2 { high, low: byte },
         Input::Head2 { high, low } => Input::Want {
-            dest: chan_id(u16::from(high) * 256 + u16::from(low), byte),
+            dest: Dest {
+                node: u16::from(high) * 256 + u16::from(low),
+                chan: byte,
+            },
         },
         other => other,
     }
 }
 
 /// A packet that has no way is lost.
-pub(crate) fn lose(turn: Turn, dest: u32, inputs: &mut Inputs, out: &mut Emissions)
+pub(crate) fn lose(turn: Turn, dest: Dest, inputs: &mut Inputs, out: &mut Emissions)
     requires input { turn.input < INPUTS }
     requires room { length out.old.events < EVENT_ROOM }
     ensures stands { (begun : Begun) (ends : List ChanRec) (row : List (Option EndCounts)) (m : AtWork) →
@@ -170,7 +173,7 @@ pub(crate) fn lose(turn: Turn, dest: u32, inputs: &mut Inputs, out: &mut Emissio
     ensures events { length out.new.events ≤ length out.old.events + 1 }
 {
     inputs.set(turn.input, Input::Lost);
-    tell(Happen::Lost { id: dest }, turn.slot, out);
+    tell(Happen::Lost { id: dest.id() }, turn.slot, out);
 }
 
 /// An input that holds a link end: where it may send, first the header bytes go out, then the tokens that wait.
@@ -227,15 +230,15 @@ fn out_header(turn: Turn, held: Held, inputs: &mut Inputs, links: &mut Links, ou
     );
 }
 
-// The byte of a destination that goes out as header: the high and the low byte of the node's id, and the channel end.
-fn header_byte(dest: u32, headers: u8) -> u8
+// The header byte with this number: the high and the low byte of the node's id, and the channel end's number.
+fn header_byte(dest: Dest, headers: u8) -> u8
     requires headers { headers < HEADER_BYTES }
     ensures value { result ≡ header_byte dest headers }
 {
     match headers {
-        0 => (dest / 16_777_216 % 256) as u8,
-        1 => (dest / 65_536 % 256) as u8,
-        _ => (dest / 256 % 256) as u8,
+        0 => (dest.node / 256) as u8,
+        1 => (dest.node % 256) as u8,
+        _ => dest.chan,
     }
 }
 

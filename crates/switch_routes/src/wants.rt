@@ -4,7 +4,7 @@ ghost use Rattle.std.specs.Int.{bit_at};
 ghost use Rattle.xs_base.specs.declared.numbers.TheConstants.{INPUTS, LINK_ENDS, CHAN_ENDS, EVENT_ROOM};
 ghost use Rattle.xs_model.specs.Record.{NodeRec, Idle};
 ghost use Rattle.xs_model.specs.AtWork.{AtWork};
-ghost use Rattle.net_model.specs.Ways.{chan_of_dest, Here, Behind};
+ghost use Rattle.net_model.specs.Ways.{Here, Behind};
 ghost use Rattle.net_model.specs.Switch.{Routes, want_step, want_way, free_end, end_is_held, packet_step, start_packet, link_head_step, step_at, input_step, waiting_at, chan_of_input};
 ghost use Rattle.chan_ends.specs.Ends.{chan_at};
 ghost use Rattle.switch_routes.specs.Rows.{end_gaps, SentBy};
@@ -16,10 +16,11 @@ use crate::inputs::{Input, Inputs};
 use crate::links::Links;
 use crate::parts::first_waiting;
 use crate::steps::{Held, Turn, head_step, local_step, lose, lost_step, out_step};
-use crate::ways::{Way, Ways, chan_of_dest, is_in_mask};
+use crate::ways::{Way, Ways, is_in_mask};
 use chan_ends::ChanEnds;
 use trace_lines::Emissions;
 use xs_base::numbers::{CHAN_ENDS, LINK_ENDS};
+use xs_model::Dest;
 
 /// The step of an input, by its state.
 pub(crate) fn step(
@@ -142,7 +143,8 @@ fn start_packet(
     ensures gaps { end_gaps links.new ≡ end_gaps links.old }
     ensures sent { SentBy turn.slot links.old → SentBy turn.slot links.new }
 {
-    if let Some(dest) = chans.dest(turn.input - LINK_ENDS) {
+    if let Some(id) = chans.dest(turn.input - LINK_ENDS) {
+        let dest = Dest::of_id(id);
         inputs.set(turn.input, Input::Want { dest });
         want_step(turn, dest, ways, inputs, chans, links, out);
     }
@@ -151,7 +153,7 @@ fn start_packet(
 // An input that wants to go on to a destination.
 fn want_step(
     turn: Turn,
-    dest: u32,
+    dest: Dest,
     ways: &Ways,
     inputs: &mut Inputs,
     chans: &mut ChanEnds,
@@ -166,7 +168,7 @@ fn want_step(
     ensures gaps { end_gaps links.new ≡ end_gaps links.old }
     ensures sent { SentBy turn.slot links.old → SentBy turn.slot links.new }
 {
-    match ways.way_to(dest) {
+    match ways.way_to(dest.node) {
         Way::Here => want_chan(turn, dest, inputs, chans, links, out),
         Way::Behind { ends } => want_end(turn, dest, ends, inputs, chans, links, out),
     }
@@ -175,7 +177,7 @@ fn want_step(
 // To a channel end of this node: it is held from now on, unless another input holds it.
 fn want_chan(
     turn: Turn,
-    dest: u32,
+    dest: Dest,
     inputs: &mut Inputs,
     chans: &mut ChanEnds,
     links: &mut Links,
@@ -189,7 +191,7 @@ fn want_chan(
     ensures gaps { end_gaps links.new ≡ end_gaps links.old }
     ensures sent { SentBy turn.slot links.old → SentBy turn.slot links.new }
 {
-    let chan = chan_of_dest(dest);
+    let chan = dest.chan;
     if !is_in_use(chan, chans) {
         lose(turn, dest, inputs, out);
     } else if !inputs.chan_is_held(chan) {
@@ -209,7 +211,7 @@ fn is_in_use(chan: u8, chans: &ChanEnds) -> bool
 // To another node, behind some of the link ends in a mask: the lowest that is free is held from now on.
 fn want_end(
     turn: Turn,
-    dest: u32,
+    dest: Dest,
     mask: u8,
     inputs: &mut Inputs,
     chans: &mut ChanEnds,

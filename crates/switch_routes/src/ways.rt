@@ -2,7 +2,7 @@
 ghost use Rattle.std.specs.Prelude.{ℕ, ◌≡◌, ◌<◌, ◌==◌, Bool, IfSome};
 ghost use Rattle.std.specs.Int.{bit_at};
 ghost use Rattle.xs_base.specs.declared.numbers.TheConstants.{LINK_ENDS};
-ghost use Rattle.net_model.specs.Ways.{first_difference, way_to, chan_of_dest};
+ghost use Rattle.net_model.specs.Ways.{first_difference, way_to};
 ghost use Rattle.switch_routes.specs.Ways.{way_of};
 
 /// For each bit of an id, the link ends that lead on, as a mask. They are the ways from the node with this id.
@@ -12,34 +12,27 @@ pub(crate) struct Ways {
     pub(crate) ends: [u8; 16],
 }
 
-/// Where a destination lies.
+/// Where a node lies.
 #[derive(Clone, Copy)]
 pub(crate) enum Way {
-    /// On the node itself.
+    /// It is the node itself.
     Here,
     /// Behind one of these link ends, as a mask.
     Behind { ends: u8 },
 }
 
 impl Ways {
-    /// Where a destination lies: the highest bit in which its node's id differs from the node's own says it.
-    pub(crate) fn way_to(&self, dest: u32) -> Way
-        ensures value { way_of result ≡ way_to self.now.id self.now.ends dest }
+    /// Where the node with an id lies: the highest bit in which the id differs from the node's own says it.
+    pub(crate) fn way_to(&self, node: u16) -> Way
+        ensures value { way_of result ≡ way_to self.now.id self.now.ends node }
     {
-        match first_difference(self.id, (dest >> 16) as u16) {
+        match first_difference(self.id, node) {
             None => Way::Here,
             Some(bit) => Way::Behind {
                 ends: self.ends[bit as usize],
             },
         }
     }
-}
-
-/// The number of the channel end that a destination names.
-pub(crate) fn chan_of_dest(dest: u32) -> u8
-    ensures value { result ≡ chan_of_dest dest }
-{
-    ((dest >> 8) & 0xff) as u8
 }
 
 // The highest bit in which two ids differ.

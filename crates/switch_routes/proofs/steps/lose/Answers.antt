@@ -8,4 +8,4 @@ returns-clause-stands c =
     λ begun ends row m s.
     let i = c.args.turn.input in
     let set = stands-state begun c.args.turn.slot c.args.inputs.now ends row c.args.out.now m s i Lost in
-    c.tell.ensures.stands begun _ ends row (to_state i Lost m) (rw (← c.set.ensures.value) at set)
+    rw c.id.ensures.value at (c.tell.ensures.stands begun _ ends row (to_state i Lost m) (rw (← c.set.ensures.value) at set))
