@@ -1,9 +1,9 @@
 pub mod Places
 pub mod Rows
 pub mod Held
-pub mod Work
+pub mod GoesBy
 pub mod Rules
 pub mod Differences
 pub mod Frees
 pub mod Moves
-pub mod Rests
+pub mod Begins

@@ -1,5 +1,5 @@
 -- The cases of the switch's rules, over plain values.
-use Rattle.std.proofs.Common.{ℕ, zero, suc, ◌≡◌, ◌+◌, ◌-◌, ◌++◌, ◌||◌, Bool, true, false, cond, ltb, Option, Some, List, [], ◌∷◌, get_or, drop, refl, sym, ap, ◌∙◌}
+use Rattle.std.proofs.Common.{ℕ, zero, suc, ◌≡◌, ◌+◌, ◌-◌, ◌++◌, ◌||◌, Bool, true, false, cond, ltb, Option, Some, None, List, [], ◌∷◌, get_or, drop, refl, sym, ap, ◌∙◌}
 use Rattle.std.specs.Prelude.{slice_set, not}
 use Rattle.xs_base.specs.declared.token.Token.{Token}
 use Rattle.xs_model.specs.declared.event.Happen.TheVariants as happen
@@ -28,7 +28,7 @@ chans-commute (c ∷ cs) zero (suc n) t = refl
 chans-commute (c ∷ cs) (suc j) zero t = refl
 chans-commute (c ∷ cs) (suc j) (suc n) t = ap (λ (rest : List ChanRec). c ∷ rest) (chans-commute cs j n t)
 
-abbrev taken_by : Bool → ℕ → AtWork → AtWork
+abbrev pub taken_by : Bool → ℕ → AtWork → AtWork
 taken_by b i m =
     cond b
     (record m {
@@ -108,4 +108,8 @@ module _ (routes : Routes) (slot i : ℕ) (dest : Dest) (mask : ℕ) (m : AtWork
 
   pub behind-some : (e : ℕ) → (mask ≡ 0 → ⊥) → Some e ≡ free_end m.rec mask 0 8 → out_step routes slot i e 0 dest (to_state i (Out e 0 dest) m) ≡ want_way routes slot i dest (Behind mask) m
   behind-some e is free =
+      ap (λ (o : Option ℕ). behind_by false o) free ∙ sym (ap (λ (b : Bool). behind_by b (free_end m.rec mask 0 8)) (ne_eqb mask 0 is))
+
+  pub behind-wait : (mask ≡ 0 → ⊥) → None ≡ free_end m.rec mask 0 8 → m ≡ want_way routes slot i dest (Behind mask) m
+  behind-wait is free =
       ap (λ (o : Option ℕ). behind_by false o) free ∙ sym (ap (λ (b : Bool). behind_by b (free_end m.rec mask 0 8)) (ne_eqb mask 0 is))

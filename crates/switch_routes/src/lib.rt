@@ -3,13 +3,13 @@
 
 mod inputs;
 mod links;
-mod parts;
 mod steps;
 mod switch;
 #[cfg(test)]
 mod tests;
 mod wants;
 mod ways;
+mod work;
 
 pub use link_ends::LinkEnd;
 pub use links::Links;

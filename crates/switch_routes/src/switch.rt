@@ -2,22 +2,20 @@
 ghost use Rattle.std.specs.Prelude.{◌≡◌, ◌<◌, ◌≤◌, ◌+◌, List, length, IsTrue};
 ghost use Rattle.std.specs.List.{list_all};
 ghost use Rattle.xs_base.specs.Numbers.{Slot};
-ghost use Rattle.xs_base.specs.declared.numbers.TheConstants.{INPUTS, CHAN_ENDS, SWITCH_EVENTS, EVENTS_BEFORE_SWITCH};
+ghost use Rattle.xs_base.specs.declared.numbers.TheConstants.{CHAN_ENDS, SWITCH_EVENTS, EVENTS_BEFORE_SWITCH};
 ghost use Rattle.xs_model.specs.declared.event.Event.{Event};
 ghost use Rattle.xs_model.specs.Record.{NodeRec};
 ghost use Rattle.xs_model.specs.AtWork.{AtWork};
-ghost use Rattle.net_model.specs.Switch.{moves, moves_from, chan_is_busy};
+ghost use Rattle.net_model.specs.Switch.{moves, chan_is_busy};
 ghost use Rattle.switch_routes.specs.Rows.{SentBy, end_gaps};
 ghost use Rattle.switch_routes.specs.Switch.{StandsIn, idle_switch, known_routes, with_parts, emitted_after};
 ghost use Rattle.switch_routes.specs.Rest.{at_rest, sends_nothing};
-ghost use Rattle.switch_routes.specs.Work.{Begun, Stands};
-ghost use Rattle.switch_routes.specs.Ways.{routes_with};
+ghost use Rattle.switch_routes.specs.Work.{GoesBy};
 
 use crate::inputs::{Input, Inputs};
 use crate::links::Links;
-use crate::steps::Turn;
-use crate::wants::step;
 use crate::ways::Ways;
+use crate::work::Work;
 use chan_ends::ChanEnds;
 use std::marker::Model;
 use trace_lines::Emissions;
@@ -77,8 +75,15 @@ impl Switch {
         ensures sent { SentBy slot links.old → SentBy slot links.new }
         ensures events { length out.new.events ≤ length out.old.events + SWITCH_EVENTS }
     {
-        let ways = self.ways;
-        steps(&ways, slot, &mut self.inputs, chans, links, out);
+        let mut work = Work {
+            ways: self.ways,
+            slot,
+            inputs: &mut self.inputs,
+            chans,
+            links,
+            out,
+        };
+        work.steps();
     }
 
     /// Whether every input is idle and no token waits at any of them. A slot's moves then change nothing, and give
@@ -103,24 +108,15 @@ impl Switch {
     }
 }
 
-// The steps of all inputs.
-fn steps(
-    ways: &Ways,
-    slot: u32,
-    inputs: &mut Inputs,
-    chans: &mut ChanEnds,
-    links: &mut Links,
-    out: &mut Emissions,
-)
-    requires room { length out.old.events ≤ EVENTS_BEFORE_SWITCH }
-    ensures stands { (begun : Begun) (m : AtWork) → Stands begun slot inputs.old chans.old links.old out.old m →
-        Stands begun slot inputs.new chans.new links.new out.new (moves_from (routes_with ways.now begun.gaps) slot 0 INPUTS m) }
-    ensures events { length out.new.events ≤ length out.old.events + SWITCH_EVENTS }
-    ensures gaps { end_gaps links.new ≡ end_gaps links.old }
-    ensures sent { SentBy slot links.old → SentBy slot links.new }
-{
-    for input in 0..INPUTS {
-        step(Turn { input, slot }, ways, inputs, chans, links, out);
+impl Work<'_> {
+    // The steps of all inputs.
+    fn steps(&mut self)
+        requires room { length self.old.out.now.events ≤ EVENTS_BEFORE_SWITCH }
+        ensures { GoesBy SWITCH_EVENTS (λ begun. moves begun.routes begun.slot) self.old self.new }
+    {
+        for input in 0..INPUTS {
+            self.step(input);
+        }
     }
 }
 
