@@ -1,21 +1,18 @@
 -- What the switch's parts stand for, after each of the moves that its rules are made of.
-use Rattle.std.proofs.Common.{ℕ, ◌≡◌, ◌+◌, ◌-◌, ◌≤◌, ◌++◌, Bool, true, cond, ltb, Option, Some, None, List, [], ◌∷◌, length, get_or, drop, map, refl, sym, ap, subst, ◌∙◌, arith}
+use Rattle.std.proofs.Common.{ℕ, ◌≡◌, ◌+◌, ◌-◌, ◌≤◌, Bool, true, cond, ltb, Option, Some, None, List, [], ◌∷◌, length, get_or, drop, refl, sym, ap, subst, ◌∙◌, arith}
 use Rattle.std.specs.Prelude.{slice_set, slice_get, MatchOption}
-use Rattle.std.proofs.lemmas.List.{append_assoc, map-append}
 use Rattle.xs_base.specs.declared.token.Token.{Token}
-use Rattle.xs_model.specs.declared.event.Event.{Event}
-use Rattle.xs_model.specs.declared.event.Happen.{Happen}
-use Rattle.xs_model.specs.Record.{NodeRec, LinkRec, ChanRec, unused_chan, chan_of}
+use Rattle.xs_model.specs.Record.{NodeRec, LinkRec, ChanRec, unused_chan}
 use Rattle.xs_model.specs.Outside.{Emitted}
 use Rattle.xs_model.specs.AtWork.{AtWork}
 use Rattle.switch_routes.specs.Ways.{routes_with}
-use Rattle.net_model.specs.Switch.{send, to_state, link_without_first, sent_in, waiting_at, link_at, buffer_of_link}
+use Rattle.net_model.specs.Switch.{link_without_first, sent_in, waiting_at, link_at, buffer_of_link}
 use Rattle.link_ends.specs.Counts.{EndCounts}
 use Rattle.chan_ends.specs.Ends.{chan_at}
-use Rattle.switch_routes.specs.Rows.{AllCountsOf, IsCountsOf, CreditedBy, SentBy, end_gaps, end_gap, counts_at, buffer_of, without_first}
+use Rattle.switch_routes.specs.Rows.{AllCountsOf, IsCountsOf, CreditedBy, SentBy, end_gaps, end_gap, counts_at, buffer_of, without_first, waiting_in}
 use Rattle.switch_routes.specs.declared.work.Work.{Work}
-use Rattle.switch_routes.specs.Work.{Begun, Stands, GoesOn, GoesBy, waiting_in}
-use Rattle.switch_routes.proofs.Rows.{IsCreditedBy, counts-pop, counts-at, gaps-set, all-set, all-at}
+use Rattle.switch_routes.specs.Work.{Begun, Stands, GoesOn, GoesBy}
+use Rattle.switch_routes.proofs.Rows.{IsCreditedBy, counts-pop, counts-at, all-set, all-at}
 
 -- the first of the tokens that wait
 pub first_cases : (r : Option Token) (ts : List Token) → r ≡ slice_get ts 0 → MatchOption r (ts ≡ []) (λ t. ts ≡ t ∷ drop 1 ts)
@@ -125,7 +122,10 @@ goes-pop w e row out gaps sent value credits = record {
 }
 
 -- the tokens that wait at an input
+pub waits_of : (ends : List ChanRec) (row : List (Option EndCounts)) (rec : NodeRec) → ends ≡ rec.core.chans → AllCountsOf row rec.links → (i : ℕ) → waiting_in ends row i ≡ waiting_at rec i
+waits_of ends row rec chans links i =
+    ap (λ (ts : List Token). cond (ltb i 8) ts (chan_at ends (i - 8)).output) (same-buffer (counts_at row i) (link_at rec i) (counts-at row rec.links i links))
+    ∙ ap (λ (cs : List ChanRec). cond (ltb i 8) (buffer_of_link (link_at rec i)) (get_or cs (i - 8) unused_chan).output) chans
+
 pub waits : (begun : Begun) (w : Work) (m : AtWork) → Stands begun w m → (i : ℕ) → waiting_in w.chans.now w.links.now i ≡ waiting_at m.rec i
-waits begun w m s i =
-    ap (λ (ts : List Token). cond (ltb i 8) ts (chan_at w.chans.now (i - 8)).output) (same-buffer (counts_at w.links.now i) (link_at m.rec i) (counts-at w.links.now m.rec.links i s.links))
-    ∙ ap (λ (cs : List ChanRec). cond (ltb i 8) (buffer_of_link (link_at m.rec i)) (get_or cs (i - 8) unused_chan).output) s.chans
+waits begun w m s i = waits_of w.chans.now w.links.now m.rec s.chans s.links i

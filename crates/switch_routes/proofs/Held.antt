@@ -1,7 +1,6 @@
 -- Whether some input is in a state that passes a test.
-use Rattle.std.proofs.Common.{ℕ, ◌≡◌, ◌+◌, ◌<◌, ◌≤◌, ◌||◌, ◌&&◌, Bool, true, false, List, length, get_or, drop, ap, ◌∙◌}
-use Rattle.std.specs.List.{list_any, list_all}
-use Rattle.net_model.specs.Switch.{is_idle}
+use Rattle.std.proofs.Common.{ℕ, ◌≡◌, ◌+◌, ◌<◌, ◌≤◌, ◌||◌, Bool, true, false, List, length, get_or, drop, ap, ◌∙◌}
+use Rattle.std.specs.List.{list_any}
 use Rattle.std.proofs.lemmas.List.{drop_more, drop_all}
 use Rattle.xs_model.specs.Record.{InputRec}
 use Rattle.switch_routes.specs.declared.inputs.Input.{Input}
@@ -22,17 +21,3 @@ module _ (p : InputRec → Bool) (states : List Input) (i : ℕ) where
 
   pub any_none : length states ≤ i → any_from i ≡ false
   any_none h = ap (λ rest. list_any p (states_in rest)) (drop_all i states h)
-
--- whether all are idle
-module _ (states : List Input) (i : ℕ) where
-  idle_step : (d : Input) → i < length states → list_all is_idle (states_in (drop i states)) ≡ (is_idle (state_of (get_or states i d)) && list_all is_idle (states_in (drop (i + 1) states)))
-  idle_step d h = ap (λ (rest : List Input). list_all is_idle (states_in rest)) (drop_more states i d h)
-
-  pub idle_next : (d : Input) → i < length states → is_idle (state_of (get_or states i d)) ≡ true → list_all is_idle (states_in (drop i states)) ≡ list_all is_idle (states_in (drop (i + 1) states))
-  idle_next d h is = idle_step d h ∙ ap (λ (b : Bool). b && list_all is_idle (states_in (drop (i + 1) states))) is
-
-  pub idle_fails : (d : Input) → i < length states → is_idle (state_of (get_or states i d)) ≡ false → list_all is_idle (states_in (drop i states)) ≡ false
-  idle_fails d h is = idle_step d h ∙ ap (λ (b : Bool). b && list_all is_idle (states_in (drop (i + 1) states))) is
-
-  pub idle_end : length states ≤ i → list_all is_idle (states_in (drop i states)) ≡ true
-  idle_end h = ap (λ (rest : List Input). list_all is_idle (states_in rest)) (drop_all i states h)

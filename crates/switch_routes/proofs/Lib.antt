@@ -7,3 +7,8 @@ pub mod Differences
 pub mod Frees
 pub mod Moves
 pub mod Begins
+pub mod Marks
+pub mod Spares
+pub mod Still
+pub mod Walk
+pub mod CanAct

@@ -28,4 +28,3 @@ steps_from routes slot i (suc count) all m is =
 pub all_steps : (routes : Routes) (slot all : ℕ) (m : AtWork) → first_steps routes slot all m ≡ moves_from routes slot 0 all m
 all_steps routes slot all m =
     sym (steps_from routes slot 0 all all m (omega arith)) ∙ ap (λ (x : AtWork). moves_from routes slot 0 all x) (no_steps routes slot m)
-

@@ -1,8 +1,10 @@
 -- What an input of the switch is at, in code and in the node record.
-use Rattle.std.specs.Prelude.{◌≡◌, ◌<◌, ◌≤◌, List, length, map, replicate}
+use Rattle.std.specs.Prelude.{ℕ, ◌≡◌, ◌<◌, ◌≤◌, List, length, map, replicate, slice_index_or}
 use Rattle.std.specs.List.{AllByRecursion}
 use Rattle.xs_base.specs.declared.numbers.TheConstants.{LINK_ENDS, CHAN_ENDS, INPUTS, HEADER_BYTES}
+use Rattle.xs_model.specs.Masks.{in_mask}
 use Rattle.xs_model.specs.Record.{InputRec, Idle, Head1, Head2, Want, Local, Out, Lost}
+use Rattle.switch_routes.specs.Rest.{acts_alone}
 use Rattle.switch_routes.specs.declared.inputs.Input.{Input}
 use Rattle.switch_routes.specs.declared.inputs.Input.TheVariants as input
 
@@ -26,10 +28,11 @@ InputFits _ = Unit {0}
 abbrev pub states_in : List Input → List InputRec
 states_in states = map state_of states
 
--- there are 40 inputs, and each state fits
-pub record AreInputs (states : List Input) : Type 0 where
+-- there are 40 inputs, each state fits, and the mask has those that act alone
+pub record AreInputs (states : List Input) (alone : ℕ) : Type 0 where
   pub count : length states ≡ INPUTS
   pub fit : AllByRecursion InputFits states
+  pub marked : (i : ℕ) → i < 64 → in_mask alone i ≡ acts_alone (slice_index_or (states_in states) i Idle)
 
 -- every input is idle
 abbrev pub idle_inputs : List InputRec

@@ -1,26 +1,23 @@
--- A switch at rest: every input is idle, and no token waits at any of them.
-use Rattle.std.specs.Prelude.{Bool, true, false, ◌&&◌, Option, List, [], ◌∷◌}
-use Rattle.std.specs.List.{list_all}
-use Rattle.xs_base.specs.declared.token.Token.{Token}
-use Rattle.xs_model.specs.Record.{ChanRec}
-use Rattle.net_model.specs.Switch.{is_idle}
+-- Inputs that do nothing in a slot.
+use Rattle.std.specs.Prelude.{ℕ, ◌≡◌, ◌<◌, Bool, true, false, nat_lt, Option, List, [], slice_index_or}
+use Rattle.xs_base.specs.Numbers.{InputNumber}
+use Rattle.xs_base.specs.declared.numbers.TheConstants.{LINK_ENDS, HEADER_BYTES}
+use Rattle.xs_model.specs.Masks.{in_mask}
+use Rattle.xs_model.specs.Record.{ChanRec, InputRec, Idle, Want, Out}
 use Rattle.link_ends.specs.Counts.{EndCounts}
-use Rattle.switch_routes.specs.Rows.{buffer_of}
-use Rattle.switch_routes.specs.Switch.{SwitchRec}
+use Rattle.switch_routes.specs.Rows.{buffer_of, counts_at, waiting_in}
 
--- no token waits in a buffer
-abbrev pub none_waits : List Token → Bool
-none_waits [] = true
-none_waits (t ∷ rest) = false
+-- whether an input in this state acts though no token waits there: it looks for a way, or sends a header
+abbrev pub acts_alone : InputRec → Bool
+acts_alone (Want dest) = true
+acts_alone (Out end headers dest) = nat_lt headers HEADER_BYTES
+acts_alone _ = false
 
--- none waits in the output buffer of a channel end
-abbrev pub sends_nothing : ChanRec → Bool
-sends_nothing chan = none_waits chan.output
+-- no token waits at the input, and it does not act alone
+pub record IsStill (states : List InputRec) (ends : List ChanRec) (row : List (Option EndCounts)) (i : InputNumber) : Type 0 where
+  pub alone : acts_alone (slice_index_or states i Idle) ≡ false
+  pub waiting : waiting_in ends row i ≡ []
 
--- none waits at a link end
-abbrev pub holds_nothing : Option EndCounts → Bool
-holds_nothing end = none_waits (buffer_of end)
-
--- every input is idle, and no token waits at any of them
-abbrev pub at_rest : SwitchRec → List ChanRec → List (Option EndCounts) → Bool
-at_rest switch ends row = list_all is_idle switch.inputs && (list_all sends_nothing ends && list_all holds_nothing row)
+-- no token waits at the link ends that are not in the mask
+abbrev pub AreMarked : ℕ → List (Option EndCounts) → Type 0
+AreMarked mask row = (e : ℕ) → e < LINK_ENDS → in_mask mask e ≡ false → buffer_of (counts_at row e) ≡ []

@@ -1,10 +1,12 @@
 -- The row of a node's link ends, and the link records that it stands for.
-use Rattle.std.specs.Prelude.{ℕ, ◌≤◌, Bool, false, Option, Some, None, List, [], ◌∷◌, map, replicate, slice_index_or, drop, IfSome}
+use Rattle.std.specs.Prelude.{ℕ, ◌≤◌, Bool, false, Option, Some, None, List, [], ◌∷◌, map, replicate, slice_index_or, drop, IfSome, if◌then◌else◌}
 use Rattle.std.specs.List.{AllByRecursion}
-use Rattle.xs_base.specs.Numbers.{Slot, EndNumber}
+use Rattle.xs_base.specs.Numbers.{Slot, EndNumber, InputNumber}
 use Rattle.xs_base.specs.declared.token.Token.{Token}
-use Rattle.xs_model.specs.Record.{LinkRec}
+use Rattle.xs_model.specs.Record.{LinkRec, ChanRec}
+use Rattle.net_model.specs.Switch.{is_link_input, chan_of_input}
 use Rattle.link_ends.specs.Counts.{EndCounts, CountsOf, can_send}
+use Rattle.chan_ends.specs.Ends.{chan_at}
 
 -- no link end is there
 abbrev pub no_ends : List (Option EndCounts)
@@ -57,3 +59,7 @@ may_send_by slot (Some counts) = can_send counts slot
 abbrev pub without_first : Option EndCounts → Option EndCounts
 without_first None = None
 without_first (Some counts) = Some (record counts { buffer = drop 1 counts.buffer })
+
+-- the tokens that wait at an input
+abbrev pub waiting_in : List ChanRec → List (Option EndCounts) → InputNumber → List Token
+waiting_in ends row i = if is_link_input i then buffer_of (counts_at row i) else (chan_at ends (chan_of_input i)).output

@@ -1,17 +1,14 @@
 -- The switch at work in a slot, and the node at work that it stands for.
-use Rattle.std.specs.Prelude.{ℕ, ◌≡◌, ◌+◌, ◌<◌, ◌≤◌, Option, List, ◌++◌, length, map, if◌then◌else◌}
-use Rattle.xs_base.specs.Numbers.{Slot, InputNumber}
+use Rattle.std.specs.Prelude.{ℕ, ◌≡◌, ◌+◌, ◌<◌, ◌≤◌, List, ◌++◌, length, map}
+use Rattle.xs_base.specs.Numbers.{Slot}
 use Rattle.xs_base.specs.declared.numbers.TheConstants.{EVENT_ROOM}
-use Rattle.xs_base.specs.declared.token.Token.{Token}
 use Rattle.xs_model.specs.declared.event.Event.{Event}
-use Rattle.xs_model.specs.Record.{NodeRec, ChanRec}
+use Rattle.xs_model.specs.Record.{NodeRec}
 use Rattle.xs_model.specs.Outside.{in_slot}
 use Rattle.xs_model.specs.AtWork.{AtWork}
-use Rattle.net_model.specs.Switch.{Routes, is_link_input, chan_of_input}
-use Rattle.link_ends.specs.Counts.{EndCounts}
-use Rattle.chan_ends.specs.Ends.{chan_at}
+use Rattle.net_model.specs.Switch.{Routes}
 use Rattle.switch_routes.specs.declared.work.Work.{Work}
-use Rattle.switch_routes.specs.Rows.{AllCountsOf, CreditedBy, SentBy, end_gaps, counts_at, buffer_of}
+use Rattle.switch_routes.specs.Rows.{AllCountsOf, CreditedBy, SentBy, end_gaps}
 use Rattle.switch_routes.specs.Switch.{with_parts}
 use Rattle.switch_routes.specs.Ways.{routes_with}
 
@@ -55,7 +52,3 @@ pub record GoesBy (count : ℕ) (rule : Begun → AtWork → AtWork) (old new : 
 -- there is room for one more event
 abbrev pub HasRoom : Work → Type 0
 HasRoom work = length work.out.now.events < EVENT_ROOM
-
--- the tokens that wait at an input
-abbrev pub waiting_in : List ChanRec → List (Option EndCounts) → InputNumber → List Token
-waiting_in ends row i = if is_link_input i then buffer_of (counts_at row i) else (chan_at ends (chan_of_input i)).output

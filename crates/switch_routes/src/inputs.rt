@@ -1,12 +1,15 @@
 //! What the switch's inputs are at.
-ghost use Rattle.std.specs.Prelude.{ℕ, ◌≡◌, ◌<◌, Bool, length, slice_set, slice_index_or};
-ghost use Rattle.std.specs.List.{list_all, list_any};
+ghost use Rattle.std.specs.Prelude.{ℕ, ◌≡◌, ◌<◌, ◌≤◌, ◌==◌, false, if◌then◌else◌, slice_set, slice_index_or};
+ghost use Rattle.std.specs.List.{list_any};
 ghost use Rattle.xs_base.specs.declared.numbers.TheConstants.{INPUTS};
 ghost use Rattle.xs_model.specs.Record.{Idle};
-ghost use Rattle.net_model.specs.Switch.{is_idle, is_local_to, is_out_by};
+ghost use Rattle.xs_model.specs.Masks.{in_mask};
+ghost use Rattle.net_model.specs.Switch.{is_local_to, is_out_by};
+ghost use Rattle.switch_routes.specs.Rest.{acts_alone};
 ghost use Rattle.switch_routes.specs.Inputs.{state_of, InputFits, idle_inputs};
 
 use std::marker::Model;
+use xs_base::numbers::HEADER_BYTES;
 use xs_model::Dest;
 
 /// What an input of the switch is at. See docs/LINKS.md.
@@ -32,6 +35,8 @@ pub(crate) enum Input {
 #[derive(Drop)]
 pub(crate) struct Inputs {
     states: [Input; 40],
+    // The inputs that act though no token waits at them: bit i is that of input i.
+    alone: u64,
 }
 
 impl Model for Inputs {
@@ -44,7 +49,7 @@ impl Model for Inputs {
 
     ghost view = { λ inputs. states_in inputs.states };
 
-    ghost invariant = { λ inputs. AreInputs inputs.states };
+    ghost invariant = { λ inputs. AreInputs inputs.states inputs.alone };
 }
 
 impl Inputs {
@@ -54,6 +59,7 @@ impl Inputs {
     {
         Inputs {
             states: [Input::Idle; 40],
+            alone: 0,
         }
     }
 
@@ -73,18 +79,15 @@ impl Inputs {
         ensures value { self.new ≡ slice_set self.old input (state_of state) }
     {
         self.states[input as usize] = state;
+        self.alone = with_bit(self.alone, input, acts_alone(state));
     }
 
-    /// Whether every input is idle.
-    pub(crate) fn are_idle(&self) -> bool
-        ensures value { result ≡ list_all is_idle self.now }
+    /// The inputs that act though no token waits at them: bit i is that of input i.
+    pub(crate) fn alone(&self) -> u64
+        ensures value { (i : ℕ) → i < 64 → in_mask result i ≡ acts_alone (slice_index_or self.now i Idle) }
+        ensures above { (i : ℕ) → INPUTS ≤ i → i < 64 → in_mask result i ≡ false }
     {
-        for state in &self.states {
-            if !is_idle(*state) {
-                return false;
-            }
-        }
-        true
+        self.alone
     }
 
     /// Whether some input holds a channel end.
@@ -112,14 +115,24 @@ impl Inputs {
     }
 }
 
-// Whether an input in this state is idle.
-fn is_idle(state: Input) -> bool
-    ensures value { result ≡ is_idle (state_of state) }
+// Whether an input in this state acts though no token waits there.
+fn acts_alone(state: Input) -> bool
+    ensures value { result ≡ acts_alone (state_of state) }
 {
     match state {
-        Input::Idle => true,
+        Input::Want { .. } => true,
+        Input::Out { headers, .. } => headers < HEADER_BYTES,
         _ => false,
     }
+}
+
+// The mask with bit `i`, 0 to 63, set where this holds, and else cleared.
+fn with_bit(mask: u64, i: u8, holds: bool) -> u64
+    requires within { i < 64 }
+    ensures value { (k : ℕ) → k < 64 → in_mask result k ≡ (if k == i then holds else in_mask mask k) }
+{
+    let bit = 1 << i;
+    if holds { mask | bit } else { mask & !bit }
 }
 
 // Whether an input in this state holds a channel end.

@@ -1,6 +1,7 @@
 //! The switch of a node, and the row of its link ends. See docs/LINKS.md.
 #![tactic(auto)]
 
+mod able;
 mod inputs;
 mod links;
 mod steps;

@@ -1,14 +1,14 @@
 //! `Links`, the row of a node's link ends.
-ghost use Rattle.std.specs.Prelude.{ℕ, ◌≡◌, ◌<◌, ◌≤◌, true, Some, None, Option, IsNone, List, [], ◌∷◌, drop, length, slice_set, slice_index_or, MatchOption};
+ghost use Rattle.std.specs.Prelude.{ℕ, ◌≡◌, ◌≢◌, ◌<◌, ◌≤◌, true, false, is_some, Some, None, Option, IsNone, List, [], ◌∷◌, drop, length, slice_set, slice_index_or, MatchOption};
 ghost use Rattle.std.specs.Borrow.{sem};
-ghost use Rattle.std.specs.List.{list_all};
 ghost use Rattle.xs_base.specs.declared.numbers.TheConstants.{LINK_ENDS};
+ghost use Rattle.xs_model.specs.Masks.{in_mask};
 ghost use Rattle.xs_model.specs.Record.{LinkRec};
 ghost use Rattle.net_model.specs.Links.{links_after_arrivals, link_after_arrivals, token_arrives, credit_arrives};
 ghost use Rattle.net_model.specs.Switch.{Routes, sent_in, end_may_send};
 ghost use Rattle.link_ends.specs.Counts.{CountsOf};
 ghost use Rattle.switch_routes.specs.Rows.{no_ends, counts_at, AllCountsOf, end_gaps, CreditedBy, SentBy, buffer_of, may_send_by, without_first};
-ghost use Rattle.switch_routes.specs.Rest.{holds_nothing};
+ghost use Rattle.switch_routes.specs.Rest.{AreMarked};
 ghost use Rattle.switch_routes.specs.Lends.{LendsEnd};
 
 use arrayvec::ArrayVec;
@@ -25,6 +25,8 @@ pub struct Links {
     // Where a link end is not there, some other one stands in its place.
     ends: ArrayVec<LinkEnd, 8>,
     present: [bool; 8],
+    // No token waits at a link end whose bit is clear: bit 0 is that of link end 0.
+    waiting: u8,
 }
 
 impl Model for Links {
@@ -37,7 +39,7 @@ impl Model for Links {
 
     ghost view = { λ row. ends_in row.present row.ends.items };
 
-    ghost invariant = { λ row. AreEnds row.present row.ends.items };
+    ghost invariant = { λ row. AreEnds row.present row.ends.items row.waiting };
 }
 
 impl Links {
@@ -49,6 +51,7 @@ impl Links {
         Links {
             ends: ArrayVec::from(ends),
             present: [false; 8],
+            waiting: 0,
         }
     }
 
@@ -60,6 +63,7 @@ impl Links {
     {
         self.ends.as_mut_slice()[end as usize] = link;
         self.present[end as usize] = true;
+        self.waiting = with_mark(self.waiting, end);
     }
 
     /// The link end with a number: `None` exactly where the node has no such link end. Any number may be asked for, and
@@ -71,6 +75,7 @@ impl Links {
         ensures count { length self.old ≡ LINK_ENDS }
     {
         if self.present.get(end as usize).copied().unwrap_or(false) {
+            self.waiting = with_mark(self.waiting, end);
             self.ends.get_mut(end as usize)
         } else {
             None
@@ -105,9 +110,13 @@ impl Links {
         ensures sent { (slot : ℕ) → SentBy slot self.old → SentBy slot self.new }
         ensures count { length self.new ≡ LINK_ENDS }
     {
+        let waiting = self.waiting;
         if let Some(link) = self.end(end) {
             receive(link, token);
             count(link, credit);
+            if token.is_none() {
+                self.waiting = waiting;
+            }
         }
     }
 
@@ -126,16 +135,11 @@ impl Links {
         }
     }
 
-    /// Whether no token waits at any link end.
-    pub(crate) fn hold_nothing(&self) -> bool
-        ensures value { result ≡ list_all holds_nothing self.now }
+    /// The link ends at which tokens may wait: none waits where a bit is clear. Bit 0 is that of link end 0.
+    pub(crate) fn waiting(&self) -> u8
+        ensures marked { AreMarked result self.now }
     {
-        for end in 0..LINK_ENDS {
-            if self.first(end).is_some() {
-                return false;
-            }
-        }
-        true
+        self.waiting
     }
 
     /// Takes the token that waits longest out of a link end's buffer, where one waits.
@@ -147,6 +151,9 @@ impl Links {
     {
         if let Some(link) = self.end(end) {
             let _ = link.pop();
+            if link.first().is_none() {
+                self.waiting = without_mark(self.waiting, end);
+            }
         }
     }
 
@@ -170,15 +177,35 @@ impl Links {
         ensures gaps { end_gaps self.new ≡ end_gaps self.old }
         ensures sent { SentBy slot self.old → SentBy slot self.new }
     {
+        let waiting = self.waiting;
         if let Some(link) = self.end(end) {
             link.sent(slot);
+            self.waiting = waiting;
         }
     }
+}
+
+// The mask with a link end, 0 to 7, in it as well.
+fn with_mark(mask: u8, end: u8) -> u8
+    requires within { end < LINK_ENDS }
+    ensures added { in_mask result end ≡ true }
+    ensures others { (e : ℕ) → e ≢ end → in_mask result e ≡ in_mask mask e }
+{
+    mask | (1 << end)
+}
+
+// The mask without a link end, 0 to 7.
+fn without_mark(mask: u8, end: u8) -> u8
+    requires within { end < LINK_ENDS }
+    ensures others { (e : ℕ) → e < LINK_ENDS → e ≢ end → in_mask result e ≡ in_mask mask e }
+{
+    mask & !(1 << end)
 }
 
 // A token arrives at a link end, if one does.
 fn receive(link: &mut LinkEnd, token: Option<Token>)
     ensures stands { (rec : LinkRec) → CountsOf link.old rec → CountsOf link.new (token_arrives token rec) }
+    ensures none { is_some token ≡ false → link.new.buffer ≡ link.old.buffer }
     ensures gap { link.new.gap ≡ link.old.gap }
     ensures last_sent { link.new.last_sent ≡ link.old.last_sent }
 {
@@ -190,6 +217,7 @@ fn receive(link: &mut LinkEnd, token: Option<Token>)
 // A credit arrives at a link end, if one does.
 fn count(link: &mut LinkEnd, credit: bool)
     ensures stands { (rec : LinkRec) (slot : ℕ) → CountsOf link.old rec → CountsOf link.new (credit_arrives slot credit rec) }
+    ensures buffer { link.new.buffer ≡ link.old.buffer }
     ensures gap { link.new.gap ≡ link.old.gap }
     ensures last_sent { link.new.last_sent ≡ link.old.last_sent }
 {

@@ -1,6 +1,5 @@
 //! `Switch`, the switch of a node.
 ghost use Rattle.std.specs.Prelude.{◌≡◌, ◌<◌, ◌≤◌, ◌+◌, List, length, IsTrue};
-ghost use Rattle.std.specs.List.{list_all};
 ghost use Rattle.xs_base.specs.Numbers.{Slot};
 ghost use Rattle.xs_base.specs.declared.numbers.TheConstants.{CHAN_ENDS, SWITCH_EVENTS, EVENTS_BEFORE_SWITCH};
 ghost use Rattle.xs_model.specs.declared.event.Event.{Event};
@@ -9,9 +8,9 @@ ghost use Rattle.xs_model.specs.AtWork.{AtWork};
 ghost use Rattle.net_model.specs.Switch.{moves, chan_is_busy};
 ghost use Rattle.switch_routes.specs.Rows.{SentBy, end_gaps};
 ghost use Rattle.switch_routes.specs.Switch.{StandsIn, idle_switch, known_routes, with_parts, emitted_after};
-ghost use Rattle.switch_routes.specs.Rest.{at_rest, sends_nothing};
 ghost use Rattle.switch_routes.specs.Work.{GoesBy};
 
+use crate::able::{able, lowest, without};
 use crate::inputs::{Input, Inputs};
 use crate::links::Links;
 use crate::ways::Ways;
@@ -19,7 +18,7 @@ use crate::work::Work;
 use chan_ends::ChanEnds;
 use std::marker::Model;
 use trace_lines::Emissions;
-use xs_base::numbers::{CHAN_ENDS, INPUTS, LINK_ENDS};
+use xs_base::numbers::LINK_ENDS;
 
 /// The switch of a node: it takes tokens from link ends and channel ends, and gives them on to channel ends and link
 /// ends. Contracts see it as a `SwitchRec` of `Rattle.switch_routes.specs.Switch`. See docs/LINKS.md.
@@ -86,14 +85,13 @@ impl Switch {
         work.steps();
     }
 
-    /// Whether every input is idle and no token waits at any of them. A slot's moves then change nothing, and give
+    /// Whether it is known that no input can act in a slot in which nothing arrives: `moves` would change nothing, and give
     /// nothing. See docs/LINKS.md.
     pub fn is_at_rest(&self, chans: &ChanEnds, links: &Links) -> bool
-        ensures value { result ≡ at_rest self.now chans.now links.now }
         ensures rests { IsTrue result → (slot : Slot) (m : AtWork) → StandsIn slot self.now chans.now links.now m.rec →
             moves (known_routes self.now links.now) slot m ≡ m }
     {
-        self.inputs.are_idle() && send_nothing(chans) && links.hold_nothing()
+        able(&self.inputs, chans, links) == 0
     }
 
     /// Whether channel end `c`, 0 to 31, is at work: its own input is not idle, or some input holds it.
@@ -109,25 +107,16 @@ impl Switch {
 }
 
 impl Work<'_> {
-    // The steps of all inputs.
+    // The steps of all inputs. Those that cannot act are passed over.
     fn steps(&mut self)
         requires room { length self.old.out.now.events ≤ EVENTS_BEFORE_SWITCH }
         ensures { GoesBy SWITCH_EVENTS (λ begun. moves begun.routes begun.slot) self.old self.new }
     {
-        for input in 0..INPUTS {
+        let mut left = able(self.inputs, self.chans, self.links);
+        while left != 0 {
+            let input = lowest(left);
             self.step(input);
+            left = without(left, input);
         }
     }
-}
-
-// Whether no token waits in any channel end's output buffer.
-fn send_nothing(chans: &ChanEnds) -> bool
-    ensures value { result ≡ list_all sends_nothing chans.now }
-{
-    for c in 0..CHAN_ENDS {
-        if chans.first_out(c).is_some() {
-            return false;
-        }
-    }
-    true
 }

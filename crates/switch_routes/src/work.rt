@@ -7,8 +7,8 @@ ghost use Rattle.xs_model.specs.Events.{NamesWhatIsThere};
 ghost use Rattle.net_model.specs.Switch.{take_first, put_into, send, to_state, after_token, ends_packet};
 ghost use Rattle.chan_ends.specs.Ends.{chan_at};
 ghost use Rattle.switch_routes.specs.Inputs.{state_of, InputFits};
-ghost use Rattle.switch_routes.specs.Rows.{counts_at, may_send_by};
-ghost use Rattle.switch_routes.specs.Work.{GoesBy, HasRoom, waiting_in};
+ghost use Rattle.switch_routes.specs.Rows.{counts_at, may_send_by, waiting_in};
+ghost use Rattle.switch_routes.specs.Work.{GoesBy, HasRoom};
 
 use crate::inputs::{Input, Inputs};
 use crate::links::Links;
