@@ -1,7 +1,7 @@
 -- What a core's fields stand for.
 use Rattle.std.specs.Prelude.{◌≡◌}
 use Rattle.core_step.specs.Core.{CoreValue}
-use Rattle.core_step.specs.Network.{routes_of, RestsAsKnown}
+use Rattle.core_step.specs.Network.{routes_of}
 use Rattle.core_step.specs.declared.node_core.Core.TheInside.{Inside}
 
 abbrev pub value_of : Inside → CoreValue
@@ -12,7 +12,6 @@ value_of c = record {
   links = c.network.links;
 }
 
--- the switch is that of the program's node, and rests where that is known
+-- the switch is that of the program's node
 pub record IsCore (c : Inside) : Type 0 where
   pub node : c.network.switch.id ≡ c.program.id
-  pub rest : RestsAsKnown c.network c.units.chans

@@ -1,5 +1,5 @@
 -- The network of a core: its link ends and its switch, and what they make of a slot.
-use Rattle.std.specs.Prelude.{ℕ, ◌≡◌, Bool, false, true, ◌==◌, if◌then◌else◌, List, Option, Some, None, map}
+use Rattle.std.specs.Prelude.{ℕ, ◌≡◌, ◌==◌, if◌then◌else◌, List, Option, Some, None, map}
 use Rattle.xs_base.specs.Numbers.{Slot, NodeId}
 use Rattle.xs_model.specs.declared.outside.Arrivals.{Arrivals}
 use Rattle.xs_model.specs.Record.{ChanRec}
@@ -10,11 +10,10 @@ use Rattle.net_model.specs.Switch.{Routes, moves}
 use Rattle.link_ends.specs.Counts.{EndCounts, fresh_counts}
 use Rattle.switch_routes.specs.Switch.{SwitchRec, StandsIn, known_routes, idle_switch, with_parts}
 
--- the switch, the link ends, and whether it is known that the switch does nothing while nothing arrives
+-- the switch and the link ends
 pub record NetworkRec : Type 0 where
   pub switch : SwitchRec
   pub links : List (Option EndCounts)
-  pub resting : Bool
 
 abbrev pub routes_of : NetworkRec → Routes
 routes_of n = known_routes n.switch n.links
@@ -25,16 +24,12 @@ counts_with_gap gap = if gap == 0 then None else Some (fresh_counts gap)
 
 -- the network of a node as it starts, with the gaps of its link ends
 abbrev pub first_network : NodeId → List ℕ → List ℕ → NetworkRec
-first_network id ways gaps = record { switch = idle_switch id ways; links = map counts_with_gap gaps; resting = false }
+first_network id ways gaps = record { switch = idle_switch id ways; links = map counts_with_gap gaps }
 
 -- the network and the channel ends stand for a node at work in a slot, and so does what was emitted
 pub record NetworkStands (slot : Slot) (n : NetworkRec) (chans : List ChanRec) (out : Emitted) (m : AtWork) : Type 0 where
   pub parts : StandsIn slot n.switch chans n.links m.rec
   pub emitted : out ≡ emitted_in slot m
-
--- a network that is known to rest does nothing to a node for which it stands
-abbrev pub RestsAsKnown : NetworkRec → List ChanRec → Type 0
-RestsAsKnown n chans = n.resting ≡ true → (slot : Slot) (m : AtWork) → StandsIn slot n.switch chans n.links m.rec → moves (routes_of n) slot m ≡ m
 
 -- a node at work after what arrives by its link ends, and its switch
 abbrev pub arrived_and_moved : Routes → Slot → Arrivals → AtWork → AtWork

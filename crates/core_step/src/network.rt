@@ -1,13 +1,13 @@
 //! `Network`, the link ends and the switch of a node.
-ghost use Rattle.std.specs.Prelude.{ℕ, ◌≡◌, ◌≤◌, ◌+◌, false, true, length, map, slice_index_or, None, IsTrue};
+ghost use Rattle.std.specs.Prelude.{ℕ, ◌≡◌, ◌≤◌, ◌+◌, false, List, Option, length, map, slice_index_or, None, IsTrue};
 ghost use Rattle.xs_base.specs.Numbers.{Slot};
 ghost use Rattle.xs_base.specs.declared.numbers.TheConstants.{EVENTS_BEFORE_SWITCH, SWITCH_EVENTS};
 ghost use Rattle.xs_model.specs.AtWork.{AtWork};
-ghost use Rattle.net_model.specs.Links.{arrive};
-ghost use Rattle.switch_routes.specs.Rows.{SentBy};
-ghost use Rattle.core_step.specs.Network.{NetworkStands, RestsAsKnown, Brings, routes_of, counts_with_gap, first_network};
+ghost use Rattle.xs_model.specs.Record.{LinkRec};
+ghost use Rattle.net_model.specs.Links.{links_after_arrivals};
+ghost use Rattle.switch_routes.specs.Rows.{AllCountsOf, CreditedBy, SentBy, end_gaps};
+ghost use Rattle.core_step.specs.Network.{NetworkStands, Brings, routes_of, counts_with_gap, first_network};
 
-use chan_ends::ChanEnds;
 use core_units::{Holders, Units};
 use std::marker::Model;
 use switch_routes::{LinkEnd, Links, Switch};
@@ -21,8 +21,6 @@ use xs_model::Arrivals;
 pub(crate) struct Network {
     links: Links,
     switch: Switch,
-    // Whether it is known that the switch does nothing while nothing arrives.
-    resting: bool,
 }
 
 impl Model for Network {
@@ -30,7 +28,7 @@ impl Model for Network {
 
     ghost Value = { NetworkRec };
 
-    ghost view = { λ n. record { switch = n.switch; links = n.links; resting = n.resting } };
+    ghost view = { λ n. record { switch = n.switch; links = n.links } };
 }
 
 impl Network {
@@ -42,12 +40,11 @@ impl Network {
         Network {
             links: links_with(gaps),
             switch: Switch::new(id, ways),
-            resting: false,
         }
     }
 
-    /// What arrives by the link ends in a slot, and then the switch, which works with the units' channel ends: nothing
-    /// is done where it rests and nothing arrives.
+    /// What arrives by the link ends in a slot, and then the switch, which works with the units' channel ends. It is not
+    /// asked where no input can act.
     pub(crate) fn bring(
         &mut self,
         units: &mut Units,
@@ -56,45 +53,18 @@ impl Network {
         out: &mut Emissions,
     )
         requires room { length out.old.events ≤ EVENTS_BEFORE_SWITCH }
-        requires rest { RestsAsKnown self.old units.old.chans }
 
         ensures brings { (m : AtWork) → NetworkStands slot self.old units.old.chans out.old m → Brings slot arrivals.now (routes_of self.old) self.new units.new.chans out.new m }
         ensures units { units.new ≡ record units.old { chans = units.new.chans } }
         ensures routes { routes_of self.new ≡ routes_of self.old }
-        ensures rests { RestsAsKnown self.new units.new.chans }
         ensures sent { SentBy slot self.old.links → SentBy slot self.new.links }
         ensures events { length out.new.events ≤ length out.old.events + SWITCH_EVENTS }
     {
-        if self.resting && nothing_arrives(arrivals) {
+        take_in(&mut self.links, arrivals);
+        if self.switch.is_at_rest(units.chans(), &self.links) {
             return;
         }
-        self.take_in(units.chans_mut(), slot, arrivals, out);
-    }
-
-    // The same, where something arrives or may wait.
-    fn take_in(&mut self, chans: &mut ChanEnds, slot: u32, arrivals: &Arrivals, out: &mut Emissions)
-        requires room { length out.old.events ≤ EVENTS_BEFORE_SWITCH }
-
-        ensures brings { (m : AtWork) → NetworkStands slot self.old chans.old out.old m → Brings slot arrivals.now (routes_of self.old) self.new chans.new out.new m }
-        ensures routes { routes_of self.new ≡ routes_of self.old }
-        ensures rests { RestsAsKnown self.new chans.new }
-        ensures sent { SentBy slot self.old.links → SentBy slot self.new.links }
-        ensures events { length out.new.events ≤ length out.old.events + SWITCH_EVENTS }
-    {
-        self.links.arrivals(arrivals);
-        if self.switch.is_at_rest(chans, &self.links) {
-            self.resting = true;
-            return;
-        }
-        self.resting = false;
-        self.switch.moves(chans, &mut self.links, slot, out);
-    }
-
-    /// Channel ends may have changed: the switch may have something to do.
-    pub(crate) fn stir(&mut self)
-        ensures { self.new ≡ record self.old { resting = false } }
-    {
-        self.resting = false;
+        self.switch.moves(units.chans_mut(), &mut self.links, slot, out);
     }
 }
 
@@ -122,9 +92,23 @@ fn links_with(gaps: &[u32; 8]) -> Links
     links
 }
 
+// What arrives by the link ends, if anything does.
+fn take_in(links: &mut Links, arrivals: &Arrivals)
+    ensures stands { (slot : ℕ) (rec : List (Option LinkRec)) → AllCountsOf links.old rec →
+        AllCountsOf links.new (links_after_arrivals slot arrivals.now.tokens arrivals.now.credits 0 rec) }
+    ensures credited { (slot : ℕ) (rec : List (Option LinkRec)) → CreditedBy slot rec →
+        CreditedBy slot (links_after_arrivals slot arrivals.now.tokens arrivals.now.credits 0 rec) }
+    ensures gaps { end_gaps links.new ≡ end_gaps links.old }
+    ensures sent { (slot : ℕ) → SentBy slot links.old → SentBy slot links.new }
+{
+    if !nothing_arrives(arrivals) {
+        links.arrivals(arrivals);
+    }
+}
+
 // Whether no token and no credit arrives by any link end.
 fn nothing_arrives(arrivals: &Arrivals) -> bool
-    ensures { IsTrue result → (slot : Slot) (m : AtWork) → arrive slot arrivals.now m ≡ m }
+    ensures { IsTrue result → (slot : Slot) (links : List (Option LinkRec)) → links_after_arrivals slot arrivals.now.tokens arrivals.now.credits 0 links ≡ links }
 {
     are_none(&arrivals.tokens) && are_false(&arrivals.credits)
 }

@@ -90,8 +90,6 @@ impl Core {
     {
         out.clear();
         self.network.bring(&mut self.units, slot, arrivals, out);
-        if self.units.issue(&self.program, slot, &self.network, out) {
-            self.network.stir();
-        }
+        self.units.issue(&self.program, slot, &self.network, out);
     }
 }

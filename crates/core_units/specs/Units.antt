@@ -10,8 +10,6 @@ use Rattle.xs_model.specs.Record.{CoreRec, ChanRec, core_with}
 use Rattle.xs_model.specs.Masks.{in_mask}
 use Rattle.xs_model.specs.Picks.{is_able}
 use Rattle.xs_model.specs.Outside.{Emitted, in_slot}
-use Rattle.xs_instructions.specs.declared.instr.Instr.{Instr}
-use Rattle.xs_instructions.specs.declared.instr.Instr.TheVariants.{Resources}
 use Rattle.step_model.specs.Effect.{Effect, Done, Pause, Trap, Gone, after_it}
 use Rattle.sync_locks.specs.Syncs.{SyncsRec}
 use Rattle.core_units.specs.declared.units.Units.TheInside.{Inside}
@@ -62,8 +60,3 @@ effect_of outcome.Gone core = Gone core []
 -- what a slot gave, and then this happens
 abbrev pub and_happened : Emitted → Slot → List Happen → Emitted
 and_happened out slot happened = record out { events = out.events ++ map (in_slot slot) happened }
-
--- whether an instruction is of the part on resources: no other one changes channel ends
-abbrev pub is_on_resources : Instr → Bool
-is_on_resources (Resources ins) = true
-is_on_resources _ = false

@@ -1,5 +1,5 @@
 //! At most one issue in a slot.
-ghost use Rattle.std.specs.Prelude.{◌≡◌, ◌<◌, ◌≤◌, ◌+◌, false, Some, None, length, IsTrue};
+ghost use Rattle.std.specs.Prelude.{◌≡◌, ◌<◌, ◌≤◌, ◌+◌, Some, None, length, IsTrue};
 ghost use Rattle.xs_base.specs.declared.numbers.TheConstants.{THREADS, EVENT_ROOM, ISSUE_EVENTS};
 ghost use Rattle.xs_model.specs.Record.{thread_of, with_run};
 ghost use Rattle.xs_instructions.specs.Instr.{InRange, built};
@@ -7,7 +7,7 @@ ghost use Rattle.step_model.specs.Effect.{Setting};
 ghost use Rattle.step_model.specs.Rows.{effect};
 ghost use Rattle.step_model.specs.Step.{issue_begins, settled, trap, issued, issued_by};
 ghost use Rattle.core_units.specs.Here.{IsHere};
-ghost use Rattle.core_units.specs.Units.{Ends, effect_of, and_happened, is_on_resources};
+ghost use Rattle.core_units.specs.Units.{Ends, effect_of, and_happened};
 
 use crate::holders::Holders;
 use crate::program::Program;
@@ -20,24 +20,22 @@ use xs_model::{Event, Happen, Outcome, Run};
 
 impl Units {
     /// At most one issue, by the thread that is picked in a slot. What happens is put after the events of `out`.
-    /// It answers whether channel ends may have changed. See docs/MACHINE.md.
+    /// See docs/MACHINE.md.
     pub fn issue<H: Holders>(
         &mut self,
         program: &Program,
         slot: u32,
         holders: &H,
         out: &mut Emissions,
-    ) -> bool
+    )
         requires room { length out.old.events + ISSUE_EVENTS ≤ EVENT_ROOM }
         ensures units { (here : Setting) → IsHere program.now.id slot (H.busy holders.now) here →
             self.new ≡ (issued program.now.code here self.old).core }
         ensures events { (here : Setting) → IsHere program.now.id slot (H.busy holders.now) here →
             out.new ≡ and_happened out.old slot (issued program.now.code here self.old).happened }
-        ensures chans { result ≡ false → self.new.chans ≡ self.old.chans }
     {
-        match self.picked(slot) {
-            None => false,
-            Some(k) => self.issue_by(k, program, slot, holders, out),
+        if let Some(k) = self.picked(slot) {
+            self.issue_by(k, program, slot, holders, out);
         }
     }
 
@@ -50,26 +48,21 @@ impl Units {
         slot: u32,
         holders: &H,
         out: &mut Emissions,
-    ) -> bool
+    )
         requires thread { k < THREADS }
         requires room { length out.old.events + ISSUE_EVENTS ≤ EVENT_ROOM }
         ensures units { (here : Setting) → IsHere program.now.id slot (H.busy holders.now) here →
             self.new ≡ (issued_by program.now.code here self.old (Some k)).core }
         ensures events { (here : Setting) → IsHere program.now.id slot (H.busy holders.now) here →
             out.new ≡ and_happened out.old slot (issued_by program.now.code here self.old (Some k)).happened }
-        ensures chans { result ≡ false → self.new.chans ≡ self.old.chans }
     {
         self.begin(k, slot);
         let pc = self.pc_of(k);
         match program.at(pc) {
-            None => {
-                self.trap(k, program, ILLEGAL_PC, pc, slot, out);
-                false
-            }
+            None => self.trap(k, program, ILLEGAL_PC, pc, slot, out),
             Some(ins) => {
                 let outcome = self.execute(k, program.id(), slot, holders, ins);
                 self.settle(k, program, outcome, slot, out);
-                is_on_resources(ins)
             }
         }
     }
@@ -108,7 +101,6 @@ impl Units {
         requires range { InRange ins }
         requires built { IsTrue (built ins) }
         ensures row { (here : Setting) → IsHere id slot (H.busy holders.now) here → Ends result self.old self.new (effect here self.old k ins) }
-        ensures chans { is_on_resources ins ≡ false → self.new.chans ≡ self.old.chans }
     {
         match ins {
             Instr::Words(ins) => self.words(k, ins),
@@ -128,7 +120,6 @@ impl Units {
         requires room { length out.old.events + ISSUE_EVENTS ≤ EVENT_ROOM }
         ensures units { self.new ≡ (settled program.now.code self.old k (effect_of outcome self.old)).core }
         ensures events { out.new ≡ and_happened out.old slot (settled program.now.code self.old k (effect_of outcome self.old)).happened }
-        ensures chans { self.new.chans ≡ self.old.chans }
     {
         match outcome {
             Outcome::Done | Outcome::Gone => {}
@@ -143,7 +134,6 @@ impl Units {
         requires room { length out.old.events + ISSUE_EVENTS ≤ EVENT_ROOM }
         ensures units { self.new ≡ (trap program.now.code self.old k et ed).core }
         ensures events { out.new ≡ and_happened out.old slot (trap program.now.code self.old k et ed).happened }
-        ensures chans { self.new.chans ≡ self.old.chans }
     {
         self.able = None;
         let thread = &mut self.threads[k as usize];
@@ -166,11 +156,4 @@ impl Units {
             });
         }
     }
-}
-
-// Whether an instruction may change channel ends.
-fn is_on_resources(ins: Instr) -> bool
-    ensures { result ≡ is_on_resources ins }
-{
-    matches!(ins, Instr::Resources(_))
 }

@@ -24,7 +24,6 @@ impl Units {
         requires thread { k < THREADS }
         requires range { WordsInRange ins }
         ensures row { Ends result self.old self.new (on_registers self.old k (words_row (thread_of self.old k) ins)) }
-        ensures chans { self.new.chans ≡ self.old.chans }
     {
         let thread = &mut self.threads[k as usize];
         let outcome = alu(thread, ins);
@@ -40,7 +39,6 @@ impl Units {
         requires range { InRange ins }
         requires built { IsTrue (built ins) }
         ensures row { (here : Setting) → Ends result self.old self.new (effect here self.old k ins) }
-        ensures chans { self.new.chans ≡ self.old.chans }
     {
         let thread = &mut self.threads[k as usize];
         flow(thread, k, &mut self.ram, ins)

@@ -47,7 +47,6 @@ impl Units {
         requires thread { k < THREADS }
         requires range { ThreadsInRange ins }
         ensures row { (here : Setting) → here.id ≡ id → here.slot ≡ slot → Ends result self.old self.new (threads_row here self.old k ins) }
-        ensures chans { self.new.chans ≡ self.old.chans }
     {
         match ins {
             ThreadIns::Getst(d, s) => self.getst(id, slot, k, d, s),
@@ -72,7 +71,6 @@ impl Units {
         requires target { d < 12 }
         requires source { s < 12 }
         ensures row { (here : Setting) → here.id ≡ id → here.slot ≡ slot → Ends result self.old self.new (threads_row here self.old k (ThreadIns.Getst d s)) }
-        ensures chans { self.new.chans ≡ self.old.chans }
     {
         let name = self.reg(k, s);
         match self.mastered(id, k, name) {
@@ -90,7 +88,6 @@ impl Units {
         requires thread { k < THREADS }
         requires source { s < 12 }
         ensures row { (here : Setting) → here.id ≡ id → Ends result self.old self.new (threads_row here self.old k (ThreadIns.Msync s)) }
-        ensures chans { self.new.chans ≡ self.old.chans }
     {
         match self.met(id, k, s) {
             Err(outcome) => outcome,
@@ -107,7 +104,6 @@ impl Units {
         requires thread { k < THREADS }
         requires source { s < 12 }
         ensures row { (here : Setting) → here.id ≡ id → Ends result self.old self.new (threads_row here self.old k (ThreadIns.Mjoin s)) }
-        ensures chans { self.new.chans ≡ self.old.chans }
     {
         match self.met(id, k, s) {
             Err(outcome) => outcome,
@@ -166,7 +162,6 @@ impl Units {
         requires within { sync < SYNCHRONISERS }
         requires master { is_thread k (sync_of self.old sync).master ≡ true }
         ensures got { (here : Setting) → here.slot ≡ slot → (d : ℕ) → goes_on_with self.new k d result ≡ slave_got here self.old k d sync (thread_to_get self.old) }
-        ensures chans { self.new.chans ≡ self.old.chans }
     {
         match self.get_thread(slot) {
             None => 0,
@@ -223,7 +218,6 @@ impl Units {
         requires value { x < 12 }
         requires target { IsTarget target }
         ensures row { (here : Setting) → here.id ≡ id → Ends result self.old self.new (sets_other here self.old k s (with_target target (reg self.old k x))) }
-        ensures chans { self.new.chans ≡ self.old.chans }
     {
         let (name, value) = (self.reg(k, s), self.reg(k, x));
         match thread_named(id, name) {
@@ -241,7 +235,6 @@ impl Units {
         requires thread { k < THREADS }
         requires source { s < 12 }
         ensures row { (here : Setting) → here.id ≡ id → Ends result self.old self.new (threads_row here self.old k (ThreadIns.Start s)) }
-        ensures chans { self.new.chans ≡ self.old.chans }
     {
         let name = self.reg(k, s);
         match thread_named(id, name) {
@@ -267,7 +260,6 @@ impl Units {
     fn ssync(&mut self, k: u8) -> Outcome
         requires { k < THREADS }
         ensures row { (here : Setting) → Ends result self.old self.new (threads_row here self.old k ThreadIns.Ssync) }
-        ensures chans { self.new.chans ≡ self.old.chans }
     {
         if !self.is_slave(k) {
             return illegal(0);
@@ -280,7 +272,6 @@ impl Units {
     fn freet(&mut self, k: u8) -> Outcome
         requires { k < THREADS }
         ensures row { (here : Setting) → Ends result self.old self.new (threads_row here self.old k ThreadIns.Freet) }
-        ensures chans { self.new.chans ≡ self.old.chans }
     {
         if self.is_slave(k) {
             return illegal(0);

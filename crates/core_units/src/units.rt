@@ -57,6 +57,14 @@ impl Units {
         }
     }
 
+    /// The channel ends.
+    #[inline]
+    pub fn chans(&self) -> &ChanEnds
+        ensures { result.now ≡ self.now.chans }
+    {
+        &self.chans
+    }
+
     /// The channel ends, for the switch of the node, which works with them too.
     pub fn chans_mut(&mut self) -> &mut ChanEnds
         ensures* writes_back { sem 𝓛 (LendsChans self.entry result) }

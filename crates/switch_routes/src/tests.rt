@@ -1,4 +1,4 @@
-//! The worked timeline of two nodes with one link: a delay of 5 slots and a gap of 4.
+//! Nodes whose switches move tokens, slot by slot.
 ghost use Rattle.std.specs.Prelude.{◌<◌};
 
 use super::*;
@@ -73,6 +73,7 @@ impl Node {
     }
 }
 
+// The worked timeline of two nodes with one link: a delay of 5 slots and a gap of 4.
 #[test]
 fn a_packet_from_node_to_node(rt: HostRuntime) {
     let mut first = Node::new(0);
@@ -111,4 +112,147 @@ fn a_packet_from_node_to_node(rt: HostRuntime) {
     for end in 1..=255u8 {
         assert!(rt; first.links.end(end).is_none());
     }
+}
+
+/// Node 0 with channel ends 0 to 3 in use, and with link ends 2, 3 and 5, which lead to node 1.
+#[derive(Drop)]
+struct Hub {
+    switch: Switch,
+    chans: ChanEnds,
+    links: Links,
+    out: Emissions,
+}
+
+impl Hub {
+    fn new() -> Hub {
+        let mut chans = ChanEnds::new(0);
+        for _ in 0..4u8 {
+            let _ = chans.alloc();
+        }
+        let mut links = Links::new();
+        links.set(2, LinkEnd::new(4));
+        links.set(3, LinkEnd::new(4));
+        links.set(5, LinkEnd::new(4));
+        let mut ways = [0; 16];
+        ways[0] = 0b0010_1100;
+        Hub {
+            switch: Switch::new(0, ways),
+            chans,
+            links,
+            out: Emissions::new(),
+        }
+    }
+
+    /// A program sends a token by channel end `c` to the one with this identifier.
+    fn send(&mut self, c: u8, dest: u32, token: Token)
+        requires { c < 4 }
+    {
+        let _ = self.chans.set_dest(c, dest);
+        let _ = self.chans.put(c, token);
+    }
+
+    /// A slot: the tokens that were put into channel end 2, of which there are at most three.
+    fn slot(&mut self, slot: u32) -> [Option<Token>; 3] {
+        self.out.clear();
+        self.switch
+            .moves(&mut self.chans, &mut self.links, slot, &mut self.out);
+        let mut tokens = [None; 3];
+        let mut count = 0;
+        for event in self.out.events() {
+            if let Happen::Chan { chan: 2, token } = event.what {
+                if count < 3 {
+                    tokens[count] = Some(token);
+                    count += 1;
+                }
+            }
+        }
+        tokens
+    }
+}
+
+#[test]
+fn the_lowest_free_link_end_is_taken(rt: HostRuntime) {
+    let mut hub = Hub::new();
+    for c in 0..4u8 {
+        hub.send(c, chan_id(1, c), Token::Byte(7));
+    }
+    let _ = hub.slot(0);
+    let first = Some(Token::Byte(0));
+    assert_eq!(rt; hub.out.token(2), first);
+    assert_eq!(rt; hub.out.token(3), first);
+    assert_eq!(rt; hub.out.token(4), None);
+    assert_eq!(rt; hub.out.token(5), first);
+    // The fourth packet waits for a link end.
+    assert_eq!(rt; hub.switch.held(3), true);
+    hub.send(1, chan_id(1, 1), END);
+    for slot in 1..17u32 {
+        let _ = hub.slot(slot);
+    }
+    // In slot 16 the second packet's last token went out, and in the same slot link end 3 is held for the fourth, whose
+    // header has to wait for the gap.
+    assert_eq!(rt; hub.out.token(3), Some(END));
+    for slot in 17..21u32 {
+        let _ = hub.slot(slot);
+    }
+    assert_eq!(rt; hub.out.token(3), first);
+}
+
+#[test]
+fn what_one_input_gives_up_a_later_one_holds_in_the_same_slot(rt: HostRuntime) {
+    let mut hub = Hub::new();
+    hub.send(0, chan_id(0, 2), END);
+    hub.send(1, chan_id(0, 2), Token::Byte(5));
+    hub.send(3, chan_id(0, 2), Token::Byte(6));
+    assert_eq!(rt; hub.slot(0), [Some(END), Some(Token::Byte(5)), None]);
+    assert_eq!(rt; hub.switch.held(0), false);
+    assert_eq!(rt; hub.switch.held(1), true);
+    assert_eq!(rt; hub.switch.held(2), true);
+    // Channel end 2 is held on, though no token waits at channel end 1.
+    assert_eq!(rt; hub.slot(1), [None, None, None]);
+    assert_eq!(rt; hub.switch.held(2), true);
+    hub.send(1, chan_id(0, 2), Token::Ctrl(2));
+    // PAUSE frees it, and is not put into it.
+    assert_eq!(rt; hub.slot(2), [Some(Token::Byte(6)), None, None]);
+    assert_eq!(rt; hub.switch.held(1), false);
+    hub.send(3, chan_id(0, 2), END);
+    assert_eq!(rt; hub.slot(3), [Some(END), None, None]);
+    assert_eq!(rt; hub.switch.held(2), false);
+}
+
+#[test]
+fn two_senders_take_turns_by_packet(rt: HostRuntime) {
+    let mut hub = Hub::new();
+    for value in 1..3u8 {
+        hub.send(0, chan_id(0, 2), Token::Byte(value));
+        hub.send(0, chan_id(0, 2), END);
+        hub.send(1, chan_id(0, 2), Token::Byte(10 * value));
+        hub.send(1, chan_id(0, 2), END);
+    }
+    let wanted = [
+        [Some(Token::Byte(1)), None, None],
+        [Some(END), Some(Token::Byte(10)), None],
+        [Some(END), None, None],
+        [Some(Token::Byte(2)), None, None],
+        [Some(END), Some(Token::Byte(20)), None],
+        [Some(END), None, None],
+        [None, None, None],
+    ];
+    for slot in 0..7u32 {
+        assert_eq!(rt; hub.slot(slot), wanted[slot as usize], "in slot {slot}");
+    }
+}
+
+#[test]
+fn a_channel_end_above_31_is_none(rt: HostRuntime) {
+    let mut hub = Hub::new();
+    hub.send(0, chan_id(0, 34), END);
+    assert_eq!(rt; hub.slot(0), [None, None, None]);
+    let lost = match hub.out.events() {
+        [event] => match event.what {
+            Happen::Lost { id } => id,
+            _ => 0,
+        },
+        _ => 0,
+    };
+    assert_eq!(rt; lost, chan_id(0, 34));
 }

@@ -49,23 +49,11 @@ emissions_are c rec h =
     (gave now rec a.slot a.arrivals.now a._pins.now c.bring.new.units c.bring.new.self c.bring.new.out (core_is c rec at) b c.issue.new.out
     (c.issue.ensures.events (its_setting now rec a.slot a.arrivals.now a._pins.now) (record { id = c.self.invariant.node; slot = refl; busy = busy_is now rec a.slot a.arrivals.now a._pins.now c.bring.new.units c.bring.new.self c.bring.new.out (core_is c rec at) b })))
 
-pub returns-then-issue-clause-step : goal.returns-then-issue-clause-step
-returns-then-issue-clause-step c = λ rec h.
-    let s = (goal.at.returns-then-issue-clause-step c).After-issue in
-    subst (λ (n : NetworkRec). StandsAt (record { fixed = record { code = s.self.inside.program.code; routes = routes_of n }; core = s.issue.new.self; inputs = n.switch.inputs; links = n.links }) (node_step s.args.self.now.fixed rec s.args.slot s.args.arrivals.now s.args._pins.now).rec (s.args.slot + 1)) (sym c.stir.ensures) (step_is s _ rec h)
+pub returns-clause-step : goal.returns-clause-step
+returns-clause-step c = step_is (goal.at.returns-clause-step c).After-issue _
 
-pub returns-then-issue-clause-emissions : goal.returns-then-issue-clause-emissions
-returns-then-issue-clause-emissions c = emissions_are (goal.at.returns-then-issue-clause-emissions c).After-issue
+pub returns-clause-emissions : goal.returns-clause-emissions
+returns-clause-emissions c = emissions_are (goal.at.returns-clause-emissions c).After-issue
 
-pub returns-then-issue-clause-after : goal.returns-then-issue-clause-after
-returns-then-issue-clause-after c =
-    subst (λ (n : NetworkRec). SentBefore (c.args.slot + 1) n.links) (sym c.stir.ensures) (sent_before_next c.args.slot c.bring.new.self.links (sent (goal.at.returns-then-issue-clause-after c).After-issue))
-
-pub returns-else-issue-clause-step : goal.returns-else-issue-clause-step
-returns-else-issue-clause-step c = step_is (goal.at.returns-else-issue-clause-step c).After-issue _
-
-pub returns-else-issue-clause-emissions : goal.returns-else-issue-clause-emissions
-returns-else-issue-clause-emissions c = emissions_are (goal.at.returns-else-issue-clause-emissions c).After-issue
-
-pub returns-else-issue-clause-after : goal.returns-else-issue-clause-after
-returns-else-issue-clause-after c = sent_before_next c.args.slot c.bring.new.self.links (sent (goal.at.returns-else-issue-clause-after c).After-issue)
+pub returns-clause-after : goal.returns-clause-after
+returns-clause-after c = sent_before_next c.args.slot c.bring.new.self.links (sent (goal.at.returns-clause-after c).After-issue)

@@ -3,6 +3,9 @@ use Rattle.step_model.specs.Rows.{effect}
 use Rattle.core_units.specs.Units.{Ends}
 use Rattle.core_units.proofs.units.Units.execute.Goals as goal
 
-pub returns-in-Threads-clause-row : goal.returns-in-Threads-clause-row
-returns-in-Threads-clause-row g c = λ here at.
-    subst (λ ins. Ends c.on_threads.result c.args.self.now c.on_threads.new.self (effect here c.args.self.now c.args.k ins)) (sym c.in-Threads.is) (c.on_threads.ensures.row here at.id at.slot)
+pub returns-in-Threads : goal.returns-in-Threads
+returns-in-Threads g c = record {
+  row =
+      λ here at.
+      subst (λ ins. Ends c.on_threads.result c.args.self.now c.on_threads.new.self (effect here c.args.self.now c.args.k ins)) (sym c.in-Threads.is) (c.on_threads.ensures.row here at.id at.slot);
+}

@@ -9,10 +9,10 @@ use Rattle.core_units.specs.Units.{and_happened, effect_of}
 use Rattle.core_units.proofs.Settles.{same_settled}
 use Rattle.core_units.proofs.units.Units.issue_by.Given.{Over}
 use Rattle.core_units.proofs.units.Units.issue_by.Goals as goal
-use Rattle.core_units.proofs.units.Units.issue_by.Goals.{After-is_on_resources}
+use Rattle.core_units.proofs.units.Units.issue_by.Goals.{After-settle}
 
 -- what the outcome makes of the thread is what the definition executes
-its_issue : (g : Over) (c : After-is_on_resources g) (here : Setting) → IsHere c.args.program.now.id c.args.slot (g.H.Holders.busy c.args.holders.now) here
+its_issue : (g : Over) (c : After-settle g) (here : Setting) → IsHere c.args.program.now.id c.args.slot (g.H.Holders.busy c.args.holders.now) here
     → settled c.args.program.now.code c.execute-outcome.new.self c.args.k (effect_of c.execute-outcome.result c.execute-outcome.new.self)
     ≡ executed c.args.program.now.code here (issue_begins c.args.self.now here.slot c.args.k) c.args.k (code_at c.args.program.now.code (thread_of (issue_begins c.args.self.now here.slot c.args.k) c.args.k).pc)
 its_issue g c here at =

@@ -17,12 +17,14 @@ invariant_of-self c =
     (ap (λ (th : Thread). th.run) c.go_on_where_done.ensures ∙ gone_on-run c.alu-outcome.result c.alu-outcome.new.thread ∙ ap (λ (th : Thread). th.run) c.alu-outcome.ensures.stays)
     c.self.invariant
 
-pub returns-clause-row : goal.returns-clause-row
-returns-clause-row c =
-    let s = c.self.inside in
-    let k = c.args.k in
-    let outcome = c.alu-outcome.result in
-    let row = subst (λ (th : Thread). EndsAs outcome th c.alu-outcome.new.thread (words_row th c.args.ins)) (get_or_default s.threads k _ fresh_thread (omega arith)) c.alu-outcome.ensures.row in
-    subst (λ (core : CoreRec). Ends outcome core (with_thread (units_of s) k c.go_on_where_done.new.thread) (on_registers core k (words_row (thread_of core k) c.args.ins))) c.self.view_is
-    (subst (λ (th : Thread). Ends outcome (units_of s) (with_thread (units_of s) k th) (on_registers (units_of s) k (words_row (thread_of (units_of s) k) c.args.ins))) (sym c.go_on_where_done.ensures)
-    (registers_end (units_of s) k outcome c.alu-outcome.new.thread (words_row (thread_of (units_of s) k) c.args.ins) row))
+pub returns : goal.returns
+returns c = record {
+  row =
+      let s = c.self.inside in
+      let k = c.args.k in
+      let outcome = c.alu-outcome.result in
+      let row = subst (λ (th : Thread). EndsAs outcome th c.alu-outcome.new.thread (words_row th c.args.ins)) (get_or_default s.threads k _ fresh_thread (omega arith)) c.alu-outcome.ensures.row in
+      subst (λ (core : CoreRec). Ends outcome core (with_thread (units_of s) k c.go_on_where_done.new.thread) (on_registers core k (words_row (thread_of core k) c.args.ins))) c.self.view_is
+      (subst (λ (th : Thread). Ends outcome (units_of s) (with_thread (units_of s) k th) (on_registers (units_of s) k (words_row (thread_of (units_of s) k) c.args.ins))) (sym c.go_on_where_done.ensures)
+      (registers_end (units_of s) k outcome c.alu-outcome.new.thread (words_row (thread_of (units_of s) k) c.args.ins) row));
+}
