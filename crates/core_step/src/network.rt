@@ -64,7 +64,8 @@ impl Network {
         if self.switch.is_at_rest(units.chans(), &self.links) {
             return;
         }
-        self.switch.moves(units.chans_mut(), &mut self.links, slot, out);
+        self.switch
+            .moves(units.chans_mut(), &mut self.links, slot, out);
     }
 }
 
