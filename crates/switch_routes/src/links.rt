@@ -6,7 +6,7 @@ ghost use Rattle.xs_model.specs.Masks.{in_mask};
 ghost use Rattle.xs_model.specs.Record.{LinkRec};
 ghost use Rattle.net_model.specs.Links.{links_after_arrivals, link_after_arrivals, token_arrives, credit_arrives};
 ghost use Rattle.net_model.specs.Switch.{Routes, sent_in, end_may_send};
-ghost use Rattle.link_ends.specs.Counts.{CountsOf};
+ghost use Rattle.link_ends.specs.Counts.{EndCounts, CountsOf};
 ghost use Rattle.switch_routes.specs.Rows.{no_ends, counts_at, AllCountsOf, end_gaps, CreditedBy, SentBy, buffer_of, may_send_by, without_first};
 ghost use Rattle.switch_routes.specs.Rest.{AreMarked};
 ghost use Rattle.switch_routes.specs.Lends.{LendsEnd};
@@ -61,9 +61,9 @@ impl Links {
         ensures value { self.new ≡ slice_set self.old end (Some link) }
         ensures count { length self.new ≡ LINK_ENDS }
     {
+        self.waiting = noted(self.waiting, end, &link);
         self.ends.as_mut_slice()[end as usize] = link;
         self.present[end as usize] = true;
-        self.waiting = with_mark(self.waiting, end);
     }
 
     /// The link end with a number: `None` exactly where the node has no such link end. Any number may be asked for, and
@@ -182,6 +182,18 @@ impl Links {
             link.sent(slot);
             self.waiting = waiting;
         }
+    }
+}
+
+// The mask of link ends at which tokens wait, with this one in place of what was there.
+fn noted(mask: u8, end: u8, link: &LinkEnd) -> u8
+    requires within { end < LINK_ENDS }
+    ensures { (row : List (Option EndCounts)) → AreMarked mask row → AreMarked result (slice_set row end (Some link.now)) }
+{
+    if link.first().is_some() {
+        with_mark(mask, end)
+    } else {
+        without_mark(mask, end)
     }
 }
 

@@ -2,7 +2,6 @@ use Rattle.std.proofs.Common.{◌∙◌, Some, true, length, drop, ap, arith}
 use Rattle.std.specs.Prelude.{slice_set}
 use Rattle.std.proofs.lemmas.List.{length-set, take_at}
 use Rattle.switch_routes.specs.Inside.{ends_in}
-use Rattle.switch_routes.proofs.Marks.{marked-set}
 use Rattle.switch_routes.proofs.Places.{put_in_place, length-ends_in}
 use Rattle.switch_routes.proofs.links.Links.set.Goals as goal
 
@@ -23,7 +22,6 @@ invariant_of-self c =
     let present = c.self.inside.present in
     let ends = c.self.inside.ends.items in
     let e = c.args.end in
-    let marks = c.with_mark-self-inside.ensures in
     rw c.as_mut_slice.ensures.value
     (record {
       places = length-set present e true ∙ c.self.invariant.places;
@@ -31,5 +29,5 @@ invariant_of-self c =
           ap length (take_at (slice_set ends e c.args.link) (drop (length (slice_set ends e c.args.link)) ends) (length ends) (length-set ends e c.args.link))
           ∙ length-set ends e c.args.link
           ∙ c.self.invariant.eight;
-      marked = rw (put_in_place present ends e c.args.link) (marked-set c.self.inside.waiting c.with_mark-self-inside.result e (ends_in present ends) (Some c.args.link) c.self.invariant.marked marks.added marks.others);
+      marked = rw (put_in_place present ends e c.args.link) (c.noted-self-inside.ensures (ends_in present ends) c.self.invariant.marked);
     })
