@@ -84,7 +84,9 @@ none_of_nine false false false false false false false false false j = (refl, re
 
 passed : (given : Given) (allowed : Bool) (form : FrameLine) → fault_by given allowed (Form form) ≡ None → Passes given form
 passed given allowed form e =
-    let none = none_of_nine (not allowed || false) (not (are_numbers_in_range form)) (names_none given (Form form)) (is_given_twice given (Form form)) (is_id_twice given (Form form)) (is_link_to_itself (Form form)) (is_link_end_twice given (Form form)) (is_bit_twice given (Form form)) (is_too_many given (Form form)) e in
+    let none = none_of_nine (not allowed || false) (not (are_numbers_in_range form)) (names_none given (Form form)) (is_given_twice given (Form form))
+    (is_id_twice given (Form form)) (is_link_to_itself (Form form)) (is_link_end_twice given (Form form)) (is_bit_twice given (Form form))
+    (is_too_many given (Form form)) e in
     record { ranged = not_false _ none.0; known = none.1; new = none.2; new_id = none.3; apart = none.4; new_ends = none.5; few = none.6 }
 
 -- Lists with one element more
@@ -99,7 +101,8 @@ all_more p q (x ∷ xs) h e = let is = both (p x) (list_all p xs) e in rw (h x i
 
 -- One more node
 
-put_length_by : (b : Bool) (node m : GivenNode) (nodes : List GivenNode) → length (put_by_number node nodes) ≡ suc (length nodes) → length (if b then m ∷ put_by_number node nodes else node ∷ (m ∷ nodes)) ≡ suc (length (m ∷ nodes))
+put_length_by : (b : Bool) (node m : GivenNode) (nodes : List GivenNode) → length (put_by_number node nodes) ≡ suc (length nodes)
+    → length (if b then m ∷ put_by_number node nodes else node ∷ (m ∷ nodes)) ≡ suc (length (m ∷ nodes))
 put_length_by true node m nodes rest = ap suc rest
 put_length_by false node m nodes rest = refl
 
@@ -107,7 +110,8 @@ put_length : (node : GivenNode) (nodes : List GivenNode) → length (put_by_numb
 put_length node [] = refl
 put_length node (m ∷ nodes) = put_length_by (nat_lt m.number node.number) node m nodes (put_length node nodes)
 
-put_all_by : (b : Bool) (P : GivenNode → Type 0) (node m : GivenNode) (nodes : List GivenNode) → AllByRecursion P (m ∷ nodes) → P node → AllByRecursion P (put_by_number node nodes) → AllByRecursion P (if b then m ∷ put_by_number node nodes else node ∷ (m ∷ nodes))
+put_all_by : (b : Bool) (P : GivenNode → Type 0) (node m : GivenNode) (nodes : List GivenNode) → AllByRecursion P (m ∷ nodes) → P node
+    → AllByRecursion P (put_by_number node nodes) → AllByRecursion P (if b then m ∷ put_by_number node nodes else node ∷ (m ∷ nodes))
 put_all_by true P node m nodes h p rest = (h.0, rest)
 put_all_by false P node m nodes h p rest = (p, h)
 
@@ -116,7 +120,9 @@ put_all P node [] h p = (p, tt)
 put_all P node (m ∷ nodes) h p = put_all_by (nat_lt m.number node.number) P node m nodes h p (put_all P node nodes h.1 p)
 
 -- a node that is given is given still
-put_has_by : (b : Bool) (node m : GivenNode) (nodes : List GivenNode) (n : ℕ) → has_node (m ∷ nodes) n ≡ true → (has_node nodes n ≡ true → has_node (put_by_number node nodes) n ≡ true) → has_node (if b then m ∷ put_by_number node nodes else node ∷ (m ∷ nodes)) n ≡ true
+put_has_by : (b : Bool) (node m : GivenNode) (nodes : List GivenNode) (n : ℕ) → has_node (m ∷ nodes) n ≡ true
+    → (has_node nodes n ≡ true → has_node (put_by_number node nodes) n ≡ true)
+    → has_node (if b then m ∷ put_by_number node nodes else node ∷ (m ∷ nodes)) n ≡ true
 put_has_by true node m nodes n e rest = or_more (m.number == n) (has_node nodes n) (has_node (put_by_number node nodes) n) e rest
 put_has_by false node m nodes n e rest = or_second (node.number == n) (has_node (m ∷ nodes) n) e
 
@@ -144,7 +150,8 @@ ascending_rest x (y ∷ ys) h = h.1
 abbrev numbers : List GivenNode → List ℕ
 numbers nodes = map (λ (node : GivenNode). node.number) nodes
 
-put_first_by : (b : Bool) (x : ℕ) (node m : GivenNode) (nodes : List GivenNode) → x < node.number → x < m.number → IsBelowFirst x (numbers (if b then m ∷ put_by_number node nodes else node ∷ (m ∷ nodes)))
+put_first_by : (b : Bool) (x : ℕ) (node m : GivenNode) (nodes : List GivenNode) → x < node.number → x < m.number
+    → IsBelowFirst x (numbers (if b then m ∷ put_by_number node nodes else node ∷ (m ∷ nodes)))
 put_first_by true x node m nodes h k = k
 put_first_by false x node m nodes h k = h
 
@@ -158,7 +165,9 @@ lesser m n e = grind (arith, nat_tests)
 greater : (m n : ℕ) → nat_lt m n ≡ false → m ≢ n → n < m
 greater m n e ne = let least : n ≤ m = grind (arith, nat_tests) in omega (arith, least, ne)
 
-put_ascending_by : (b : Bool) (node m : GivenNode) (nodes : List GivenNode) → nat_lt m.number node.number ≡ b → m.number ≢ node.number → AreAscending (numbers (m ∷ nodes)) → AreAscending (numbers (put_by_number node nodes)) → AreAscending (numbers (if b then m ∷ put_by_number node nodes else node ∷ (m ∷ nodes)))
+put_ascending_by : (b : Bool) (node m : GivenNode) (nodes : List GivenNode) → nat_lt m.number node.number ≡ b → m.number ≢ node.number
+    → AreAscending (numbers (m ∷ nodes)) → AreAscending (numbers (put_by_number node nodes))
+    → AreAscending (numbers (if b then m ∷ put_by_number node nodes else node ∷ (m ∷ nodes)))
 put_ascending_by true node m nodes b ne k rest =
     ascending_from m.number (numbers (put_by_number node nodes)) (put_first m.number node nodes (lesser m.number node.number b) (ascending_first m.number (numbers nodes) k)) rest
 put_ascending_by false node m nodes b ne k rest = (greater m.number node.number b ne, k)
@@ -178,7 +187,8 @@ ids_differ id (m ∷ nodes) e =
     let new = neither (m.id == id) (list_any (λ (other : GivenNode). other.id == id) nodes) e in
     (λ same. differ m.id id new.0 (sym same), ids_differ id nodes new.1)
 
-put_ids_by : (b : Bool) (P : ℕ → Type 0) (node m : GivenNode) (nodes : List GivenNode) → AllByRecursion P (ids (m ∷ nodes)) → P node.id → AllByRecursion P (ids (put_by_number node nodes)) → AllByRecursion P (ids (if b then m ∷ put_by_number node nodes else node ∷ (m ∷ nodes)))
+put_ids_by : (b : Bool) (P : ℕ → Type 0) (node m : GivenNode) (nodes : List GivenNode) → AllByRecursion P (ids (m ∷ nodes)) → P node.id
+    → AllByRecursion P (ids (put_by_number node nodes)) → AllByRecursion P (ids (if b then m ∷ put_by_number node nodes else node ∷ (m ∷ nodes)))
 put_ids_by true P node m nodes h p rest = (h.0, rest)
 put_ids_by false P node m nodes h p rest = (p, h)
 
@@ -186,11 +196,14 @@ put_ids : (P : ℕ → Type 0) (node : GivenNode) (nodes : List GivenNode) → A
 put_ids P node [] h p = (p, tt)
 put_ids P node (m ∷ nodes) h p = put_ids_by (nat_lt m.number node.number) P node m nodes h p (put_ids P node nodes h.1 p)
 
-put_distinct_by : (b : Bool) (node m : GivenNode) (nodes : List GivenNode) → list_any (λ (other : GivenNode). other.id == node.id) (m ∷ nodes) ≡ false → m.id ≢ node.id → AreDistinct (ids (m ∷ nodes)) → AreDistinct (ids (put_by_number node nodes)) → AreDistinct (ids (if b then m ∷ put_by_number node nodes else node ∷ (m ∷ nodes)))
+put_distinct_by : (b : Bool) (node m : GivenNode) (nodes : List GivenNode) → list_any (λ (other : GivenNode). other.id == node.id) (m ∷ nodes) ≡ false
+    → m.id ≢ node.id → AreDistinct (ids (m ∷ nodes)) → AreDistinct (ids (put_by_number node nodes))
+    → AreDistinct (ids (if b then m ∷ put_by_number node nodes else node ∷ (m ∷ nodes)))
 put_distinct_by true node m nodes e ne k rest = (put_ids (λ y. m.id ≢ y) node nodes k.0 ne, rest)
 put_distinct_by false node m nodes e ne k rest = (ids_differ node.id (m ∷ nodes) e, k)
 
-put_distinct : (node : GivenNode) (nodes : List GivenNode) → list_any (λ (other : GivenNode). other.id == node.id) nodes ≡ false → AreDistinct (ids nodes) → AreDistinct (ids (put_by_number node nodes))
+put_distinct : (node : GivenNode) (nodes : List GivenNode) → list_any (λ (other : GivenNode). other.id == node.id) nodes ≡ false → AreDistinct (ids nodes)
+    → AreDistinct (ids (put_by_number node nodes))
 put_distinct node [] e k = (tt, tt)
 put_distinct node (m ∷ nodes) e k =
     let new = neither (m.id == node.id) (list_any (λ (other : GivenNode). other.id == node.id) nodes) e in
@@ -213,7 +226,9 @@ more_nodes : (node : GivenNode) (nodes : List GivenNode) (links : List LinkLine)
 more_nodes node nodes [] k = tt
 more_nodes node nodes (link ∷ links) k = (still_link node nodes link k.0, more_nodes node nodes links k.1)
 
-with_node : (nodes : List GivenNode) (node : GivenNode) (links : List LinkLine) (bits : List BitRec) → nat_le 16 (length nodes) ≡ false → node.number ≤ 99 → has_node nodes node.number ≡ false → list_any (λ (other : GivenNode). other.id == node.id) nodes ≡ false → AreAccepted nodes links bits → AreAccepted (put_by_number node nodes) links bits
+with_node : (nodes : List GivenNode) (node : GivenNode) (links : List LinkLine) (bits : List BitRec) → nat_le 16 (length nodes) ≡ false → node.number ≤ 99
+    → has_node nodes node.number ≡ false → list_any (λ (other : GivenNode). other.id == node.id) nodes ≡ false → AreAccepted nodes links bits
+    → AreAccepted (put_by_number node nodes) links bits
 with_node nodes node links bits few h new new_id k = record {
   few_nodes = let more = put_length node nodes in let room : length nodes < 16 = grind (arith, nat_tests) in omega arith;
   few_links = k.few_links;
@@ -233,7 +248,8 @@ ranges least most n e = let b = both (nat_le least n) (nat_le n most) e in (grin
 at_most : (n most : ℕ) → nat_le n most ≡ true → n ≤ most
 at_most n most e = grind (arith, nat_tests)
 
-link_of : (nodes : List GivenNode) (link : LinkLine) → are_numbers_in_range (Link link) ≡ true → not (has_node nodes link.a.node && has_node nodes link.b.node) ≡ false → (link.a.node == link.b.node) ≡ false → IsLinkOf nodes link
+link_of : (nodes : List GivenNode) (link : LinkLine) → are_numbers_in_range (Link link) ≡ true
+    → not (has_node nodes link.a.node && has_node nodes link.b.node) ≡ false → (link.a.node == link.b.node) ≡ false → IsLinkOf nodes link
 link_of nodes link range known apart =
     let given = both (has_node nodes link.a.node) (has_node nodes link.b.node) (not_false _ known) in
     let a = both (is_end_in_range link.a) _ range in
@@ -263,14 +279,14 @@ more_ends : (P : EndName → Type 0) (links : List LinkLine) (link : LinkLine) �
 more_ends P [] link h p q = (p, (q, tt))
 more_ends P (l ∷ links) link h p q = (h.0, (h.1.0, more_ends P links link h.1.1 p q))
 
-distinct_ends : (links : List LinkLine) (link : LinkLine) → link.a ≢ link.b → has_link_end links link.a ≡ false → has_link_end links link.b ≡ false → AreDistinct (ends_of links) → AreDistinct (ends_of (links ++ link ∷ []))
+distinct_ends : (links : List LinkLine) (link : LinkLine) → link.a ≢ link.b → has_link_end links link.a ≡ false → has_link_end links link.b ≡ false
+    → AreDistinct (ends_of links) → AreDistinct (ends_of (links ++ link ∷ []))
 distinct_ends [] link ne e f k = ((ne, tt), (tt, tt))
 distinct_ends (l ∷ links) link ne e f k =
     let a = neither (is_same_end l.a link.a || is_same_end l.b link.a) (has_link_end links link.a) e in
     let b = neither (is_same_end l.a link.b || is_same_end l.b link.b) (has_link_end links link.b) f in
     let to_a = neither (is_same_end l.a link.a) (is_same_end l.b link.a) a.0 in
-    let to_b = neither (is_same_end l.a link.b) (is_same_end l.b link.b) b.0 in
-    (
+    let to_b = neither (is_same_end l.a link.b) (is_same_end l.b link.b) b.0 in (
       (k.0.0, more_ends (λ y. l.a ≢ y) links link k.0.1 (ends_differ l.a link.a to_a.0) (ends_differ l.a link.b to_b.0)),
       (more_ends (λ y. l.b ≢ y) links link k.1.0 (ends_differ l.b link.a to_a.1) (ends_differ l.b link.b to_b.1), distinct_ends links link ne a.1 b.1 k.1.1),
     )
@@ -280,14 +296,20 @@ still_in : (links : List LinkLine) (link : LinkLine) (name : EndName) → has_li
 still_in [] link name e = cc
 still_in (l ∷ links) link name e = or_more (is_same_end l.a name || is_same_end l.b name) (has_link_end links name) (has_link_end (links ++ link ∷ []) name) e (λ h. still_in links link name h)
 
-more_links : (links : List LinkLine) (link : LinkLine) (bits : List BitRec) → AllByRecursion (λ (bit : BitRec). has_link_ends links bit.node bit.ends ≡ true) bits → AllByRecursion (λ (bit : BitRec). has_link_ends (links ++ link ∷ []) bit.node bit.ends ≡ true) bits
+more_links : (links : List LinkLine) (link : LinkLine) (bits : List BitRec)
+    → AllByRecursion (λ (bit : BitRec). has_link_ends links bit.node bit.ends ≡ true) bits
+    → AllByRecursion (λ (bit : BitRec). has_link_ends (links ++ link ∷ []) bit.node bit.ends ≡ true) bits
 more_links links link [] k = tt
 more_links links link (bit ∷ bits) k = (
-  all_more (λ end. has_link_end links (record { node = bit.node; end = end })) (λ end. has_link_end (links ++ link ∷ []) (record { node = bit.node; end = end })) bit.ends (λ end h. still_in links link (record { node = bit.node; end = end }) h) k.0,
+  all_more (λ end. has_link_end links (record { node = bit.node; end = end }))
+      (λ end. has_link_end (links ++ link ∷ []) (record { node = bit.node; end = end })) bit.ends
+      (λ end h. still_in links link (record { node = bit.node; end = end }) h) k.0,
   more_links links link bits k.1,
 )
 
-with_link : (nodes : List GivenNode) (links : List LinkLine) (link : LinkLine) (bits : List BitRec) → nat_le 48 (length links) ≡ false → IsLinkOf nodes link → (is_same_end link.a link.b || (has_link_end links link.a || has_link_end links link.b)) ≡ false → AreAccepted nodes links bits → AreAccepted nodes (links ++ link ∷ []) bits
+with_link : (nodes : List GivenNode) (links : List LinkLine) (link : LinkLine) (bits : List BitRec) → nat_le 48 (length links) ≡ false → IsLinkOf nodes link
+    → (is_same_end link.a link.b || (has_link_end links link.a || has_link_end links link.b)) ≡ false → AreAccepted nodes links bits
+    → AreAccepted nodes (links ++ link ∷ []) bits
 with_link nodes links link bits few h new k =
     let ends = neither (is_same_end link.a link.b) (has_link_end links link.a || has_link_end links link.b) new in
     let each = neither (has_link_end links link.a) (has_link_end links link.b) ends.1 in
@@ -304,7 +326,8 @@ with_link nodes links link bits few h new k =
 
 -- One more bit
 
-with_bit : (nodes : List GivenNode) (links : List LinkLine) (bits : List BitRec) (bit : BitRec) → not (has_node nodes bit.node && has_link_ends links bit.node bit.ends) ≡ false → AreAccepted nodes links bits → AreAccepted nodes links (bits ++ bit ∷ [])
+with_bit : (nodes : List GivenNode) (links : List LinkLine) (bits : List BitRec) (bit : BitRec)
+    → not (has_node nodes bit.node && has_link_ends links bit.node bit.ends) ≡ false → AreAccepted nodes links bits → AreAccepted nodes links (bits ++ bit ∷ [])
 with_bit nodes links bits bit known k = record {
   few_nodes = k.few_nodes;
   few_links = k.few_links;
@@ -320,7 +343,8 @@ with_bit nodes links bits bit known k = record {
 
 form_keeps : (n : ℕ) (l : List ℕ) (form : FrameLine) (given : Given) → Passes given form → IsAccepted given → IsAccepted (given_with n l (Form form) given)
 form_keeps n l (Node node) given p k =
-    with_node given.nodes (record { line = n; number = node.number; id = node.id }) given.links given.bits p.few (at_most node.number 99 (both (is_node_number node.number) (nat_le node.id 65535) p.ranged).0) p.new p.new_id k
+    with_node given.nodes (record { line = n; number = node.number; id = node.id }) given.links given.bits p.few
+    (at_most node.number 99 (both (is_node_number node.number) (nat_le node.id 65535) p.ranged).0) p.new p.new_id k
 form_keeps n l (Link link) given p k = with_link given.nodes given.links link given.bits p.few (link_of given.nodes link p.ranged p.known p.apart) p.new_ends k
 form_keeps n l (Bit bit) given p k = with_bit given.nodes given.links given.bits bit p.known k
 form_keeps n l (Source number) given p k = k

@@ -1,11 +1,10 @@
 -- The line of a bit, from its words.
-use Rattle.std.proofs.Common.{◌≡◌, ℕ, ◌≤◌, ◌<◌, Bool, true, false, ◌&&◌, List, [], ◌∷◌, ◌++◌, length, map, Option, Some, None, Result, Ok, Err, refl, sym, ap, ◌∙◌, option_map, nat_le, drop, get_or, ◌+◌, append_assoc, append-nil, take, ◌-◌, length-drop, arith}
+use Rattle.std.proofs.Common.{◌≡◌, ℕ, ◌≤◌, ◌<◌, Bool, true, false, ◌&&◌, List, [], ◌∷◌, ◌++◌, length, Option, Some, None, Result, Ok, Err, refl, sym, ap, ◌∙◌, option_map, nat_le, drop, get_or, ◌+◌, append_assoc, append-nil, take, ◌-◌, length-drop, arith}
 use Rattle.std.specs.Prelude.{codes, if◌then◌else◌, is_some, ◌==◌}
 use Rattle.std.specs.List.{list_all}
 use Rattle.std.proofs.lemmas.List.{length-map}
 use Rattle.std.proofs.lemmas.Bool.Decides.{nat_tests}
 use Rattle.xs_text.specs.Numbers.{number_of, at_most}
-use Rattle.xs_instructions.specs.Image.{same_name}
 use Rattle.system_model.specs.declared.SysKind.{SysKind}
 use Rattle.system_model.specs.declared.SysKind.TheVariants.{BadLine, NumberOutOfRange}
 use Rattle.system_model.specs.declared.frame_line.FrameLine.{FrameLine}
@@ -13,7 +12,7 @@ use Rattle.system_model.specs.declared.frame_line.FrameLine.TheVariants.{Bit}
 use Rattle.system_model.specs.Bits.{BitRec}
 use Rattle.system_model.specs.FrameLines.{◌>>=◌, bit_line, numbers_of, is_end_number}
 use Rattle.system_text.specs.declared.words.Word.{Word}
-use Rattle.system_text.specs.Forms.{ranged, or_bad, formed, capped, are_numbers, end_number, end_numbers, in_front}
+use Rattle.system_text.specs.Forms.{ranged, formed, are_numbers, end_number, end_numbers, in_front}
 use Rattle.system_text.specs.LineWords.{bytes_of}
 use Rattle.system_text.proofs.Forms.{chain, read, word_at, up_to_capped}
 use Rattle.system_text.proofs.Lists.{none_left, unrolled, suffix, list_all_map}
@@ -40,7 +39,8 @@ front_by true true n ns = refl
 front_by true false n ns = refl
 front_by false t n ns = refl
 
-read_by : (o : Option ℕ) (r : Option (List ℕ)) (e : Result (List ℕ) SysKind) (b : Bool) → (is_some o && b) ≡ true → (b ≡ true → AreRead r e) → AreRead (o >>= λ n. r >>= λ ns. Some (n ∷ ns)) (in_front (at_most 7 o) e)
+read_by : (o : Option ℕ) (r : Option (List ℕ)) (e : Result (List ℕ) SysKind) (b : Bool) → (is_some o && b) ≡ true → (b ≡ true → AreRead r e)
+    → AreRead (o >>= λ n. r >>= λ ns. Some (n ∷ ns)) (in_front (at_most 7 o) e)
 read_by None r e b h f = absurd cc
 read_by (Some n) r e b h f =
     let rest = f h in
@@ -66,19 +66,23 @@ end_numbers-none : end_numbers [] ≡ Ok []
 unfolding end_numbers
 end_numbers-none = refl
 
-ends_from : (words : List Word) (i : ℕ) (d : Word) → i < length words → end_numbers (bytes_of (drop i words)) ≡ in_front (end_number (get_or words i d).bytes.now) (end_numbers (bytes_of (drop (i + 1) words)))
+ends_from : (words : List Word) (i : ℕ) (d : Word) → i < length words
+    → end_numbers (bytes_of (drop i words)) ≡ in_front (end_number (get_or words i d).bytes.now) (end_numbers (bytes_of (drop (i + 1) words)))
 ends_from words i d h = ap (λ ws. end_numbers (bytes_of ws)) (unrolled words i d h) ∙ end_numbers-cons (get_or words i d).bytes.now (bytes_of (drop (i + 1) words))
 
 one_more : (front : List ℕ) (n : ℕ) (rest : Result (List ℕ) SysKind) → after (front ++ n ∷ []) rest ≡ after front (in_front (Some n) rest)
 one_more front n (Err kind) = refl
 one_more front n (Ok ns) = ap (λ (es : List ℕ). Ok es) (append_assoc front (n ∷ []) ns)
 
-pub ends_next : (words : List Word) (i : ℕ) (d : Word) (front : List ℕ) (n : ℕ) (all : Result (List ℕ) SysKind) → after front (end_numbers (bytes_of (drop i words))) ≡ all → i < length words → Some n ≡ end_number (get_or words i d).bytes.now → after (front ++ n ∷ []) (end_numbers (bytes_of (drop (i + 1) words))) ≡ all
+pub ends_next : (words : List Word) (i : ℕ) (d : Word) (front : List ℕ) (n : ℕ) (all : Result (List ℕ) SysKind)
+    → after front (end_numbers (bytes_of (drop i words))) ≡ all → i < length words → Some n ≡ end_number (get_or words i d).bytes.now
+    → after (front ++ n ∷ []) (end_numbers (bytes_of (drop (i + 1) words))) ≡ all
 ends_next words i d front n all h k e =
     one_more front n (end_numbers (bytes_of (drop (i + 1) words)))
     ∙ (ap (λ o. after front (in_front o (end_numbers (bytes_of (drop (i + 1) words))))) e ∙ (ap (after front) (sym (ends_from words i d k)) ∙ h))
 
-pub ends_refused : (words : List Word) (i : ℕ) (d : Word) (front : List ℕ) (all : Result (List ℕ) SysKind) → after front (end_numbers (bytes_of (drop i words))) ≡ all → i < length words → None ≡ end_number (get_or words i d).bytes.now → all ≡ Err NumberOutOfRange
+pub ends_refused : (words : List Word) (i : ℕ) (d : Word) (front : List ℕ) (all : Result (List ℕ) SysKind)
+    → after front (end_numbers (bytes_of (drop i words))) ≡ all → i < length words → None ≡ end_number (get_or words i d).bytes.now → all ≡ Err NumberOutOfRange
 ends_refused words i d front all h k e =
     sym h ∙ (ap (after front) (ends_from words i d k) ∙ ap (λ o. after front (in_front o (end_numbers (bytes_of (drop (i + 1) words))))) (sym e))
 
@@ -107,7 +111,10 @@ bit_of n b ws = if are_numbers ws then bit_ranged n b ws else Err BadLine
 abbrev found : Option ℕ → Option ℕ → Option (List ℕ) → Option BitRec
 found p q r = p >>= λ node. q >>= λ bit. r >>= λ ends. Some (record { node = node; bit = bit; ends = ends })
 
-ends_by : (n b : ℕ) (ws : List (List ℕ)) (all : Bool) → are_numbers ws ≡ all → formed (option_map (λ (l : BitRec). Bit l) (found (Some n) (Some b) (numbers_of ws))) ≡ (if all then chain (ranged (nat_le n 99) n) (λ m. chain (ranged (nat_le b 15) b) (λ k. chain (end_numbers ws) (λ ns. Ok (made_bit m k ns)))) else Err BadLine)
+ends_by : (n b : ℕ) (ws : List (List ℕ)) (all : Bool) → are_numbers ws ≡ all
+    → formed (option_map (λ (l : BitRec). Bit l) (found (Some n) (Some b) (numbers_of ws))) ≡
+    (if all then chain (ranged (nat_le n 99) n) (λ m. chain (ranged (nat_le b 15) b)
+    (λ k. chain (end_numbers ws) (λ ns. Ok (made_bit m k ns)))) else Err BadLine)
 ends_by n b ws false e = rw (numbers_none ws e) refl
 ends_by n b ws true e =
     let are = numbers_read ws e in
@@ -119,7 +126,8 @@ bit_steps (Some n) None ws = refl
 bit_steps (Some n) (Some b) ws =
     rw (up_to_capped 99 n (omega arith), up_to_capped 15 b (omega arith)) (ends_by n b ws (are_numbers ws) refl)
 
-few_by : (few : Bool) (p q : Option ℕ) (ws : List (List ℕ)) → few ≡ true → formed (option_map (λ (l : BitRec). Bit l) (if few then found p q (numbers_of ws) else None)) ≡ chain (read p) (λ n. chain (read q) (λ b. bit_of n b ws))
+few_by : (few : Bool) (p q : Option ℕ) (ws : List (List ℕ)) → few ≡ true
+    → formed (option_map (λ (l : BitRec). Bit l) (if few then found p q (numbers_of ws) else None)) ≡ chain (read p) (λ n. chain (read q) (λ b. bit_of n b ws))
 few_by true p q ws e = bit_steps p q ws
 few_by false p q ws e = cc
 
@@ -129,12 +137,15 @@ bytes-length words = length-map words (λ (word : Word). word.bytes.now)
 few_bytes : (words : List Word) → length words ≤ 7 → nat_le (length (bytes_of words)) 7 ≡ true
 few_bytes words h = let same : length (bytes_of words) ≡ length words = bytes-length words in grind (arith, nat_tests)
 
-pub bit_is : (words ends : List Word) → ends ≡ drop 2 words → 3 ≤ length words → length words ≤ 10 → formed (option_map (λ (l : BitRec). Bit l) (bit_line (codes "bit" ∷ bytes_of words))) ≡ chain (read (number_of (word_at words 0))) (λ n. chain (read (number_of (word_at words 1))) (λ b. bit_of n b (bytes_of ends)))
+pub bit_is : (words ends : List Word) → ends ≡ drop 2 words → 3 ≤ length words → length words ≤ 10
+    → formed (option_map (λ (l : BitRec). Bit l) (bit_line (codes "bit" ∷ bytes_of words))) ≡ chain (read (number_of (word_at words 0)))
+    (λ n. chain (read (number_of (word_at words 1))) (λ b. bit_of n b (bytes_of ends)))
 unfolding bit_line
 bit_is [] ends d h k = absurd (omega (arith, h))
 bit_is (n ∷ []) ends d h k = absurd (omega (arith, h))
 bit_is (n ∷ b ∷ []) ends d h k = absurd (omega (arith, h))
-bit_is (n ∷ b ∷ e ∷ more) ends d h k = rw d (few_by (nat_le (length (bytes_of more)) 7) (number_of n.bytes.now) (number_of b.bytes.now) (e.bytes.now ∷ bytes_of more) (few_bytes more (omega (arith, k))))
+bit_is (n ∷ b ∷ e ∷ more) ends d h k = rw d (few_by (nat_le (length (bytes_of more)) 7) (number_of n.bytes.now) (number_of b.bytes.now)
+    (e.bytes.now ∷ bytes_of more) (few_bytes more (omega (arith, k))))
 
 pub bit_short : (words : List Word) → length words < 3 → Err BadLine ≡ formed (option_map (λ (l : BitRec). Bit l) (bit_line (codes "bit" ∷ bytes_of words)))
 unfolding bit_line

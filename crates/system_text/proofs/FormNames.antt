@@ -1,8 +1,7 @@
 -- The forms of lines by their first words.
-use Rattle.std.proofs.Common.{◌≡◌, ℕ, ◌+◌, ◌≤◌, ◌<◌, Bool, true, false, ◌&&◌, List, [], ◌∷◌, ◌++◌, length, map, Option, Some, None, Result, Ok, Err, refl, sym, ap, ◌∙◌, option_map, nat_le, drop, arith}
+use Rattle.std.proofs.Common.{◌≡◌, ℕ, ◌≤◌, ◌<◌, Bool, true, false, ◌&&◌, List, [], ◌∷◌, length, Option, Some, None, Result, Err, refl, sym, ap, ◌∙◌, option_map, nat_le, drop, arith}
 use Rattle.std.specs.Prelude.{codes, if◌then◌else◌, ◌==◌}
 use Rattle.std.proofs.lemmas.Bool.Decides.{nat_tests}
-use Rattle.xs_text.specs.Words.{words_of_line}
 use Rattle.xs_instructions.specs.Image.{same_name}
 use Rattle.system_model.specs.declared.SysKind.{SysKind}
 use Rattle.system_model.specs.declared.SysKind.TheVariants.{BadLine}
@@ -66,7 +65,9 @@ source_other k [] e = refl
 source_other k (n ∷ []) e = rw e refl
 source_other k (n ∷ a ∷ ws) e = refl
 
-by_forms : (words : List (List ℕ)) (n : Option NodeLine) (l : Option LinkLine) (b : Option BitRec) (s : Option ℕ) → node_line words ≡ n → link_line words ≡ l → bit_line words ≡ b → source_line words ≡ s → frame_line words ≡ or_line (option_map (λ (x : NodeLine). Node x) n) (or_line (option_map (λ (x : LinkLine). Link x) l) (or_line (option_map (λ (x : BitRec). Bit x) b) (option_map (λ (x : ℕ). Source x) s)))
+by_forms : (words : List (List ℕ)) (n : Option NodeLine) (l : Option LinkLine) (b : Option BitRec) (s : Option ℕ) → node_line words ≡ n → link_line words ≡ l
+    → bit_line words ≡ b → source_line words ≡ s → frame_line words ≡ or_line (option_map (λ (x : NodeLine). Node x) n)
+    (or_line (option_map (λ (x : LinkLine). Link x) l) (or_line (option_map (λ (x : BitRec). Bit x) b) (option_map (λ (x : ℕ). Source x) s)))
 unfolding frame_line
 by_forms words n l b s e f g h = rw (e, f, g, h) refl
 
@@ -77,24 +78,29 @@ or_none (Some l) = refl
 is_node : (k : List ℕ) (ws : List (List ℕ)) → same_name (codes "node") k ≡ true → frame_line (k ∷ ws) ≡ option_map (λ (l : NodeLine). Node l) (node_line (codes "node" ∷ ws))
 is_node k ws e =
     rw (sym (same_name_is (codes "node") k e))
-    (by_forms (codes "node" ∷ ws) (node_line (codes "node" ∷ ws)) None None None refl (link_other (codes "node") ws refl) (bit_other (codes "node") ws refl) (source_other (codes "node") ws refl) ∙ or_none (option_map (λ (l : NodeLine). Node l) (node_line (codes "node" ∷ ws))))
+    (by_forms (codes "node" ∷ ws) (node_line (codes "node" ∷ ws)) None None None refl (link_other (codes "node") ws refl) (bit_other (codes "node") ws refl)
+    (source_other (codes "node") ws refl) ∙ or_none (option_map (λ (l : NodeLine). Node l) (node_line (codes "node" ∷ ws))))
 
 is_link : (k : List ℕ) (ws : List (List ℕ)) → same_name (codes "link") k ≡ true → frame_line (k ∷ ws) ≡ option_map (λ (l : LinkLine). Link l) (link_line (codes "link" ∷ ws))
 is_link k ws e =
     rw (sym (same_name_is (codes "link") k e))
-    (by_forms (codes "link" ∷ ws) None (link_line (codes "link" ∷ ws)) None None (node_other (codes "link") ws refl) refl (bit_other (codes "link") ws refl) (source_other (codes "link") ws refl) ∙ or_none (option_map (λ (l : LinkLine). Link l) (link_line (codes "link" ∷ ws))))
+    (by_forms (codes "link" ∷ ws) None (link_line (codes "link" ∷ ws)) None None (node_other (codes "link") ws refl) refl (bit_other (codes "link") ws refl)
+    (source_other (codes "link") ws refl) ∙ or_none (option_map (λ (l : LinkLine). Link l) (link_line (codes "link" ∷ ws))))
 
 is_bit : (k : List ℕ) (ws : List (List ℕ)) → same_name (codes "bit") k ≡ true → frame_line (k ∷ ws) ≡ option_map (λ (l : BitRec). Bit l) (bit_line (codes "bit" ∷ ws))
 is_bit k ws e =
     rw (sym (same_name_is (codes "bit") k e))
-    (by_forms (codes "bit" ∷ ws) None None (bit_line (codes "bit" ∷ ws)) None (node_other (codes "bit") ws refl) (link_other (codes "bit") ws refl) refl (source_other (codes "bit") ws refl) ∙ or_none (option_map (λ (l : BitRec). Bit l) (bit_line (codes "bit" ∷ ws))))
+    (by_forms (codes "bit" ∷ ws) None None (bit_line (codes "bit" ∷ ws)) None (node_other (codes "bit") ws refl) (link_other (codes "bit") ws refl) refl
+    (source_other (codes "bit") ws refl) ∙ or_none (option_map (λ (l : BitRec). Bit l) (bit_line (codes "bit" ∷ ws))))
 
 is_source : (k : List ℕ) (ws : List (List ℕ)) → same_name (codes "source") k ≡ true → frame_line (k ∷ ws) ≡ option_map (λ (n : ℕ). Source n) (source_line (codes "source" ∷ ws))
 is_source k ws e =
     rw (sym (same_name_is (codes "source") k e))
-    (by_forms (codes "source" ∷ ws) None None None (source_line (codes "source" ∷ ws)) (node_other (codes "source") ws refl) (link_other (codes "source") ws refl) (bit_other (codes "source") ws refl) refl)
+    (by_forms (codes "source" ∷ ws) None None None (source_line (codes "source" ∷ ws)) (node_other (codes "source") ws refl)
+    (link_other (codes "source") ws refl) (bit_other (codes "source") ws refl) refl)
 
-is_none : (k : List ℕ) (ws : List (List ℕ)) → same_name (codes "node") k ≡ false → same_name (codes "link") k ≡ false → same_name (codes "bit") k ≡ false → same_name (codes "source") k ≡ false → frame_line (k ∷ ws) ≡ None
+is_none : (k : List ℕ) (ws : List (List ℕ)) → same_name (codes "node") k ≡ false → same_name (codes "link") k ≡ false → same_name (codes "bit") k ≡ false
+    → same_name (codes "source") k ≡ false → frame_line (k ∷ ws) ≡ None
 is_none k ws e f g h = by_forms (k ∷ ws) None None None None (node_other k ws e) (link_other k ws f) (bit_other k ws g) (source_other k ws h)
 
 -- the first word and the others
@@ -102,19 +108,29 @@ parts : (words : List Word) → 1 ≤ length words → bytes_of words ≡ word_a
 parts [] h = absurd (omega (arith, h))
 parts (w ∷ words) h = refl
 
-pub node_named : (words rest : List Word) (r : Result FrameLine SysKind) → rest ≡ drop 1 words → 1 ≤ length words → same_name (codes "node") (word_at words 0) ≡ true → r ≡ formed (option_map (λ (l : NodeLine). Node l) (node_line (codes "node" ∷ bytes_of rest))) → r ≡ formed (frame_line (bytes_of words))
+pub node_named : (words rest : List Word) (r : Result FrameLine SysKind) → rest ≡ drop 1 words → 1 ≤ length words
+    → same_name (codes "node") (word_at words 0) ≡ true → r ≡ formed (option_map (λ (l : NodeLine). Node l) (node_line (codes "node" ∷ bytes_of rest)))
+    → r ≡ formed (frame_line (bytes_of words))
 node_named words rest r d h e i = rw d at i ∙ ap formed (sym (ap frame_line (parts words h) ∙ is_node (word_at words 0) (bytes_of (drop 1 words)) e))
 
-pub link_named : (words rest : List Word) (r : Result FrameLine SysKind) → rest ≡ drop 1 words → 1 ≤ length words → same_name (codes "link") (word_at words 0) ≡ true → r ≡ formed (option_map (λ (l : LinkLine). Link l) (link_line (codes "link" ∷ bytes_of rest))) → r ≡ formed (frame_line (bytes_of words))
+pub link_named : (words rest : List Word) (r : Result FrameLine SysKind) → rest ≡ drop 1 words → 1 ≤ length words
+    → same_name (codes "link") (word_at words 0) ≡ true → r ≡ formed (option_map (λ (l : LinkLine). Link l) (link_line (codes "link" ∷ bytes_of rest)))
+    → r ≡ formed (frame_line (bytes_of words))
 link_named words rest r d h e i = rw d at i ∙ ap formed (sym (ap frame_line (parts words h) ∙ is_link (word_at words 0) (bytes_of (drop 1 words)) e))
 
-pub bit_named : (words rest : List Word) (r : Result FrameLine SysKind) → rest ≡ drop 1 words → 1 ≤ length words → same_name (codes "bit") (word_at words 0) ≡ true → r ≡ formed (option_map (λ (l : BitRec). Bit l) (bit_line (codes "bit" ∷ bytes_of rest))) → r ≡ formed (frame_line (bytes_of words))
+pub bit_named : (words rest : List Word) (r : Result FrameLine SysKind) → rest ≡ drop 1 words → 1 ≤ length words
+    → same_name (codes "bit") (word_at words 0) ≡ true → r ≡ formed (option_map (λ (l : BitRec). Bit l) (bit_line (codes "bit" ∷ bytes_of rest)))
+    → r ≡ formed (frame_line (bytes_of words))
 bit_named words rest r d h e i = rw d at i ∙ ap formed (sym (ap frame_line (parts words h) ∙ is_bit (word_at words 0) (bytes_of (drop 1 words)) e))
 
-pub source_named : (words rest : List Word) (r : Result FrameLine SysKind) → rest ≡ drop 1 words → 1 ≤ length words → same_name (codes "source") (word_at words 0) ≡ true → r ≡ formed (option_map (λ (n : ℕ). Source n) (source_line (codes "source" ∷ bytes_of rest))) → r ≡ formed (frame_line (bytes_of words))
+pub source_named : (words rest : List Word) (r : Result FrameLine SysKind) → rest ≡ drop 1 words → 1 ≤ length words
+    → same_name (codes "source") (word_at words 0) ≡ true → r ≡ formed (option_map (λ (n : ℕ). Source n) (source_line (codes "source" ∷ bytes_of rest)))
+    → r ≡ formed (frame_line (bytes_of words))
 source_named words rest r d h e i = rw d at i ∙ ap formed (sym (ap frame_line (parts words h) ∙ is_source (word_at words 0) (bytes_of (drop 1 words)) e))
 
-pub other_named : (words : List Word) → 1 ≤ length words → same_name (codes "node") (word_at words 0) ≡ false → same_name (codes "link") (word_at words 0) ≡ false → same_name (codes "bit") (word_at words 0) ≡ false → same_name (codes "source") (word_at words 0) ≡ false → Err BadLine ≡ formed (frame_line (bytes_of words))
+pub other_named : (words : List Word) → 1 ≤ length words → same_name (codes "node") (word_at words 0) ≡ false
+    → same_name (codes "link") (word_at words 0) ≡ false → same_name (codes "bit") (word_at words 0) ≡ false
+    → same_name (codes "source") (word_at words 0) ≡ false → Err BadLine ≡ formed (frame_line (bytes_of words))
 other_named words h e f g i = ap formed (sym (ap frame_line (parts words h) ∙ is_none (word_at words 0) (bytes_of (drop 1 words)) e f g i))
 
 frame_line-none : frame_line [] ≡ None

@@ -1,22 +1,20 @@
 -- The forms of lines, from their words.
-use Rattle.std.proofs.Common.{◌≡◌, ℕ, ◌+◌, ◌≤◌, ◌<◌, get_or, Bool, true, false, ◌&&◌, List, [], ◌∷◌, length, Option, Some, None, Result, Ok, Err, refl, sym, ap, ◌∙◌, option_map, nat_le, min, take, drop, ◌-◌, length-drop, arith}
-use Rattle.std.specs.Prelude.{codes, if◌then◌else◌, is_some, IsErrAnd}
-use Rattle.std.specs.List.{list_all}
+use Rattle.std.proofs.Common.{◌≡◌, ℕ, ◌+◌, ◌≤◌, ◌<◌, get_or, Bool, true, false, ◌&&◌, List, [], ◌∷◌, length, Option, Some, None, Result, Ok, Err, refl, sym, ap, ◌∙◌, option_map, nat_le, take, drop, ◌-◌, arith}
+use Rattle.std.specs.Prelude.{codes, if◌then◌else◌, IsErrAnd}
 use Rattle.std.proofs.lemmas.Bool.Decides.{nat_tests}
-use Rattle.xs_text.specs.Numbers.{number_of, at_most}
+use Rattle.xs_text.specs.Numbers.{number_of}
 use Rattle.xs_instructions.specs.Image.{same_name}
 use Rattle.system_model.specs.declared.SysKind.{SysKind}
-use Rattle.system_model.specs.declared.SysKind.TheVariants.{BadLine, NumberOutOfRange}
+use Rattle.system_model.specs.declared.SysKind.TheVariants.{BadLine}
 use Rattle.system_model.specs.declared.frame_line.EndName.{EndName}
 use Rattle.system_model.specs.declared.frame_line.FrameLine.{FrameLine}
-use Rattle.system_model.specs.declared.frame_line.FrameLine.TheVariants.{Node, Link, Bit, Source}
+use Rattle.system_model.specs.declared.frame_line.FrameLine.TheVariants.{Node, Link, Source}
 use Rattle.system_model.specs.declared.frame_line.LinkLine.{LinkLine}
 use Rattle.system_model.specs.declared.frame_line.NodeLine.{NodeLine}
-use Rattle.system_model.specs.Bits.{BitRec}
-use Rattle.system_model.specs.FrameLines.{◌>>=◌, node_line, link_line, bit_line, source_line, frame_line, or_line, numbers_of, end_name, before_colon, is_between, is_end_in_range, is_end_number}
+use Rattle.system_model.specs.FrameLines.{◌>>=◌, node_line, link_line, source_line, end_name, before_colon, is_between, is_end_in_range}
 use Rattle.system_text.specs.declared.frame_lines.NamedEnd.{NamedEnd}
 use Rattle.system_text.specs.declared.words.Word.{Word}
-use Rattle.system_text.specs.Forms.{ranged, or_bad, formed, capped, capped_end, is_in_range, end_of, are_numbers, end_number, end_numbers, in_front}
+use Rattle.system_text.specs.Forms.{ranged, or_bad, formed, capped, capped_end, is_in_range, end_of}
 use Rattle.system_text.specs.LineWords.{bytes_of}
 use Rattle.system_text.proofs.Lists.{none_left, suffix}
 
@@ -82,7 +80,9 @@ node_by : (s : Bool) (p q : Option ℕ) → s ≡ true → formed (option_map (�
 node_by true p q e = node_steps p q
 node_by false p q e = cc
 
-pub node_is : (words : List Word) → 3 ≤ length words → length words < 4 → same_name (codes "id") (word_at words 1) ≡ true → formed (option_map (λ (l : NodeLine). Node l) (node_line (codes "node" ∷ bytes_of words))) ≡ chain (read (number_of (word_at words 0))) (λ n. chain (read (number_of (word_at words 2))) (λ i. node_ranged n i))
+pub node_is : (words : List Word) → 3 ≤ length words → length words < 4 → same_name (codes "id") (word_at words 1) ≡ true
+    → formed (option_map (λ (l : NodeLine). Node l) (node_line (codes "node" ∷ bytes_of words))) ≡ chain (read (number_of (word_at words 0)))
+    (λ n. chain (read (number_of (word_at words 2))) (λ i. node_ranged n i))
 unfolding node_line
 node_is [] h k e = absurd (omega (arith, h))
 node_is (a ∷ []) h k e = absurd (omega (arith, h))
@@ -90,7 +90,8 @@ node_is (a ∷ b ∷ []) h k e = absurd (omega (arith, h))
 node_is (a ∷ b ∷ c ∷ []) h k e = node_by (same_name (codes "id") b.bytes.now) (number_of a.bytes.now) (number_of c.bytes.now) e
 node_is (a ∷ b ∷ c ∷ d ∷ words) h k e = absurd (omega (arith, k))
 
-pub node_not : (words : List Word) → 3 ≤ length words → length words < 4 → same_name (codes "id") (word_at words 1) ≡ false → Err BadLine ≡ formed (option_map (λ (l : NodeLine). Node l) (node_line (codes "node" ∷ bytes_of words)))
+pub node_not : (words : List Word) → 3 ≤ length words → length words < 4 → same_name (codes "id") (word_at words 1) ≡ false
+    → Err BadLine ≡ formed (option_map (λ (l : NodeLine). Node l) (node_line (codes "node" ∷ bytes_of words)))
 unfolding node_line
 node_not [] h k e = refl
 node_not (a ∷ []) h k e = refl
@@ -117,7 +118,9 @@ source_steps : (p : Option ℕ) → formed (option_map (λ (n : ℕ). Source n) 
 source_steps None = refl
 source_steps (Some n) = rw (up_to_capped 99 n (omega arith)) (one_ranged (nat_le n 99) n)
 
-pub source_is : (words : List Word) → 1 ≤ length words → length words < 2 → formed (option_map (λ (n : ℕ). Source n) (source_line (codes "source" ∷ bytes_of words))) ≡ chain (read (number_of (word_at words 0))) (λ n. source_ranged n)
+pub source_is : (words : List Word) → 1 ≤ length words → length words < 2
+    → formed (option_map (λ (n : ℕ). Source n) (source_line (codes "source" ∷ bytes_of words))) ≡ chain (read (number_of (word_at words 0)))
+    (λ n. source_ranged n)
 unfolding source_line
 source_is [] h k = absurd (omega (arith, h))
 source_is (a ∷ []) h k = source_steps (number_of a.bytes.now)
@@ -125,12 +128,15 @@ source_is (a ∷ b ∷ words) h k = absurd (omega (arith, k))
 
 -- The names of link ends
 
-name_steps : (p q : Option ℕ) → or_bad (option_map capped_end (p >>= λ node. q >>= λ end. Some (record { node = node; end = end }))) ≡ chain (read p) (λ n. chain (read q) (λ e. Ok (record { node = n; end = e })))
+name_steps : (p q : Option ℕ) → or_bad (option_map capped_end (p >>= λ node. q >>= λ end. Some (record { node = node; end = end }))) ≡ chain (read p)
+    (λ n. chain (read q) (λ e. Ok (record { node = n; end = e })))
 name_steps None q = refl
 name_steps (Some n) None = refl
 name_steps (Some n) (Some e) = refl
 
-pub name_is : (word : List ℕ) (colon : ℕ) → colon ≡ before_colon word → or_bad (option_map capped_end (end_name word)) ≡ chain (read (number_of (take colon word))) (λ n. chain (read (number_of (take (length word - (colon + 1)) (drop (colon + 1) word)))) (λ e. Ok (record { node = n; end = e })))
+pub name_is : (word : List ℕ) (colon : ℕ) → colon ≡ before_colon word
+    → or_bad (option_map capped_end (end_name word)) ≡ chain (read (number_of (take colon word)))
+    (λ n. chain (read (number_of (take (length word - (colon + 1)) (drop (colon + 1) word)))) (λ e. Ok (record { node = n; end = e })))
 unfolding end_name
 name_is word colon is = rw (suffix word (colon + 1), sym is) (name_steps (number_of (take colon word)) (number_of (drop (colon + 1) word)))
 
@@ -178,7 +184,8 @@ link_of p q d g = p >>= λ a. q >>= λ b. d >>= λ delay. g >>= λ gap. Some (re
 abbrev made_link : EndName → EndName → ℕ → ℕ → FrameLine
 made_link a b delay gap = Link (record { a = a; b = b; delay = delay; gap = gap })
 
-all_ranged : (s t u v : Bool) (a b : EndName) (d g : ℕ) → ranged (s && (t && (u && v))) (made_link a b d g) ≡ chain (ranged s a) (λ x. chain (ranged t b) (λ y. chain (ranged u d) (λ m. chain (ranged v g) (λ n. Ok (made_link x y m n)))))
+all_ranged : (s t u v : Bool) (a b : EndName) (d g : ℕ) → ranged (s && (t && (u && v))) (made_link a b d g) ≡ chain (ranged s a)
+    (λ x. chain (ranged t b) (λ y. chain (ranged u d) (λ m. chain (ranged v g) (λ n. Ok (made_link x y m n)))))
 all_ranged true true true true a b d g = refl
 all_ranged true true true false a b d g = refl
 all_ranged true true false v a b d g = refl
@@ -187,26 +194,35 @@ all_ranged false t u v a b d g = refl
 
 abbrev pub link_ranged : NamedEnd → NamedEnd → ℕ → ℕ → Result FrameLine SysKind
 link_ranged a b d g =
-    chain (ranged (is_in_range a) (end_of a)) (λ x. chain (ranged (is_in_range b) (end_of b)) (λ y. chain (ranged (is_between 1 1000 d) d) (λ m. chain (ranged (is_between 4 1000 g) g) (λ n. Ok (Link (record { a = x; b = y; delay = m; gap = n }))))))
+    chain (ranged (is_in_range a) (end_of a)) (λ x. chain (ranged (is_in_range b) (end_of b))
+    (λ y. chain (ranged (is_between 1 1000 d) d) (λ m. chain (ranged (is_between 4 1000 g) g)
+    (λ n. Ok (Link (record { a = x; b = y; delay = m; gap = n }))))))
 
 -- a link end as it is read
 abbrev pub read_end : Option EndName → Result NamedEnd SysKind
 read_end o = or_bad (option_map capped_end o)
 
-link_steps : (p q : Option EndName) (d g : Option ℕ) → formed (option_map (λ (l : LinkLine). Link l) (link_of p q d g)) ≡ chain (read_end p) (λ a. chain (read_end q) (λ b. chain (read d) (λ m. chain (read g) (λ n. link_ranged a b m n))))
+link_steps : (p q : Option EndName) (d g : Option ℕ) → formed (option_map (λ (l : LinkLine). Link l) (link_of p q d g)) ≡ chain (read_end p)
+    (λ a. chain (read_end q) (λ b. chain (read d) (λ m. chain (read g) (λ n. link_ranged a b m n))))
 link_steps None q d g = refl
 link_steps (Some a) None d g = refl
 link_steps (Some a) (Some b) None g = refl
 link_steps (Some a) (Some b) (Some m) None = refl
 link_steps (Some a) (Some b) (Some m) (Some n) =
-    rw (end_capped a, end_capped b, between_capped 1 1000 m (omega arith), between_capped 4 1000 n (omega arith)) (all_ranged (is_end_in_range a) (is_end_in_range b) (is_between 1 1000 m) (is_between 4 1000 n) a b m n)
+    rw (end_capped a, end_capped b, between_capped 1 1000 m (omega arith), between_capped 4 1000 n (omega arith))
+    (all_ranged (is_end_in_range a) (is_end_in_range b) (is_between 1 1000 m) (is_between 4 1000 n) a b m n)
 
-link_by : (s t : Bool) (p q : Option EndName) (d g : Option ℕ) → s ≡ true → t ≡ true → formed (option_map (λ (l : LinkLine). Link l) (if s && t then link_of p q d g else None)) ≡ chain (read_end p) (λ a. chain (read_end q) (λ b. chain (read d) (λ m. chain (read g) (λ n. link_ranged a b m n))))
+link_by : (s t : Bool) (p q : Option EndName) (d g : Option ℕ) → s ≡ true → t ≡ true
+    → formed (option_map (λ (l : LinkLine). Link l) (if s && t then link_of p q d g else None)) ≡ chain (read_end p)
+    (λ a. chain (read_end q) (λ b. chain (read d) (λ m. chain (read g) (λ n. link_ranged a b m n))))
 link_by true true p q d g e f = link_steps p q d g
 link_by true false p q d g e f = cc
 link_by false t p q d g e f = cc
 
-pub link_is : (words : List Word) → 6 ≤ length words → length words < 7 → same_name (codes "delay") (word_at words 2) ≡ true → same_name (codes "gap") (word_at words 4) ≡ true → formed (option_map (λ (l : LinkLine). Link l) (link_line (codes "link" ∷ bytes_of words))) ≡ chain (read_end (end_name (word_at words 0))) (λ a. chain (read_end (end_name (word_at words 1))) (λ b. chain (read (number_of (word_at words 3))) (λ m. chain (read (number_of (word_at words 5))) (λ n. link_ranged a b m n))))
+pub link_is : (words : List Word) → 6 ≤ length words → length words < 7 → same_name (codes "delay") (word_at words 2) ≡ true
+    → same_name (codes "gap") (word_at words 4) ≡ true → formed (option_map (λ (l : LinkLine). Link l) (link_line (codes "link" ∷ bytes_of words))) ≡ chain
+    (read_end (end_name (word_at words 0))) (λ a. chain (read_end (end_name (word_at words 1)))
+    (λ b. chain (read (number_of (word_at words 3))) (λ m. chain (read (number_of (word_at words 5))) (λ n. link_ranged a b m n))))
 unfolding link_line
 link_is [] h k e f = absurd (omega (arith, h))
 link_is (a ∷ []) h k e f = absurd (omega (arith, h))
@@ -221,7 +237,9 @@ link_is (a ∷ b ∷ v ∷ d ∷ w ∷ g ∷ x ∷ words) h k e f = absurd (omeg
 not_by : (s t : Bool) (o : Option LinkLine) → (s && t) ≡ false → Err BadLine ≡ formed (option_map (λ (l : LinkLine). Link l) (if s && t then o else None))
 not_by s t o e = rw e refl
 
-pub link_not : (words : List Word) → 6 ≤ length words → length words < 7 → (same_name (codes "delay") (word_at words 2) && same_name (codes "gap") (word_at words 4)) ≡ false → Err BadLine ≡ formed (option_map (λ (l : LinkLine). Link l) (link_line (codes "link" ∷ bytes_of words)))
+pub link_not : (words : List Word) → 6 ≤ length words → length words < 7
+    → (same_name (codes "delay") (word_at words 2) && same_name (codes "gap") (word_at words 4)) ≡ false
+    → Err BadLine ≡ formed (option_map (λ (l : LinkLine). Link l) (link_line (codes "link" ∷ bytes_of words)))
 unfolding link_line
 link_not [] h k e = refl
 link_not (a ∷ []) h k e = refl

@@ -1,8 +1,7 @@
 -- What is found of a line of the frame.
-use Rattle.std.proofs.Common.{◌≡◌, ℕ, suc, ◌+◌, ◌≤◌, Bool, true, false, not, List, [], ◌∷◌, length, map, drop, Option, Some, None, Ok, Err, refl, sym, ap, ◌∙◌, nat_lt, cond, length-drop, arith}
-use Rattle.std.specs.Prelude.{insert, if◌then◌else◌, ◌==◌}
-use Rattle.std.specs.List.{list_any, prefix_len}
-use Rattle.std.proofs.lemmas.Bool.Decides.{nat_tests}
+use Rattle.std.proofs.Common.{◌≡◌, ℕ, suc, ◌+◌, ◌≤◌, Bool, true, false, not, List, [], ◌∷◌, length, map, drop, Option, Some, None, Ok, Err, refl, sym, ap, ◌∙◌, nat_lt, cond, arith}
+use Rattle.std.specs.Prelude.{insert, if◌then◌else◌}
+use Rattle.std.specs.List.{prefix_len}
 use Rattle.xs_text.specs.Bytes.{all_allowed}
 use Rattle.xs_text.specs.Lines.{lines_of}
 use Rattle.xs_text.specs.Words.{words_of_line}
@@ -21,7 +20,8 @@ use Rattle.system_text.proofs.Lists.{none_left}
 abbrev lesser : ℕ → GivenNode → Bool
 lesser number node = nat_lt node.number number
 
-put_by : (b : Bool) (node n : GivenNode) (ns : List GivenNode) (k : ℕ) → put_by_number node ns ≡ insert ns k node → cond b (n ∷ put_by_number node ns) (node ∷ (n ∷ ns)) ≡ insert (n ∷ ns) (cond b (1 + k) 0) node
+put_by : (b : Bool) (node n : GivenNode) (ns : List GivenNode) (k : ℕ) → put_by_number node ns ≡ insert ns k node
+    → cond b (n ∷ put_by_number node ns) (node ∷ (n ∷ ns)) ≡ insert (n ∷ ns) (cond b (1 + k) 0) node
 put_by true node n ns k h = let one : 1 + k ≡ suc k = omega arith in rw one (ap (λ xs. n ∷ xs) h)
 put_by false node n ns k h = refl
 
@@ -30,7 +30,9 @@ put_is node [] = refl
 put_is node (n ∷ ns) = put_by (nat_lt n.number node.number) node n ns (prefix_len (lesser node.number) ns) (put_is node ns)
 
 -- one more node, as the model has it
-pub node_added : (given now : Given) (node : GivenNode) (nodes : List GivenNode) (place : ℕ) → given ≡ now → place ≡ prefix_len (λ n. nat_lt n.number node.number) given.nodes → nodes ≡ insert given.nodes place node → record given { nodes = nodes } ≡ record now { nodes = put_by_number node now.nodes }
+pub node_added : (given now : Given) (node : GivenNode) (nodes : List GivenNode) (place : ℕ) → given ≡ now
+    → place ≡ prefix_len (λ n. nat_lt n.number node.number) given.nodes → nodes ≡ insert given.nodes place node
+    → record given { nodes = nodes } ≡ record now { nodes = put_by_number node now.nodes }
 node_added given now node nodes place e p h =
     ap (λ ns. record given { nodes = ns }) (h ∙ (ap (λ k. insert given.nodes k node) p ∙ sym (put_is node given.nodes)))
     ∙ ap (λ (g : Given). record g { nodes = put_by_number node g.nodes }) e
@@ -60,7 +62,8 @@ first_by : (words : List (List ℕ)) (header : Bool) → is_empty words ≡ fals
 first_by [] header e h = cc
 first_by (w ∷ ws) header e h = rw h refl
 
-first_said : (given : Given) (l : List ℕ) (header : Bool) → given.begun ≡ false → given.reading ≡ None → is_empty (words_of_line l) ≡ false → is_header (words_of_line l) ≡ header → says given l ≡ (if header then Header else NoHeader)
+first_said : (given : Given) (l : List ℕ) (header : Bool) → given.begun ≡ false → given.reading ≡ None → is_empty (words_of_line l) ≡ false
+    → is_header (words_of_line l) ≡ header → says given l ≡ (if header then Header else NoHeader)
 first_said given l header b r e h = says_outside given l r ∙ (ap (λ x. says_in_frame x (words_of_line l)) b ∙ first_by (words_of_line l) header e h)
 
 no_header_by : (given : Given) (allowed : Bool) → fault_by given allowed NoHeader ≡ Some FirstLine
@@ -69,10 +72,12 @@ no_header_by given allowed = refl
 pub no_header : (given : Given) (l : List ℕ) → given.begun ≡ false → given.reading ≡ None → is_empty (words_of_line l) ≡ false → is_header (words_of_line l) ≡ false → fault_of given l ≡ Some FirstLine
 no_header given l b r e h = fault_is given l (all_allowed l) NoHeader refl (first_said given l false b r e h)
 
-pub header_refused : (given : Given) (l : List ℕ) → given.begun ≡ false → given.reading ≡ None → is_empty (words_of_line l) ≡ false → is_header (words_of_line l) ≡ true → all_allowed l ≡ false → fault_of given l ≡ Some BadLine
+pub header_refused : (given : Given) (l : List ℕ) → given.begun ≡ false → given.reading ≡ None → is_empty (words_of_line l) ≡ false
+    → is_header (words_of_line l) ≡ true → all_allowed l ≡ false → fault_of given l ≡ Some BadLine
 header_refused given l b r e h a = fault_is given l false Header a (first_said given l true b r e h)
 
-pub header_allowed : (given : Given) (l : List ℕ) → given.begun ≡ false → given.reading ≡ None → is_empty (words_of_line l) ≡ false → is_header (words_of_line l) ≡ true → all_allowed l ≡ true → (fault_of given l ≡ None) × (says given l ≡ Header)
+pub header_allowed : (given : Given) (l : List ℕ) → given.begun ≡ false → given.reading ≡ None → is_empty (words_of_line l) ≡ false
+    → is_header (words_of_line l) ≡ true → all_allowed l ≡ true → (fault_of given l ≡ None) × (says given l ≡ Header)
 header_allowed given l b r e h a = let is = first_said given l true b r e h in (fault_is given l true Header a is, is)
 
 form_by : (words : List (List ℕ)) → is_empty words ≡ false → says_in_frame true words ≡ says_form (frame_line words)
@@ -119,15 +124,20 @@ good given (Some f) form e =
     let both = checked_good (are_numbers_in_range f) f form (later_fault given f) e in
     record { fault = both.0 ∙ ap (λ x. later_fault given x) both.1; said = ap (λ x. Form x) both.1 }
 
-pub form_refused : (given : Given) (l : List ℕ) (kind : SysKind) → given.begun ≡ true → given.reading ≡ None → is_empty (words_of_line l) ≡ false → all_allowed l ≡ true → Err kind ≡ formed (frame_line (words_of_line l)) → fault_of given l ≡ Some kind
+pub form_refused : (given : Given) (l : List ℕ) (kind : SysKind) → given.begun ≡ true → given.reading ≡ None → is_empty (words_of_line l) ≡ false
+    → all_allowed l ≡ true → Err kind ≡ formed (frame_line (words_of_line l)) → fault_of given l ≡ Some kind
 form_refused given l kind b r e a f = fault_is given l true _ a (form_said given l b r e) ∙ refused_by given (frame_line (words_of_line l)) kind f
 
-pub form_faulty : (given : Given) (l : List ℕ) (form : FrameLine) (kind : SysKind) → given.begun ≡ true → given.reading ≡ None → is_empty (words_of_line l) ≡ false → all_allowed l ≡ true → Ok form ≡ formed (frame_line (words_of_line l)) → Some kind ≡ later_fault given form → fault_of given l ≡ Some kind
+pub form_faulty : (given : Given) (l : List ℕ) (form : FrameLine) (kind : SysKind) → given.begun ≡ true → given.reading ≡ None
+    → is_empty (words_of_line l) ≡ false → all_allowed l ≡ true → Ok form ≡ formed (frame_line (words_of_line l)) → Some kind ≡ later_fault given form
+    → fault_of given l ≡ Some kind
 form_faulty given l form kind b r e a f k =
     let is = good given (frame_line (words_of_line l)) form f in
     fault_is given l true _ a (form_said given l b r e) ∙ (is.fault ∙ sym k)
 
-pub form_good : (given : Given) (l : List ℕ) (form : FrameLine) → given.begun ≡ true → given.reading ≡ None → is_empty (words_of_line l) ≡ false → all_allowed l ≡ true → Ok form ≡ formed (frame_line (words_of_line l)) → None ≡ later_fault given form → (fault_of given l ≡ None) × (says given l ≡ Form form)
+pub form_good : (given : Given) (l : List ℕ) (form : FrameLine) → given.begun ≡ true → given.reading ≡ None → is_empty (words_of_line l) ≡ false
+    → all_allowed l ≡ true → Ok form ≡ formed (frame_line (words_of_line l)) → None ≡ later_fault given form
+    → (fault_of given l ≡ None) × (says given l ≡ Form form)
 form_good given l form b r e a f k =
     let is = good given (frame_line (words_of_line l)) form f in
     (fault_is given l true _ a (form_said given l b r e) ∙ (is.fault ∙ sym k), form_said given l b r e ∙ is.said)

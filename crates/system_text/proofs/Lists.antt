@@ -1,5 +1,5 @@
 -- Lists from an index on.
-use Rattle.std.proofs.Common.{◌≡◌, ℕ, ◌+◌, ◌<◌, ◌≤◌, List, [], ◌∷◌, length, drop, get_or, drop-cons, refl, sym, length-drop, take, ◌-◌, map, Bool, ◌&&◌, ◌||◌, arith}
+use Rattle.std.proofs.Common.{◌≡◌, ℕ, ◌+◌, ◌<◌, ◌≤◌, List, [], ◌∷◌, length, drop, get_or, drop-cons, refl, sym, length-drop, take, ◌-◌, map, Bool, arith}
 use Rattle.std.specs.List.{list_any, list_all}
 use Rattle.std.proofs.lemmas.List.{take_all}
 use Prim.Native.Nat.{suc}

@@ -51,7 +51,8 @@ no_lines : (text : List ℕ) (n : ℕ) → lines_of (slice_range text n n) ≡ [
 no_lines text n = lines_of-nothing _ (no_bytes text n)
 
 -- the first line of the section
-pub section_first : (text : List ℕ) (line : Line) (at : ℕ) (left all : List (List ℕ)) → all ≡ line_bytes text line ∷ left → IsLineOfParts text line line.from at → line.from ≤ line.to → line.to ≤ at → at ≤ length text → SectionSoFar text line.from line at left (section_of all)
+pub section_first : (text : List ℕ) (line : Line) (at : ℕ) (left all : List (List ℕ)) → all ≡ line_bytes text line ∷ left
+    → IsLineOfParts text line line.from at → line.from ≤ line.to → line.to ≤ at → at ≤ length text → SectionSoFar text line.from line at left (section_of all)
 section_first text line at left all is parts ordered passed within = record {
   found = ap (λ front. with_front front (section_of (line_bytes text line ∷ left))) (no_lines text line.from) ∙ (with_front-none _ ∙ ap section_of (sym is));
   parts = λ end h k. ap (λ front. front ++ lines_of (slice_range text line.from end)) (sym (no_lines text line.from));
@@ -63,13 +64,16 @@ section_first text line at left all is parts ordered passed within = record {
 }
 
 -- past a line that does not end it
-front_more : (text : List ℕ) (first : ℕ) (line : Line) (at : ℕ) (left : List (List ℕ)) (whole : Option Section) → SectionSoFar text first line at left whole → lines_of (slice_range text first at) ≡ lines_of (slice_range text first line.from) ++ line_bytes text line ∷ []
+front_more : (text : List ℕ) (first : ℕ) (line : Line) (at : ℕ) (left : List (List ℕ)) (whole : Option Section) → SectionSoFar text first line at left whole
+    → lines_of (slice_range text first at) ≡ lines_of (slice_range text first line.from) ++ line_bytes text line ∷ []
 front_more text first line at left whole h =
     let until : line.from ≤ at = omega arith in
     h.parts at until h.within
     ∙ ap (λ ls. lines_of (slice_range text first line.from) ++ ls) (h.line_parts at (omega arith) h.within ∙ ap (λ ls. line_bytes text line ∷ ls) (no_lines text at))
 
-pub section_next : (text : List ℕ) (first : ℕ) (line next : Line) (at after : ℕ) (left more : List (List ℕ)) (whole : Option Section) → SectionSoFar text first line at left whole → is_end (line_bytes text line) ≡ false → left ≡ line_bytes text next ∷ more → next.from ≡ at → IsLineOfParts text next at after → next.from ≤ next.to → next.to ≤ after → after ≤ length text → SectionSoFar text first next after more whole
+pub section_next : (text : List ℕ) (first : ℕ) (line next : Line) (at after : ℕ) (left more : List (List ℕ)) (whole : Option Section)
+    → SectionSoFar text first line at left whole → is_end (line_bytes text line) ≡ false → left ≡ line_bytes text next ∷ more → next.from ≡ at
+    → IsLineOfParts text next at after → next.from ≤ next.to → next.to ≤ after → after ≤ length text → SectionSoFar text first next after more whole
 section_next text first line next at after left more whole h goes_on is begins parts ordered passed within =
     let l = line_bytes text line in
     let front = lines_of (slice_range text first line.from) in
@@ -93,14 +97,17 @@ section_next text first line next at after left more whole h goes_on is begins p
     }
 
 -- the text ends within the section
-pub section_open : (text : List ℕ) (first : ℕ) (line : Line) (at : ℕ) (left : List (List ℕ)) (whole : Option Section) → SectionSoFar text first line at left whole → is_end (line_bytes text line) ≡ false → left ≡ [] → whole ≡ None
+pub section_open : (text : List ℕ) (first : ℕ) (line : Line) (at : ℕ) (left : List (List ℕ)) (whole : Option Section)
+    → SectionSoFar text first line at left whole → is_end (line_bytes text line) ≡ false → left ≡ [] → whole ≡ None
 section_open text first line at left whole h goes_on is =
     let l = line_bytes text line in
     sym h.found ∙ ap (λ o. with_front (lines_of (slice_range text first line.from)) o)
     (section_of-cons l left ∙ (cond-false _ _ _ goes_on ∙ ap (λ o. option_map (with_line l) o) (ap section_of is ∙ section_of-none)))
 
 -- the line that ends it
-pub section_done : (text : List ℕ) (first : ℕ) (line : Line) (at : ℕ) (left : List (List ℕ)) (whole : Option Section) → SectionSoFar text first line at left whole → is_end (line_bytes text line) ≡ true → whole ≡ Some (record { lines = lines_of (slice_range text first line.from); end = line_bytes text line; rest = left })
+pub section_done : (text : List ℕ) (first : ℕ) (line : Line) (at : ℕ) (left : List (List ℕ)) (whole : Option Section)
+    → SectionSoFar text first line at left whole → is_end (line_bytes text line) ≡ true
+    → whole ≡ Some (record { lines = lines_of (slice_range text first line.from); end = line_bytes text line; rest = left })
 section_done text first line at left whole h ends =
     let front = lines_of (slice_range text first line.from) in
     sym h.found ∙ (ap (λ o. with_front front o) (section_of-cons (line_bytes text line) left ∙ cond-true _ _ _ ends)
@@ -113,7 +120,9 @@ IsCounted text start first line = line.number ≡ start + length (lines_of (slic
 pub counted_first : (text : List ℕ) (start : ℕ) (line : Line) → line.number ≡ start + 1 → IsCounted text start line.from line
 counted_first text start line h = rw (no_lines text line.from) (omega (arith, h))
 
-pub counted_next : (text : List ℕ) (start first : ℕ) (line next : Line) (at : ℕ) (left : List (List ℕ)) (whole : Option Section) → SectionSoFar text first line at left whole → IsCounted text start first line → next.from ≡ at → next.number ≡ line.number + 1 → IsCounted text start first next
+pub counted_next : (text : List ℕ) (start first : ℕ) (line next : Line) (at : ℕ) (left : List (List ℕ)) (whole : Option Section)
+    → SectionSoFar text first line at left whole → IsCounted text start first line → next.from ≡ at → next.number ≡ line.number + 1
+    → IsCounted text start first next
 counted_next text start first line next at left whole h counted begins number =
     rw (begins, front_more text first line at left whole h)
     (omega (arith, counted, number, length-append (lines_of (slice_range text first line.from)) (line_bytes text line ∷ [])))

@@ -33,7 +33,8 @@ pub line_refused : (n : ℕ) (given : Given) (l : List ℕ) (ls : List (List ℕ
 line_refused n given l ls kind e = from-cons n given l ls ∙ ap (λ f. unless_faulty f n (frame_from (n + 1) (given_after n l given) ls)) e
 
 -- a line without one
-pub line_taken : (n : ℕ) (given : Given) (l : List ℕ) (ls : List (List ℕ)) (what : FrameSays) → fault_of given l ≡ None → says given l ≡ what → frame_from n given (l ∷ ls) ≡ frame_from (n + 1) (given_with n l what given) ls
+pub line_taken : (n : ℕ) (given : Given) (l : List ℕ) (ls : List (List ℕ)) (what : FrameSays) → fault_of given l ≡ None → says given l ≡ what
+    → frame_from n given (l ∷ ls) ≡ frame_from (n + 1) (given_with n l what given) ls
 line_taken n given l ls what e s =
     from-cons n given l ls
     ∙ (ap (λ f. unless_faulty f n (frame_from (n + 1) (given_after n l given) ls)) e ∙ ap (λ w. frame_from (n + 1) (given_with n l w given) ls) s)
@@ -46,17 +47,20 @@ reading source given = record given { reading = Some source }
 says_inside : (given : Given) (source : SourceText) (l : List ℕ) (end : Bool) → is_end l ≡ end → says (reading source given) l ≡ cond end End Own
 says_inside given source l end e = ap (λ b. cond b End Own) e
 
-own_line : (n : ℕ) (given : Given) (source : SourceText) (l : List ℕ) (ls : List (List ℕ)) → is_end l ≡ false → frame_from n (reading source given) (l ∷ ls) ≡ frame_from (n + 1) (reading (with_own_line l source) given) ls
+own_line : (n : ℕ) (given : Given) (source : SourceText) (l : List ℕ) (ls : List (List ℕ)) → is_end l ≡ false
+    → frame_from n (reading source given) (l ∷ ls) ≡ frame_from (n + 1) (reading (with_own_line l source) given) ls
 own_line n given source l ls e =
     let is = says_inside given source l false e in
     line_taken n (reading source given) l ls Own (fault_is (reading source given) l (all_allowed l) Own refl is) is
 
-end_allowed : (n : ℕ) (given : Given) (source : SourceText) (l : List ℕ) (ls : List (List ℕ)) → is_end l ≡ true → all_allowed l ≡ true → frame_from n (reading source given) (l ∷ ls) ≡ frame_from (n + 1) (with_source source given) ls
+end_allowed : (n : ℕ) (given : Given) (source : SourceText) (l : List ℕ) (ls : List (List ℕ)) → is_end l ≡ true → all_allowed l ≡ true
+    → frame_from n (reading source given) (l ∷ ls) ≡ frame_from (n + 1) (with_source source given) ls
 end_allowed n given source l ls e a =
     let is = says_inside given source l true e in
     line_taken n (reading source given) l ls End (fault_is (reading source given) l true End a is) is
 
-end_refused : (n : ℕ) (given : Given) (source : SourceText) (l : List ℕ) (ls : List (List ℕ)) → is_end l ≡ true → all_allowed l ≡ false → frame_from n (reading source given) (l ∷ ls) ≡ Refused n BadLine
+end_refused : (n : ℕ) (given : Given) (source : SourceText) (l : List ℕ) (ls : List (List ℕ)) → is_end l ≡ true → all_allowed l ≡ false
+    → frame_from n (reading source given) (l ∷ ls) ≡ Refused n BadLine
 end_refused n given source l ls e a =
     let is = says_inside given source l true e in
     line_refused n (reading source given) l ls BadLine (fault_is (reading source given) l false End a is)
@@ -74,7 +78,8 @@ abbrev by_section : ℕ → Given → SourceText → Option Section → Framed
 by_section n given source None = Refused source.line SectionNotEnded
 by_section n given source (Some section) = after_section n given source section
 
-end_by : (n : ℕ) (given : Given) (source : SourceText) (l : List ℕ) (ls : List (List ℕ)) (a : Bool) → is_end l ≡ true → all_allowed l ≡ a → frame_from n (reading source given) (l ∷ ls) ≡ cond a (frame_from (n + 0 + 1) (with_source (longer [] source) given) ls) (Refused (n + 0) BadLine)
+end_by : (n : ℕ) (given : Given) (source : SourceText) (l : List ℕ) (ls : List (List ℕ)) (a : Bool) → is_end l ≡ true → all_allowed l ≡ a
+    → frame_from n (reading source given) (l ∷ ls) ≡ cond a (frame_from (n + 0 + 1) (with_source (longer [] source) given) ls) (Refused (n + 0) BadLine)
 end_by n given source l ls true e h =
     let zero_more : n + 0 ≡ n = omega arith in
     rw (zero_more, append-nil source.lines) (end_allowed n given source l ls e h)
@@ -82,13 +87,17 @@ end_by n given source l ls false e h =
     let zero_more : n + 0 ≡ n = omega arith in
     rw zero_more (end_refused n given source l ls e h)
 
-one_longer : (n : ℕ) (given : Given) (source : SourceText) (l : List ℕ) (o : Option Section) → by_section (n + 1) given (with_own_line l source) o ≡ by_section n given source (option_map (with_line l) o)
+one_longer : (n : ℕ) (given : Given) (source : SourceText) (l : List ℕ) (o : Option Section)
+    → by_section (n + 1) given (with_own_line l source) o ≡ by_section n given source (option_map (with_line l) o)
 one_longer n given source l None = refl
 one_longer n given source l (Some section) =
     let count : n + 1 + length section.lines ≡ n + length (l ∷ section.lines) = omega arith in
     rw (count, append_assoc source.lines (l ∷ []) section.lines) refl
 
-walk_by : (n : ℕ) (given : Given) (source : SourceText) (l : List ℕ) (ls : List (List ℕ)) (end : Bool) → is_end l ≡ end → ((s : SourceText) → frame_from (n + 1) (reading s given) ls ≡ by_section (n + 1) given s (section_of ls)) → frame_from n (reading source given) (l ∷ ls) ≡ by_section n given source (cond end (Some (record { lines = []; end = l; rest = ls })) (option_map (with_line l) (section_of ls)))
+walk_by : (n : ℕ) (given : Given) (source : SourceText) (l : List ℕ) (ls : List (List ℕ)) (end : Bool) → is_end l ≡ end
+    → ((s : SourceText) → frame_from (n + 1) (reading s given) ls ≡ by_section (n + 1) given s (section_of ls))
+    → frame_from n (reading source given) (l ∷ ls) ≡ by_section n given source
+    (cond end (Some (record { lines = []; end = l; rest = ls })) (option_map (with_line l) (section_of ls)))
 walk_by n given source l ls true e h = end_by n given source l ls (all_allowed l) e refl
 walk_by n given source l ls false e h = own_line n given source l ls e ∙ (h (with_own_line l source) ∙ one_longer n given source l (section_of ls))
 
@@ -102,12 +111,15 @@ pub source_open : (ls : List (List ℕ)) (n : ℕ) (given : Given) (source : Sou
 source_open ls n given source e = walk ls n given source ∙ ap (by_section n given source) (sym e)
 
 -- the line that ends it has a byte that is not allowed
-pub source_refused : (ls : List (List ℕ)) (n at : ℕ) (given : Given) (source : SourceText) (section : Section) → Some section ≡ section_of ls → all_allowed section.end ≡ false → n + length section.lines ≡ at → frame_from n (reading source given) ls ≡ Refused at BadLine
+pub source_refused : (ls : List (List ℕ)) (n at : ℕ) (given : Given) (source : SourceText) (section : Section) → Some section ≡ section_of ls
+    → all_allowed section.end ≡ false → n + length section.lines ≡ at → frame_from n (reading source given) ls ≡ Refused at BadLine
 source_refused ls n at given source section e a k =
     walk ls n given source ∙ (ap (by_section n given source) (sym e) ∙ (cond-false _ _ _ a ∙ ap (λ (m : ℕ). Refused m BadLine) k))
 
 -- it has ended
-pub source_taken : (ls : List (List ℕ)) (n at : ℕ) (given new : Given) (source : SourceText) (section : Section) → Some section ≡ section_of ls → all_allowed section.end ≡ true → n + length section.lines ≡ at → new ≡ with_source (longer section.lines source) given → frame_from n (reading source given) ls ≡ frame_from (at + 1) new section.rest
+pub source_taken : (ls : List (List ℕ)) (n at : ℕ) (given new : Given) (source : SourceText) (section : Section) → Some section ≡ section_of ls
+    → all_allowed section.end ≡ true → n + length section.lines ≡ at → new ≡ with_source (longer section.lines source) given
+    → frame_from n (reading source given) ls ≡ frame_from (at + 1) new section.rest
 source_taken ls n at given new source section e a k is =
     walk ls n given source ∙ (ap (by_section n given source) (sym e) ∙ (cond-true _ _ _ a
     ∙ (ap (λ (m : ℕ). frame_from (m + 1) (with_source (longer section.lines source) given) section.rest) k ∙ ap (λ (g : Given). frame_from (at + 1) g section.rest) (sym is))))
@@ -122,7 +134,8 @@ given_without_line n l (said.Form (Link link)) given = refl
 given_without_line n l (said.Form (Bit bit)) given = refl
 given_without_line n l (said.Form (Source number)) given = refl
 
-pub line_read : (n at : ℕ) (given : Given) (l : List ℕ) (ls : List (List ℕ)) (what : Said) → fault_of given l ≡ None → says given l ≡ said_by what → at ≡ n → frame_from n given (l ∷ ls) ≡ frame_from (at + 1) (given_with n [] (said_by what) given) ls
+pub line_read : (n at : ℕ) (given : Given) (l : List ℕ) (ls : List (List ℕ)) (what : Said) → fault_of given l ≡ None → says given l ≡ said_by what → at ≡ n
+    → frame_from n given (l ∷ ls) ≡ frame_from (at + 1) (given_with n [] (said_by what) given) ls
 line_read n at given l ls what f s k =
     line_taken n given l ls (said_by what) f s
     ∙ (ap (λ (g : Given). frame_from (n + 1) g ls) (given_without_line n l what given) ∙ ap (λ m. frame_from (m + 1) (given_with n [] (said_by what) given) ls) (sym k))

@@ -1,5 +1,5 @@
 -- What every frame keeps that is accepted.
-use Rattle.std.specs.Prelude.{ℕ, ◌≡◌, ◌≢◌, ◌≤◌, true, List, [], ◌∷◌, length, map}
+use Rattle.std.specs.Prelude.{◌≡◌, ◌≢◌, ◌≤◌, true, List, [], ◌∷◌, length, map}
 use Rattle.std.specs.List.{AllByRecursion}
 use Rattle.sys_plan.specs.Plan.{AreAscending, AreDistinct}
 use Rattle.system_model.specs.declared.frame_line.EndName.{EndName}

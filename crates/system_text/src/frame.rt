@@ -303,6 +303,7 @@ impl<'a> Frame<'a> {
     }
 }
 
+// Whether two names are of one link end.
 fn is_same_end(a: EndName, b: EndName) -> bool
     ensures { result ≡ is_same_end a b }
 {

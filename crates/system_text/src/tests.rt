@@ -34,8 +34,69 @@ fn pair(rt: HostRuntime) -> Result<(), Fail> {
 }
 
 #[test]
-fn refusal(rt: HostRuntime) {
-    match read_system(rt.alloc(), b"xs1 1\nnode 0 id 0\n") {
+fn three_in_a_line(rt: HostRuntime) -> Result<(), Fail> {
+    let text =
+        b"xs1 1\nnode 9 id 3\nnode 5 id 1\nnode 7 id 2\nlink 5:7 9:0 delay 1 gap 4\nlink 7:3 5:2 delay 2 gap 5\nbit 5 1 7 2\nsource 5\nend\nsource 9\nend\nsource 7\nend";
+    let plan = read_system(rt.alloc(), text)?;
+    let nodes = plan.nodes();
+    assert_eq!(rt; nodes.len(), 3);
+    assert_eq!(rt; nodes[0].number, 5);
+    assert_eq!(rt;
+        nodes[0].ways,
+        [0, 132, 0, 0, 0, 0, 0, 0, 0, 0, 0, 0, 0, 0, 0, 0]
+    );
+    let links = plan.links();
+    assert_eq!(rt; links.len(), 2);
+    assert_eq!(rt; (links[0].a, links[0].a_end), (0, 7));
+    assert_eq!(rt; (links[0].b, links[0].b_end), (2, 0));
+    assert_eq!(rt; (links[1].a, links[1].a_end), (1, 3));
+    assert_eq!(rt; (links[1].b, links[1].b_end), (0, 2));
+    Ok(())
+}
+
+#[test]
+fn refusals(rt: HostRuntime) {
+    let cases: [(&[u8], u32, SysKind); 8] = [
+        (b"xs1 1\nnode 0 id 0\n", 2, SysKind::NodeWithoutSource),
+        (
+            b"xs1 1\nnode 0 id 0\nnode 1 id 1\nnode 2 id 2\nlink 0:0 1:0 delay 5 gap 4\nlink 0:1 1:0 delay 5 gap 4",
+            6,
+            SysKind::LinkEndTwice,
+        ),
+        (
+            b"xs1 1\nnode 0 id 0\nnode 1 id 1\nlink 0:0 1:0 delay 5 gap 4\nbit 0 0 0 0",
+            5,
+            SysKind::LinkEndTwice,
+        ),
+        (
+            b"xs1 1\nnode 0 id 0\nnode 1 id 1\nlink 0:0 1:0 delay 5 gap 4\nbit 0 0 0 1",
+            5,
+            SysKind::NoSuchNode,
+        ),
+        (
+            b"xs1 1\nlink 0:8 1:0 delay 5 gap 4",
+            2,
+            SysKind::NumberOutOfRange,
+        ),
+        (b"xs1 1\nlink 0:8 1:x delay 5 gap 4", 2, SysKind::BadLine),
+        (b"xs1 1\nbit 0 0 0 1 2 3 4 5 6 7 7", 2, SysKind::BadLine),
+        (
+            b"xs1 1\n\
+              node 0 id 0\nnode 1 id 1\nnode 2 id 2\nnode 3 id 3\nnode 4 id 4\n\
+              node 5 id 5\nnode 6 id 6\nnode 7 id 7\nnode 8 id 8\nnode 9 id 9\n\
+              node 10 id 10\nnode 11 id 11\nnode 12 id 12\nnode 13 id 13\nnode 14 id 14\n\
+              node 15 id 15\nnode 16 id 16",
+            18,
+            SysKind::TooMany,
+        ),
+    ];
+    for (text, line, kind) in cases {
+        refused(&rt, rt.alloc(), text, line, kind);
+    }
+}
+
+fn refused(rt: &impl Abort, alloc: Global, text: &[u8], at: u32, why: SysKind) {
+    match read_system(alloc, text) {
         Err(SystemError::Frame { line, kind }) => {
             assert_eq!(rt; kind, SysKind::NodeWithoutSource);
             assert_eq!(rt; line, 2);

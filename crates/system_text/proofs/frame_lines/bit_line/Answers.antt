@@ -1,4 +1,4 @@
-use Rattle.std.proofs.Common.{◌≡◌, sym, ◌∙◌, refl, arith}
+use Rattle.std.proofs.Common.{refl, arith}
 use Rattle.std.proofs.lemmas.Bool.Decides.{nat_tests}
 use Rattle.system_text.proofs.BitForms.{bit_is, bit_short, all_numbers, some_ends, no_ends}
 use Rattle.system_text.proofs.Forms.{told}
@@ -29,19 +29,56 @@ returns-then-not-are_numbers c =
 pub returns-in_err-up_to : goal.returns-in_err-up_to
 returns-in_err-up_to c =
     let is = bit_is c.args.words.now _ (suffix c.args.words.now 2) (some_ends c.args.words.now _ c.is_empty.ensures c.if-is_empty.false) (omega arith) in
-    told _ _ _ c.from_residual-in_err-up_to.ensures.1 (rw (is, ← c.in_ok-node.ensures, ← c.in_ok-bit.ensures, all_numbers, ← c.are_numbers.ensures, c.if-not-are_numbers.false, ← c.in_err-up_to.ensures.value) refl)
+    told _ _ _ c.from_residual-in_err-up_to.ensures.1 (rw (
+      is,
+      ← c.in_ok-node.ensures,
+      ← c.in_ok-bit.ensures,
+      all_numbers,
+      ← c.are_numbers.ensures,
+      c.if-not-are_numbers.false,
+      ← c.in_err-up_to.ensures.value,
+    ) refl)
 
 pub returns-in_err-up_to-2 : goal.returns-in_err-up_to-2
 returns-in_err-up_to-2 c =
     let is = bit_is c.args.words.now _ (suffix c.args.words.now 2) (some_ends c.args.words.now _ c.is_empty.ensures c.if-is_empty.false) (omega arith) in
-    told _ _ _ c.from_residual-in_err-up_to-2.ensures.1 (rw (is, ← c.in_ok-node.ensures, ← c.in_ok-bit.ensures, all_numbers, ← c.are_numbers.ensures, c.if-not-are_numbers.false, ← c.in_ok-up_to.ensures.value, ← c.in_err-up_to-2.ensures.value) refl)
+    told _ _ _ c.from_residual-in_err-up_to-2.ensures.1 (rw (
+      is,
+      ← c.in_ok-node.ensures,
+      ← c.in_ok-bit.ensures,
+      all_numbers,
+      ← c.are_numbers.ensures,
+      c.if-not-are_numbers.false,
+      ← c.in_ok-up_to.ensures.value,
+      ← c.in_err-up_to-2.ensures.value,
+    ) refl)
 
 pub returns-in_err-end_numbers : goal.returns-in_err-end_numbers
 returns-in_err-end_numbers c =
     let is = bit_is c.args.words.now _ (suffix c.args.words.now 2) (some_ends c.args.words.now _ c.is_empty.ensures c.if-is_empty.false) (omega arith) in
-    told _ _ _ c.from_residual-in_err-end_numbers.ensures.1 (rw (is, ← c.in_ok-node.ensures, ← c.in_ok-bit.ensures, all_numbers, ← c.are_numbers.ensures, c.if-not-are_numbers.false, ← c.in_ok-up_to.ensures.value, ← c.in_ok-up_to-2.ensures.value, c.in_err-end_numbers.ensures) refl)
+    told _ _ _ c.from_residual-in_err-end_numbers.ensures.1 (rw (
+      is,
+      ← c.in_ok-node.ensures,
+      ← c.in_ok-bit.ensures,
+      all_numbers,
+      ← c.are_numbers.ensures,
+      c.if-not-are_numbers.false,
+      ← c.in_ok-up_to.ensures.value,
+      ← c.in_ok-up_to-2.ensures.value,
+      c.in_err-end_numbers.ensures,
+    ) refl)
 
 pub returns : goal.returns
 returns c =
     let is = bit_is c.args.words.now _ (suffix c.args.words.now 2) (some_ends c.args.words.now _ c.is_empty.ensures c.if-is_empty.false) (omega arith) in
-    rw (is, ← c.in_ok-node.ensures, ← c.in_ok-bit.ensures, all_numbers, ← c.are_numbers.ensures, c.if-not-are_numbers.false, ← c.in_ok-up_to.ensures.value, ← c.in_ok-up_to-2.ensures.value, c.in_ok-end_numbers.ensures) refl
+    rw (
+      is,
+      ← c.in_ok-node.ensures,
+      ← c.in_ok-bit.ensures,
+      all_numbers,
+      ← c.are_numbers.ensures,
+      c.if-not-are_numbers.false,
+      ← c.in_ok-up_to.ensures.value,
+      ← c.in_ok-up_to-2.ensures.value,
+      c.in_ok-end_numbers.ensures,
+    ) refl

@@ -1,4 +1,4 @@
-use Rattle.std.proofs.Common.{◌≡◌, refl, arith, length-append}
+use Rattle.std.proofs.Common.{arith}
 use Rattle.system_text.proofs.BitForms.{ends_next, ends_refused, ends_done}
 use Rattle.system_text.proofs.frame_lines.end_numbers.Goals as goal
 

@@ -6,7 +6,10 @@ use Rattle.system_text.proofs.frame_lines.link_line.Goals as goal
 
 pub returns-in_default : goal.returns-in_default
 returns-in_default c =
-    let other : length c.args.words.now ≡ 6 → ⊥ = elim c.in_default.branch [ in_default-via-then-words-lt6 w ↦ λ e. grind (arith, nat_tests) | in_default-via-else-words-lt6+else-words-lt7 w ↦ λ e. grind (arith, nat_tests) ] in
+    let other : length c.args.words.now ≡ 6 → ⊥ = elim c.in_default.branch [
+      | in_default-via-then-words-lt6 w ↦ λ e. grind (arith, nat_tests)
+      | in_default-via-else-words-lt6+else-words-lt7 w ↦ λ e. grind (arith, nat_tests)
+    ] in
     link_other c.args.words.now other
 
 pub returns-then-not-same_name : goal.returns-then-not-same_name
@@ -44,19 +47,57 @@ returns-in_err-end_in_range c =
 pub returns-in_err-end_in_range-2 : goal.returns-in_err-end_in_range-2
 returns-in_err-end_in_range-2 c =
     let is = link_is c.args.words.now (omega arith) (omega arith) (sym c.same_name.ensures.value ∙ c.if-not-same_name.false) (sym c.same_name-2.ensures.value ∙ c.if-not-same_name-2.false) in
-    told _ _ _ c.from_residual-in_err-end_in_range-2.ensures.1 (rw (is, ← c.in_ok-a.ensures, ← c.in_ok-b.ensures, ← c.in_ok-delay.ensures, ← c.in_ok-gap.ensures, ← c.in_ok-end_in_range.ensures, ← c.in_err-end_in_range-2.ensures) refl)
+    told _ _ _ c.from_residual-in_err-end_in_range-2.ensures.1
+    (rw (
+      is,
+      ← c.in_ok-a.ensures,
+      ← c.in_ok-b.ensures,
+      ← c.in_ok-delay.ensures,
+      ← c.in_ok-gap.ensures,
+      ← c.in_ok-end_in_range.ensures,
+      ← c.in_err-end_in_range-2.ensures,
+    ) refl)
 
 pub returns-in_err-between : goal.returns-in_err-between
 returns-in_err-between c =
     let is = link_is c.args.words.now (omega arith) (omega arith) (sym c.same_name.ensures.value ∙ c.if-not-same_name.false) (sym c.same_name-2.ensures.value ∙ c.if-not-same_name-2.false) in
-    told _ _ _ c.from_residual-in_err-between.ensures.1 (rw (is, ← c.in_ok-a.ensures, ← c.in_ok-b.ensures, ← c.in_ok-delay.ensures, ← c.in_ok-gap.ensures, ← c.in_ok-end_in_range.ensures, ← c.in_ok-end_in_range-2.ensures, ← c.in_err-between.ensures) refl)
+    told _ _ _ c.from_residual-in_err-between.ensures.1 (rw (
+      is,
+      ← c.in_ok-a.ensures,
+      ← c.in_ok-b.ensures,
+      ← c.in_ok-delay.ensures,
+      ← c.in_ok-gap.ensures,
+      ← c.in_ok-end_in_range.ensures,
+      ← c.in_ok-end_in_range-2.ensures,
+      ← c.in_err-between.ensures,
+    ) refl)
 
 pub returns-in_err-between-2 : goal.returns-in_err-between-2
 returns-in_err-between-2 c =
     let is = link_is c.args.words.now (omega arith) (omega arith) (sym c.same_name.ensures.value ∙ c.if-not-same_name.false) (sym c.same_name-2.ensures.value ∙ c.if-not-same_name-2.false) in
-    told _ _ _ c.from_residual-in_err-between-2.ensures.1 (rw (is, ← c.in_ok-a.ensures, ← c.in_ok-b.ensures, ← c.in_ok-delay.ensures, ← c.in_ok-gap.ensures, ← c.in_ok-end_in_range.ensures, ← c.in_ok-end_in_range-2.ensures, ← c.in_ok-between.ensures, ← c.in_err-between-2.ensures) refl)
+    told _ _ _ c.from_residual-in_err-between-2.ensures.1 (rw (
+      is,
+      ← c.in_ok-a.ensures,
+      ← c.in_ok-b.ensures,
+      ← c.in_ok-delay.ensures,
+      ← c.in_ok-gap.ensures,
+      ← c.in_ok-end_in_range.ensures,
+      ← c.in_ok-end_in_range-2.ensures,
+      ← c.in_ok-between.ensures,
+      ← c.in_err-between-2.ensures,
+    ) refl)
 
 pub returns : goal.returns
 returns c =
     let is = link_is c.args.words.now (omega arith) (omega arith) (sym c.same_name.ensures.value ∙ c.if-not-same_name.false) (sym c.same_name-2.ensures.value ∙ c.if-not-same_name-2.false) in
-    rw (is, ← c.in_ok-a.ensures, ← c.in_ok-b.ensures, ← c.in_ok-delay.ensures, ← c.in_ok-gap.ensures, ← c.in_ok-end_in_range.ensures, ← c.in_ok-end_in_range-2.ensures, ← c.in_ok-between.ensures, ← c.in_ok-between-2.ensures) refl
+    rw (
+      is,
+      ← c.in_ok-a.ensures,
+      ← c.in_ok-b.ensures,
+      ← c.in_ok-delay.ensures,
+      ← c.in_ok-gap.ensures,
+      ← c.in_ok-end_in_range.ensures,
+      ← c.in_ok-end_in_range-2.ensures,
+      ← c.in_ok-between.ensures,
+      ← c.in_ok-between-2.ensures,
+    ) refl

@@ -6,7 +6,10 @@ use Rattle.system_text.proofs.frame_lines.node_line.Goals as goal
 
 pub returns-in_default : goal.returns-in_default
 returns-in_default c =
-    let other : length c.args.words.now ≡ 3 → ⊥ = elim c.in_default.branch [ in_default-via-then-words-lt3 w ↦ λ e. grind (arith, nat_tests) | in_default-via-else-words-lt3+else-words-lt4 w ↦ λ e. grind (arith, nat_tests) ] in
+    let other : length c.args.words.now ≡ 3 → ⊥ = elim c.in_default.branch [
+      | in_default-via-then-words-lt3 w ↦ λ e. grind (arith, nat_tests)
+      | in_default-via-else-words-lt3+else-words-lt4 w ↦ λ e. grind (arith, nat_tests)
+    ] in
     node_other c.args.words.now other
 
 pub returns-then-not-same_name : goal.returns-then-not-same_name

@@ -1,4 +1,4 @@
-use Rattle.std.proofs.Common.{◌≡◌, length, sym, ◌∙◌, refl, arith}
+use Rattle.std.proofs.Common.{◌≡◌, length, refl, arith}
 use Rattle.std.proofs.lemmas.Bool.Decides.{nat_tests}
 use Rattle.system_text.proofs.Forms.{source_other, source_is, told}
 use Rattle.system_text.proofs.frame_lines.source_line.Goals.{in_default-via-then-words-lt1, in_default-via-else-words-lt1+else-words-lt2}
@@ -6,7 +6,10 @@ use Rattle.system_text.proofs.frame_lines.source_line.Goals as goal
 
 pub returns-in_default : goal.returns-in_default
 returns-in_default c =
-    let other : length c.args.words.now ≡ 1 → ⊥ = elim c.in_default.branch [ in_default-via-then-words-lt1 w ↦ λ e. grind (arith, nat_tests) | in_default-via-else-words-lt1+else-words-lt2 w ↦ λ e. grind (arith, nat_tests) ] in
+    let other : length c.args.words.now ≡ 1 → ⊥ = elim c.in_default.branch [
+      | in_default-via-then-words-lt1 w ↦ λ e. grind (arith, nat_tests)
+      | in_default-via-else-words-lt1+else-words-lt2 w ↦ λ e. grind (arith, nat_tests)
+    ] in
     source_other c.args.words.now other
 
 pub returns-in_err-number : goal.returns-in_err-number

@@ -12,4 +12,5 @@ returns-then-not-all_allowed-clause-read c =
 
 pub returns-clause-read : goal.returns-clause-read
 returns-clause-read c =
-    source_taken _ _ _ c.args.frame.now _ _ _ c.in-Some.ensures.section (sym c.all_allowed.ensures ∙ c.if-not-all_allowed.false) (omega (arith, c.in-Some.ensures.counted, c.in-Some.ensures.numbered)) c.in_ok-add_source.ensures
+    source_taken _ _ _ c.args.frame.now _ _ _ c.in-Some.ensures.section (sym c.all_allowed.ensures ∙ c.if-not-all_allowed.false)
+    (omega (arith, c.in-Some.ensures.counted, c.in-Some.ensures.numbered)) c.in_ok-add_source.ensures

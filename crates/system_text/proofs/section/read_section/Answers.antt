@@ -11,7 +11,8 @@ loop-line-init c = record {
   so_far =
       section_first c.args.text.now c.in-Some.first c.next_line.new.self.at _ _
       (line_in_text c.args.text.now c.args.lines.now.text c.in-Some.first _ _ c.requires c.in-Some.ensures.line)
-      (parts_from c.args.text.now c.in-Some.first c.args.lines.now.at c.next_line.new.self.at c.in-Some.ensures.begins (parts_of c.args.text.now c.args.lines.now.text c.in-Some.first c.args.lines.now.at c.next_line.new.self.at c.requires c.in-Some.ensures.part))
+      (parts_from c.args.text.now c.in-Some.first c.args.lines.now.at c.next_line.new.self.at c.in-Some.ensures.begins
+      (parts_of c.args.text.now c.args.lines.now.text c.in-Some.first c.args.lines.now.at c.next_line.new.self.at c.requires c.in-Some.ensures.part))
       c.in-Some.ensures.ordered c.in-Some.ensures.passed
       (within_text c.args.text.now c.args.lines.now.text c.next_line.new.self.at c.requires c.in-Some.ensures.within);
   counted = counted_first c.args.text.now c.args.lines.now.number c.in-Some.first c.in-Some.ensures.numbered;

@@ -8,11 +8,13 @@ returns-then-not-all_allowed c =
 
 pub returns-in-Some : goal.returns-in-Some
 returns-in-Some c =
-    form_faulty c.args.self.now c.args.line.now c.in-Ok.form c.in-Some.kind c.requires.begun c.requires.outside c.requires.words (sym c.all_allowed.ensures ∙ c.if-not-all_allowed.false) c.in-Ok.ensures c.in-Some.ensures
+    form_faulty c.args.self.now c.args.line.now c.in-Ok.form c.in-Some.kind c.requires.begun c.requires.outside c.requires.words
+    (sym c.all_allowed.ensures ∙ c.if-not-all_allowed.false) c.in-Ok.ensures c.in-Some.ensures
 
 pub returns-in-None : goal.returns-in-None
 returns-in-None c =
-    form_good c.args.self.now c.args.line.now c.in-Ok.form c.requires.begun c.requires.outside c.requires.words (sym c.all_allowed.ensures ∙ c.if-not-all_allowed.false) c.in-Ok.ensures c.in-None.ensures
+    form_good c.args.self.now c.args.line.now c.in-Ok.form c.requires.begun c.requires.outside c.requires.words
+    (sym c.all_allowed.ensures ∙ c.if-not-all_allowed.false) c.in-Ok.ensures c.in-None.ensures
 
 pub returns-in-Err : goal.returns-in-Err
 returns-in-Err c =
