@@ -25,10 +25,22 @@ pub bit_cleared : (mask c k : ℕ) → c < 32 → k < 32 → in_mask (bit_and ma
 bit_cleared mask c k within below =
     one_changed mask _ c k false (ap (λ b. eqb b 1) (bit_at_clear_same w32 mask c within)) (λ ne. ap (λ b. eqb b 1) (bit_at_clear_other w32 mask c within k below ne))
 
--- where the bit of one channel end says what it is now, and the others are as before, the mask is exact again
-pub is_mask_still : (test : ChanRec → Bool) (mask new c : ℕ) (end : ChanRec) (chans : List ChanRec) → length chans ≡ 32 → c < 32 → IsMask test mask chans → ((k : ℕ) → k < 32 → in_mask new k ≡ cond (k == c) (test end) (in_mask mask k)) → IsMask test new (set chans c end)
-is_mask_still test mask new c end chans long within exact written k below =
+-- the bit of one channel end says this, and the others are as before
+abbrev pub IsWritten : ℕ → ℕ → ℕ → Bool → Type 0
+IsWritten mask new c bit = (k : ℕ) → k < 32 → in_mask new k ≡ cond (k == c) bit (in_mask mask k)
+
+-- where that is what the channel end is now, the mask is exact again
+pub is_mask_still : (test : ChanRec → Bool) (mask new c : ℕ) (end : ChanRec) (chans : List ChanRec) → c < length chans → IsMask test mask chans → IsWritten mask new c (test end) → IsMask test new (set chans c end)
+is_mask_still test mask new c end chans within exact written k below =
     elim (cases_eq k c) [
-      | inl e ↦ written k below ∙ cond-true (eqb k c) _ _ (eq-eqb k c e) ∙ ap test (sym (ap (λ i. get_or (set chans c end) i unused_chan) e ∙ get_or-set_same chans c end unused_chan (omega (arith, long))))
-      | inr ne ↦ written k below ∙ cond-false (eqb k c) _ _ (ne_eqb k c ne) ∙ exact k below ∙ ap test (sym (get_or-set_other chans c k end unused_chan ne))
+      | inl e ↦
+          let here : get_or (set chans c end) k unused_chan ≡ end =
+          ap (λ i. get_or (set chans c end) i unused_chan) e ∙ get_or-set_same chans c end unused_chan within
+          in
+          written k below ∙ cond-true (eqb k c) _ _ (eq-eqb k c e) ∙ ap test (sym here)
+      | inr ne ↦
+          let there : get_or (set chans c end) k unused_chan ≡ get_or chans k unused_chan =
+          get_or-set_other chans c k end unused_chan ne
+          in
+          written k below ∙ cond-false (eqb k c) _ _ (ne_eqb k c ne) ∙ exact k below ∙ ap test (sym there)
     ]

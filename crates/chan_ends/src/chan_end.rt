@@ -3,7 +3,8 @@ ghost use Rattle.std.specs.Prelude.{◌≡◌, ◌↔◌, ◌<◌, ◌||◌, tru
 ghost use Rattle.std.specs.List.{list_any};
 ghost use Rattle.xs_model.specs.Record.{unused_chan};
 ghost use Rattle.xs_model.specs.Waits.{has_room, has_tokens, is_control};
-ghost use Rattle.net_model.specs.Chans.{Got, Refused, got_chan, freed_chan, found_at, put_tokens, put_token, bytes_of_word, put_word, joined, take_word, take_byte, take_ctrl, check_token, look, control_place, look_word, take_dest, chan_after};
+ghost use Rattle.net_model.specs.Chans.{Got, Refused, got_chan, freed_chan, found_at, chan_after, take_dest, put_tokens, put_token, bytes_of_word, put_word};
+ghost use Rattle.net_model.specs.Chans.{joined, take_word, take_byte, take_ctrl, check_token, look, control_place, look_word};
 ghost use Rattle.chan_ends.specs.Ends.{has_output, has_input, chan_where_freed};
 ghost use Rattle.chan_ends.specs.Answers.{put_answer, take_answer};
 ghost use Rattle.chan_ends.specs.declared.answers.Take.TheVariants as taken;
