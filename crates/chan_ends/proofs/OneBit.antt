@@ -1,5 +1,5 @@
 -- One bit of a mask is written, and the others stay.
-use Rattle.std.proofs.Common.{ℕ, ◌≡◌, ◌≢◌, ◌-◌, ◌*◌, ◌^◌, ◌%◌, ◌<◌, List, length, get_or, set, Bool, true, false, cond, eqb, ap, sym, ◌∙◌, inl, inr, arith}
+use Rattle.std.proofs.Common.{ℕ, ◌≡◌, ◌≢◌, ◌-◌, ◌*◌, ◌^◌, ◌%◌, ◌<◌, List, length, get_or, set, Bool, true, false, cond, eqb, ap, sym, ◌∙◌, inl, inr}
 use Rattle.std.specs.Prelude.{◌==◌, bit_or, bit_and}
 use Rattle.std.specs.Int.{w32}
 use Rattle.std.proofs.lemmas.Bool.{eq-eqb, ne_eqb, cond-true, cond-false, cases_eq}
@@ -30,17 +30,17 @@ abbrev pub IsWritten : ℕ → ℕ → ℕ → Bool → Type 0
 IsWritten mask new c bit = (k : ℕ) → k < 32 → in_mask new k ≡ cond (k == c) bit (in_mask mask k)
 
 -- where that is what the channel end is now, the mask is exact again
-pub is_mask_still : (test : ChanRec → Bool) (mask new c : ℕ) (end : ChanRec) (chans : List ChanRec) → c < length chans → IsMask test mask chans → IsWritten mask new c (test end) → IsMask test new (set chans c end)
-is_mask_still test mask new c end chans within exact written k below =
+pub is_mask : (p : ChanRec → Bool) (mask new c : ℕ) (end : ChanRec) (ends : List ChanRec) → c < length ends → IsMask p mask ends → IsWritten mask new c (p end) → IsMask p new (set ends c end)
+is_mask p mask new c end ends within exact written k below =
     elim (cases_eq k c) [
       | inl e ↦
-          let here : get_or (set chans c end) k unused_chan ≡ end =
-          ap (λ i. get_or (set chans c end) i unused_chan) e ∙ get_or-set_same chans c end unused_chan within
+          let here : get_or (set ends c end) k unused_chan ≡ end =
+          ap (λ i. get_or (set ends c end) i unused_chan) e ∙ get_or-set_same ends c end unused_chan within
           in
-          written k below ∙ cond-true (eqb k c) _ _ (eq-eqb k c e) ∙ ap test (sym here)
+          written k below ∙ cond-true (eqb k c) _ _ (eq-eqb k c e) ∙ ap p (sym here)
       | inr ne ↦
-          let there : get_or (set chans c end) k unused_chan ≡ get_or chans k unused_chan =
-          get_or-set_other chans c k end unused_chan ne
+          let there : get_or (set ends c end) k unused_chan ≡ get_or ends k unused_chan =
+          get_or-set_other ends c k end unused_chan ne
           in
-          written k below ∙ cond-false (eqb k c) _ _ (ne_eqb k c ne) ∙ exact k below ∙ ap test (sym there)
+          written k below ∙ cond-false (eqb k c) _ _ (ne_eqb k c ne) ∙ exact k below ∙ ap p (sym there)
     ]
