@@ -48,7 +48,7 @@ counted-length slot true = omega arith
 counted-length slot false = refl
 
 -- it is counted, where a token that was sent has none yet
-credit-credited : (slot : ℕ) (credit : Bool) (link : LinkRec) → length link.credited + one_if credit ≤ length link.sent
+pub credit-credited : (slot : ℕ) (credit : Bool) (link : LinkRec) → length link.credited + one_if credit ≤ length link.sent
     → (credit_arrives slot credit link).credited ≡ link.credited ++ counted slot credit
 credit-credited slot false link h = sym (append-nil link.credited)
 credit-credited slot true link h =

@@ -14,6 +14,7 @@ use Rattle.serial_model.specs.Serial.{SystemRec, system_at_start, system_step, s
 use Rattle.link_laws.specs.LinkSlot.{SlotAtLinkEnd}
 use Rattle.link_laws.specs.Travel.{Travel, travel_of, link_end, opposite, OfEnds, OfEachLink, Window, Arrives, Order, tokens_of, credits_of, in_flight}
 use Rattle.link_laws.proofs.TravelLists.{tokens-arrive, credits-arrive}
+use Rattle.link_laws.proofs.TravelEnds.{token-buffer, credit-credited, counted, counted-length}
 use Rattle.link_laws.proofs.TravelKept.{Kept, kept-at-start, sent-parts, token-fits, credit-is-due, arrive-keeps, leave-keeps}
 use Rattle.link_laws.proofs.SerialPlan.{turned, opposite-at, IsDirected, directed, gap-at}
 use Rattle.link_laws.proofs.SerialSteps.{found, map-at, node-at-start, link-at-start, step_at, steps-at, end-slot, emitted-at, history-at, IsHistory, token-at, credit-at}
@@ -164,18 +165,28 @@ module _ (system : SystemRec) (slot l : ℕ) (d : Direction) (j : Joined system 
 
   pub window-of : Holds Window
   window-of = of-ends Window (record {
+    noted = k.sent;
     open_tokens = omega (arith, parts, k.credited);
     few = k.few;
     fits = omega (arith, parts, k.credited, k.few);
   })
 
   pub arrives-of : Holds Arrives
-  arrives-of = of-ends Arrives (record {
-    one_token = tokens-arrive slot d.delay j.forth k.forth_history;
-    one_credit = k.back_history.one_credit slot;
-    token_fits = omega (arith, ap length (tokens-arrive slot d.delay j.forth k.forth_history), token-fits slot d.delay j.sender j.receiver j.forth j.back j.taken k);
-    credit_is_due = omega (arith, credits-arrive slot d.delay j.back k.back_history, credit-is-due slot d.delay j.sender j.receiver j.forth j.back j.taken k);
-  })
+  arrives-of =
+      let token = token_among (arriving slot d.delay j.forth) in
+      let credit = credit_among (arriving slot d.delay j.back) in
+      let one_token = tokens-arrive slot d.delay j.forth k.forth_history in
+      let one_credit = credits-arrive slot d.delay j.back k.back_history in
+      let fits = token-fits slot d.delay j.sender j.receiver j.forth j.back j.taken k in
+      let due = credit-is-due slot d.delay j.sender j.receiver j.forth j.back j.taken k in
+      of-ends Arrives (record {
+        one_token = one_token;
+        one_credit = k.back_history.one_credit slot;
+        token_fits = omega (arith, ap length one_token, fits);
+        credit_is_due = omega (arith, one_credit, due);
+        token_kept = token-buffer token j.receiver fits ∙ ap (λ (ts : List Token). j.receiver.buffer ++ ts) (sym one_token);
+        credit_counted = omega (arith, ap length (credit-credited slot credit j.sender due), length-append j.sender.credited (counted slot credit), counted-length slot credit, one_credit);
+      })
 
   pub order-of : Holds Order
   order-of =

@@ -7,9 +7,10 @@ use Rattle.xs_base.specs.declared.entry.Entry.{Entry}
 use Rattle.xs_base.specs.declared.entry.What.{What}
 use Rattle.xs_base.specs.declared.entry.What.TheVariants as what
 use Rattle.xs_model.specs.Record.{LinkRec, first_node}
+use Rattle.net_model.specs.Links.{token_arrives, credit_arrives}
 use Rattle.net_model.specs.Switch.{link_at}
 use Rattle.sys_plan.specs.Plan.{PlanRec, IsPlan, Direction, directions}
-use Rattle.serial_model.specs.Serial.{SystemRec, serial, arriving, token_among}
+use Rattle.serial_model.specs.Serial.{SystemRec, serial, arriving, token_among, credit_among}
 
 -- the directed link that goes back: 2k + 1 for 2k, and 2k for 2k + 1
 abbrev pub opposite : LinkNumber → LinkNumber

@@ -47,9 +47,9 @@ less test k i false f ne e =
 passes_next : (test : ℕ → Bool) (k i : ℕ) (b : Bool) → test k ≡ b → bit_at (mask_where test (suc k)) i ≡ 1 → (bit_at (mask_where test k) i ≡ 1 → test i ≡ true) → test i ≡ true
 passes_next test k i false t e h = h (sym (ap (λ m. bit_at m i) (without_next test k t)) ∙ e)
 passes_next test k i true t e h = elim (cases_eq i k) [
-    | inl same ↦ subst (λ j. test j ≡ true) (sym same) t
-    | inr ne ↦ h (sym (bit_at_cat_low 1 k (mask_where test k) i (less test k i (nat_lt i k) refl ne e)) ∙ (sym (ap (λ m. bit_at m i) (with_next test k t)) ∙ e))
-  ]
+  | inl same ↦ subst (λ j. test j ≡ true) (sym same) t
+  | inr ne ↦ h (sym (bit_at_cat_low 1 k (mask_where test k) i (less test k i (nat_lt i k) refl ne e)) ∙ (sym (ap (λ m. bit_at m i) (with_next test k t)) ∙ e))
+]
 
 -- a bit that is set is that of a number that passes the test
 pub passes : (test : ℕ → Bool) (n i : ℕ) → bit_at (mask_where test n) i ≡ 1 → test i ≡ true

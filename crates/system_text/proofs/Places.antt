@@ -101,7 +101,8 @@ none_less least k [] a h = refl
 none_less least k (m ∷ nodes) a h =
     rw (position-cons m nodes k) (omega (arith, over_none k m.number (omega (arith, a.0, h)), none_less (suc m.number) k nodes a.1 (omega (arith, a.0, h))))
 
-stand_from : (at : ℕ → ℕ) (n least : ℕ) (nodes : List GivenNode) → AscendFrom least (numbers nodes) → ((k : ℕ) → least ≤ k → at k ≡ n + position_by_number nodes k) → Stand at n nodes
+stand_from : (at : ℕ → ℕ) (n least : ℕ) (nodes : List GivenNode) → AscendFrom least (numbers nodes) → ((k : ℕ) → least ≤ k → at k ≡ n + position_by_number nodes k) →
+    Stand at n nodes
 stand_from at n least [] a h = tt
 stand_from at n least (m ∷ nodes) a h = (
   h m.number a.0 ∙ rw (position-cons m nodes m.number) (omega (arith, over_none m.number m.number (omega arith), none_less (suc m.number) m.number nodes a.1 (omega arith))),

@@ -37,7 +37,9 @@ plan_of_one bits node (Image image) plan e =
     let same : made ≡ plan = cc in
     subst (PlanOf bits node) same (record { number = refl; id = refl; ways = refl })
 
-plans_by : (bits : List BitRec) (node : GivenNode) (nodes : List GivenNode) (first : Result NodePlan SourceFault) (rest : Result (List NodePlan) SourceFault) (plans : List NodePlan) → ((plan : NodePlan) → first ≡ Ok plan → PlanOf bits node plan) → ((later : List NodePlan) → rest ≡ Ok later → PlansOf bits nodes later) → plan_before first rest ≡ Ok plans → PlansOf bits (node ∷ nodes) plans
+plans_by : (bits : List BitRec) (node : GivenNode) (nodes : List GivenNode) (first : Result NodePlan SourceFault) (rest : Result (List NodePlan) SourceFault) (plans : List NodePlan) →
+    ((plan : NodePlan) → first ≡ Ok plan → PlanOf bits node plan) → ((later : List NodePlan) → rest ≡ Ok later → PlansOf bits nodes later) →
+    plan_before first rest ≡ Ok plans → PlansOf bits (node ∷ nodes) plans
 plans_by bits node nodes (Err fault) rest plans h k e = absurd cc
 plans_by bits node nodes (Ok plan) (Err fault) plans h k e = absurd cc
 plans_by bits node nodes (Ok plan) (Ok later) plans h k e =
@@ -62,26 +64,30 @@ as_many bits [] (plan ∷ plans) k = absurd k
 as_many bits (node ∷ nodes) [] k = absurd k
 as_many bits (node ∷ nodes) (plan ∷ plans) k = ap suc (as_many bits nodes plans k.1)
 
-same_numbers : (bits : List BitRec) (nodes : List GivenNode) (plans : List NodePlan) → PlansOf bits nodes plans → map (λ (node : GivenNode). node.number) nodes ≡ map (λ (plan : NodePlan). plan.number) plans
+same_numbers : (bits : List BitRec) (nodes : List GivenNode) (plans : List NodePlan) → PlansOf bits nodes plans →
+    map (λ (node : GivenNode). node.number) nodes ≡ map (λ (plan : NodePlan). plan.number) plans
 same_numbers bits [] [] k = refl
 same_numbers bits [] (plan ∷ plans) k = absurd k
 same_numbers bits (node ∷ nodes) [] k = absurd k
 same_numbers bits (node ∷ nodes) (plan ∷ plans) k = rw (k.0.number, same_numbers bits nodes plans k.1) refl
 
-same_ids : (bits : List BitRec) (nodes : List GivenNode) (plans : List NodePlan) → PlansOf bits nodes plans → map (λ (node : GivenNode). node.id) nodes ≡ map (λ (plan : NodePlan). plan.id) plans
+same_ids : (bits : List BitRec) (nodes : List GivenNode) (plans : List NodePlan) → PlansOf bits nodes plans →
+    map (λ (node : GivenNode). node.id) nodes ≡ map (λ (plan : NodePlan). plan.id) plans
 same_ids bits [] [] k = refl
 same_ids bits [] (plan ∷ plans) k = absurd k
 same_ids bits (node ∷ nodes) [] k = absurd k
 same_ids bits (node ∷ nodes) (plan ∷ plans) k = rw (k.0.id, same_ids bits nodes plans k.1) refl
 
-numbers_kept : (bits : List BitRec) (nodes : List GivenNode) (plans : List NodePlan) → PlansOf bits nodes plans → AllByRecursion (λ (node : GivenNode). node.number ≤ 99) nodes → AllByRecursion (λ (plan : NodePlan). plan.number < 100) plans
+numbers_kept : (bits : List BitRec) (nodes : List GivenNode) (plans : List NodePlan) → PlansOf bits nodes plans →
+    AllByRecursion (λ (node : GivenNode). node.number ≤ 99) nodes → AllByRecursion (λ (plan : NodePlan). plan.number < 100) plans
 numbers_kept bits [] [] k h = tt
 numbers_kept bits [] (plan ∷ plans) k h = absurd k
 numbers_kept bits (node ∷ nodes) [] k h = absurd k
 numbers_kept bits (node ∷ nodes) (plan ∷ plans) k h = (omega (arith, k.0.number, h.0), numbers_kept bits nodes plans k.1 h.1)
 
 -- where the ways of each node lead out, those of its plan do
-ways_kept : (plan : PlanRec) (bits : List BitRec) (place : ℕ → ℕ) → ((number : ℕ) → WaysLead plan (place number) (ways_of bits number)) → (n : ℕ) (nodes : List GivenNode) (plans : List NodePlan) → PlansOf bits nodes plans → Stand place n nodes → AllWaysLead plan n plans
+ways_kept : (plan : PlanRec) (bits : List BitRec) (place : ℕ → ℕ) → ((number : ℕ) → WaysLead plan (place number) (ways_of bits number)) →
+    (n : ℕ) (nodes : List GivenNode) (plans : List NodePlan) → PlansOf bits nodes plans → Stand place n nodes → AllWaysLead plan n plans
 ways_kept plan bits place lead n [] [] k s = tt
 ways_kept plan bits place lead n [] (p ∷ plans) k s = absurd k
 ways_kept plan bits place lead n (node ∷ nodes) [] k s = absurd k
@@ -105,7 +111,8 @@ link_kept nodes count link n k = record {
   most_gap = k.most_gap;
 }
 
-links_kept : (nodes : List GivenNode) (count : ℕ) (links : List LinkLine) → length nodes ≡ count → AllByRecursion (IsLinkOf nodes) links → AllByRecursion (IsLink count) (map (link_plan nodes) links)
+links_kept : (nodes : List GivenNode) (count : ℕ) (links : List LinkLine) → length nodes ≡ count → AllByRecursion (IsLinkOf nodes) links →
+    AllByRecursion (IsLink count) (map (link_plan nodes) links)
 links_kept nodes count [] n k = tt
 links_kept nodes count (link ∷ links) n k = (link_kept nodes count link n k.0, links_kept nodes count links n k.1)
 
@@ -147,13 +154,15 @@ places_are : (nodes : List GivenNode) (links : List LinkLine) → map (place nod
 places_are nodes [] = refl
 places_are nodes (link ∷ links) = ap (λ ps. place nodes link.a ∷ (place nodes link.b ∷ ps)) (places_are nodes links)
 
-places_kept : (nodes : List GivenNode) (links : List LinkLine) → AllByRecursion (IsLinkOf nodes) links → AreDistinct (ends_of links) → AreDistinct (places_of (map (link_plan nodes) links))
+places_kept : (nodes : List GivenNode) (links : List LinkLine) → AllByRecursion (IsLinkOf nodes) links → AreDistinct (ends_of links) →
+    AreDistinct (places_of (map (link_plan nodes) links))
 places_kept nodes links k h =
     subst (λ ps. AreDistinct ps) (places_are nodes links) (still_distinct (place nodes) (IsKnown nodes) (same_place nodes) (ends_of links) (all_known nodes links k) h)
 
 -- The whole plan
 
-kept_plan : (nodes : List GivenNode) (links : List LinkLine) (bits : List BitRec) (plans : List NodePlan) → AreAccepted nodes links bits → PlansOf bits nodes plans → IsPlan (record { nodes = plans; links = map (link_plan nodes) links })
+kept_plan : (nodes : List GivenNode) (links : List LinkLine) (bits : List BitRec) (plans : List NodePlan) → AreAccepted nodes links bits → PlansOf bits nodes plans →
+    IsPlan (record { nodes = plans; links = map (link_plan nodes) links })
 kept_plan nodes links bits plans k p = record {
   few_nodes = omega (arith, k.few_nodes, as_many bits nodes plans p);
   few_links = omega (arith, k.few_links, as_many_links nodes links);
@@ -163,11 +172,13 @@ kept_plan nodes links bits plans k p = record {
   links = links_kept nodes (length plans) links (as_many bits nodes plans p) k.links;
   places = places_kept nodes links k.links k.ends;
   ways = let plan : PlanRec = record { nodes = plans; links = map (link_plan nodes) links } in
-  ways_kept plan bits (position_by_number nodes) (ways_lead plan nodes links bits refl k.bits) 0 nodes plans p (stand nodes k.order);
+      ways_kept plan bits (position_by_number nodes) (ways_lead plan nodes links bits refl k.bits) 0 nodes plans p (stand nodes k.order);
 }
 
 -- the plans of the nodes and the links of a frame that is accepted
-pub frame_plan : (given : Given) (nodes : List GivenNode) (links : List LinkLine) (plans : List NodePlan) (joined : List LinkPlan) → IsAccepted given → nodes ≡ given.nodes → links ≡ given.links → node_plans given.bits given.sources given.nodes ≡ Ok plans → joined ≡ map (link_plan nodes) links → IsPlan (record { nodes = plans; links = joined })
+pub frame_plan : (given : Given) (nodes : List GivenNode) (links : List LinkLine) (plans : List NodePlan) (joined : List LinkPlan) → IsAccepted given →
+    nodes ≡ given.nodes → links ≡ given.links → node_plans given.bits given.sources given.nodes ≡ Ok plans → joined ≡ map (link_plan nodes) links →
+    IsPlan (record { nodes = plans; links = joined })
 frame_plan given nodes links plans joined k n l e j =
     let same : map (link_plan given.nodes) given.links ≡ joined = sym (j ∙ (ap (λ ns. map (link_plan ns) links) n ∙ ap (map (link_plan given.nodes)) l)) in
     subst (λ ls. IsPlan (record { nodes = plans; links = ls })) same (kept_plan given.nodes given.links given.bits plans k (plans_of given.bits given.sources given.nodes plans e))

@@ -2,13 +2,14 @@
 use Rattle.std.proofs.Common.{◌≡◌, ℕ, ◌+◌, ◌<◌, ◌≤◌, List, [], ◌∷◌, ◌++◌, length, drop, get_or, Result, Ok, Err, refl, ap, sym, ◌∙◌, append-nil, append_assoc, subst}
 use Rattle.source_model.specs.Source.{assembled_lines}
 use Rattle.sys_plan.specs.declared.NodePlan.{NodePlan}
-use Rattle.system_model.specs.declared.frame_line.GivenNode.{GivenNode}
 use Rattle.system_model.specs.Bits.{BitRec}
+use Rattle.system_model.specs.declared.frame_line.GivenNode.{GivenNode}
 use Rattle.system_model.specs.Frame.{SourceText}
 use Rattle.system_model.specs.System.{SourceFault, planned, plan_before, source_of, node_plans}
 use Rattle.system_text.specs.declared.system_error.SystemError.{SystemError}
 use Rattle.system_text.specs.declared.system_error.SystemError.TheVariants.{Frame, Source, Memory}
 use Rattle.system_text.specs.Plans.{GivesNode, GivesNodes}
+use Rattle.system_text.proofs.Lists.{none_left, unrolled}
 
 -- plans in front of others
 abbrev pub in_front : List NodePlan → Result (List NodePlan) SourceFault → Result (List NodePlan) SourceFault
@@ -46,10 +47,6 @@ pub plans_next : (bits : List BitRec) (sources : List SourceText) (nodes : List 
 plans_next bits sources nodes i d front all plan h k e =
     one_more (found bits sources (get_or nodes i d)) (node_plans bits sources (drop (i + 1) nodes)) front plan e
     ∙ (ap (in_front front) (sym (plans_from bits sources nodes i d k)) ∙ h)
-
-no_more : {X : Type 0} (ys : List X) → length ys ≡ 0 → ys ≡ []
-no_more [] e = refl
-no_more (y ∷ ys) e = absurd (omega (arith, e))
 
 -- every node has its plan
 pub plans_done : (bits : List BitRec) (sources : List SourceText) (nodes : List GivenNode) (i : ℕ) (front : List NodePlan) (all : Result (List NodePlan) SourceFault) →

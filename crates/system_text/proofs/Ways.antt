@@ -16,7 +16,8 @@ use Rattle.system_text.proofs.Masks.{passes}
 
 -- A link end that is in a link has a way out.
 
-leaving : (a b rest p q : Bool) (first second : ℕ) (later : Option ℕ) → (a || b || rest) ≡ true → (a ≡ true → p ≡ true) → (b ≡ true → q ≡ true) → (rest ≡ true → IsSome later) → IsSome (if p then Some first else (if q then Some second else later))
+leaving : (a b rest p q : Bool) (first second : ℕ) (later : Option ℕ) → (a || b || rest) ≡ true → (a ≡ true → p ≡ true) → (b ≡ true → q ≡ true) →
+    (rest ≡ true → IsSome later) → IsSome (if p then Some first else (if q then Some second else later))
 leaving a b rest true q first second later e f g h = refl
 leaving a b rest false true first second later e f g h = refl
 leaving true b rest false false first second later e f g h = cc (f refl)
@@ -26,7 +27,8 @@ leaving false false rest false false first second later e f g h = h e
 at_place : (place : ℕ → ℕ) (x y e d : ℕ) → ((x == y) && (e == d)) ≡ true → ((place x == place y) && (e == d)) ≡ true
 at_place place x y e d h = grind (arith, nat_tests)
 
-leaves : (nodes : List GivenNode) (number end : ℕ) (links : List LinkLine) (n : ℕ) → has_link_end links (record { node = number; end = end }) ≡ true → IsSome (first_link (leaves_by (position_by_number nodes number) end) n (directions (map (link_plan nodes) links)))
+leaves : (nodes : List GivenNode) (number end : ℕ) (links : List LinkLine) (n : ℕ) → has_link_end links (record { node = number; end = end }) ≡ true →
+    IsSome (first_link (leaves_by (position_by_number nodes number) end) n (directions (map (link_plan nodes) links)))
 leaves nodes number end [] n e = absurd cc
 leaves nodes number end (link ∷ links) n e =
     let name : EndName = record { node = number; end = end } in
@@ -43,7 +45,8 @@ both : (a b : Bool) → (a && b) ≡ true → (a ≡ true) × (b ≡ true)
 both true b e = (refl, e)
 both false b e = cc
 
-this_or_later : (links : List LinkLine) (number end x : ℕ) (later b : Bool) → (x == end) ≡ b → Has links number x → (later ≡ true → Has links number end) → (b || later) ≡ true → Has links number end
+this_or_later : (links : List LinkLine) (number end x : ℕ) (later b : Bool) → (x == end) ≡ b → Has links number x → (later ≡ true → Has links number end) →
+    (b || later) ≡ true → Has links number end
 this_or_later links number end x later true f h k e =
     let same : x ≡ end = grind (arith, nat_tests) in subst (λ (n : ℕ). Has links number n) same h
 this_or_later links number end x later false f h k e = k e
@@ -54,7 +57,9 @@ one_of_these links number end (x ∷ ends) h e =
     let has = both (has_link_end links (record { node = number; end = x })) (has_link_ends links number ends) h in
     this_or_later links number end x (list_any (λ e. e == end) ends) (x == end) refl has.0 (one_of_these links number end ends has.1) e
 
-this_bit_or_later : (links : List LinkLine) (number bit end : ℕ) (b : BitRec) (later : List ℕ) (t : Bool) → ((b.node == number) && (b.bit == bit)) ≡ t → has_link_ends links b.node b.ends ≡ true → (list_any (λ e. e == end) later ≡ true → Has links number end) → list_any (λ e. e == end) (if t then b.ends else later) ≡ true → Has links number end
+this_bit_or_later : (links : List LinkLine) (number bit end : ℕ) (b : BitRec) (later : List ℕ) (t : Bool) → ((b.node == number) && (b.bit == bit)) ≡ t →
+    has_link_ends links b.node b.ends ≡ true → (list_any (λ e. e == end) later ≡ true → Has links number end) →
+    list_any (λ e. e == end) (if t then b.ends else later) ≡ true → Has links number end
 this_bit_or_later links number bit end b later true f h k e =
     let same : b.node ≡ number = grind (arith, nat_tests) in
     one_of_these links number end b.ends (subst (λ (n : ℕ). has_link_ends links n b.ends ≡ true) same h) e

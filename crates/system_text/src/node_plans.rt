@@ -102,10 +102,3 @@ fn mask_of(ends: &[u8]) -> u8
     }
     mask
 }
-
-// Whether a link end is one of these.
-fn is_among(ends: &[u8], end: u8) -> bool
-    ensures { result ≡ list_any (λ e. e == end) ends.now }
-{
-    ends.iter().any(|e| *e == end)
-}

@@ -1,6 +1,8 @@
-//! A system text that is read and one that is refused. The cases of case_runs try the others.
+//! System texts that are read and some that are refused. The cases of case_runs try the others.
 
 use crate::{SysKind, SystemError, read_system};
+use std::alloc::Global;
+use std::process::Abort;
 use std::test::Fail;
 
 #[test]
@@ -98,8 +100,8 @@ fn refusals(rt: HostRuntime) {
 fn refused(rt: &impl Abort, alloc: Global, text: &[u8], at: u32, why: SysKind) {
     match read_system(alloc, text) {
         Err(SystemError::Frame { line, kind }) => {
-            assert_eq!(rt; kind, SysKind::NodeWithoutSource);
-            assert_eq!(rt; line, 2);
+            assert_eq!(rt; kind, why);
+            assert_eq!(rt; line, at);
         }
         _ => assert!(rt; false, "the frame is not refused"),
     }
