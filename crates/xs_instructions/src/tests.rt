@@ -308,7 +308,7 @@ fn knows_names(rt: HostRuntime) {
     assert!(rt; built(Instr::Threads(ThreadIns::Freet)));
     assert!(rt; built(Instr::Threads(ThreadIns::Ssync)));
     assert!(rt; built(Instr::Resources(ResIns::In(0, 1))));
-    assert!(rt; !built(Instr::Resources(ResIns::Int(0, 1))));
+    assert!(rt; !built(Instr::Resources(ResIns::Inshr(0, 1))));
     assert!(rt; built(Instr::Words(WordIns::AddImm(0, 1, 11))));
     assert!(rt; built(Instr::Kernel(KernelIns::StwEt)));
     assert!(rt; !built(Instr::Kernel(KernelIns::Setsr(1))));
