@@ -184,7 +184,7 @@ row_targets name operands (Some shapes) e row h = targets (parts_of row) operand
 
 instruction_sound : (name : List ℕ) (operands : List Operand) → IsSoundAt InText (instruction name operands)
 instruction_sound name operands =
-    cond_both (known name) (of_row operands _) Unknown (IsSoundAt InText)
+    cond_both (known name) (of_row operands (option_and_then (find name) (shapes_of operands))) Unknown (IsSoundAt InText)
     (λ e. row_sound operands _ (row_targets name operands (shapes_of operands) refl))
     (λ e. tt)
 

@@ -61,9 +61,9 @@ pub record WorkedUnknownNames : Type 0 where
   pub malformed_number : assembled (codes "foo 12ab") ≡ Fault 1 UnknownName
   -- a row that is not built is as no row
   pub not_built : assembled (codes "inshr r1, res[r0]") ≡ Fault 1 UnknownName
-  pub not_built_out_of_range : assembled (codes "setsr 65536") ≡ Fault 1 UnknownName
+  pub not_built_out_of_range : assembled (codes "inpw r1, res[r0], 9") ≡ Fault 1 UnknownName
   pub not_built_misshapen : assembled (codes "inshr r1") ≡ Fault 1 WrongOperands
-  pub not_built_after_one : assembled (codes "setd res[r0], r1\nsetc res[r0], r1") ≡ Fault 2 UnknownName
+  pub not_built_after_one : assembled (codes "setd res[r0], r1\nsetclk res[r0], r1") ≡ Fault 2 UnknownName
   -- of two rows with a name both are built
   pub both_built : code_of_source (codes "outct res[r0], 1\noutct res[r0], r1") ≡ Some (Resources (OutctImm 0 1) ∷ Resources (Outct 0 1) ∷ [])
 

@@ -6,13 +6,13 @@ use Rattle.std.proofs.lemmas.Bool.{leb-true}
 use Rattle.xs_text.specs.Tokens.{Token, tokens_of, tokens_after, token_at, skip_at, token_of, tail_length, begins_comment}
 use Rattle.xs_text.specs.Bytes.{begins_with, is_blank}
 use Rattle.xs_text.specs.Numbers.{source_number_of, at_most}
-use Rattle.xs_instructions.specs.Table.{known, is_built}
+use Rattle.xs_instructions.specs.Table.{find, known, is_built}
 use Rattle.xs_instructions.specs.declared.rows.Row.{Row}
 use Rattle.xs_instructions.specs.Image.{same_name}
 use Rattle.source_model.specs.declared.layout.Width.{Width}
 use Rattle.source_model.specs.declared.layout.Width.TheVariants.{Byte, Short, Word}
 use Rattle.source_model.specs.Each.{put_first}
-use Rattle.source_model.specs.Operands.{Amount, Operand, operands_of}
+use Rattle.source_model.specs.Operands.{Amount, Operand, operands_of, shapes_of}
 use Rattle.source_model.specs.Values.{values_from, ValueNext, DigitsNext, CommaNext, Next, plain_value, signed_value, width_bytes}
 use Rattle.source_model.specs.Statement.{Says, Zeros, Align, Statement, statement, is_name_kind, directive, instruction, of_row, shaped, zeros, aligned, valued, not_zero, lone_number, is_lone_name, is_nothing, after_labels, begins_label, line_of}
 use Rattle.source_model.specs.Layout.{added, padding}
@@ -153,7 +153,7 @@ adds_of_row n operands None = λ long. omega arith
 adds_of_row n operands (Some row) = adds_says_if n (is_built row) _ _ (λ long. omega arith) (λ long. omega arith)
 
 adds_instruction : (n : ℕ) (name : List ℕ) (operands : List Operand) → Adds n (instruction name operands)
-adds_instruction n name operands = adds_says_if n (known name) _ _ (adds_of_row n operands _) (λ long. omega arith)
+adds_instruction n name operands = adds_says_if n (known name) _ _ (adds_of_row n operands (option_and_then (find name) (shapes_of operands))) (λ long. omega arith)
 
 adds_more : (n m : ℕ) (says : Says) → n ≤ m → Adds n says → Adds m says
 adds_more n m says h k long = omega (arith, k long, h)

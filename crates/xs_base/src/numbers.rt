@@ -16,6 +16,12 @@ pub const THREADS: u8 = 8;
 /// How many channel ends a core has.
 pub const CHAN_ENDS: u8 = 32;
 
+/// How many timers a core has.
+pub const TIMERS: u8 = 10;
+
+/// How many clock blocks a core has.
+pub const CLOCK_BLOCKS: u8 = 6;
+
 /// How many synchronisers a core has.
 pub const SYNCHRONISERS: u8 = 7;
 
@@ -57,7 +63,7 @@ pub const THREAD_KIND: u8 = 4;
 
 pub const LOCK_KIND: u8 = 5;
 
-pub const CLOCK_KIND: u8 = 6;
+pub const CLOCK_BLOCK_KIND: u8 = 6;
 
 /// How many events the switch may make in a slot: one for each input.
 pub const SWITCH_EVENTS: usize = 40;

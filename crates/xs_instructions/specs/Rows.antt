@@ -1,5 +1,5 @@
 -- The instruction table: for each row its name and what stands at each place of its form, by the lists of the program.
-use Rattle.std.specs.Prelude.{ℕ, zero, suc, Bool, false, nat_le, List, [], ◌∷◌}
+use Rattle.std.specs.Prelude.{ℕ, zero, suc, Bool, nat_le, List, [], ◌∷◌}
 use Rattle.xs_instructions.specs.declared.rows.Part.{Part}
 use Rattle.xs_instructions.specs.declared.rows.Row.{Row}
 use Rattle.xs_instructions.specs.declared.rows.Row.TheVariants as row
@@ -177,12 +177,6 @@ name_of r = shown (λ name. name.now) NAMES (row_number r)
 abbrev pub parts_of : Row → List Part
 parts_of r = shown (λ parts. parts.now) PARTS (row_number r)
 
--- whether a row is one of those up to `getd`: on words, memory, the flow of control, the kernel and threads, and those on resources up to it
-abbrev pub is_up_to_getd : Row → Bool
-is_up_to_getd r = nat_le (row_number r) (row_number row.Getd)
-
--- the rows that are built so far: those up to `getd` but two
+-- the rows that are built so far: all but those on ports alone, which stand last
 abbrev pub is_built : Row → Bool
-is_built row.Setsr = false
-is_built row.Clrsr = false
-is_built r = is_up_to_getd r
+is_built r = nat_le (row_number r) (row_number row.Waitef)

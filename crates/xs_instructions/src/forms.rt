@@ -103,10 +103,7 @@ impl Row {
     pub fn is_built(self) -> bool
         ensures value { result ≡ is_built self }
     {
-        match self {
-            Row::Setsr | Row::Clrsr => false,
-            _ => self as usize <= Row::Getd as usize,
-        }
+        self as usize <= Row::Waitef as usize
     }
 }
 

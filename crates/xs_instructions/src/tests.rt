@@ -311,5 +311,7 @@ fn knows_names(rt: HostRuntime) {
     assert!(rt; !built(Instr::Resources(ResIns::Inshr(0, 1))));
     assert!(rt; built(Instr::Words(WordIns::AddImm(0, 1, 11))));
     assert!(rt; built(Instr::Kernel(KernelIns::StwEt)));
-    assert!(rt; !built(Instr::Kernel(KernelIns::Setsr(1))));
+    assert!(rt; built(Instr::Kernel(KernelIns::Setsr(1))));
+    assert!(rt; built(Instr::Resources(ResIns::Waitef(11))));
+    assert!(rt; !built(Instr::Resources(ResIns::Inpw(0, 1, 8))));
 }
