@@ -1,14 +1,16 @@
 -- The rows on the kernel: the thread with a number issues them.
 use Rattle.std.specs.Prelude.{ℕ, Bool, ◌*◌, ◌/◌, ◌==◌, not, bit_and}
 use Rattle.xs_base.specs.Numbers.{Word, ThreadNumber}
+use Rattle.xs_model.specs.declared.status.Status.{Status}
+use Rattle.xs_model.specs.declared.status.TheConstants.{SETTABLE}
 use Rattle.xs_model.specs.declared.thread.Thread.{Thread}
 use Rattle.xs_model.specs.declared.traps.TheConstants.{ECALL, KERNEL_CALL}
-use Rattle.xs_model.specs.Status.{status_of}
+use Rattle.xs_model.specs.Status.{status_of, with_bits, without_bits}
 use Rattle.xs_model.specs.Memory.{load_word, store_word}
 use Rattle.xs_model.specs.Entry.{returned}
 use Rattle.xs_instructions.specs.declared.instr.KernelIns.{KernelIns}
 use Rattle.xs_instructions.specs.declared.instr.KernelIns.TheVariants as kernel
-use Rattle.step_model.specs.Effect.{Leaving, Traps, NotBuilt, traps_where, Local, after_it}
+use Rattle.step_model.specs.Effect.{Leaving, Traps, traps_where, Local, after_it}
 use Rattle.step_model.specs.MemoryRows.{up, down, becomes, reg, loads, stores, sets}
 
 -- a row that calls the exception handler where something holds, and else goes on
@@ -34,6 +36,10 @@ leaves_kernel l u =
     let stack_end = up th.sp 4 u in
     loads l stack_end (load_word l.memory stack_end) (λ word. after_it (record th { ksp = stack_end; sp = word }))
 
+-- a row that sets the status
+abbrev pub sets_status : Local → Status → Leaving Local
+sets_status l sr = becomes l (after_it (record l.thread { sr = sr }))
+
 abbrev pub kernel_row : ThreadNumber → Local → KernelIns → Leaving Local
 kernel_row k l (kernel.KcallImm u) = Traps KERNEL_CALL u
 kernel_row k l (kernel.Kcall s) = Traps KERNEL_CALL (reg l s)
@@ -57,5 +63,5 @@ kernel_row k l kernel.StwSpc = stores_to_stack l 1 l.thread.spc
 kernel_row k l kernel.StwSsr = stores_to_stack l 2 l.thread.ssr.bits
 kernel_row k l kernel.StwSed = stores_to_stack l 3 l.thread.sed
 kernel_row k l kernel.StwEt = stores_to_stack l 4 l.thread.et
-kernel_row k l (kernel.Setsr u) = NotBuilt
-kernel_row k l (kernel.Clrsr u) = NotBuilt
+kernel_row k l (kernel.Setsr u) = sets_status l (with_bits l.thread.sr (bit_and u SETTABLE))
+kernel_row k l (kernel.Clrsr u) = sets_status l (without_bits l.thread.sr (bit_and u SETTABLE))

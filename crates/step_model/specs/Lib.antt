@@ -7,6 +7,8 @@ pub mod FlowRows
 pub mod KernelRows
 pub mod Named
 pub mod ThreadRows
+pub mod TimeRows
+pub mod EventRows
 pub mod ResourceRows
 pub mod Rows
 pub mod Start
@@ -23,3 +25,11 @@ pub mod WorkedThreads
 pub mod WorkedSyncs
 pub mod WorkedLocks
 pub mod WorkedTokens
+pub mod WorkedTime
+pub mod WorkedTimers
+pub mod WorkedModes
+pub mod WorkedEvents
+pub mod WorkedEventRows
+pub mod WorkedChoices
+pub mod WorkedEntered
+pub mod WorkedTimeRuns

@@ -1,27 +1,32 @@
 -- The rows on resources.
-use Rattle.std.specs.Prelude.{ℕ, ◌%◌, ◌==◌, if◌then◌else◌, Option, Some, None, []}
+use Rattle.std.specs.Prelude.{ℕ, ◌%◌, true, false, not, ◌==◌, if◌then◌else◌, Option, Some, None, []}
 use Rattle.xs_base.specs.Numbers.{Slot, Word, Register, ThreadNumber, ChanNumber, NodeId, Kind, Identifier}
 use Rattle.xs_base.specs.Ids.{chan_id, res_id}
-use Rattle.xs_base.specs.declared.numbers.TheConstants.{CHAN_END_KIND, SYNCHRONISER_KIND, THREAD_KIND, LOCK_KIND}
+use Rattle.xs_base.specs.declared.numbers.TheConstants.{TIMER_KIND, CHAN_END_KIND, SYNCHRONISER_KIND, THREAD_KIND, LOCK_KIND}
 use Rattle.xs_base.specs.declared.token.Token.{Token}
 use Rattle.xs_base.specs.declared.token.Token.TheVariants.{Byte, Ctrl}
 use Rattle.xs_model.specs.declared.thread.Thread.{Thread}
 use Rattle.xs_model.specs.declared.thread.Wait.{Wait}
 use Rattle.xs_model.specs.declared.thread.Wait.TheVariants.{Room, Tokens, Choice}
 use Rattle.xs_model.specs.declared.thread.Wait.TheVariants as wait
-use Rattle.xs_model.specs.declared.traps.TheConstants.{ILLEGAL_RESOURCE, RESOURCE_DEPENDENCY}
+use Rattle.xs_model.specs.declared.traps.TheConstants.{ILLEGAL_RESOURCE}
 use Rattle.xs_model.specs.declared.resource.Resource.{Resource}
 use Rattle.xs_model.specs.declared.resource.Resource.TheVariants as resource
+use Rattle.xs_model.specs.declared.resource.Res.TheVariants as res
 use Rattle.xs_model.specs.Threads.{with_register}
-use Rattle.xs_model.specs.Record.{CoreRec, ChanRec, SyncRec, LockRec, thread_of, chan_of, sync_of, lock_of, with_thread, with_chan, with_sync, with_lock}
+use Rattle.xs_model.specs.Record.{CoreRec, ChanRec, TimerRec, SyncRec, LockRec, thread_of, chan_of, timer_of, clock_of, sync_of, lock_of, with_thread, with_chan, with_timer, with_sync, with_lock, with_events}
 use Rattle.xs_model.specs.Free.{lowest_free}
 use Rattle.xs_model.specs.Syncs.{is_sync_used, got_sync, freed_sync, free_lock, Claimed, Owns, IsHeld, IsRefused, claimed, released, freed_lock}
-use Rattle.xs_model.specs.Waits.{is_waited_at, is_paused_on}
+use Rattle.xs_model.specs.Time.{got_timer, freed_timer, with_value, divided_by}
+use Rattle.xs_model.specs.Enabling.{with_vector, with_environment, forgotten}
+use Rattle.xs_model.specs.Waits.{is_paused_on}
 use Rattle.xs_instructions.specs.declared.instr.ResIns.{ResIns}
 use Rattle.xs_instructions.specs.declared.instr.ResIns.TheVariants as resources
 use Rattle.net_model.specs.Chans.{Found, Got, Waits, Refused, got_chan, free_chan, freed_chan, chan_named, found_at, put_token, put_word, take_word, take_byte, take_ctrl, check_token, look, look_word, take_dest, tell_dest}
-use Rattle.step_model.specs.Effect.{Setting, Effect, Done, Pause, Trap, Unbuilt, reg, after_it, goes_on, goes_on_with}
+use Rattle.step_model.specs.Effect.{Setting, Effect, Done, Pause, Trap, Unbuilt, reg, after_it, goes_on, goes_on_with, goes_on_in, pauses_at}
 use Rattle.step_model.specs.Named.{resource_named}
+use Rattle.step_model.specs.TimeRows.{timer_becomes, clock_becomes, tells, takes_time}
+use Rattle.step_model.specs.EventRows.{sets_mode, sets_events, enables, clears, waits_where}
 use Rattle.step_model.specs.ThreadRows.{thread_id, thread_to_get, with_got_thread}
 
 -- ---- Getting a resource
@@ -31,7 +36,8 @@ abbrev pub chan_was_got : NodeId → CoreRec → ThreadNumber → Register → O
 chan_was_got id core k d None = goes_on_with core k d 0
 chan_was_got id core k d (Some c) = goes_on_with (with_chan core c got_chan) k d (chan_id id c)
 
--- the same for a synchroniser, whose master is the thread; for a thread, whose last issue is the slot; and for a lock
+-- the same for a synchroniser, whose master is the thread; for a thread, whose last issue is the slot; for a timer; and for a
+-- lock
 abbrev pub sync_was_got : CoreRec → ThreadNumber → Register → Option ℕ → CoreRec
 sync_was_got core k d None = goes_on_with core k d 0
 sync_was_got core k d (Some n) = goes_on_with (with_sync core n (got_sync k)) k d (res_id n SYNCHRONISER_KIND)
@@ -40,26 +46,34 @@ abbrev pub thread_was_got : Slot → CoreRec → ThreadNumber → Register → O
 thread_was_got slot core k d None = goes_on_with core k d 0
 thread_was_got slot core k d (Some j) = goes_on_with (with_got_thread core j slot) k d (thread_id j)
 
+abbrev pub timer_was_got : CoreRec → ThreadNumber → Register → Option ℕ → CoreRec
+timer_was_got core k d None = goes_on_with core k d 0
+timer_was_got core k d (Some n) = goes_on_with (with_timer core n got_timer) k d (res_id n TIMER_KIND)
+
 abbrev pub lock_was_got : CoreRec → ThreadNumber → Register → Option ℕ → CoreRec
 lock_was_got core k d None = goes_on_with core k d 0
 lock_was_got core k d (Some n) = goes_on_with (with_lock core n free_lock) k d (res_id n LOCK_KIND)
 
--- the lowest free resource of a kind is got, where there is one: of the kinds that are not built there is none
+-- the lowest free resource of a kind is got, where there is one: ports and clock blocks are not got
 abbrev pub resource_got : Setting → CoreRec → ThreadNumber → Register → Kind → CoreRec
 resource_got here core k d kind =
-    if kind == CHAN_END_KIND then chan_was_got here.id core k d (free_chan core.chans 0)
+    if kind == TIMER_KIND then timer_was_got core k d (lowest_free (λ timer. timer.used) core.timers 0)
+    else (if kind == CHAN_END_KIND then chan_was_got here.id core k d (free_chan core.chans 0)
     else (if kind == SYNCHRONISER_KIND then sync_was_got core k d (lowest_free is_sync_used core.syncs 0)
     else (if kind == THREAD_KIND then thread_was_got here.slot core k d (thread_to_get core)
     else (if kind == LOCK_KIND then lock_was_got core k d (lowest_free (λ lock. lock.used) core.locks 0)
-    else goes_on_with core k d 0)))
+    else goes_on_with core k d 0))))
 
--- ---- Freeing a resource, which is refused while a thread is paused on it. That what was enabled of it is forgotten is
--- not built yet.
+-- ---- Freeing a resource, which is refused while a thread is paused on it. What was set of its events is forgotten.
 
 -- the core without a resource: None where it may not be freed by thread k
 abbrev pub without_chan : CoreRec → ChanNumber → Option ChanRec → Option CoreRec
 without_chan core c None = None
-without_chan core c (Some chan) = Some (with_chan core c chan)
+without_chan core c (Some chan) = Some (with_events (with_chan core c chan) (forgotten core.events (res.Chan c)))
+
+abbrev pub without_timer : CoreRec → ℕ → Option TimerRec → Option CoreRec
+without_timer core n None = None
+without_timer core n (Some timer) = Some (with_events (with_timer core n timer) (forgotten core.events (res.Timer n)))
 
 abbrev pub without_sync : CoreRec → ℕ → Option SyncRec → Option CoreRec
 without_sync core n None = None
@@ -71,14 +85,11 @@ without_lock core n (Some lock) = Some (with_lock core n lock)
 
 abbrev pub without : Setting → CoreRec → ThreadNumber → Resource → Option CoreRec
 without here core k (resource.Chan c) = without_chan core c (freed_chan (here.is_busy c) (chan_of core c))
+without here core k (resource.Timer n) = without_timer core n (freed_timer (timer_of core n))
 without here core k (resource.Sync n) = without_sync core n (freed_sync k (sync_of core n))
 without here core k (resource.Lock n) = without_lock core n (freed_lock (lock_of core n))
 without here core k (resource.Thread j) = None
-
--- the thread goes on with the core that was left, or it is refused
-abbrev pub goes_on_in : ThreadNumber → Identifier → Option CoreRec → Effect
-goes_on_in k name None = Trap ILLEGAL_RESOURCE name
-goes_on_in k name (Some after) = Done (goes_on after k) []
+without here core k (resource.Clock n) = None
 
 abbrev pub freed : Setting → CoreRec → ThreadNumber → Identifier → Option Resource → Effect
 freed here core k name None = Trap ILLEGAL_RESOURCE name
@@ -108,7 +119,7 @@ takes_into d word th = with_register th d word
 -- and traps where another one is paused there; or it is refused
 abbrev pub found_there : CoreRec → ThreadNumber → Identifier → ChanNumber → Wait → (Word → Thread → Thread) → Found → Effect
 found_there core k name c wait takes (Got chan word) = Done (with_thread (with_chan core c chan) k (after_it (takes word (thread_of core k)))) []
-found_there core k name c wait takes Waits = if is_waited_at core wait then Trap RESOURCE_DEPENDENCY name else Pause core wait []
+found_there core k name c wait takes Waits = pauses_at core name wait
 found_there core k name c wait takes Refused = Trap ILLEGAL_RESOURCE name
 
 -- what a row does at channel end c: where its thread would wait, what it does there, and what the thread takes of it
@@ -133,7 +144,7 @@ checks here core k s value = on_chan here core k s (tokens 1) (check_token value
 abbrev pub finds : Setting → CoreRec → ThreadNumber → Register → Register → ℕ → (ChanRec → Found) → Effect
 finds here core k d s count does = on_chan here core k s (tokens count) does (takes_into d)
 
--- ---- `in` and `out`, which are rows on a channel end and on a lock
+-- ---- `in`, `out`, `setd` and `getd`, which are rows on several kinds
 
 -- the thread owns the lock and takes its identifier, or waits until nobody owns it
 abbrev pub claimed_there : CoreRec → ThreadNumber → Register → Identifier → ℕ → Claimed → Effect
@@ -141,16 +152,31 @@ claimed_there core k d name n (Owns lock) = Done (goes_on_with (with_lock core n
 claimed_there core k d name n IsHeld = Pause core (wait.Lock n) []
 claimed_there core k d name n IsRefused = Trap ILLEGAL_RESOURCE name
 
-abbrev pub takes_in : CoreRec → ThreadNumber → Register → Identifier → Option Resource → Effect
-takes_in core k d name (Some (resource.Chan c)) = at_chan core k name (tokens 4) take_word (takes_into d) c
-takes_in core k d name (Some (resource.Lock n)) = claimed_there core k d name n (claimed k (lock_of core n))
-takes_in core k d name _ = Trap ILLEGAL_RESOURCE name
+abbrev pub takes_in : Slot → CoreRec → ThreadNumber → Register → Identifier → Option Resource → Effect
+takes_in slot core k d name (Some (resource.Chan c)) = at_chan core k name (tokens 4) take_word (takes_into d) c
+takes_in slot core k d name (Some (resource.Timer n)) = takes_time slot core k d name n
+takes_in slot core k d name (Some (resource.Lock n)) = claimed_there core k d name n (claimed k (lock_of core n))
+takes_in slot core k d name _ = Trap ILLEGAL_RESOURCE name
 
 -- the thread puts a word, or gives the lock up
 abbrev pub puts_out : CoreRec → ThreadNumber → Identifier → Word → Option Resource → Effect
 puts_out core k name word (Some (resource.Chan c)) = at_chan core k name (room 4) (put_word word) takes_nothing c
 puts_out core k name word (Some (resource.Lock n)) = goes_on_in k name (without_lock core n (released k (lock_of core n)))
 puts_out core k name word _ = Trap ILLEGAL_RESOURCE name
+
+-- a channel end takes a destination, a timer the value of its condition, a clock block its divider
+abbrev pub sets_data : CoreRec → ThreadNumber → Identifier → Word → Option Resource → Effect
+sets_data core k name x (Some (resource.Chan c)) = at_chan core k name no_wait (take_dest x) takes_nothing c
+sets_data core k name x (Some (resource.Timer n)) = goes_on_in k name (timer_becomes core n (with_value x (timer_of core n)))
+sets_data core k name x (Some (resource.Clock n)) = goes_on_in k name (clock_becomes core n (divided_by x (clock_of core n)))
+sets_data core k name x _ = Trap ILLEGAL_RESOURCE name
+
+-- the thread takes what is set
+abbrev pub tells_data : CoreRec → ThreadNumber → Register → Identifier → Option Resource → Effect
+tells_data core k d name (Some (resource.Chan c)) = at_chan core k name no_wait tell_dest (takes_into d) c
+tells_data core k d name (Some (resource.Timer n)) = tells core k d name (timer_of core n).used (timer_of core n).value
+tells_data core k d name (Some (resource.Clock n)) = tells core k d name (clock_of core n).on (clock_of core n).divider
+tells_data core k d name _ = Trap ILLEGAL_RESOURCE name
 
 -- what register s names
 abbrev pub named_in : Setting → CoreRec → ThreadNumber → Register → Option Resource
@@ -165,13 +191,25 @@ resources_row here core k (resources.Out s x) = puts_out core k (reg core k s) (
 resources_row here core k (resources.Outt s x) = puts here core k s (Byte (reg core k x % 256))
 resources_row here core k (resources.Outct s x) = puts here core k s (Ctrl (reg core k x % 256))
 resources_row here core k (resources.OutctImm s i) = puts here core k s (Ctrl i)
-resources_row here core k (resources.In d s) = takes_in core k d (reg core k s) (named_in here core k s)
+resources_row here core k (resources.In d s) = takes_in here.slot core k d (reg core k s) (named_in here core k s)
 resources_row here core k (resources.Int d s) = finds here core k d s 1 take_byte
 resources_row here core k (resources.Inct d s) = finds here core k d s 1 take_ctrl
 resources_row here core k (resources.Chkct s x) = checks here core k s (reg core k x)
 resources_row here core k (resources.ChkctImm s i) = checks here core k s i
 resources_row here core k (resources.Testct d s) = finds here core k d s 1 look
 resources_row here core k (resources.Testwct d s) = finds here core k d s 4 look_word
-resources_row here core k (resources.Setd s x) = on_chan here core k s no_wait (take_dest (reg core k x)) takes_nothing
-resources_row here core k (resources.Getd d s) = on_chan here core k s no_wait tell_dest (takes_into d)
+resources_row here core k (resources.Setd s x) = sets_data core k (reg core k s) (reg core k x) (named_in here core k s)
+resources_row here core k (resources.Getd d s) = tells_data core k d (reg core k s) (named_in here core k s)
+resources_row here core k (resources.SetcImm s u) = sets_mode core k (reg core k s) u (named_in here core k s)
+resources_row here core k (resources.Setc s x) = sets_mode core k (reg core k s) (reg core k x) (named_in here core k s)
+resources_row here core k (resources.Setv s) = sets_events core k (reg core k s) (with_vector (reg core k 11)) (named_in here core k s)
+resources_row here core k (resources.Setev s) = sets_events core k (reg core k s) (with_environment (reg core k 11)) (named_in here core k s)
+resources_row here core k (resources.Eeu s) = enables core k (reg core k s) true (named_in here core k s)
+resources_row here core k (resources.Edu s) = enables core k (reg core k s) false (named_in here core k s)
+resources_row here core k (resources.Eet x s) = enables core k (reg core k s) (not (reg core k x == 0)) (named_in here core k s)
+resources_row here core k (resources.Eef x s) = enables core k (reg core k s) (reg core k x == 0) (named_in here core k s)
+resources_row here core k resources.Clre = Done (goes_on (clears core k) k) []
+resources_row here core k resources.Waiteu = waits_where core k true
+resources_row here core k (resources.Waitet x) = waits_where core k (not (reg core k x == 0))
+resources_row here core k (resources.Waitef x) = waits_where core k (reg core k x == 0)
 resources_row here core k _ = Unbuilt

@@ -8,11 +8,12 @@ use Rattle.xs_model.specs.declared.event.Happen.{Happen}
 use Rattle.xs_model.specs.declared.event.Happen.TheVariants as happen
 use Rattle.xs_model.specs.declared.outside.Arrivals.{Arrivals}
 use Rattle.xs_model.specs.declared.outside.PinView.{PinView}
-use Rattle.xs_model.specs.Record.{CoreRec, NodeRec, PortRec, thread_of, with_thread, with_run, with_last}
+use Rattle.xs_model.specs.Record.{CoreRec, NodeRec, PortRec, EnablingRec, thread_of, with_thread, with_run, with_last}
 use Rattle.xs_model.specs.Outside.{Emitted}
 use Rattle.xs_model.specs.AtWork.{AtWork, slot_begins, emitted_in}
 use Rattle.xs_model.specs.Picks.{picked}
-use Rattle.xs_model.specs.Entry.{trapped, return_address}
+use Rattle.xs_model.specs.Choices.{choice}
+use Rattle.xs_model.specs.Entry.{trapped, return_address, entered}
 use Rattle.xs_instructions.specs.declared.instr.Instr.{Instr}
 use Rattle.xs_instructions.specs.Code.{is_code_place, code_at}
 use Rattle.net_model.specs.Links.{arrive}
@@ -62,11 +63,15 @@ executed code here core k (Some ins) = settled code core k (effect here core k i
 abbrev pub issue_begins : CoreRec → Slot → ThreadNumber → CoreRec
 issue_begins core slot k = with_run (with_last core k slot) k Going
 
+-- the issue goes by what the thread takes, if anything: then no instruction is executed
+abbrev pub issued_with : List Instr → Setting → CoreRec → ThreadNumber → Option EnablingRec → Issued
+issued_with code here core k (Some taken) = quietly (with_thread core k (entered taken (thread_of core k)))
+issued_with code here core k None = executed code here core k (code_at code (thread_of core k).pc)
+
 abbrev pub issued_by : List Instr → Setting → CoreRec → Option ThreadNumber → Issued
 issued_by code here core None = quietly core
 issued_by code here core (Some k) =
-    let core' = issue_begins core here.slot k in
-    executed code here core' k (code_at code (thread_of core' k).pc)
+    let core' = issue_begins core here.slot k in issued_with code here core' k (choice core' here.slot k)
 
 -- at most one issue, by the thread that is picked
 abbrev pub issued : List Instr → Setting → CoreRec → Issued

@@ -81,6 +81,9 @@ traps_in_1 number value = in_slot 1 (happen.Trap 0 number 0x00040000 value) ∷ 
 abbrev pub getr_twice : List Instr
 getr_twice = Resources (resources.Getr 0 2) ∷ Resources (resources.Getr 1 2) ∷ []
 
+abbrev pub getr_port : Instr
+getr_port = Resources (resources.Getr 0 0)
+
 abbrev pub getr_timer : Instr
 getr_timer = Resources (resources.Getr 0 1)
 
@@ -94,9 +97,12 @@ pub record WorkedGetr : Type 0 where
   -- the second is channel end 1
   pub second_got : thread_of (after_from getr_twice seven_in_r1 0 5).core 0 ≡ record first { r = three_and_zeros own_id 0x00030102 0; pc = 0x00040008 }
   pub two_in_use : (after_from getr_twice seven_in_r1 0 5).core.chans ≡ got_chan ∷ got_chan ∷ replicate 30 unused_chan
-  -- 0 for a timer, and no channel end is got
-  pub of_other_kind : thread_in_1 getr_timer (start_as (with_three 7 0 0)) ≡ record first { pc = 0x00040004 }
-  pub none_got : (quiet_slot (getr_timer ∷ []) start 1).rec.core.chans ≡ replicate 32 unused_chan
+  -- 0 for a port, which nobody gets; and no channel end is got
+  pub of_other_kind : thread_in_1 getr_port (start_as (with_three 7 0 0)) ≡ record first { pc = 0x00040004 }
+  pub none_got : (quiet_slot (getr_port ∷ []) start 1).rec.core.chans ≡ replicate 32 unused_chan
+  -- timer 0 is got, and no channel end
+  pub timer_got : thread_in_1 getr_timer (start_as (with_three 7 0 0)) ≡ record first { r = three_and_zeros 0x001 0 0; pc = 0x00040004 }
+  pub timer_alone : (quiet_slot (getr_timer ∷ []) start 1).rec.core.chans ≡ replicate 32 unused_chan
 
 -- setd res[r0], r1
 abbrev pub setd_01 : Instr

@@ -1,12 +1,12 @@
 -- The rows on threads, worked out by hand: what each leaves of a whole node, and what it refuses.
-use Rattle.std.specs.Prelude.{ℕ, ◌≡◌, true, Option, Some, None, List, [], ◌∷◌, ◌++◌, replicate}
+use Rattle.std.specs.Prelude.{ℕ, ◌≡◌, true, false, Option, Some, None, List, [], ◌∷◌, ◌++◌, replicate}
 use Rattle.xs_base.specs.Numbers.{Slot, ThreadNumber}
 use Rattle.xs_model.specs.declared.thread.Thread.{Thread}
 use Rattle.xs_model.specs.declared.thread.Run.{Run}
 use Rattle.xs_model.specs.declared.thread.Run.TheVariants.{Free, Unstarted, AtSync, Going, Paused, Halted}
 use Rattle.xs_model.specs.declared.thread.Wait.TheVariants.{Choice}
 use Rattle.xs_model.specs.declared.event.Happen.TheVariants as happen
-use Rattle.xs_model.specs.Record.{NodeRec, SyncRec, LockRec, unused_chan, unused_sync, unused_lock, thread_of, with_thread, with_last}
+use Rattle.xs_model.specs.Record.{NodeRec, SyncRec, LockRec, unused_chan, unused_timer, unused_sync, unused_lock, thread_of, with_thread, with_last}
 use Rattle.xs_model.specs.Outside.{emitted_events, in_slot}
 use Rattle.xs_instructions.specs.declared.instr.Instr.{Instr}
 use Rattle.xs_instructions.specs.declared.instr.Instr.TheVariants.{Threads, Resources}
@@ -288,14 +288,21 @@ getr_of kind = Resources (resources.Getr 1 kind)
 abbrev pub GetsNone : ℕ → Type 0
 GetsNone kind = in_10 (getr_of kind) (crowd_named 1) ≡ leaves by_0 (crowd (next (with_three 1 0 0)) (other Free))
 
+-- the same node, whose timer 0 is in use, without a condition
+abbrev pub with_first_timer : NodeRec → NodeRec
+with_first_timer rec = record rec {
+  core = record rec.core { timers = record { used = true; value = 0; after = false } ∷ replicate 9 unused_timer };
+}
+
 pub record WorkedGetThread : Type 0 where
   pub got : in_10 (getr_of 4) (crowd_named 1) ≡ leaves by_0_with_3 (crowd (next (with_three 1 0x304 0)) all_zero)
   pub last_got : in_10 (getr_of 4) (last_is (with_three 1 7 0) (other Free)) ≡
       leaves by_0_with_7 (last_is (next (with_three 1 0x704 0)) all_zero)
   pub none_free : in_10 (getr_of 4) (last_is (with_three 1 7 0) (other (Paused Choice))) ≡
       leaves by_0 (last_is (next (with_three 1 0 0)) (other (Paused Choice)))
+  -- timer 0 is got
+  pub timer : in_10 (getr_of 1) (crowd_named 7) ≡ leaves by_0 (with_first_timer (crowd (next (with_three 7 0x001 0)) (other Free)))
   pub port : GetsNone 0
-  pub timer : GetsNone 1
   pub clock : GetsNone 6
   pub greatest : GetsNone 11
 

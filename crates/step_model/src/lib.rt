@@ -13,6 +13,14 @@ ghost use Rattle.step_model.specs.WorkedSyncs.{WorkedSyncs};
 ghost use Rattle.step_model.specs.WorkedLocks.{WorkedLocks};
 ghost use Rattle.step_model.specs.WorkedTokens.{WorkedTokens};
 ghost use Rattle.step_model.specs.WorkedTurns.{WorkedTurns};
+ghost use Rattle.step_model.specs.WorkedTime.{WorkedTime};
+ghost use Rattle.step_model.specs.WorkedTimers.{WorkedTimers};
+ghost use Rattle.step_model.specs.WorkedModes.{WorkedModes};
+ghost use Rattle.step_model.specs.WorkedEvents.{WorkedEvents};
+ghost use Rattle.step_model.specs.WorkedEventRows.{WorkedEventRows};
+ghost use Rattle.step_model.specs.WorkedChoices.{WorkedChoices};
+ghost use Rattle.step_model.specs.WorkedEntered.{WorkedEntered};
+ghost use Rattle.step_model.specs.WorkedTimeRuns.{WorkedTimeRuns};
 
 /// The definitions give what was worked out by hand: what a node keeps after its first slots, for small code.
 pub fn worked_slots()
@@ -32,4 +40,12 @@ pub fn worked_slots()
     ensures locks { WorkedLocks }
     ensures turns { WorkedTurns }
     ensures tokens { WorkedTokens }
+    ensures time { WorkedTime }
+    ensures timers { WorkedTimers }
+    ensures modes { WorkedModes }
+    ensures events { WorkedEvents }
+    ensures event_rows { WorkedEventRows }
+    ensures choices { WorkedChoices }
+    ensures entries { WorkedEntered }
+    ensures time_runs { WorkedTimeRuns }
 {}

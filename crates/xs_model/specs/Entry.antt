@@ -7,6 +7,7 @@ use Rattle.xs_model.specs.declared.thread.Thread.{Thread}
 use Rattle.xs_model.specs.declared.status.TheConstants.{EEBLE, IEBLE, INENB, ININT, INK, WAITING}
 use Rattle.xs_model.specs.declared.traps.TheConstants.{KERNEL_CALL}
 use Rattle.xs_model.specs.Status.{with_bits, without_bits}
+use Rattle.xs_model.specs.Record.{EnablingRec}
 
 -- ---- Traps
 
@@ -55,6 +56,10 @@ in_interrupt th vector environment = record th {
   ed = environment;
   sr = status_in_interrupt th.sr;
 }
+
+-- what a thread takes of a resource that is ready
+abbrev pub entered : EnablingRec → Thread → Thread
+entered e th = if e.interrupt then in_interrupt th e.vector e.environment else in_event th e.vector e.environment
 
 -- ---- The return
 

@@ -6,6 +6,9 @@ pub mod Record
 pub mod Free
 pub mod Masks
 pub mod Syncs
+pub mod Time
+pub mod Enabling
+pub mod Choices
 pub mod Outside
 pub mod AtWork
 pub mod Waits

@@ -1,4 +1,4 @@
--- Threads as the bits of a byte.
+-- Threads, and other things that have numbers, as the bits of a number.
 use Rattle.std.specs.Prelude.{ℕ, Bool, ◌==◌, List, [], ◌∷◌, filter}
 use Rattle.std.specs.Int.{bit_at}
 use Rattle.xs_base.specs.Numbers.{ThreadNumber}

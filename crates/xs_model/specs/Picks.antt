@@ -1,10 +1,11 @@
 -- Which thread issues in a slot.
-use Rattle.std.specs.Prelude.{suc, ◌+◌, Bool, true, false, ◌&&◌, nat_le, nat_lt, if◌then◌else◌, Option, Some, None, List, [], ◌∷◌}
+use Rattle.std.specs.Prelude.{suc, ◌+◌, Bool, true, false, ◌&&◌, ◌||◌, nat_le, nat_lt, if◌then◌else◌, Option, Some, None, is_some, List, [], ◌∷◌}
 use Rattle.xs_base.specs.Numbers.{Slot, ThreadNumber}
 use Rattle.xs_model.specs.declared.thread.Run.{Run}
 use Rattle.xs_model.specs.declared.thread.Run.TheVariants.{Going, Paused}
 use Rattle.xs_model.specs.Record.{CoreRec, thread_of, last_of}
 use Rattle.xs_model.specs.Waits.{holds}
+use Rattle.xs_model.specs.Choices.{choice}
 
 -- a thread may issue in the fourth slot after its last issue, and later
 abbrev pub is_rested : Option Slot → Slot → Bool
@@ -17,9 +18,13 @@ goes_or_holds core slot Going = true
 goes_or_holds core slot (Paused wait) = holds core slot wait
 goes_or_holds core slot _ = false
 
--- whether a thread would issue if it were rested. That a paused thread may take an event is not built yet.
+abbrev pub is_paused : Run → Bool
+is_paused (Paused wait) = true
+is_paused _ = false
+
+-- whether a thread would issue if it were rested: it goes, or what pauses it holds, or it is paused and has a choice
 abbrev pub is_able : CoreRec → ThreadNumber → Slot → Bool
-is_able core k slot = goes_or_holds core slot (thread_of core k).run
+is_able core k slot = let run = (thread_of core k).run in goes_or_holds core slot run || (is_paused run && is_some (choice core slot k))
 
 -- whether a thread may issue in a slot
 abbrev pub eligible : CoreRec → ThreadNumber → Slot → Bool

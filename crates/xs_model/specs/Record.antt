@@ -2,6 +2,8 @@
 use Rattle.std.specs.Prelude.{ℕ, Bool, false, List, [], ◌∷◌, Option, Some, None, replicate, slice_index_or, slice_set}
 use Rattle.xs_base.specs.Numbers.{Slot, Word, ThreadNumber, ChanNumber, EndNumber, PortNumber, Identifier}
 use Rattle.xs_base.specs.declared.token.Token.{Token}
+use Rattle.xs_model.specs.declared.clock.Clock.{Clock}
+use Rattle.xs_model.specs.declared.clock.Clock.TheVariants.{Reference}
 use Rattle.xs_model.specs.declared.dest.Dest.{Dest}
 use Rattle.xs_model.specs.declared.thread.Thread.{Thread}
 use Rattle.xs_model.specs.declared.thread.Run.{Run}
@@ -28,6 +30,7 @@ pub record TimerRec : Type 0 where
 abbrev pub unused_timer : TimerRec
 unused_timer = record { used = false; value = 0; after = false }
 
+-- a clock block: whether it is on, its divider, and whether it runs
 pub record ClockRec : Type 0 where
   pub on : Bool
   pub divider : ℕ
@@ -64,12 +67,12 @@ pub record TransferRec : Type 0 where
   pub bits : ℕ
   pub time : Option ℕ
 
--- a port: `clock` is a clock block, or None for the reference; `wanted` is the number of bits that completes a transfer,
--- and `held` says that a sample waits to be taken; `shift` has its bits in the order in which they leave
+-- a port: `wanted` is the number of bits that completes a transfer, and `held` says that a sample waits to be taken;
+-- `shift` has its bits in the order in which they leave
 pub record PortRec : Type 0 where
   pub on : Bool
   pub output : Bool
-  pub clock : Option ℕ
+  pub clock : Clock
   pub counter : ℕ
   pub buffered : Bool
   pub transfer_width : ℕ
@@ -89,7 +92,7 @@ abbrev pub off_port : PortRec
 off_port = record {
   on = false;
   output = false;
-  clock = None;
+  clock = Reference;
   counter = 0;
   buffered = false;
   transfer_width = 0;
@@ -106,7 +109,8 @@ off_port = record {
   driven = None;
 }
 
--- what events of a channel end, a timer or a port do, and which thread enabled them
+-- What a channel end, a timer or a port gives where it is ready: an event or an interrupt, with the vector where its
+-- handler stands and an environment for it. It gives it to the thread that enabled it.
 pub record EnablingRec : Type 0 where
   pub vector : Word
   pub environment : Word
@@ -115,6 +119,15 @@ pub record EnablingRec : Type 0 where
 
 abbrev pub not_enabled : EnablingRec
 not_enabled = record { vector = 0; environment = 0; interrupt = false; thread = None }
+
+-- what each channel end, timer and port gives
+pub record EventsRec : Type 0 where
+  pub chans : List EnablingRec  -- 32
+  pub timers : List EnablingRec  -- 10
+  pub ports : List EnablingRec  -- 29
+
+abbrev pub none_enabled : EventsRec
+none_enabled = record { chans = replicate 32 not_enabled; timers = replicate 10 not_enabled; ports = replicate 29 not_enabled }
 
 -- what one of the switch's inputs is at
 pub data InputRec : Type 0 where
@@ -144,9 +157,7 @@ pub record CoreRec : Type 0 where
   pub syncs : List SyncRec  -- 7
   pub locks : List LockRec  -- 4
   pub ports : List PortRec  -- 29
-  pub chan_events : List EnablingRec  -- 32
-  pub timer_events : List EnablingRec  -- 10
-  pub port_events : List EnablingRec  -- 29
+  pub events : EventsRec
 
 -- a node: its core, its switch, and what is at its edges
 pub record NodeRec : Type 0 where
@@ -170,9 +181,7 @@ core_with threads last memory = record {
   syncs = replicate 7 unused_sync;
   locks = replicate 4 unused_lock;
   ports = replicate 29 off_port;
-  chan_events = replicate 32 not_enabled;
-  timer_events = replicate 10 not_enabled;
-  port_events = replicate 29 not_enabled;
+  events = none_enabled;
 }
 
 -- a node with this core and these link ends: every input of its switch is idle, and its pins showed 0
@@ -200,6 +209,9 @@ chan_of core n = slice_index_or core.chans n unused_chan
 abbrev pub timer_of : CoreRec → ℕ → TimerRec
 timer_of core n = slice_index_or core.timers n unused_timer
 
+abbrev pub clock_of : CoreRec → ℕ → ClockRec
+clock_of core n = slice_index_or core.clocks n off_clock
+
 abbrev pub sync_of : CoreRec → ℕ → SyncRec
 sync_of core n = slice_index_or core.syncs n unused_sync
 
@@ -222,6 +234,15 @@ with_last core k slot = record core { last = slice_set core.last k (Some slot) }
 
 abbrev pub with_chan : CoreRec → ChanNumber → ChanRec → CoreRec
 with_chan core c chan = record core { chans = slice_set core.chans c chan }
+
+abbrev pub with_timer : CoreRec → ℕ → TimerRec → CoreRec
+with_timer core n timer = record core { timers = slice_set core.timers n timer }
+
+abbrev pub with_clock : CoreRec → ℕ → ClockRec → CoreRec
+with_clock core n clock = record core { clocks = slice_set core.clocks n clock }
+
+abbrev pub with_events : CoreRec → EventsRec → CoreRec
+with_events core events = record core { events = events }
 
 abbrev pub with_sync : CoreRec → ℕ → SyncRec → CoreRec
 with_sync core n sync = record core { syncs = slice_set core.syncs n sync }

@@ -1,7 +1,7 @@
 -- What a paused thread waits for, and whether it holds.
-use Rattle.std.specs.Prelude.{ℕ, ◌+◌, ◌-◌, ◌/◌, ◌%◌, ◌^◌, Bool, true, false, ◌&&◌, ◌||◌, not, ◌==◌, nat_le, nat_lt, Option, Some, None, is_some, is_none, List, length, take}
+use Rattle.std.specs.Prelude.{ℕ, ◌+◌, Bool, true, false, ◌&&◌, ◌||◌, not, ◌==◌, nat_le, nat_lt, Option, Some, None, is_some, is_none, List, length, take}
 use Rattle.std.specs.List.{list_any, list_all}
-use Rattle.xs_base.specs.Numbers.{Slot, Word}
+use Rattle.xs_base.specs.Numbers.{Slot}
 use Rattle.xs_base.specs.declared.numbers.TheConstants.{BUFFER_TOKENS}
 use Rattle.xs_base.specs.declared.token.Token.{Token}
 use Rattle.xs_base.specs.declared.token.Token.TheVariants.{Byte, Ctrl}
@@ -13,6 +13,7 @@ use Rattle.xs_model.specs.declared.thread.Wait.{Wait}
 use Rattle.xs_model.specs.declared.thread.Wait.TheVariants.{Room, Tokens, PortFull, PortEmpty, PortIdle, Timer, Lock, Slaves, Choice}
 use Rattle.xs_model.specs.declared.resource.Resource.{Resource}
 use Rattle.xs_model.specs.declared.resource.Resource.TheVariants as resource
+use Rattle.xs_model.specs.Time.{timer_holds}
 use Rattle.xs_model.specs.Record.{CoreRec, thread_of, chan_of, timer_of, sync_of, lock_of, port_of}
 
 -- whether so many tokens more fit into a buffer
@@ -26,14 +27,6 @@ is_control (Ctrl c) = true
 -- whether there are so many tokens, or a control token among the first of them
 abbrev pub has_tokens : ℕ → List Token → Bool
 has_tokens count tokens = nat_le count (length tokens) || list_any is_control (take count tokens)
-
--- what timers show: a step every four slots
-abbrev pub time_at : Slot → Word
-time_at slot = slot / 4 % 2 ^ 32
-
--- whether a time is after another, by less than half of all times
-abbrev pub is_after : Word → Word → Bool
-is_after x time = let passed = (time + (2 ^ 32 - x)) % 2 ^ 32 in nat_lt 0 passed && nat_lt passed (2 ^ 31)
 
 -- whether a slave is where its synchroniser waits for it
 abbrev pub is_in : Run → Bool
@@ -53,7 +46,7 @@ holds core slot (PortFull port) = is_some (port_of core port).transfer
 holds core slot (PortEmpty port) = is_none (port_of core port).transfer
 holds core slot (PortIdle port) =
     not ((port_of core port).output && (is_some (port_of core port).transfer || nat_lt 0 (length (port_of core port).shift)))
-holds core slot (Timer timer) = not (timer_of core timer).after || is_after (timer_of core timer).value (time_at slot)
+holds core slot (Timer timer) = timer_holds slot (timer_of core timer)
 holds core slot (Lock lock) = is_none (lock_of core lock).owner
 holds core slot (Slaves sync) = all_in core sync
 holds core slot Choice = false
@@ -94,6 +87,7 @@ is_waited_at core wait = list_any (λ th. waits_at (thing_of wait) th.run) core.
 abbrev pub is_on : Resource → Wait → Bool
 is_on (resource.Chan c) (Room chan count) = chan == c
 is_on (resource.Chan c) (Tokens chan count) = chan == c
+is_on (resource.Timer n) (Timer timer) = timer == n
 is_on (resource.Sync n) (Slaves sync) = sync == n
 is_on (resource.Lock n) (Lock lock) = lock == n
 is_on _ _ = false

@@ -25,6 +25,9 @@ pub const WAITING: u8 = 0x40;
 /// Set by a program alone; it has no effect here.
 pub const FAST: u8 = 0x80;
 
+/// The bits that `setsr` and `clrsr` set and clear: all but `WAITING`.
+pub const SETTABLE: u8 = 0x9F;
+
 /// The seven bits above, all that there are.
 pub const STATUS_BITS: u8 = 0xDF;
 

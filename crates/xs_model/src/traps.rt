@@ -3,8 +3,8 @@
 /// No code stands at the thread's pc.
 pub const ILLEGAL_PC: u32 = 2;
 
-/// An identifier that names nothing of the row's kinds that is in use on the node, or what its resource refuses: no
-/// destination, a destination that is none, another token than the one that is wanted.
+/// An identifier that names nothing of the row's kinds that is in use on the node, or what its resource refuses: for example
+/// a missing destination, another token than the one that is wanted, a mode of another kind.
 pub const ILLEGAL_RESOURCE: u32 = 4;
 
 /// A load or a store at an address outside the memory, or at no multiple of its size.

@@ -1,5 +1,7 @@
 use Rattle.std.proofs.Common.{refl}
 use Rattle.xs_base.specs.Words.{reversed, leading_zeros}
+use Rattle.xs_model.specs.Choices.{first_ready}
+use Rattle.xs_model.specs.Enabling.{without_threads}
 use Rattle.xs_model.specs.Picks.{best_from}
 use Rattle.xs_model.specs.Syncs.{with_slave}
 use Rattle.xs_model.specs.Free.{lowest_free}
@@ -11,7 +13,7 @@ use Rattle.step_model.specs.Step.{node_step}
 use Rattle.step_model.proofs.worked_slots.Goals as goal
 
 pub returns-clause-issues : goal.returns-clause-issues
-unfolding moves_from links_after_arrivals node_step best_from
+unfolding moves_from links_after_arrivals node_step best_from first_ready
 returns-clause-issues c = record {
   threads = refl;
   last = refl;
@@ -31,7 +33,7 @@ returns-clause-issues c = record {
 }
 
 pub returns-clause-words : goal.returns-clause-words
-unfolding moves_from links_after_arrivals node_step best_from reversed leading_zeros
+unfolding moves_from links_after_arrivals node_step best_from first_ready reversed leading_zeros
 returns-clause-words c = record {
   sums = record {
     add = refl;
@@ -224,7 +226,7 @@ returns-clause-words c = record {
 }
 
 pub returns-clause-memory : goal.returns-clause-memory
-unfolding moves_from links_after_arrivals node_step best_from
+unfolding moves_from links_after_arrivals node_step best_from first_ready
 returns-clause-memory c = record {
   loads = record {
     word = refl;
@@ -334,7 +336,7 @@ returns-clause-memory c = record {
 }
 
 pub returns-clause-flow : goal.returns-clause-flow
-unfolding moves_from links_after_arrivals node_step best_from
+unfolding moves_from links_after_arrivals node_step best_from first_ready
 returns-clause-flow c = record {
   branches = record {
     bt_taken = refl;
@@ -401,7 +403,7 @@ returns-clause-flow c = record {
 }
 
 pub returns-clause-kernel : goal.returns-clause-kernel
-unfolding moves_from links_after_arrivals node_step best_from
+unfolding moves_from links_after_arrivals node_step best_from first_ready
 returns-clause-kernel c = record {
   calls = record {
     kcall_greatest = refl;
@@ -483,7 +485,7 @@ returns-clause-kernel c = record {
 }
 
 pub returns-clause-traps : goal.returns-clause-traps
-unfolding moves_from links_after_arrivals node_step best_from
+unfolding moves_from links_after_arrivals node_step best_from first_ready
 returns-clause-traps c = record {
   no_code = refl;
   no_code_events = refl;
@@ -502,7 +504,7 @@ returns-clause-traps c = record {
 }
 
 pub returns-clause-end : goal.returns-clause-end
-unfolding moves_from links_after_arrivals node_step best_from with_slave lowest_free
+unfolding moves_from links_after_arrivals node_step best_from first_ready with_slave lowest_free
 returns-clause-end c = record {
   free = refl;
   no_event = refl;
@@ -513,7 +515,7 @@ returns-clause-end c = record {
 }
 
 pub returns-clause-channels : goal.returns-clause-channels
-unfolding moves_from links_after_arrivals node_step best_from lowest_free free_end first_difference
+unfolding moves_from links_after_arrivals node_step best_from lowest_free free_end first_difference first_ready without_threads
 returns-clause-channels c = record {
   getr = record {
     first_got = refl;
@@ -522,6 +524,8 @@ returns-clause-channels c = record {
     two_in_use = refl;
     of_other_kind = refl;
     none_got = refl;
+    timer_got = refl;
+    timer_alone = refl;
   };
   setd = record {
     is_set = refl;
@@ -609,7 +613,7 @@ returns-clause-channels c = record {
 }
 
 pub returns-clause-waits : goal.returns-clause-waits
-unfolding moves_from links_after_arrivals node_step best_from
+unfolding moves_from links_after_arrivals node_step best_from first_ready
 returns-clause-waits c = record {
   timer_after = refl;
   timer_equal = refl;
@@ -643,7 +647,7 @@ returns-clause-waits c = record {
 }
 
 pub returns-clause-things : goal.returns-clause-things
-unfolding moves_from links_after_arrivals node_step best_from
+unfolding moves_from links_after_arrivals node_step best_from first_ready
 returns-clause-things c = record {
   port = refl;
   port_empty = refl;
@@ -660,14 +664,14 @@ returns-clause-things c = record {
 }
 
 pub returns-clause-levels : goal.returns-clause-levels
-unfolding moves_from links_after_arrivals node_step best_from
+unfolding moves_from links_after_arrivals node_step best_from first_ready
 returns-clause-levels c = record {
   driven = refl;
   driven_low = refl;
 }
 
 pub returns-clause-threads : goal.returns-clause-threads
-unfolding moves_from links_after_arrivals node_step best_from with_slave with_runs lowest_free free_end first_difference
+unfolding moves_from links_after_arrivals node_step best_from with_slave with_runs lowest_free free_end first_difference first_ready without_threads
 returns-clause-threads c = record {
   getst = record {
     got = refl;
@@ -887,7 +891,7 @@ returns-clause-threads c = record {
 }
 
 pub returns-clause-syncs : goal.returns-clause-syncs
-unfolding moves_from links_after_arrivals node_step best_from with_slave with_runs lowest_free free_end first_difference
+unfolding moves_from links_after_arrivals node_step best_from with_slave with_runs lowest_free free_end first_difference first_ready without_threads
 returns-clause-syncs c = record {
   getr = record {
     got = refl;
@@ -976,7 +980,7 @@ returns-clause-syncs c = record {
 }
 
 pub returns-clause-locks : goal.returns-clause-locks
-unfolding moves_from links_after_arrivals node_step best_from with_slave with_runs lowest_free free_end first_difference
+unfolding moves_from links_after_arrivals node_step best_from with_slave with_runs lowest_free free_end first_difference first_ready without_threads
 returns-clause-locks c = record {
   getr = record {
     got = refl;
@@ -1076,7 +1080,7 @@ returns-clause-locks c = record {
 }
 
 pub returns-clause-turns : goal.returns-clause-turns
-unfolding moves_from links_after_arrivals node_step best_from with_slave with_runs lowest_free free_end first_difference
+unfolding moves_from links_after_arrivals node_step best_from with_slave with_runs lowest_free free_end first_difference first_ready without_threads
 returns-clause-turns c = record {
   always_able = record {
     one = refl;
@@ -1095,7 +1099,7 @@ returns-clause-turns c = record {
 }
 
 pub returns-clause-tokens : goal.returns-clause-tokens
-unfolding moves_from links_after_arrivals node_step best_from with_slave with_runs lowest_free free_end first_difference
+unfolding moves_from links_after_arrivals node_step best_from with_slave with_runs lowest_free free_end first_difference first_ready without_threads
 returns-clause-tokens c = record {
   out = record {
     puts = refl;
@@ -1241,5 +1245,648 @@ returns-clause-tokens c = record {
     no_dest_of_a_lock = refl;
     other_node = refl;
     number_32 = refl;
+  };
+}
+
+pub returns-clause-time : goal.returns-clause-time
+returns-clause-time c = record {
+  times = record {
+    first_slots = refl;
+    late_slots = refl;
+    wraps = refl;
+  };
+  after = record {
+    value_0 = refl;
+    value_1 = refl;
+    before_half = refl;
+    half = refl;
+    after_half = refl;
+    before_greatest = refl;
+    greatest = refl;
+  };
+  edges = record {
+    reference = refl;
+    divider_0 = refl;
+    divider_1 = refl;
+    divider_2 = refl;
+    divider_255 = refl;
+    third_period = refl;
+    does_not_run = refl;
+    is_off = refl;
+    late_reference = refl;
+    late_divider_2 = refl;
+  };
+}
+
+pub returns-clause-timers : goal.returns-clause-timers
+unfolding moves_from links_after_arrivals node_step best_from lowest_free free_end first_difference first_ready without_threads with_runs
+returns-clause-timers c = record {
+  getr = record {
+    lowest = refl;
+    last = refl;
+    all_used = refl;
+  };
+  input = record {
+    without_condition = refl;
+    holds = refl;
+    over_its_name = refl;
+    waits = refl;
+    waited_at = refl;
+    other_waited_at = refl;
+    need_not_wait = refl;
+    refused_first = refl;
+    refused = record {
+      unused = refl;
+      number_10 = refl;
+      upper_half = refl;
+      nothing = refl;
+    };
+    clock = refl;
+  };
+  timer_data = record {
+    setd = refl;
+    setd_without_condition = refl;
+    setd_refused = record {
+      unused = refl;
+      number_10 = refl;
+      upper_half = refl;
+      nothing = refl;
+    };
+    getd = refl;
+    getd_without_condition = refl;
+    getd_refused = record {
+      unused = refl;
+      number_10 = refl;
+      upper_half = refl;
+      nothing = refl;
+    };
+  };
+  timer_modes = record {
+    after = refl;
+    after_again = refl;
+    after_of_word = refl;
+    no_condition = refl;
+    no_condition_again = refl;
+    no_condition_of_word = refl;
+    after_refused = record {
+      unused = refl;
+      number_10 = refl;
+      upper_half = refl;
+      nothing = refl;
+    };
+    no_condition_refused = record {
+      unused = refl;
+      number_10 = refl;
+      upper_half = refl;
+      nothing = refl;
+    };
+  };
+  freer = record {
+    freed = refl;
+    others_stay = refl;
+    waited_at = refl;
+    other_waited_at = refl;
+    event_waited_for = refl;
+    refused = record {
+      unused = refl;
+      number_10 = refl;
+      upper_half = refl;
+      nothing = refl;
+    };
+    clock = refl;
+  };
+  clock_modes = record {
+    on = refl;
+    on_again = refl;
+    on_refused = refl;
+    off = refl;
+    off_while_it_runs = refl;
+    off_refused = record {
+      is_off = refl;
+      other_is_off = refl;
+      number_6 = refl;
+      upper_half = refl;
+    };
+    starts = refl;
+    starts_again = refl;
+    starts_of_word = refl;
+    start_refused = record {
+      is_off = refl;
+      other_is_off = refl;
+      number_6 = refl;
+      upper_half = refl;
+    };
+    stops = refl;
+    stops_again = refl;
+    stop_refused = record {
+      is_off = refl;
+      other_is_off = refl;
+      number_6 = refl;
+      upper_half = refl;
+    };
+  };
+  dividers = record {
+    greatest = refl;
+    least = refl;
+    too_great = refl;
+    whole_word = refl;
+    while_it_runs = refl;
+    same_while_it_runs = refl;
+    setd_refused = record {
+      is_off = refl;
+      other_is_off = refl;
+      number_6 = refl;
+      upper_half = refl;
+    };
+    getd = refl;
+    getd_while_it_runs = refl;
+    getd_of_0 = refl;
+    getd_refused = record {
+      is_off = refl;
+      other_is_off = refl;
+      number_6 = refl;
+      upper_half = refl;
+    };
+  };
+}
+
+pub returns-clause-modes : goal.returns-clause-modes
+unfolding moves_from links_after_arrivals node_step best_from lowest_free free_end first_difference first_ready without_threads with_runs
+returns-clause-modes c = record { chan = refl; timer = refl; clock = refl; sync = refl; thread = refl; lock = refl; nothing = refl; whole_on = refl; whole_off = refl; whole_after = refl; whole_event = refl }
+
+pub returns-clause-events : goal.returns-clause-events
+unfolding moves_from links_after_arrivals node_step best_from lowest_free free_end first_difference first_ready without_threads with_runs
+returns-clause-events c = record {
+  setting = record {
+    vector = record {
+      chan = refl;
+      timer = refl;
+    };
+    vector_of_other = record {
+      chan = refl;
+      timer = refl;
+    };
+    vector_of_nobodys = record {
+      chan = refl;
+      timer = refl;
+    };
+    vector_refused = record {
+      unused_chan = refl;
+      unused_timer = refl;
+      chan_of_other_node = refl;
+      upper_half = refl;
+      chan_32 = refl;
+      timer_10 = refl;
+      port = refl;
+      sync = refl;
+      thread = refl;
+      lock = refl;
+      clock = refl;
+      nothing = refl;
+    };
+    environment = record {
+      chan = refl;
+      timer = refl;
+    };
+    environment_of_other = record {
+      chan = refl;
+      timer = refl;
+    };
+    environment_of_nobodys = record {
+      chan = refl;
+      timer = refl;
+    };
+    environment_refused = record {
+      unused_chan = refl;
+      unused_timer = refl;
+      chan_of_other_node = refl;
+      upper_half = refl;
+      chan_32 = refl;
+      timer_10 = refl;
+      port = refl;
+      sync = refl;
+      thread = refl;
+      lock = refl;
+      clock = refl;
+      nothing = refl;
+    };
+    interrupt = record {
+      chan = refl;
+      timer = refl;
+    };
+    interrupt_of_other = record {
+      chan = refl;
+      timer = refl;
+    };
+    interrupt_again = record {
+      chan = refl;
+      timer = refl;
+    };
+    interrupt_refused = record {
+      unused_chan = refl;
+      unused_timer = refl;
+      chan_of_other_node = refl;
+      upper_half = refl;
+      chan_32 = refl;
+      timer_10 = refl;
+      port = refl;
+      sync = refl;
+      thread = refl;
+      lock = refl;
+      clock = refl;
+      nothing = refl;
+    };
+    event = record {
+      chan = refl;
+      timer = refl;
+    };
+    event_of_other = record {
+      chan = refl;
+      timer = refl;
+    };
+    event_again = record {
+      chan = refl;
+      timer = refl;
+    };
+    event_refused = record {
+      unused_chan = refl;
+      unused_timer = refl;
+      chan_of_other_node = refl;
+      upper_half = refl;
+      chan_32 = refl;
+      timer_10 = refl;
+      port = refl;
+      sync = refl;
+      thread = refl;
+      lock = refl;
+      clock = refl;
+      nothing = refl;
+    };
+  };
+  enabling = record {
+    eeu = record {
+      chan = refl;
+      timer = refl;
+    };
+    eeu_again = record {
+      chan = refl;
+      timer = refl;
+    };
+    eeu_of_other = record {
+      chan = refl;
+      timer = refl;
+    };
+    eeu_refused = record {
+      unused_chan = refl;
+      unused_timer = refl;
+      chan_of_other_node = refl;
+      upper_half = refl;
+      chan_32 = refl;
+      timer_10 = refl;
+      port = refl;
+      sync = refl;
+      thread = refl;
+      lock = refl;
+      clock = refl;
+      nothing = refl;
+    };
+    edu = record {
+      chan = refl;
+      timer = refl;
+    };
+    edu_of_other = record {
+      chan = refl;
+      timer = refl;
+    };
+    edu_again = record {
+      chan = refl;
+      timer = refl;
+    };
+    edu_refused = record {
+      unused_chan = refl;
+      unused_timer = refl;
+      chan_of_other_node = refl;
+      upper_half = refl;
+      chan_32 = refl;
+      timer_10 = refl;
+      port = refl;
+      sync = refl;
+      thread = refl;
+      lock = refl;
+      clock = refl;
+      nothing = refl;
+    };
+    eet = record {
+      chan = refl;
+      timer = refl;
+    };
+    eet_of_0 = record {
+      chan = refl;
+      timer = refl;
+    };
+    eet_refused = record {
+      unused_chan = refl;
+      unused_timer = refl;
+      chan_of_other_node = refl;
+      upper_half = refl;
+      chan_32 = refl;
+      timer_10 = refl;
+      port = refl;
+      sync = refl;
+      thread = refl;
+      lock = refl;
+      clock = refl;
+      nothing = refl;
+    };
+    eef = record {
+      chan = refl;
+      timer = refl;
+    };
+    eef_of_0 = record {
+      chan = refl;
+      timer = refl;
+    };
+    eef_refused = record {
+      unused_chan = refl;
+      unused_timer = refl;
+      chan_of_other_node = refl;
+      upper_half = refl;
+      chan_32 = refl;
+      timer_10 = refl;
+      port = refl;
+      sync = refl;
+      thread = refl;
+      lock = refl;
+      clock = refl;
+      nothing = refl;
+    };
+    eet_of_its_name = record {
+      chan = refl;
+      timer = refl;
+    };
+  };
+  forgotten = record {
+    chan = refl;
+    timer = refl;
+  };
+}
+
+pub returns-clause-event_rows : goal.returns-clause-event_rows
+unfolding moves_from links_after_arrivals node_step best_from lowest_free free_end first_difference first_ready without_threads with_runs
+returns-clause-event_rows c = record {
+  clearing = record {
+    events = refl;
+    interrupts = refl;
+    event_bit = refl;
+    inenb_bit = refl;
+    other_bits = refl;
+  };
+  waiting = record {
+    always = refl;
+    keeps_bits = refl;
+    again = refl;
+    waitet = refl;
+    waitet_of_0 = refl;
+    waitef = refl;
+    waitef_of_7 = refl;
+    ready_too = refl;
+  };
+  status = record {
+    setsr_all = refl;
+    setsr_most = refl;
+    setsr_waiting = refl;
+    setsr_bit_5 = refl;
+    setsr_upper = refl;
+    setsr_one = refl;
+    setsr_none = refl;
+    clrsr_all = refl;
+    clrsr_most = refl;
+    clrsr_waiting = refl;
+    clrsr_some = refl;
+    clrsr_none = refl;
+    clrsr_unset = refl;
+  };
+  freed = record {
+    freet = refl;
+    mjoin = refl;
+  };
+}
+
+pub returns-clause-choices : goal.returns-clause-choices
+unfolding moves_from links_after_arrivals node_step best_from lowest_free free_end first_difference first_ready without_threads with_runs
+returns-clause-choices c = record {
+  order = record {
+    chans = record {
+      events = refl;
+      interrupts = refl;
+      other_order = refl;
+      interrupt_first = refl;
+      interrupt_before_event = refl;
+      second_alone = refl;
+    };
+    last_chan = record {
+      events = refl;
+      interrupts = refl;
+      other_order = refl;
+      interrupt_first = refl;
+      interrupt_before_event = refl;
+      second_alone = refl;
+    };
+    timers = record {
+      events = refl;
+      interrupts = refl;
+      other_order = refl;
+      interrupt_first = refl;
+      interrupt_before_event = refl;
+      second_alone = refl;
+    };
+    last_timer = record {
+      events = refl;
+      interrupts = refl;
+      other_order = refl;
+      interrupt_first = refl;
+      interrupt_before_event = refl;
+      second_alone = refl;
+    };
+    ports = record {
+      events = refl;
+      interrupts = refl;
+      other_order = refl;
+      interrupt_first = refl;
+      interrupt_before_event = refl;
+      second_alone = refl;
+    };
+    chan_before_timer = record {
+      events = refl;
+      interrupts = refl;
+      other_order = refl;
+      interrupt_first = refl;
+      interrupt_before_event = refl;
+      second_alone = refl;
+    };
+    chan_before_port = record {
+      events = refl;
+      interrupts = refl;
+      other_order = refl;
+      interrupt_first = refl;
+      interrupt_before_event = refl;
+      second_alone = refl;
+    };
+    timer_before_port = record {
+      events = refl;
+      interrupts = refl;
+      other_order = refl;
+      interrupt_first = refl;
+      interrupt_before_event = refl;
+      second_alone = refl;
+    };
+  };
+  ready = record {
+    no_token = refl;
+    token = refl;
+    before_its_time = refl;
+    at_its_time = refl;
+    before_half = refl;
+    at_half = refl;
+    without_condition = refl;
+    not_in_use = refl;
+    port = refl;
+    port_puts_out = refl;
+    port_is_off = refl;
+    second_chan = refl;
+    timer_after_chan = refl;
+    event_after_interrupt = refl;
+    none = refl;
+  };
+  own = record {
+    other_event = refl;
+    other_interrupt = refl;
+    others_alone = refl;
+    nobody = refl;
+    nobody_alone = refl;
+    of_thread_7 = refl;
+    of_thread_5 = refl;
+  };
+  allowed = record {
+    events = refl;
+    interrupts = refl;
+    both = refl;
+    neither = refl;
+    others = refl;
+    event_and_others = refl;
+    interrupt_and_others = refl;
+    all = refl;
+    no_interrupt_as_event = refl;
+    no_event_as_interrupt = refl;
+  };
+}
+
+pub returns-clause-entries : goal.returns-clause-entries
+unfolding moves_from links_after_arrivals node_step best_from lowest_free free_end first_difference first_ready without_threads with_runs
+returns-clause-entries c = record {
+  taken = record {
+    event = refl;
+    interrupt = refl;
+    not_let_in = refl;
+    free = refl;
+    unstarted = refl;
+    at_sync = refl;
+    halted = refl;
+  };
+  pauses = record {
+    room = record {
+      event = refl;
+      interrupt = refl;
+      not_let_in = refl;
+    };
+    tokens = record {
+      event = refl;
+      interrupt = refl;
+      not_let_in = refl;
+    };
+    port = record {
+      event = refl;
+      interrupt = refl;
+      not_let_in = refl;
+    };
+    timer = record {
+      event = refl;
+      interrupt = refl;
+      not_let_in = refl;
+    };
+    lock = record {
+      event = refl;
+      interrupt = refl;
+      not_let_in = refl;
+    };
+    slaves = record {
+      event = refl;
+      interrupt = refl;
+      not_let_in = refl;
+    };
+    choice = record {
+      event = refl;
+      interrupt = refl;
+      not_let_in = refl;
+    };
+  };
+  token_comes = record {
+    told = refl;
+    taken = refl;
+  };
+  return = record {
+    interrupt = refl;
+    handler = refl;
+    back = refl;
+    paused_again = refl;
+    interrupt_in_wait = refl;
+    back_in_wait = refl;
+    waits_again = refl;
+    other_is_paused = refl;
+    traps = refl;
+  };
+  no_code = record {
+    event = refl;
+    event_tells_nothing = refl;
+    event_traps = refl;
+    interrupt_tells_nothing = refl;
+    interrupt_traps = refl;
+  };
+}
+
+pub returns-clause-time_runs : goal.returns-clause-time_runs
+unfolding moves_from links_after_arrivals node_step best_from lowest_free free_end first_difference first_ready without_threads with_runs
+returns-clause-time_runs c = record {
+  token_or_time = record {
+    places = refl;
+    events = refl;
+    waits = refl;
+    taken = refl;
+    before_store = refl;
+    stored = refl;
+    ended = refl;
+  };
+  past_time = record {
+    done = refl;
+    before_store = refl;
+    stored = refl;
+    first_word = refl;
+    ended = refl;
+    no_event = refl;
+    waits = refl;
+    wakes = refl;
+  };
+  ticks = record {
+    places = refl;
+    loops = refl;
+    taken = refl;
+    before_store = refl;
+    stored = refl;
+    back = refl;
+    loops_again = refl;
+    no_event = refl;
+  };
+  started = record {
+    edges = refl;
   };
 }
