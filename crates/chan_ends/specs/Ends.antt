@@ -1,25 +1,17 @@
 -- A core's channel ends, as a list of 32 by their numbers, and what calls leave of them.
-use Rattle.std.specs.Prelude.{ℕ, ◌≡◌, ◌<◌, Bool, true, false, Option, Some, None, List, [], ◌∷◌, slice_index_or, slice_set}
-use Rattle.xs_base.specs.declared.token.Token.{Token}
+use Rattle.std.specs.Prelude.{ℕ, ◌≡◌, ◌<◌, Bool, Option, Some, None, List, slice_index_or, slice_set}
 use Rattle.xs_base.specs.Numbers.{ChanNumber}
 use Rattle.xs_base.specs.declared.numbers.TheConstants.{CHAN_ENDS}
 use Rattle.xs_model.specs.Masks.{in_mask}
 use Rattle.xs_model.specs.Record.{ChanRec, unused_chan}
+use Rattle.xs_model.specs.Choices.{waits_in}
 use Rattle.net_model.specs.Chans.{Found, Got, Waits, Refused, got_chan}
 
 abbrev pub chan_at : List ChanRec → ChanNumber → ChanRec
 chan_at chans c = slice_index_or chans c unused_chan
 
--- whether a token waits in a buffer
-abbrev pub waits_in : List Token → Bool
-waits_in [] = false
-waits_in (t ∷ tokens) = true
-
 abbrev pub has_output : ChanRec → Bool
 has_output chan = waits_in chan.output
-
-abbrev pub has_input : ChanRec → Bool
-has_input chan = waits_in chan.input
 
 -- a mask has the bits of exactly those channel ends that pass a test
 abbrev pub IsMask : (ChanRec → Bool) → ℕ → List ChanRec → Type 0

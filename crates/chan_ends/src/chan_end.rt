@@ -5,7 +5,8 @@ ghost use Rattle.xs_model.specs.Record.{unused_chan};
 ghost use Rattle.xs_model.specs.Waits.{has_room, has_tokens, is_control};
 ghost use Rattle.net_model.specs.Chans.{Got, Refused, got_chan, freed_chan, found_at, chan_after, take_dest, put_tokens, put_token, bytes_of_word, put_word};
 ghost use Rattle.net_model.specs.Chans.{joined, take_word, take_byte, take_ctrl, check_token, look, control_place, look_word};
-ghost use Rattle.chan_ends.specs.Ends.{has_output, has_input, chan_where_freed};
+ghost use Rattle.chan_ends.specs.Ends.{has_output, chan_where_freed};
+ghost use Rattle.xs_model.specs.Choices.{chan_is_ready};
 ghost use Rattle.chan_ends.specs.Answers.{put_answer, take_answer};
 ghost use Rattle.chan_ends.specs.declared.answers.Take.TheVariants as taken;
 
@@ -257,7 +258,7 @@ impl ChanEnd {
 
     /// Whether a token waits in the input buffer.
     pub(crate) fn has_input(&self) -> bool
-        ensures { result ≡ has_input self.now }
+        ensures { result ≡ chan_is_ready self.now }
     {
         !self.input.is_empty()
     }

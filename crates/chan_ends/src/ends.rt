@@ -5,7 +5,8 @@ ghost use Rattle.xs_model.specs.Record.{unused_chan};
 ghost use Rattle.xs_model.specs.Masks.{in_mask};
 ghost use Rattle.xs_model.specs.Waits.{has_room, has_tokens};
 ghost use Rattle.net_model.specs.Chans.{Got, Refused, free_chan, freed_chan, found_at, put_token, put_word, take_word, take_byte, take_ctrl, check_token, look, look_word, take_dest};
-ghost use Rattle.chan_ends.specs.Ends.{chan_at, has_output, has_input, with_got, with_freed, chans_after};
+ghost use Rattle.chan_ends.specs.Ends.{chan_at, has_output, with_got, with_freed, chans_after};
+ghost use Rattle.xs_model.specs.Choices.{chan_is_ready};
 ghost use Rattle.chan_ends.specs.Answers.{put_answer, take_answer};
 
 use crate::answers::{Bad, Put, Take};
@@ -31,9 +32,10 @@ impl Model for ChanEnds {
 
     ghost view = { λ core. core.ends };
 
-    ghost use Rattle.chan_ends.specs.Ends.{IsMask, has_output, has_input};
+    ghost use Rattle.chan_ends.specs.Ends.{IsMask, has_output};
+    ghost use Rattle.xs_model.specs.Choices.{chan_is_ready};
 
-    ghost invariant = { λ core. (length core.ends ≡ 32) × IsMask has_output core.marks.sending core.ends × IsMask has_input core.marks.ready core.ends };
+    ghost invariant = { λ core. (length core.ends ≡ 32) × IsMask has_output core.marks.sending core.ends × IsMask chan_is_ready core.marks.ready core.ends };
 }
 
 impl ChanEnds {
@@ -243,7 +245,7 @@ impl ChanEnds {
 
     /// The channel ends with a token in their input buffer: bit `c` is that of channel end `c`, 0 to 31.
     pub fn ready(&self) -> u32
-        ensures value { (c : ℕ) → c < CHAN_ENDS → in_mask result c ≡ has_input (chan_at self.now c) }
+        ensures value { (c : ℕ) → c < CHAN_ENDS → in_mask result c ≡ chan_is_ready (chan_at self.now c) }
         ensures count { length self.now ≡ CHAN_ENDS }
     {
         self.marks.ready

@@ -3,7 +3,8 @@ ghost use Rattle.std.specs.Prelude.{ℕ, ◌≡◌, ◌<◌, ◌==◌, if◌then
 ghost use Rattle.xs_base.specs.declared.numbers.TheConstants.{CHAN_ENDS};
 ghost use Rattle.xs_model.specs.Masks.{in_mask};
 ghost use Rattle.xs_model.specs.Record.{ChanRec};
-ghost use Rattle.chan_ends.specs.Ends.{IsMask, has_output, has_input};
+ghost use Rattle.chan_ends.specs.Ends.{IsMask, has_output};
+ghost use Rattle.xs_model.specs.Choices.{chan_is_ready};
 
 use crate::chan_end::ChanEnd;
 use xs_base::numbers::CHAN_ENDS;
@@ -23,7 +24,7 @@ impl Marks {
     pub(crate) fn note(&mut self, c: u8, end: &ChanEnd)
         requires { c < CHAN_ENDS }
         ensures sending { (chans : List ChanRec) → length chans ≡ CHAN_ENDS → IsMask has_output self.old.sending chans → IsMask has_output self.new.sending (slice_set chans c end.now) }
-        ensures ready { (chans : List ChanRec) → length chans ≡ CHAN_ENDS → IsMask has_input self.old.ready chans → IsMask has_input self.new.ready (slice_set chans c end.now) }
+        ensures ready { (chans : List ChanRec) → length chans ≡ CHAN_ENDS → IsMask chan_is_ready self.old.ready chans → IsMask chan_is_ready self.new.ready (slice_set chans c end.now) }
     {
         self.sending = with_bit(self.sending, c, end.has_output());
         self.ready = with_bit(self.ready, c, end.has_input());

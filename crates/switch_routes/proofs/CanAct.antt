@@ -7,7 +7,8 @@ use Rattle.std.proofs.lemmas.Nat.Bits.{bit_at_or, bit_at-lt, bit_at_cat_low, bit
 use Rattle.xs_base.specs.declared.token.Token.{Token}
 use Rattle.xs_model.specs.Masks.{in_mask}
 use Rattle.xs_model.specs.Record.{ChanRec, InputRec, Idle}
-use Rattle.chan_ends.specs.Ends.{chan_at, waits_in, has_output}
+use Rattle.xs_model.specs.Choices.{waits_in}
+use Rattle.chan_ends.specs.Ends.{chan_at, has_output}
 use Rattle.link_ends.specs.Counts.{EndCounts}
 use Rattle.switch_routes.specs.Rest.{acts_alone, IsStill, AreMarked}
 use Rattle.switch_routes.specs.Rows.{buffer_of, counts_at, waiting_in}
