@@ -1,0 +1,11 @@
+use Rattle.std.proofs.Common.{Some}
+use Rattle.timers_clocks.proofs.Lowest.{none_free_exactly}
+use Rattle.timers_clocks.proofs.timers.Timers.get.Goals as goal
+
+pub returns-in-Some-clause-none : goal.returns-in-Some-clause-none
+returns-in-Some-clause-none c =
+    rw (← c.self.view_is) (none_free_exactly _ _ c.self.inside.timers 10 (Some c.in-Some.n) c.in-Some.ensures.lowest c.self.invariant.0)
+
+pub returns-in_default-clause-none : goal.returns-in_default-clause-none
+returns-in_default-clause-none c =
+    rw (← c.self.view_is) (none_free_exactly _ _ c.self.inside.timers 10 c.first_free-free.result c.first_free-free.ensures.lowest c.self.invariant.0)

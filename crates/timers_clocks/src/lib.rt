@@ -1,0 +1,16 @@
+//! A core's ten timers, its reference clock and its six clock blocks: functions of the slot. See docs/TIME.md.
+#![tactic(auto)]
+
+mod answers;
+mod block;
+mod clocks;
+mod conditions;
+#[cfg(test)]
+mod tests;
+mod timer;
+mod timers;
+
+pub use answers::Bad;
+pub use clocks::Clocks;
+pub use timers::Timers;
+pub use xs_model::{Clock, Edge};
