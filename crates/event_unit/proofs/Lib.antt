@@ -1,0 +1,4 @@
+pub mod OneBit
+pub mod First
+pub mod Disabled
+pub mod Wakes
