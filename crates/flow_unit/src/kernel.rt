@@ -1,8 +1,8 @@
 //! The rows on the kernel, other than the return.
-ghost use Rattle.std.specs.Prelude.{◌≡◌, ℕ, ◌*◌, ◌/◌, IsTrue, List};
+ghost use Rattle.std.specs.Prelude.{◌≡◌, ℕ, ◌*◌, ◌/◌, IsTrue, List, bit_and};
+ghost use Rattle.xs_model.specs.declared.status.TheConstants.{SETTABLE};
+ghost use Rattle.xs_model.specs.Status.{status, with_bits, without_bits};
 ghost use Rattle.xs_model.specs.Threads.{register};
-ghost use Rattle.xs_instructions.specs.Rows.{is_built};
-ghost use Rattle.xs_instructions.specs.Operands.{row_of_kernel};
 ghost use Rattle.xs_instructions.specs.Instr.{KernelInRange};
 ghost use Rattle.step_model.specs.Effect.{after_it};
 ghost use Rattle.step_model.specs.KernelRows.{kernel_row, calls_where, enters_kernel, leaves_kernel, loads_from_stack, stores_to_stack};
@@ -15,6 +15,7 @@ use bitflags::Flags;
 use core_memory::Ram;
 use core_state::{Outcome, Status, Thread};
 use xs_instructions::KernelIns;
+use xs_model::SETTABLE;
 use xs_model::traps::{ECALL, KERNEL_CALL};
 
 /// A register of traps that a row loads.
@@ -35,7 +36,6 @@ pub(crate) enum Saved {
 pub(crate) fn kernel(thread: &mut Thread, id: u8, ram: &mut Ram, ins: KernelIns) -> Outcome
     requires part { IsTrue (is_no_return ins) }
     requires range { KernelInRange ins }
-    requires built { IsTrue (is_built (row_of_kernel ins)) }
     ensures row { EndsAs result (local thread.old ram.old) (local thread.new ram.new) (kernel_row id (local thread.old ram.old) ins) }
     ensures run { thread.new.run ≡ thread.old.run }
 {
@@ -61,7 +61,9 @@ pub(crate) fn kernel(thread: &mut Thread, id: u8, ram: &mut Ram, ins: KernelIns)
         KernelIns::StwSsr => store_on_stack(2, u32::from(thread.ssr.bits()), thread, ram),
         KernelIns::StwSed => store_on_stack(3, thread.sed, thread, ram),
         KernelIns::StwEt => store_on_stack(4, thread.et, thread, ram),
-        KernelIns::Kret | KernelIns::Setsr(_) | KernelIns::Clrsr(_) => unreachable!(),
+        KernelIns::Setsr(u) => set_status(u, thread),
+        KernelIns::Clrsr(u) => clear_status(u, thread),
+        KernelIns::Kret => unreachable!(),
     }
 }
 
@@ -131,6 +133,36 @@ fn set_kep(thread: &mut Thread) -> Outcome
 {
     thread.kep = thread.reg(11) / 128 * 128;
     go_on(thread)
+}
+
+/// Sets those of the status bits in `u` that a program may set.
+#[inline]
+fn set_status(u: u16, thread: &mut Thread) -> Outcome
+    ensures done { result ≡ Outcome.Done }
+    ensures thread { thread.new ≡ after_it (record thread.old { sr = with_bits thread.old.sr (bit_and u SETTABLE) }) }
+{
+    thread.sr.insert(settable(u));
+    go_on(thread)
+}
+
+/// Clears those of the status bits in `u` that a program may set.
+#[inline]
+fn clear_status(u: u16, thread: &mut Thread) -> Outcome
+    ensures done { result ≡ Outcome.Done }
+    ensures thread { thread.new ≡ after_it (record thread.old { sr = without_bits thread.old.sr (bit_and u SETTABLE) }) }
+{
+    thread.sr.remove(settable(u));
+    go_on(thread)
+}
+
+/// Those of the status bits in `u` that a program may set.
+#[inline]
+fn settable(u: u16) -> Status
+    ensures value { result ≡ status (bit_and u SETTABLE) }
+{
+    Status {
+        bits: (u & u16::from(SETTABLE)) as u8,
+    }
 }
 
 /// Loads a register of traps from the `n`-th word above sp.

@@ -2,7 +2,7 @@
 #![tactic(auto)]
 
 ghost use Rattle.std.specs.Prelude.{◌≡◌, IsTrue};
-ghost use Rattle.xs_instructions.specs.Instr.{InRange, built};
+ghost use Rattle.xs_instructions.specs.Instr.{InRange};
 ghost use Rattle.step_model.specs.Outcomes.{EndsAs, IsDoneOrTraps};
 ghost use Rattle.step_model.specs.Rows.{local_row};
 ghost use Rattle.flow_unit.specs.Local.{local, is_local};
@@ -27,7 +27,6 @@ use xs_instructions::Instr;
 pub fn flow(thread: &mut Thread, id: u8, ram: &mut Ram, ins: Instr) -> Outcome
     requires part { IsTrue (is_local ins) }
     requires range { InRange ins }
-    requires built { IsTrue (built ins) }
     ensures row { EndsAs result (local thread.old ram.old) (local thread.new ram.new) (local_row id (local thread.old ram.old) ins) }
     ensures ends { IsDoneOrTraps result (local thread.old ram.old) (local thread.new ram.new) }
     ensures run { thread.new.run ≡ thread.old.run }

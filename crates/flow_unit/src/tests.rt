@@ -1,7 +1,7 @@
 //! What no clause says: that rows are done, and that a row that traps leaves all as it was.
 use crate::flow;
 use core_memory::Ram;
-use core_state::{Entry0, Outcome, Thread};
+use core_state::{Entry0, Outcome, Status, Thread};
 use std::test::Fail;
 use xs_instructions::{FlowIns, Instr, KernelIns, MemIns};
 
@@ -95,6 +95,28 @@ fn the_kernels_stack_is_entered_and_left(rt: HostRuntime) -> Result<(), Fail> {
         Instr::Kernel(KernelIns::KcallImm(9)),
     );
     assert_eq!(rt; trap_of(call), Some((15, 9)));
+    Ok(())
+}
+
+#[test]
+fn status_bits_are_set_and_cleared(rt: HostRuntime) -> Result<(), Fail> {
+    let mut ram = Ram::new(rt.alloc(), &[])?;
+    let mut thread = first_thread();
+    let rows = [
+        (KernelIns::Setsr(0xffff), 0x00, 0x9f),
+        (KernelIns::Setsr(0x0102), 0x41, 0x43),
+        (KernelIns::Clrsr(0xffff), 0xdf, 0x40),
+        (KernelIns::Clrsr(0x0102), 0x93, 0x91),
+    ];
+    for (ins, before, after) in rows {
+        thread.sr = Status { bits: before };
+        assert_eq!(rt;
+            trap_of(flow(&mut thread, 0, &mut ram, Instr::Kernel(ins))),
+            None
+        );
+        assert_eq!(rt; thread.sr.bits, after);
+    }
+    assert_eq!(rt; thread.pc, 0x0004_0010);
     Ok(())
 }
 

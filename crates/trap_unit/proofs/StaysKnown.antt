@@ -1,5 +1,5 @@
 -- A status has no bit but the seven, whichever of them are cleared and set.
-use Rattle.std.proofs.Common.{◌≡◌, ℕ, min, max, bit_and, bit_or, sym, ap, ◌∙◌, arith}
+use Rattle.std.proofs.Common.{◌≡◌, ℕ, min, max, bit_and, bit_or, sym, ap, subst, ◌∙◌, arith}
 use Rattle.std.specs.Int.{bit_at}
 use Rattle.std.proofs.lemmas.Nat.{and_assoc, and_comm}
 use Rattle.std.proofs.lemmas.Nat.Bits.{bit_at_and, bit_at_or, same_from_bits}
@@ -21,3 +21,9 @@ or_within a b mask one other = same_from_bits (bit_and (bit_or a b) mask) (bit_o
     ∙ ap (λ n. min n (bit_at mask i)) (bit_at_or a b i)
     ∙ max_within (bit_at a i) (bit_at b i) (bit_at mask i) x y
     ∙ sym (bit_at_or a b i))
+
+-- some are cleared, and then others of it are set
+pub set_within : (was kept others cleared set mask : ℕ) → bit_and was mask ≡ was → bit_and others mask ≡ others → cleared ≡ bit_and was kept → set ≡ bit_or cleared others → bit_and set mask ≡ set
+set_within was kept others cleared set mask within among first then =
+    let least = subst (λ n. bit_and n mask ≡ n) (sym first) (and_within was kept mask within) in
+    subst (λ n. bit_and n mask ≡ n) (sym then) (or_within cleared others mask least among)

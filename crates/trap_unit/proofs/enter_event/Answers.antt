@@ -4,6 +4,6 @@ use Rattle.trap_unit.proofs.enter_event.Goals as goal
 
 pub returns-clause-known : goal.returns-clause-known
 returns-clause-known c = λ known. record {
-  sr = subst (λ n. bit_and n 223 ≡ n) (sym (c.remove.ensures tt)) (and_within c.args.thread.now.sr.bits 186 223 known.sr);
+  sr = subst (λ n. bit_and n 223 ≡ n) (sym (c.remove.ensures tt)) (and_within c.args.thread.now.sr.bits _ 223 known.sr);
   ssr = known.ssr;
 }
