@@ -4,7 +4,7 @@ use Rattle.std.specs.Int.{bit_at}
 use Rattle.std.proofs.lemmas.Nat.{and_assoc, and_comm}
 use Rattle.std.proofs.lemmas.Nat.Bits.{bit_at_and, bit_at_or, same_from_bits}
 use Rattle.xs_model.specs.declared.status.Status.{Status}
-use Rattle.xs_model.specs.declared.status.TheConstants.{STATUS_BITS}
+use Rattle.xs_model.specs.declared.status.TheConstants.{SETTABLE, STATUS_BITS}
 use Rattle.xs_model.specs.Status.{status, with_bits, without_bits, status_of, IsKnown}
 
 -- bits of a mask, without those that another one lacks
@@ -33,3 +33,7 @@ with_known sr bits known among = or_within sr.bits bits _ known among
 
 pub of_word_known : (word : ℕ) → IsKnown (status_of word)
 of_word_known word = and_assoc STATUS_BITS (word % 256) STATUS_BITS
+
+-- the bits that a program may set are among the seven
+pub settable_known : (bits : ℕ) → IsKnown (status (bit_and bits SETTABLE))
+settable_known bits = and_assoc STATUS_BITS bits SETTABLE

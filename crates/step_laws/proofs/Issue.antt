@@ -6,17 +6,18 @@ use Rattle.xs_model.specs.declared.thread.Thread.{Thread}
 use Rattle.xs_model.specs.declared.thread.Run.TheVariants.{Going, Paused}
 use Rattle.xs_model.specs.declared.traps.TheConstants.{ILLEGAL_PC}
 use Rattle.xs_model.specs.Threads.{HasKnownBits}
-use Rattle.xs_model.specs.Record.{CoreRec, thread_of, with_last}
+use Rattle.xs_model.specs.Record.{CoreRec, EnablingRec, thread_of, with_last}
 use Rattle.xs_model.specs.Entry.{return_address}
+use Rattle.xs_model.specs.Choices.{choice}
 use Rattle.xs_model.specs.Picks.{picked}
 use Rattle.xs_instructions.specs.declared.instr.Instr.{Instr}
 use Rattle.xs_instructions.specs.declared.instr.Instr.TheVariants.{Words, Memory, Flow, Kernel, Threads, Resources}
 use Rattle.xs_instructions.specs.Code.{code_at}
 use Rattle.step_model.specs.Effect.{Setting, Effect, Done, Pause, Trap, Gone, Unbuilt, local_of}
 use Rattle.step_model.specs.Rows.{effect}
-use Rattle.step_model.specs.Step.{halt_unless, trap, settled, executed, issue_begins, issued_by, issued}
+use Rattle.step_model.specs.Step.{halt_unless, trap, settled, executed, issue_begins, issued_with, issued_by, issued}
 use Rattle.step_laws.specs.StatusBits.{AllKnown}
-use Rattle.step_laws.proofs.Threads.{known, trapped_known, with_thread_known, with_run_known}
+use Rattle.step_laws.proofs.Threads.{known, trapped_known, entered_known, with_thread_known, with_run_known}
 use Rattle.step_laws.proofs.Rows.{words_known, memory_known, flow_known, kernel_known}
 use Rattle.step_laws.proofs.Effects.{EffectKnown, on_registers_known, on_local_known}
 use Rattle.step_laws.proofs.ThreadRows.{threads_known}
@@ -50,11 +51,15 @@ module _ (core : CoreRec) (k : ThreadNumber) (all : AllKnown core.threads) where
   executed_known code here None = trap_known code ILLEGAL_PC _
   executed_known code here (Some ins) = settled_known code _ (effect_known here ins)
 
+taken_known : (code : List Instr) (here : Setting) (core : CoreRec) (k : ThreadNumber) (taken : Option EnablingRec) → AllKnown core.threads → AllKnown (issued_with code here core k taken).core.threads
+taken_known code here core k (Some taken) all = with_thread_known core k _ all (entered_known taken (thread_of core k) (all k))
+taken_known code here core k None all = executed_known core k all code here (code_at code (thread_of core k).pc)
+
 by_known : (code : List Instr) (here : Setting) (core : CoreRec) (who : Option ThreadNumber) → AllKnown core.threads → AllKnown (issued_by code here core who).core.threads
 by_known code here core None all = all
 by_known code here core (Some k) all =
     let begun = issue_begins core here.slot k in
-    executed_known begun k (with_run_known (with_last core k here.slot) k Going all) code here (code_at code (thread_of begun k).pc)
+    taken_known code here begun k (choice begun here.slot k) (with_run_known (with_last core k here.slot) k Going all)
 
 pub issue_known : (code : List Instr) (here : Setting) (core : CoreRec) → AllKnown core.threads → AllKnown (issued code here core).core.threads
 issue_known code here core all = by_known code here core (picked core here.slot) all

@@ -1,5 +1,5 @@
 -- What an issue does to last issues: the slot is that of the thread that issues, and perhaps of one that was free.
-use Rattle.std.proofs.Common.{◌≡◌, ◌≢◌, ◌⊎◌, inl, inr, ℕ, zero, suc, ◌<◌, Bool, true, false, Option, Some, None, List, [], ◌∷◌, length, get_or, slice_set, refl, ap, sym, ◌∙◌, length-set, get_or-set_same, get_or-set_other}
+use Rattle.std.proofs.Common.{◌≡◌, ◌≢◌, ◌⊎◌, inl, inr, ℕ, zero, suc, ◌<◌, Bool, true, false, ◌&&◌, ◌||◌, Option, Some, None, is_some, List, [], ◌∷◌, length, get_or, slice_set, refl, ap, sym, ◌∙◌, length-set, get_or-set_same, get_or-set_other}
 use Rattle.std.proofs.lemmas.Bool.{both_ways}
 use Rattle.xs_base.specs.Numbers.{Slot, ThreadNumber}
 use Rattle.xs_model.specs.declared.event.Happen.{Happen}
@@ -7,13 +7,14 @@ use Rattle.xs_model.specs.declared.thread.Run.{Run}
 use Rattle.xs_model.specs.declared.thread.Run.TheVariants.{Going, Free, Unstarted, AtSync, Paused, Halted}
 use Rattle.xs_model.specs.declared.thread.Thread.{Thread}
 use Rattle.xs_model.specs.Threads.{fresh_thread}
-use Rattle.xs_model.specs.Record.{CoreRec, thread_of, last_of}
-use Rattle.xs_model.specs.Picks.{goes_or_holds}
+use Rattle.xs_model.specs.Record.{CoreRec, EnablingRec, thread_of, last_of}
+use Rattle.xs_model.specs.Choices.{choice}
+use Rattle.xs_model.specs.Picks.{goes_or_holds, is_paused, is_able}
 use Rattle.xs_instructions.specs.declared.instr.Instr.{Instr}
 use Rattle.xs_instructions.specs.Code.{code_at}
 use Rattle.step_model.specs.Effect.{Setting, Effect, Done, Pause, Trap, Gone, Unbuilt}
 use Rattle.step_model.specs.ThreadRows.{is_taken}
-use Rattle.step_model.specs.Step.{halt_unless, settled, executed, issue_begins, issued_by}
+use Rattle.step_model.specs.Step.{halt_unless, settled, executed, issue_begins, issued_with, issued_by}
 use Rattle.step_laws.proofs.RowLasts.{LastsAfter, as_before, with_got, EffectLasts, effect_lasts}
 
 -- ---- What the thread that issues does
@@ -32,6 +33,11 @@ settled_lasts code slot core k Unbuilt h = as_before
 executed_lasts : (code : List Instr) (here : Setting) (core : CoreRec) (k : ThreadNumber) (found : Option Instr) → LastsAfter core here.slot (executed code here core k found).core.last
 executed_lasts code here core k None = halt_lasts here.slot core k _ _ _
 executed_lasts code here core k (Some ins) = settled_lasts code here.slot core k _ (effect_lasts here core k ins)
+
+-- it executes its instruction, or what it takes sets its own registers alone
+taken_lasts : (code : List Instr) (here : Setting) (core : CoreRec) (k : ThreadNumber) (taken : Option EnablingRec) → LastsAfter core here.slot (issued_with code here core k taken).core.last
+taken_lasts code here core k (Some taken) = as_before
+taken_lasts code here core k None = executed_lasts code here core k (code_at code (thread_of core k).pc)
 
 -- ---- Place by place
 
@@ -65,21 +71,21 @@ after_stays core slot lasts k there (with_got j free) =
     let other : k ≢ j = λ e. both_ways _ free (ap (λ n. is_taken (thread_of core n).run) (sym e) ∙ there) in
     get_or-set_other core.last j k (Some slot) None other
 
--- a thread that goes, or is paused on what holds, is not free
-there_if_able : (core : CoreRec) (slot : Slot) (run : Run) → goes_or_holds core slot run ≡ true → is_taken run ≡ true
-there_if_able core slot Free able = absurd (both_ways _ refl able)
-there_if_able core slot Unstarted able = refl
-there_if_able core slot AtSync able = refl
-there_if_able core slot Going able = refl
-there_if_able core slot (Paused wait) able = refl
-there_if_able core slot Halted able = refl
+-- a thread that goes, or is paused on what holds or with a choice, is not free
+there_if_able : (core : CoreRec) (slot : Slot) (run : Run) (chooses : Bool) → goes_or_holds core slot run || (is_paused run && chooses) ≡ true → is_taken run ≡ true
+there_if_able core slot Free chooses able = absurd (both_ways _ refl able)
+there_if_able core slot Unstarted chooses able = refl
+there_if_able core slot AtSync chooses able = refl
+there_if_able core slot Going chooses able = refl
+there_if_able core slot (Paused wait) chooses able = refl
+there_if_able core slot Halted chooses able = refl
 
 -- what the issue of one thread leaves of the last issues
 pub record IssueLasts (slot : Slot) (core after : CoreRec) (p : ThreadNumber) : Type 0 where
   pub as_many : length after.last ≡ length core.last
   pub places : (i : ℕ) → IsSameOr slot core.last after.last i
   pub its : p < length core.last → last_of after p ≡ Some slot
-  pub others : (k : ThreadNumber) → k ≢ p → goes_or_holds core slot (thread_of core k).run ≡ true → last_of after k ≡ last_of core k
+  pub others : (k : ThreadNumber) → k ≢ p → is_able core k slot ≡ true → last_of after k ≡ last_of core k
 
 its_slot : (slot : Slot) (lasts after : List (Option Slot)) (p : ℕ) → p < length lasts → IsSameOr slot (slice_set lasts p (Some slot)) after p → get_or after p None ≡ Some slot
 its_slot slot lasts after p within (inl same) = same ∙ get_or-set_same lasts p (Some slot) None within
@@ -89,13 +95,13 @@ pub issue_lasts : (code : List Instr) (here : Setting) (core : CoreRec) (p : Thr
 issue_lasts code here core p =
     let begun = issue_begins core here.slot p in
     let after = (issued_by code here core (Some p)).core in
-    let does : LastsAfter begun here.slot after.last = executed_lasts code here begun p (code_at code (thread_of begun p).pc) in
+    let does : LastsAfter begun here.slot after.last = taken_lasts code here begun p (choice begun here.slot p) in
     record {
       as_many = after_length begun here.slot after.last does ∙ length-set core.last p (Some here.slot);
       places = λ i. then_places here.slot core.last begun.last after.last i (set_places here.slot core.last p i) (after_places begun here.slot after.last i does);
       its = λ within. its_slot here.slot core.last after.last p within (after_places begun here.slot after.last p does);
       others = λ k other able.
           let same : thread_of begun k ≡ thread_of core k = get_or-set_other core.threads p k _ fresh_thread other in
-          let there : is_taken (thread_of begun k).run ≡ true = ap (λ th. is_taken th.run) same ∙ there_if_able core here.slot (thread_of core k).run able in
+          let there : is_taken (thread_of begun k).run ≡ true = ap (λ th. is_taken th.run) same ∙ there_if_able core here.slot (thread_of core k).run (is_some (choice core here.slot k)) able in
           after_stays begun here.slot after.last k there does ∙ get_or-set_other core.last p k (Some here.slot) None other;
     }

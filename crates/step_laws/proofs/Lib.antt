@@ -1,6 +1,7 @@
 pub mod Bits
 pub mod Threads
 pub mod Rows
+pub mod Left
 pub mod Effects
 pub mod ThreadRows
 pub mod ResourceRows

@@ -1,26 +1,34 @@
 -- The rows on resources leave every thread with known bits.
-use Rattle.std.proofs.Common.{ℕ, ◌%◌, Bool, true, false, ◌==◌, if◌then◌else◌, Option, Some, None, []}
+use Rattle.std.proofs.Common.{ℕ, ◌+◌, ◌%◌, Bool, true, false, not, ◌==◌, if◌then◌else◌, Option, Some, None, [], refl, sym, subst}
 use Rattle.xs_base.specs.Numbers.{Word, Register, ThreadNumber, ChanNumber, Kind, Identifier}
 use Rattle.xs_base.specs.declared.token.Token.TheVariants.{Byte, Ctrl}
-use Rattle.xs_base.specs.declared.numbers.TheConstants.{CHAN_END_KIND, SYNCHRONISER_KIND, THREAD_KIND, LOCK_KIND}
+use Rattle.xs_base.specs.declared.numbers.TheConstants.{TIMER_KIND, CHAN_END_KIND, SYNCHRONISER_KIND, THREAD_KIND, LOCK_KIND}
+use Rattle.xs_model.specs.declared.status.TheConstants.{EEBLE, INENB, WAITING}
 use Rattle.xs_model.specs.declared.thread.Thread.{Thread}
 use Rattle.xs_model.specs.declared.thread.Wait.{Wait}
+use Rattle.xs_model.specs.declared.thread.Wait.TheVariants as wait
 use Rattle.xs_model.specs.declared.traps.TheConstants.{ILLEGAL_RESOURCE, RESOURCE_DEPENDENCY}
 use Rattle.xs_model.specs.declared.resource.Resource.{Resource}
 use Rattle.xs_model.specs.declared.resource.Resource.TheVariants as resource
 use Rattle.xs_model.specs.Threads.{HasKnownBits}
-use Rattle.xs_model.specs.Record.{CoreRec, ChanRec, SyncRec, LockRec, thread_of, chan_of, sync_of, lock_of}
+use Rattle.xs_model.specs.Record.{CoreRec, ChanRec, EnablingRec, thread_of, timer_of, clock_of, lock_of}
 use Rattle.xs_model.specs.Free.{lowest_free}
-use Rattle.xs_model.specs.Syncs.{is_sync_used, freed_sync, Claimed, Owns, IsHeld, IsRefused, claimed, released, freed_lock}
+use Rattle.xs_model.specs.Syncs.{is_sync_used, Claimed, Owns, IsHeld, IsRefused, claimed, released}
+use Rattle.xs_model.specs.Time.{time_at, timer_holds, with_value, divided_by}
+use Rattle.xs_model.specs.Enabling.{with_vector, with_environment, enabled_for}
 use Rattle.xs_model.specs.Waits.{is_waited_at, is_paused_on}
 use Rattle.xs_instructions.specs.declared.instr.ResIns.{ResIns}
 use Rattle.xs_instructions.specs.declared.instr.ResIns.TheVariants as resources
-use Rattle.net_model.specs.Chans.{Found, Got, Waits, Refused, free_chan, freed_chan, put_token, take_byte, take_ctrl, check_token, look, look_word, take_dest, tell_dest}
-use Rattle.step_model.specs.Effect.{Setting, Pause, Trap, reg}
+use Rattle.net_model.specs.Chans.{Found, Got, Waits, Refused, free_chan, put_token, take_byte, take_ctrl, check_token, look, look_word}
+use Rattle.step_model.specs.Effect.{Setting, Done, Pause, Trap, reg, goes_on_with, goes_on_in, pauses_at}
 use Rattle.step_model.specs.ThreadRows.{thread_to_get, with_got_thread}
-use Rattle.step_model.specs.ResourceRows.{resources_row, resource_got, chan_was_got, sync_was_got, thread_was_got, lock_was_got, without_chan, without_sync, without_lock, without, goes_on_in, freed, found_there, on_named, room, tokens, no_wait, takes_nothing, takes_into, claimed_there, takes_in, puts_out, named_in}
+use Rattle.step_model.specs.TimeRows.{tells, takes_time}
+use Rattle.step_model.specs.EventRows.{eventful, with_changed, sets_events, resource_in_mode, sets_mode, clears, waits_where}
+use Rattle.step_model.specs.ResourceRows.{resources_row, resource_got, chan_was_got, sync_was_got, thread_was_got, timer_was_got, lock_was_got, without_lock, without, freed, found_there, on_named, room, tokens, no_wait, takes_nothing, takes_into, claimed_there, takes_in, puts_out, sets_data, tells_data, named_in}
 use Rattle.step_laws.specs.StatusBits.{AllKnown}
-use Rattle.step_laws.proofs.Threads.{on_known, register_known, with_thread_known, goes_on_known, goes_on_with_known}
+use Rattle.step_laws.proofs.Threads.{known, on_known, register_known, with_thread_known, goes_on_known, goes_on_with_known}
+use Rattle.step_laws.proofs.Bits.{with_known, without_known}
+use Rattle.step_laws.proofs.Left.{KeepsThreads, lock_keeps, without_keeps, timer_keeps, clock_keeps, changed_keeps, mode_keeps}
 use Rattle.step_laws.proofs.Effects.{EffectKnown, branch_known}
 use Rattle.step_laws.proofs.ThreadRows.{got_thread_known}
 
@@ -29,16 +37,15 @@ either : (holds : Bool) (x y : CoreRec) → AllKnown x.threads → AllKnown y.th
 either true x y one other = one
 either false x y one other = other
 
--- where a core is left
-abbrev WithoutKnown : Option CoreRec → Type 0
-WithoutKnown None = Unit {0}
-WithoutKnown (Some core) = AllKnown core.threads
-
-goes_in_known : (k : ThreadNumber) (name : Identifier) (left : Option CoreRec) → WithoutKnown left → EffectKnown (goes_on_in k name left)
-goes_in_known k name None h = tt
-goes_in_known k name (Some after) h = goes_on_known after k h
-
 module _ (here : Setting) (core : CoreRec) (k : ThreadNumber) (all : AllKnown core.threads) where
+  -- the thread goes on where nothing but another thing changes
+  goes_in_known : (name : Identifier) (left : Option CoreRec) → KeepsThreads core left → EffectKnown (goes_on_in k name left)
+  goes_in_known name None h = tt
+  goes_in_known name (Some after) h = goes_on_known after k (subst AllKnown (sym h.0) all)
+
+  pauses_known : (name : Identifier) (wait : Wait) → EffectKnown (pauses_at core name wait)
+  pauses_known name wait = branch_known (is_waited_at core wait) (Trap RESOURCE_DEPENDENCY name) (Pause core wait []) tt all
+
   -- ---- Getting a resource
 
   chan_known : (d : Register) (got : Option ChanNumber) → AllKnown (chan_was_got here.id core k d got).threads
@@ -53,41 +60,28 @@ module _ (here : Setting) (core : CoreRec) (k : ThreadNumber) (all : AllKnown co
   thread_known d None = goes_on_with_known core k d 0 all
   thread_known d (Some j) = goes_on_with_known (with_got_thread core j here.slot) k d _ (got_thread_known core j all)
 
+  timer_known : (d : Register) (got : Option ℕ) → AllKnown (timer_was_got core k d got).threads
+  timer_known d None = goes_on_with_known core k d 0 all
+  timer_known d (Some n) = goes_on_with_known core k d _ all
+
   lock_known : (d : Register) (got : Option ℕ) → AllKnown (lock_was_got core k d got).threads
   lock_known d None = goes_on_with_known core k d 0 all
   lock_known d (Some n) = goes_on_with_known core k d _ all
 
   got_known : (d : Register) (kind : Kind) → AllKnown (resource_got here core k d kind).threads
   got_known d kind =
-      either (kind == CHAN_END_KIND) _ _ (chan_known d (free_chan core.chans 0))
+      either (kind == TIMER_KIND) _ _ (timer_known d (lowest_free (λ timer. timer.used) core.timers 0))
+      (either (kind == CHAN_END_KIND) _ _ (chan_known d (free_chan core.chans 0))
       (either (kind == SYNCHRONISER_KIND) _ _ (sync_known d (lowest_free is_sync_used core.syncs 0))
       (either (kind == THREAD_KIND) _ _ (thread_known d (thread_to_get core))
-      (either (kind == LOCK_KIND) _ _ (lock_known d (lowest_free (λ lock. lock.used) core.locks 0)) (goes_on_with_known core k d 0 all))))
+      (either (kind == LOCK_KIND) _ _ (lock_known d (lowest_free (λ lock. lock.used) core.locks 0)) (goes_on_with_known core k d 0 all)))))
 
   -- ---- Freeing a resource
-
-  without_chan_known : (c : ChanNumber) (left : Option ChanRec) → WithoutKnown (without_chan core c left)
-  without_chan_known c None = tt
-  without_chan_known c (Some chan) = all
-
-  without_sync_known : (n : ℕ) (left : Option SyncRec) → WithoutKnown (without_sync core n left)
-  without_sync_known n None = tt
-  without_sync_known n (Some sync) = all
-
-  without_lock_known : (n : ℕ) (left : Option LockRec) → WithoutKnown (without_lock core n left)
-  without_lock_known n None = tt
-  without_lock_known n (Some lock) = all
-
-  without_known : (r : Resource) → WithoutKnown (without here core k r)
-  without_known (resource.Chan c) = without_chan_known c (freed_chan (here.is_busy c) (chan_of core c))
-  without_known (resource.Sync n) = without_sync_known n (freed_sync k (sync_of core n))
-  without_known (resource.Lock n) = without_lock_known n (freed_lock (lock_of core n))
-  without_known (resource.Thread j) = tt
 
   freed_known : (name : Identifier) (named : Option Resource) → EffectKnown (freed here core k name named)
   freed_known name None = tt
   freed_known name (Some r) =
-      branch_known (is_paused_on core r) (Trap ILLEGAL_RESOURCE name) _ tt (goes_in_known k name (without here core k r) (without_known r))
+      branch_known (is_paused_on core r) (Trap ILLEGAL_RESOURCE name) _ tt (goes_in_known name (without here core k r) (without_keeps core here k r))
 
   -- ---- Rows on a channel end
 
@@ -104,7 +98,7 @@ module _ (here : Setting) (core : CoreRec) (k : ThreadNumber) (all : AllKnown co
   there_known : (name : Identifier) (c : ChanNumber) (wait : Wait) (takes : Word → Thread → Thread) → TakesKnown takes → (found : Found) → EffectKnown (found_there core k name c wait takes found)
   there_known name c wait takes h (Got chan word) =
       with_thread_known core k _ all (on_known _ (h word (thread_of core k) (all k)))
-  there_known name c wait takes h Waits = branch_known (is_waited_at core wait) (Trap RESOURCE_DEPENDENCY name) (Pause core wait []) tt all
+  there_known name c wait takes h Waits = pauses_known name wait
   there_known name c wait takes h Refused = tt
 
   named_known : (name : Identifier) (wait : ChanNumber → Wait) (does : ChanRec → Found) (takes : Word → Thread → Thread) → TakesKnown takes → (named : Option ChanNumber) → EffectKnown (on_named core k name wait does takes named)
@@ -118,23 +112,62 @@ module _ (here : Setting) (core : CoreRec) (k : ThreadNumber) (all : AllKnown co
   finds_known : (d : Register) (name : Identifier) (wait : ChanNumber → Wait) (does : ChanRec → Found) (named : Option ChanNumber) → EffectKnown (on_named core k name wait does (takes_into d) named)
   finds_known d name wait does named = named_known name wait does (takes_into d) (into_known d) named
 
-  -- ---- Rows on a channel end and on a lock
+  -- ---- Rows on several kinds
 
   claimed_known : (d : Register) (name : Identifier) (n : ℕ) (found : Claimed) → EffectKnown (claimed_there core k d name n found)
   claimed_known d name n (Owns lock) = goes_on_with_known core k d name all
   claimed_known d name n IsHeld = all
   claimed_known d name n IsRefused = tt
 
-  takes_in_known : (d : Register) (name : Identifier) (named : Option Resource) → EffectKnown (takes_in core k d name named)
+  time_known : (d : Register) (name : Identifier) (n : ℕ) → EffectKnown (takes_time here.slot core k d name n)
+  time_known d name n =
+      let timer = timer_of core n in
+      branch_known (not timer.used) (Trap ILLEGAL_RESOURCE name) _ tt
+      (branch_known (timer_holds here.slot timer) (Done (goes_on_with core k d (time_at here.slot)) []) _ (goes_on_with_known core k d _ all) (pauses_known name (wait.Timer n)))
+
+  takes_in_known : (d : Register) (name : Identifier) (named : Option Resource) → EffectKnown (takes_in here.slot core k d name named)
   takes_in_known d name (Some (resource.Chan c)) = there_known name c (tokens 4 c) (takes_into d) (into_known d) _
+  takes_in_known d name (Some (resource.Timer n)) = time_known d name n
   takes_in_known d name (Some (resource.Lock n)) = claimed_known d name n (claimed k (lock_of core n))
   takes_in_known d name _ = tt
 
   puts_out_known : (name : Identifier) (word : Word) (named : Option Resource) → EffectKnown (puts_out core k name word named)
   puts_out_known name word (Some (resource.Chan c)) = there_known name c (room 4 c) takes_nothing nothing_known _
   puts_out_known name word (Some (resource.Lock n)) =
-      let left = released k (lock_of core n) in goes_in_known k name (without_lock core n left) (without_lock_known n left)
+      let left = released k (lock_of core n) in goes_in_known name (without_lock core n left) (lock_keeps core n left)
   puts_out_known name word _ = tt
+
+  sets_data_known : (name : Identifier) (x : Word) (named : Option Resource) → EffectKnown (sets_data core k name x named)
+  sets_data_known name x (Some (resource.Chan c)) = there_known name c (no_wait c) takes_nothing nothing_known _
+  sets_data_known name x (Some (resource.Timer n)) = goes_in_known name _ (timer_keeps core n (with_value x (timer_of core n)))
+  sets_data_known name x (Some (resource.Clock n)) = goes_in_known name _ (clock_keeps core n (divided_by x (clock_of core n)))
+  sets_data_known name x _ = tt
+
+  tells_known : (d : Register) (name : Identifier) (is_used : Bool) (word : Word) → EffectKnown (tells core k d name is_used word)
+  tells_known d name is_used word = branch_known is_used _ (Trap ILLEGAL_RESOURCE name) (goes_on_with_known core k d word all) tt
+
+  tells_data_known : (d : Register) (name : Identifier) (named : Option Resource) → EffectKnown (tells_data core k d name named)
+  tells_data_known d name (Some (resource.Chan c)) = there_known name c (no_wait c) (takes_into d) (into_known d) _
+  tells_data_known d name (Some (resource.Timer n)) = tells_known d name (timer_of core n).used _
+  tells_data_known d name (Some (resource.Clock n)) = tells_known d name (clock_of core n).on _
+  tells_data_known d name _ = tt
+
+  -- ---- The rows on events
+
+  mode_known : (name : Identifier) (mode : Word) (named : Option Resource) → EffectKnown (sets_mode core k name mode named)
+  mode_known name mode named = goes_in_known name (resource_in_mode core mode named) (mode_keeps core mode named)
+
+  events_known : (name : Identifier) (change : EnablingRec → EnablingRec) (named : Option Resource) → EffectKnown (sets_events core k name change named)
+  events_known name change named =
+      goes_in_known name (with_changed core change (eventful core named)) (changed_keeps core change (eventful core named))
+
+  clears_known : AllKnown (clears core k).threads
+  clears_known = with_thread_known core k _ all (known _ (without_known (thread_of core k).sr (EEBLE + INENB) (all k).sr) (all k).ssr)
+
+  waits_known : (holds : Bool) → EffectKnown (waits_where core k holds)
+  waits_known true =
+      with_thread_known core k _ all (known _ (with_known (thread_of core k).sr (EEBLE + WAITING) (all k).sr refl) (all k).ssr)
+  waits_known false = goes_on_known core k all
 
   pub resources_known : (ins : ResIns) → EffectKnown (resources_row here core k ins)
   resources_known (resources.Getr d i) = got_known d i
@@ -150,6 +183,18 @@ module _ (here : Setting) (core : CoreRec) (k : ThreadNumber) (all : AllKnown co
   resources_known (resources.ChkctImm s i) = puts_known _ (tokens 1) (check_token i) _
   resources_known (resources.Testct d s) = finds_known d _ (tokens 1) look _
   resources_known (resources.Testwct d s) = finds_known d _ (tokens 4) look_word _
-  resources_known (resources.Setd s x) = puts_known _ no_wait (take_dest (reg core k x)) _
-  resources_known (resources.Getd d s) = finds_known d _ no_wait tell_dest _
+  resources_known (resources.Setd s x) = sets_data_known (reg core k s) (reg core k x) (named_in here core k s)
+  resources_known (resources.Getd d s) = tells_data_known d (reg core k s) (named_in here core k s)
+  resources_known (resources.SetcImm s u) = mode_known (reg core k s) u (named_in here core k s)
+  resources_known (resources.Setc s x) = mode_known (reg core k s) (reg core k x) (named_in here core k s)
+  resources_known (resources.Setv s) = events_known (reg core k s) (with_vector (reg core k 11)) (named_in here core k s)
+  resources_known (resources.Setev s) = events_known (reg core k s) (with_environment (reg core k 11)) (named_in here core k s)
+  resources_known (resources.Eeu s) = events_known (reg core k s) (enabled_for k true) (named_in here core k s)
+  resources_known (resources.Edu s) = events_known (reg core k s) (enabled_for k false) (named_in here core k s)
+  resources_known (resources.Eet x s) = events_known (reg core k s) (enabled_for k (not (reg core k x == 0))) (named_in here core k s)
+  resources_known (resources.Eef x s) = events_known (reg core k s) (enabled_for k (reg core k x == 0)) (named_in here core k s)
+  resources_known resources.Clre = goes_on_known (clears core k) k clears_known
+  resources_known resources.Waiteu = waits_known true
+  resources_known (resources.Waitet x) = waits_known (not (reg core k x == 0))
+  resources_known (resources.Waitef x) = waits_known (reg core k x == 0)
   resources_known _ = tt

@@ -1,6 +1,7 @@
 -- What the rows leave of a thread: its status registers, or ones with no other bits.
-use Rattle.std.proofs.Common.{ℕ, Bool, true, false, not, ◌==◌, if◌then◌else◌, Option, Some, None, List}
+use Rattle.std.proofs.Common.{ℕ, Bool, true, false, not, ◌==◌, if◌then◌else◌, Option, Some, None, List, bit_and}
 use Rattle.xs_base.specs.Numbers.{Word, Register, ThreadNumber}
+use Rattle.xs_model.specs.declared.status.TheConstants.{SETTABLE}
 use Rattle.xs_model.specs.declared.thread.Thread.{Thread}
 use Rattle.xs_model.specs.Threads.{HasKnownBits}
 use Rattle.xs_instructions.specs.declared.instr.WordIns.{WordIns}
@@ -16,7 +17,7 @@ use Rattle.step_model.specs.WordRows.{words_row, sets_two, divides, divides_long
 use Rattle.step_model.specs.MemoryRows.{reg, memory_row, loads, stores}
 use Rattle.step_model.specs.FlowRows.{after_branch, flow_row}
 use Rattle.step_model.specs.KernelRows.{kernel_row, calls_where}
-use Rattle.step_laws.proofs.Bits.{of_word_known}
+use Rattle.step_laws.proofs.Bits.{with_known, without_known, of_word_known, settable_known}
 use Rattle.step_laws.proofs.Threads.{known, on_known, register_known, sets_known}
 
 -- where a row does not trap
@@ -169,5 +170,5 @@ kernel_known k l kernel.StwSpc h = stores_known _ _ _ (known _ h.sr h.ssr)
 kernel_known k l kernel.StwSsr h = stores_known _ _ _ (known _ h.sr h.ssr)
 kernel_known k l kernel.StwSed h = stores_known _ _ _ (known _ h.sr h.ssr)
 kernel_known k l kernel.StwEt h = stores_known _ _ _ (known _ h.sr h.ssr)
-kernel_known k l (kernel.Setsr u) h = tt
-kernel_known k l (kernel.Clrsr u) h = tt
+kernel_known k l (kernel.Setsr u) h = known _ (with_known l.thread.sr (bit_and u SETTABLE) h.sr (settable_known u)) h.ssr
+kernel_known k l (kernel.Clrsr u) h = known _ (without_known l.thread.sr (bit_and u SETTABLE) h.sr) h.ssr

@@ -3,10 +3,10 @@ use Rattle.std.proofs.Common.{ℕ, zero, suc, ◌+◌, ◌==◌, Bool, true, fal
 use Rattle.xs_base.specs.Numbers.{Word, Register, ThreadNumber}
 use Rattle.xs_model.specs.declared.thread.Thread.{Thread}
 use Rattle.xs_model.specs.declared.thread.Run.{Run}
-use Rattle.xs_model.specs.declared.status.TheConstants.{EEBLE, IEBLE, INK, WAITING}
+use Rattle.xs_model.specs.declared.status.TheConstants.{EEBLE, IEBLE, INENB, ININT, INK, WAITING}
 use Rattle.xs_model.specs.Threads.{with_register, fresh_thread, first_thread, HasKnownBits}
-use Rattle.xs_model.specs.Record.{CoreRec, free_thread, thread_of, with_thread, with_run}
-use Rattle.xs_model.specs.Entry.{trapped}
+use Rattle.xs_model.specs.Record.{CoreRec, EnablingRec, free_thread, thread_of, with_thread, with_run}
+use Rattle.xs_model.specs.Entry.{trapped, in_event, in_interrupt, entered}
 use Rattle.xs_model.specs.Status.{without_bits, IsKnown}
 use Rattle.step_model.specs.Effect.{after_it, goes_on, goes_on_with}
 use Rattle.step_laws.specs.StatusBits.{AllKnown}
@@ -40,6 +40,18 @@ pub trapped_known : (th : Thread) (number : ℕ) (value next : Word) → HasKnow
 trapped_known th number value next h =
     let cleared = EEBLE + IEBLE + WAITING in
     known _ (with_known (without_bits th.sr cleared) INK (without_known th.sr cleared h.sr) refl) h.sr
+
+event_known : (th : Thread) (vector environment : Word) → HasKnownBits th → HasKnownBits (in_event th vector environment)
+event_known th vector environment h = known _ (without_known th.sr (EEBLE + INENB + WAITING) h.sr) h.ssr
+
+interrupt_known : (th : Thread) (vector environment : Word) → HasKnownBits th → HasKnownBits (in_interrupt th vector environment)
+interrupt_known th vector environment h =
+    let cleared = EEBLE + IEBLE + INENB + WAITING in
+    known _ (with_known (without_bits th.sr cleared) ININT (without_known th.sr cleared h.sr) refl) h.sr
+
+pub entered_known : (taken : EnablingRec) (th : Thread) → HasKnownBits th → HasKnownBits (entered taken th)
+entered_known taken th h =
+    either taken.interrupt _ _ (interrupt_known th taken.vector taken.environment h) (event_known th taken.vector taken.environment h)
 
 -- one thread of some changes
 set_known : (threads : List Thread) (th : Thread) (k i : ℕ) → HasKnownBits th → HasKnownBits (slice_index_or threads i fresh_thread) → HasKnownBits (slice_index_or (slice_set threads k th) i fresh_thread)

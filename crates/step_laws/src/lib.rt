@@ -12,8 +12,9 @@ pub fn status_has_no_other_bit()
     ensures slot { SlotStaysKnown }
 {}
 
-/// A thread that is eligible in eight consecutive slots of a node issues in one of them: whatever code the threads run,
-/// whatever comes from outside, and whatever the other threads do. This holds of a core with eight last issues; every
+/// A thread that is eligible in eight consecutive slots of a node issues in one of them, be it an instruction or an event
+/// or interrupt that it takes: whatever code the threads run, whatever comes from outside, and whatever the other threads
+/// do. This holds of a core with eight last issues; every
 /// core starts with eight, and keeps eight in each slot. It does nothing. See docs/THREADS.md.
 pub fn eligible_thread_issues()
     ensures law { EligibleIssues }
