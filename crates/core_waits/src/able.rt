@@ -1,0 +1,231 @@
+//! The threads that may issue. No port is built yet: each is as it was at the start, so for those the wait alone says
+//! whether it holds.
+ghost use Rattle.std.specs.Prelude.{◌≡◌, ℕ, ◌<◌, ◌&&◌, true, ◌↔◌, IfSome, is_some, replicate, slice_index_or};
+ghost use Rattle.xs_base.specs.declared.numbers.TheConstants.{THREADS};
+ghost use Rattle.xs_model.specs.Masks.{in_mask};
+ghost use Rattle.xs_model.specs.Status.{no_status};
+ghost use Rattle.xs_model.specs.Threads.{fresh_thread};
+ghost use Rattle.xs_model.specs.Record.{CoreRec, EventsRec, thread_of, off_port};
+ghost use Rattle.xs_model.specs.Waits.{holds};
+ghost use Rattle.xs_model.specs.Choices.{choice, choice_by, ready_in};
+ghost use Rattle.xs_model.specs.Picks.{goes_or_holds, is_paused};
+ghost use Rattle.sync_locks.specs.Syncs.{SyncsRec};
+ghost use Rattle.event_unit.specs.Ready.{AreReady, choice_of};
+ghost use Rattle.core_waits.specs.Parts.{HasParts, IsFor, AreAble, may_choose};
+
+use crate::slaves::all_in;
+use bitflags::Flags;
+use chan_ends::ChanEnds;
+use event_unit::{Choice, Events, Ready};
+use sync_locks::Syncs;
+use thread_slots::{no_threads, with_able};
+use timers_clocks::Timers;
+use xs_base::numbers::THREADS;
+use xs_model::{EEBLE, IEBLE, Run, Status, Thread, Wait};
+
+// The status bits by which a thread takes events and interrupts.
+const TAKES: Status = Status {
+    bits: EEBLE | IEBLE,
+};
+
+/// The threads that would issue if they were rested, and when that holds.
+#[derive(Clone, Copy)]
+pub struct Able {
+    /// Bit k for thread k.
+    pub threads: u8,
+    /// The slot in which it was found.
+    pub slot: u32,
+    /// Whether it holds only while timers show what they show in that slot, since one of them has a condition; else it
+    /// holds in each slot.
+    pub timed: bool,
+    /// The timers whose condition holds in that slot, bit n for timer n.
+    pub ready: u16,
+}
+
+impl Able {
+    /// The threads that would issue in a slot if they were rested: those that go, those whose pause's condition holds, and
+    /// those that are paused and may take an event or an interrupt. See docs/MACHINE.md.
+    pub fn find(
+        threads: &[Thread; 8],
+        chans: &ChanEnds,
+        timers: &Timers,
+        syncs: &Syncs,
+        events: &Events,
+        slot: u32,
+    ) -> Able
+        ensures value { (core : CoreRec) → HasParts core threads.now chans.now timers.now syncs.now events.now → AreAble core result }
+        ensures now { IsFor result slot }
+    {
+        let going = going(threads, chans, timers, syncs, slot);
+        let choosing = choosing(threads, chans, timers, events, slot);
+        Able {
+            threads: going | choosing,
+            slot,
+            timed: timers.has_conditions(),
+            ready: timers.ready(slot),
+        }
+    }
+
+    /// Whether it holds in a slot.
+    #[inline]
+    pub fn is_for(&self, slot: u32) -> bool
+        ensures value { (result ≡ true) ↔ IsFor self.now slot }
+    {
+        !self.timed || Timers::time(self.slot) == Timers::time(slot)
+    }
+
+    /// The same for the time of another slot, if it holds there too: the conditions of the same timers hold there.
+    pub fn again(&self, timers: &Timers, slot: u32) -> Option<Able>
+        ensures value { (core : CoreRec) → core.timers ≡ timers.now → AreAble core self.now → IfSome result (AreAble core) }
+        ensures now { IfSome result (λ able. IsFor able slot) }
+    {
+        if !self.timed || timers.ready(slot) != self.ready {
+            return None;
+        }
+        Some(Able {
+            threads: self.threads,
+            slot,
+            timed: true,
+            ready: self.ready,
+        })
+    }
+}
+
+/// What thread `k`, 0 to 7, takes in a slot, whose status is this: an event, an interrupt or nothing. See docs/EVENTS.md.
+#[inline]
+pub fn taken(
+    k: u8,
+    sr: Status,
+    chans: &ChanEnds,
+    timers: &Timers,
+    events: &Events,
+    slot: u32,
+) -> Option<Choice>
+    requires { k < THREADS }
+    ensures value { (core : CoreRec) → core.chans ≡ chans.now → core.timers ≡ timers.now → core.ports ≡ replicate 29 off_port →
+        result ≡ choice_of (choice_by k sr (ready_in core slot) events.now) }
+{
+    if !sr.intersects(TAKES) {
+        return None;
+    }
+    events.choose(k, sr, ready(chans, timers, slot))
+}
+
+/// What is ready in a slot, for `Events::choose`. See docs/EVENTS.md.
+pub fn ready(chans: &ChanEnds, timers: &Timers, slot: u32) -> Ready
+    ensures value { (core : CoreRec) → core.chans ≡ chans.now → core.timers ≡ timers.now → core.ports ≡ replicate 29 off_port → AreReady result (ready_in core slot) }
+{
+    Ready {
+        chans: chans.ready(),
+        timers: timers.ready(slot),
+        ports: 0,
+    }
+}
+
+// The threads that go, or whose pause's condition holds.
+fn going(threads: &[Thread; 8], chans: &ChanEnds, timers: &Timers, syncs: &Syncs, slot: u32) -> u8
+    ensures { (core : CoreRec) (events : EventsRec) → HasParts core threads.now chans.now timers.now syncs.now events →
+        (k : ℕ) → k < THREADS → in_mask result k ≡ goes_or_holds core slot (thread_of core k).run }
+{
+    let mut going = no_threads();
+    for k in 0..THREADS {
+        if goes(threads[k as usize].run, threads, chans, timers, syncs, slot) {
+            going = with_able(going, k);
+        }
+    }
+    going
+}
+
+// The threads that are paused and may take an event or an interrupt.
+fn choosing(
+    threads: &[Thread; 8],
+    chans: &ChanEnds,
+    timers: &Timers,
+    events: &Events,
+    slot: u32,
+) -> u8
+    ensures { (core : CoreRec) (syncs : SyncsRec) → HasParts core threads.now chans.now timers.now syncs events.now →
+        (k : ℕ) → k < THREADS → in_mask result k ≡ (is_paused (thread_of core k).run && is_some (choice core slot k)) }
+{
+    let may = allowing(threads);
+    if may == 0 {
+        return 0;
+    }
+    may & events.wake_mask(&statuses(threads), ready(chans, timers, slot))
+}
+
+// The threads that are paused and whose status lets events or interrupts through.
+fn allowing(threads: &[Thread; 8]) -> u8
+    ensures { (k : ℕ) → k < THREADS → in_mask result k ≡ may_choose (slice_index_or threads.now k fresh_thread) }
+{
+    let mut may = no_threads();
+    for k in 0..THREADS {
+        if may_choose(&threads[k as usize]) {
+            may = with_able(may, k);
+        }
+    }
+    may
+}
+
+fn may_choose(thread: &Thread) -> bool
+    ensures { result ≡ may_choose thread.now }
+{
+    matches!(thread.run, Run::Paused(_)) && thread.sr.intersects(TAKES)
+}
+
+fn statuses(threads: &[Thread; 8]) -> [Status; 8]
+    ensures { (k : ℕ) → k < THREADS → slice_index_or result k no_status ≡ (slice_index_or threads.now k fresh_thread).sr }
+{
+    [
+        threads[0].sr,
+        threads[1].sr,
+        threads[2].sr,
+        threads[3].sr,
+        threads[4].sr,
+        threads[5].sr,
+        threads[6].sr,
+        threads[7].sr,
+    ]
+}
+
+// Whether a thread goes, or its pause's condition holds.
+fn goes(
+    run: Run,
+    threads: &[Thread; 8],
+    chans: &ChanEnds,
+    timers: &Timers,
+    syncs: &Syncs,
+    slot: u32,
+) -> bool
+    ensures { (core : CoreRec) (events : EventsRec) → HasParts core threads.now chans.now timers.now syncs.now events →
+        result ≡ goes_or_holds core slot run }
+{
+    match run {
+        Run::Going => true,
+        Run::Paused(wait) => holds(wait, threads, chans, timers, syncs, slot),
+        _ => false,
+    }
+}
+
+// Whether what pauses a thread holds.
+fn holds(
+    wait: Wait,
+    threads: &[Thread; 8],
+    chans: &ChanEnds,
+    timers: &Timers,
+    syncs: &Syncs,
+    slot: u32,
+) -> bool
+    ensures { (core : CoreRec) (events : EventsRec) → HasParts core threads.now chans.now timers.now syncs.now events →
+        result ≡ holds core slot wait }
+{
+    match wait {
+        Wait::Room { chan, count } => chans.has_room(chan, count),
+        Wait::Tokens { chan, count } => chans.has_tokens(chan, count),
+        Wait::Timer { timer } => timers.holds(timer, slot),
+        Wait::Lock { lock } => syncs.owner(lock).is_none(),
+        Wait::Slaves { sync } => all_in(threads, syncs.slaves(sync)),
+        Wait::PortFull { .. } | Wait::Choice => false,
+        Wait::PortEmpty { .. } | Wait::PortIdle { .. } => true,
+    }
+}
