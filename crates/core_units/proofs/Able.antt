@@ -1,7 +1,8 @@
--- Threads stay able, or not able, where what each does stays, and all that it may wait for.
-use Rattle.std.specs.Prelude.{Bool, ◌&&◌, Option, Some, None, IfSome, slice_set, slice_index_or}
+-- Threads stay able, or not able, where the thread that goes is set to one that goes: it is able whatever its status, and
+-- each other one goes by its own.
+use Rattle.std.specs.Prelude.{Bool, true, ◌&&◌, ◌||◌, Option, Some, None, IfSome, is_some, slice_set, slice_index_or}
 use Rattle.std.specs.List.{list_all}
-use Rattle.std.proofs.Common.{◌≡◌, ◌<◌, ℕ, zero, suc, List, [], ◌∷◌, refl, ap, sym, ◌∙◌, get_or, arith}
+use Rattle.std.proofs.Common.{◌≡◌, ◌⊎◌, inl, inr, ◌<◌, ℕ, zero, suc, List, [], ◌∷◌, refl, ap, sym, ◌∙◌, get_or, arith}
 use Rattle.std.proofs.lemmas.List.{length-set, get_or_default}
 use Rattle.xs_model.specs.declared.thread.Thread.{Thread}
 use Rattle.xs_model.specs.declared.thread.Run.{Run}
@@ -11,38 +12,60 @@ use Rattle.xs_model.specs.declared.thread.Wait.TheVariants.{Room, Tokens, PortFu
 use Rattle.xs_model.specs.declared.thread.Outcome.{Outcome}
 use Rattle.xs_model.specs.declared.thread.Outcome.TheVariants as outcome
 use Rattle.xs_model.specs.Threads.{fresh_thread}
-use Rattle.xs_model.specs.Record.{CoreRec, sync_of}
+use Rattle.xs_model.specs.Record.{CoreRec, thread_of, sync_of}
 use Rattle.xs_model.specs.Waits.{holds, is_in}
-use Rattle.xs_model.specs.Picks.{goes_or_holds, is_able}
+use Rattle.xs_model.specs.Choices.{choice_by, ready_in}
+use Rattle.xs_model.specs.Picks.{goes_or_holds, is_paused, is_able}
 use Rattle.xs_base.specs.declared.numbers.TheConstants.{THREADS}
-use Rattle.xs_model.specs.Masks.{in_mask}
-use Rattle.core_units.specs.Waits.{core_by}
-use Rattle.core_units.specs.Units.{AreAble, IsUnits, units_of, gone_on}
+use Rattle.core_waits.specs.declared.able.Able.{Able}
+use Rattle.core_waits.specs.Parts.{AreAble}
+use Rattle.core_units.specs.Units.{IsUnits, units_of, gone_on}
 use Rattle.core_units.specs.declared.units.Units.TheInside.{Inside}
 
--- what a thread does, by its number
-abbrev pub run_at : List Thread → ℕ → Run
-run_at threads k = (slice_index_or threads k fresh_thread).run
+-- a thread, by its number
+abbrev pub thread_at : List Thread → ℕ → Thread
+thread_at threads k = slice_index_or threads k fresh_thread
 
--- a thread that is set, and does what it did, leaves what each thread does
-pub run-set : (threads : List Thread) (k : ℕ) (th : Thread) → th.run ≡ run_at threads k → (j : ℕ) → run_at (slice_set threads k th) j ≡ run_at threads j
-run-set [] k th same j = refl
-run-set (other ∷ threads) zero th same zero = same
-run-set (other ∷ threads) zero th same (suc j) = refl
-run-set (other ∷ threads) (suc k) th same zero = refl
-run-set (other ∷ threads) (suc k) th same (suc j) = run-set threads k th same j
+-- two that are the same, or both go
+abbrev GoAlike : Thread → Thread → Type 0
+GoAlike one other = (one ≡ other) ⊎ ((one.run ≡ Going) × (other.run ≡ Going))
+
+-- so is each thread, before and after, where one that goes is set to one that goes
+set-alike : (threads : List Thread) (k : ℕ) (th : Thread) → th.run ≡ Going → (thread_at threads k).run ≡ Going → (j : ℕ) → GoAlike (thread_at (slice_set threads k th) j) (thread_at threads j)
+set-alike [] k th goes went j = inl refl
+set-alike (other ∷ threads) zero th goes went zero = inr (goes, went)
+set-alike (other ∷ threads) zero th goes went (suc j) = inl refl
+set-alike (other ∷ threads) (suc k) th goes went zero = inl refl
+set-alike (other ∷ threads) (suc k) th goes went (suc j) = set-alike threads k th goes went j
+
+same_run : (one other : Thread) → GoAlike one other → one.run ≡ other.run
+same_run one other (inl same) = ap (λ (th : Thread). th.run) same
+same_run one other (inr both) = both.0 ∙ sym both.1
 
 -- tests that agree at each number agree on all of a list
 same_all : (p q : ℕ → Bool) → ((k : ℕ) → p k ≡ q k) → (ks : List ℕ) → list_all p ks ≡ list_all q ks
 same_all p q same [] = refl
 same_all p q same (k ∷ ks) = ap (λ b. b && list_all p ks) (same k) ∙ ap (λ b. q k && b) (same_all p q same ks)
 
--- a core with these threads, last issues and memory in place of its own
-abbrev pub with_these : CoreRec → List Thread → List (Option ℕ) → List ℕ → CoreRec
-with_these core threads last memory = record core { threads = threads; last = last; memory = memory }
+-- whether thread k of a core is able, were it as this
+abbrev able_as : CoreRec → ℕ → ℕ → Thread → Bool
+able_as core slot k th = goes_or_holds core slot th.run || (is_paused th.run && is_some (choice_by k th.sr (ready_in core slot) core.events))
 
-module _ (core : CoreRec) (threads : List Thread) (last : List (Option ℕ)) (memory : List ℕ) (same : (k : ℕ) → run_at threads k ≡ run_at core.threads k) where
-  holds_still : (slot : ℕ) (wait : Wait) → holds (with_these core threads last memory) slot wait ≡ holds core slot wait
+-- one that goes is
+goes_able : (core : CoreRec) (slot k : ℕ) (th : Thread) → th.run ≡ Going → able_as core slot k th ≡ true
+goes_able core slot k th goes =
+    ap (λ run. goes_or_holds core slot run || (is_paused run && is_some (choice_by k th.sr (ready_in core slot) core.events))) goes
+
+same_able : (core : CoreRec) (slot k : ℕ) (one other : Thread) → GoAlike one other → able_as core slot k one ≡ able_as core slot k other
+same_able core slot k one other (inl same) = ap (able_as core slot k) same
+same_able core slot k one other (inr both) = goes_able core slot k one both.0 ∙ sym (goes_able core slot k other both.1)
+
+-- a core with these threads and this memory in place of its own
+abbrev with_these : CoreRec → List Thread → List ℕ → CoreRec
+with_these core threads memory = record core { threads = threads; memory = memory }
+
+module _ (core : CoreRec) (threads : List Thread) (memory : List ℕ) (alike : (k : ℕ) → GoAlike (thread_at threads k) (thread_at core.threads k)) where
+  holds_still : (slot : ℕ) (what : Wait) → holds (with_these core threads memory) slot what ≡ holds core slot what
   holds_still slot (Room chan count) = refl
   holds_still slot (Tokens chan count) = refl
   holds_still slot (PortFull port) = refl
@@ -51,41 +74,38 @@ module _ (core : CoreRec) (threads : List Thread) (last : List (Option ℕ)) (me
   holds_still slot (Timer timer) = refl
   holds_still slot (Lock lock) = refl
   holds_still slot (Slaves sync) =
-      same_all (λ k. is_in (run_at threads k)) (λ k. is_in (run_at core.threads k)) (λ k. ap is_in (same k)) (sync_of core sync).slaves
+      same_all (λ k. is_in (thread_at threads k).run) (λ k. is_in (thread_at core.threads k).run)
+      (λ k. ap is_in (same_run (thread_at threads k) (thread_at core.threads k) (alike k)))
+      (sync_of core sync).slaves
   holds_still slot Choice = refl
 
-  goes_still : (slot : ℕ) (run : Run) → goes_or_holds (with_these core threads last memory) slot run ≡ goes_or_holds core slot run
+  goes_still : (slot : ℕ) (run : Run) → goes_or_holds (with_these core threads memory) slot run ≡ goes_or_holds core slot run
   goes_still slot Free = refl
   goes_still slot Unstarted = refl
   goes_still slot AtSync = refl
   goes_still slot Going = refl
-  goes_still slot (Paused wait) = holds_still slot wait
+  goes_still slot (Paused what) = holds_still slot what
   goes_still slot Halted = refl
 
-  pub able_still : (slot k : ℕ) → is_able (with_these core threads last memory) k slot ≡ is_able core k slot
+  able_still : (slot k : ℕ) → is_able (with_these core threads memory) k slot ≡ is_able core k slot
   able_still slot k =
-      ap (goes_or_holds (with_these core threads last memory) slot) (same k) ∙ goes_still slot (run_at core.threads k)
+      let th = thread_at threads k in
+      ap (λ goes. goes || (is_paused th.run && is_some (choice_by k th.sr (ready_in core slot) core.events))) (goes_still slot th.run)
+      ∙ same_able core slot k th (thread_at core.threads k) (alike k)
 
-  -- so the mask of a core is that of the other one
-  pub mask_still : (mask : ℕ) → AreAble core mask → AreAble (with_these core threads last memory) mask
-  mask_still mask able = record { at = λ slot k below. able.at slot k below ∙ sym (able_still slot k) }
-
-  pub known_still : (mask : Option ℕ) → IfSome mask (AreAble core) → IfSome mask (AreAble (with_these core threads last memory))
+  pub known_still : (able : Option Able) → IfSome able (AreAble core) → IfSome able (AreAble (with_these core threads memory))
   known_still None known = tt
-  known_still (Some mask) known = mask_still mask known
+  known_still (Some able) known = record { at = λ slot k is below. known.at slot k is below ∙ sym (able_still slot k); ready = known.ready }
 
--- what is told of the parts is so of the units
-pub parts_able : (u : Inside) (mask : ℕ) → ((slot k : ℕ) → k < THREADS → in_mask mask k ≡ is_able (core_by u.threads u.chans u.syncs) k slot) → AreAble (units_of u) mask
-parts_able u mask told = record { at = λ slot k below. told slot k below ∙ sym (able_still (units_of u) u.threads [] [] (λ j. refl) slot k) }
-
--- The units stay right where thread k, read with any default, does what it did; the memory may change.
-pub thread-set : (u : Inside) (k : ℕ) (th default : Thread) (memory : List ℕ) → k < THREADS → th.run ≡ (get_or u.threads k default).run → IsUnits u → IsUnits (record u { threads = slice_set u.threads k th; ram = memory })
-thread-set u k th default memory below same is =
+-- The units stay right where thread k, read with any default, goes and does what it did; the memory may change.
+pub thread-set : (u : Inside) (k : ℕ) (th default : Thread) (memory : List ℕ) → k < THREADS → (thread_of (units_of u) k).run ≡ Going → th.run ≡ (get_or u.threads k default).run → IsUnits u → IsUnits (record u { threads = slice_set u.threads k th; ram = memory })
+thread-set u k th default memory below goes same is =
     let there : get_or u.threads k default ≡ get_or u.threads k fresh_thread = get_or_default u.threads k default fresh_thread (omega (arith, is.eight)) in
-    let does = run-set u.threads k th (same ∙ ap (λ (t : Thread). t.run) there) in
+    let its : th.run ≡ Going = same ∙ ap (λ (t : Thread). t.run) there ∙ goes in
     record {
       eight = length-set u.threads k th ∙ is.eight;
-      known = known_still (units_of u) (slice_set u.threads k th) u.slots memory does u.able is.known;
+      known =
+          known_still (units_of u) (slice_set u.threads k th) memory (set-alike u.threads k th its goes) u.able is.known;
     }
 
 -- what becomes of a thread after its row on words leaves what it does

@@ -1,8 +1,5 @@
 pub mod Able
-pub mod Unbuilt
 pub mod Settles
+pub mod Issues
 pub mod Parts
-pub mod Members
-pub mod SetRuns
-pub mod AllIn
 pub mod Lowest

@@ -1,10 +1,10 @@
 pub mod Program
 pub mod Units
-pub mod Waits
 pub mod Found
 pub mod Lends
 pub mod Named
 pub mod Targets
-pub mod Freed
+pub mod Changed
+pub mod Changes
 pub mod Here
 pub mod Actions

@@ -1,7 +1,7 @@
 -- What of a core a word names, as rows take it.
 use Rattle.std.specs.Prelude.{ℕ, ◌<◌, if◌then◌else◌, Option, Some, None}
 use Rattle.xs_base.specs.Numbers.{ThreadNumber}
-use Rattle.xs_base.specs.declared.numbers.TheConstants.{THREADS, CHAN_ENDS, SYNCHRONISERS, LOCKS}
+use Rattle.xs_base.specs.declared.numbers.TheConstants.{THREADS, TIMERS, CHAN_ENDS, SYNCHRONISERS, LOCKS, CLOCK_BLOCKS}
 use Rattle.xs_model.specs.declared.resource.Resource.{Resource}
 use Rattle.xs_model.specs.declared.resource.Resource.TheVariants as resource
 use Rattle.xs_model.specs.Record.{CoreRec, sync_of}
@@ -9,10 +9,12 @@ use Rattle.xs_model.specs.Syncs.{is_thread}
 
 -- a core has a resource with this number
 abbrev pub IsWithin : Resource → Type 0
+IsWithin (resource.Timer n) = n < TIMERS
 IsWithin (resource.Chan c) = c < CHAN_ENDS
 IsWithin (resource.Sync n) = n < SYNCHRONISERS
 IsWithin (resource.Thread j) = j < THREADS
 IsWithin (resource.Lock n) = n < LOCKS
+IsWithin (resource.Clock n) = n < CLOCK_BLOCKS
 
 -- the thread that was named, if one was
 abbrev pub named_thread : Option Resource → Option ThreadNumber

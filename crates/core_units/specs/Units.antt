@@ -1,35 +1,31 @@
 -- The units of a core: what they stand for, and what calls leave of them.
-use Rattle.std.specs.Prelude.{ℕ, ◌≡◌, ◌<◌, Bool, true, false, Option, IfSome, List, [], ◌++◌, length, map}
+use Rattle.std.specs.Prelude.{◌≡◌, if◌then◌else◌, IfSome, List, [], ◌++◌, length, map}
 use Rattle.xs_base.specs.Numbers.{Slot}
 use Rattle.xs_base.specs.declared.numbers.TheConstants.{THREADS}
 use Rattle.xs_model.specs.declared.event.Happen.{Happen}
 use Rattle.xs_model.specs.declared.thread.Thread.{Thread}
 use Rattle.xs_model.specs.declared.thread.Outcome.{Outcome}
 use Rattle.xs_model.specs.declared.thread.Outcome.TheVariants as outcome
-use Rattle.xs_model.specs.Record.{CoreRec, ChanRec, core_with}
-use Rattle.xs_model.specs.Masks.{in_mask}
-use Rattle.xs_model.specs.Picks.{is_able}
+use Rattle.xs_model.specs.Record.{CoreRec, core_with}
+use Rattle.xs_model.specs.Entry.{in_event, in_interrupt}
 use Rattle.xs_model.specs.Outside.{Emitted, in_slot}
 use Rattle.step_model.specs.Effect.{Effect, Done, Pause, Trap, Gone, after_it}
-use Rattle.sync_locks.specs.Syncs.{SyncsRec}
+use Rattle.event_unit.specs.declared.answers.Choice.{Choice}
+use Rattle.core_waits.specs.Parts.{AreAble}
 use Rattle.core_units.specs.declared.units.Units.TheInside.{Inside}
 
--- a core of these parts; all else of it is as at the start
-abbrev pub core_of : List Thread → List (Option Slot) → List ℕ → List ChanRec → SyncsRec → CoreRec
-core_of threads last memory chans syncs = record (core_with threads last memory) {
-  chans = chans;
-  syncs = syncs.syncs;
-  locks = syncs.locks;
+-- the core record; its ports are as at the start
+abbrev pub units_of : Inside → CoreRec
+units_of u = record (core_with u.threads u.slots u.ram) {
+  chans = u.chans;
+  timers = u.timers;
+  clocks = u.clocks;
+  syncs = u.syncs.syncs;
+  locks = u.syncs.locks;
+  events = u.events;
 }
 
-abbrev pub units_of : Inside → CoreRec
-units_of u = core_of u.threads u.slots u.ram u.chans u.syncs
-
--- the mask has the threads that would issue if they were rested, whatever the slot
-pub record AreAble (core : CoreRec) (mask : ℕ) : Type 0 where
-  pub at : (slot k : ℕ) → k < THREADS → in_mask mask k ≡ is_able core k slot
-
--- there are eight threads, and where it is known which are able the mask has them
+-- there are eight threads, and where it is known which are able it is those
 pub record IsUnits (u : Inside) : Type 0 where
   pub eight : length u.threads ≡ THREADS
   pub known : IfSome u.able (AreAble (units_of u))
@@ -60,3 +56,8 @@ effect_of outcome.Gone core = Gone core []
 -- what a slot gave, and then this happens
 abbrev pub and_happened : Emitted → Slot → List Happen → Emitted
 and_happened out slot happened = record out { events = out.events ++ map (in_slot slot) happened }
+
+-- a thread that takes this, as an event or as an interrupt
+abbrev pub entered_by : Choice → Thread → Thread
+entered_by choice th =
+    if choice.interrupt then in_interrupt th choice.vector choice.env else in_event th choice.vector choice.env

@@ -1,12 +1,10 @@
 //! The rows on channel ends. See docs/LINKS.md.
-ghost use Rattle.std.specs.Prelude.{◌≡◌, ◌<◌, if◌then◌else◌, [], IfSome};
+ghost use Rattle.std.specs.Prelude.{◌≡◌, ◌<◌, IfSome};
 ghost use Rattle.xs_base.specs.declared.numbers.TheConstants.{THREADS, CHAN_ENDS};
-ghost use Rattle.xs_model.specs.declared.traps.TheConstants.{RESOURCE_DEPENDENCY};
 ghost use Rattle.xs_model.specs.Record.{thread_of, with_thread};
-ghost use Rattle.xs_model.specs.Waits.{is_waited_at};
 ghost use Rattle.net_model.specs.Chans.{chan_named, free_chan};
 ghost use Rattle.chan_ends.specs.Ends.{with_got};
-ghost use Rattle.step_model.specs.Effect.{Pause, Trap, reg, after_it};
+ghost use Rattle.step_model.specs.Effect.{reg, after_it, pauses_at};
 ghost use Rattle.step_model.specs.ResourceRows.{at_chan, on_named};
 ghost use Rattle.core_units.specs.Units.{Ends};
 ghost use Rattle.core_units.specs.Found.{name_of_got};
@@ -82,9 +80,9 @@ impl Units {
         }
     }
 
-    // The thread pauses, and traps where another one is paused there.
-    fn wait(&self, name: u32, wait: Wait) -> Outcome
-        ensures { Ends result self.now self.now (if is_waited_at self.now wait then Trap RESOURCE_DEPENDENCY name else Pause self.now wait []) }
+    /// The thread pauses at what the word `name` names, and traps where another one is paused there.
+    pub(crate) fn wait(&self, name: u32, wait: Wait) -> Outcome
+        ensures { Ends result self.now self.now (pauses_at self.now name wait) }
     {
         if self.is_waited_at(wait) {
             Outcome::Trap {

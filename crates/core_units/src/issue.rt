@@ -1,22 +1,25 @@
 //! At most one issue in a slot.
 ghost use Rattle.std.specs.Prelude.{◌≡◌, ◌<◌, ◌≤◌, ◌+◌, Some, None, length, IsTrue};
 ghost use Rattle.xs_base.specs.declared.numbers.TheConstants.{THREADS, EVENT_ROOM, ISSUE_EVENTS};
-ghost use Rattle.xs_model.specs.Record.{thread_of, with_run};
+ghost use Rattle.xs_model.specs.declared.thread.Run.TheVariants.{Going};
+ghost use Rattle.xs_model.specs.Record.{thread_of, with_thread, with_run};
 ghost use Rattle.xs_instructions.specs.Instr.{InRange, built};
+ghost use Rattle.xs_instructions.specs.Code.{code_at};
 ghost use Rattle.step_model.specs.Effect.{Setting};
 ghost use Rattle.step_model.specs.Rows.{effect};
-ghost use Rattle.step_model.specs.Step.{issue_begins, settled, trap, issued, issued_by};
+ghost use Rattle.step_model.specs.Step.{issue_begins, executed, settled, trap, issued, issued_by};
 ghost use Rattle.core_units.specs.Here.{IsHere};
-ghost use Rattle.core_units.specs.Units.{Ends, effect_of, and_happened};
+ghost use Rattle.core_units.specs.Units.{Ends, effect_of, and_happened, entered_by};
 
 use crate::holders::Holders;
 use crate::program::Program;
 use crate::units::Units;
+use event_unit::Choice;
 use trace_lines::Emissions;
-use trap_unit::{enter_trap, return_address};
+use trap_unit::{enter_event, enter_interrupt, enter_trap, return_address};
 use xs_instructions::{Instr, KernelIns};
 use xs_model::traps::ILLEGAL_PC;
-use xs_model::{Event, Happen, Outcome, Run};
+use xs_model::{Event, Happen, Outcome, Run, Thread};
 
 impl Units {
     /// At most one issue, by the thread that is picked in a slot. What happens is put after the events of `out`.
@@ -57,6 +60,38 @@ impl Units {
             out.new ≡ and_happened out.old slot (issued_by program.now.code here self.old (Some k)).happened }
     {
         self.begin(k, slot);
+        match self.choice(k, slot) {
+            Some(choice) => self.enter(k, choice),
+            None => self.execute_at(k, program, slot, holders, out),
+        }
+    }
+
+    // Thread k takes an event or an interrupt.
+    fn enter(&mut self, k: u8, choice: Choice)
+        requires thread { k < THREADS }
+        requires going { (thread_of self.old k).run ≡ Going }
+        ensures { self.new ≡ with_thread self.old k (entered_by choice (thread_of self.old k)) }
+    {
+        take(&mut self.threads[k as usize], choice);
+    }
+
+    // The instruction where thread k is is executed, if one stands there.
+    fn execute_at<H: Holders>(
+        &mut self,
+        k: u8,
+        program: &Program,
+        slot: u32,
+        holders: &H,
+        out: &mut Emissions,
+    )
+        requires thread { k < THREADS }
+        requires going { (thread_of self.old k).run ≡ Going }
+        requires room { length out.old.events + ISSUE_EVENTS ≤ EVENT_ROOM }
+        ensures units { (here : Setting) → IsHere program.now.id slot (H.busy holders.now) here →
+            self.new ≡ (executed program.now.code here self.old k (code_at program.now.code (thread_of self.old k).pc)).core }
+        ensures events { (here : Setting) → IsHere program.now.id slot (H.busy holders.now) here →
+            out.new ≡ and_happened out.old slot (executed program.now.code here self.old k (code_at program.now.code (thread_of self.old k).pc)).happened }
+    {
         let pc = self.pc_of(k);
         match program.at(pc) {
             None => self.trap(k, program, ILLEGAL_PC, pc, slot, out),
@@ -70,7 +105,8 @@ impl Units {
     // The slot is thread k's last issue now, and its pause is over.
     fn begin(&mut self, k: u8, slot: u32)
         requires thread { k < THREADS }
-        ensures { self.new ≡ issue_begins self.old slot k }
+        ensures units { self.new ≡ issue_begins self.old slot k }
+        ensures going { (thread_of self.new k).run ≡ Going }
     {
         self.slots.mark_issue(k, slot);
         if !matches!(self.threads[k as usize].run, Run::Going) {
@@ -98,6 +134,7 @@ impl Units {
     // What an instruction does when thread k issues it.
     fn execute<H: Holders>(&mut self, k: u8, id: u16, slot: u32, holders: &H, ins: Instr) -> Outcome
         requires thread { k < THREADS }
+        requires going { (thread_of self.old k).run ≡ Going }
         requires range { InRange ins }
         requires built { IsTrue (built ins) }
         ensures row { (here : Setting) → IsHere id slot (H.busy holders.now) here → Ends result self.old self.new (effect here self.old k ins) }
@@ -155,5 +192,17 @@ impl Units {
                 what: Happen::Halt { thread: k },
             });
         }
+    }
+}
+
+// The thread takes an event or an interrupt.
+fn take(thread: &mut Thread, choice: Choice)
+    ensures value { thread.new ≡ entered_by choice thread.old }
+    ensures run { thread.new.run ≡ thread.old.run }
+{
+    if choice.interrupt {
+        enter_interrupt(thread, choice.vector, choice.env);
+    } else {
+        enter_event(thread, choice.vector, choice.env);
     }
 }

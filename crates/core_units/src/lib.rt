@@ -1,9 +1,10 @@
-//! The units of a core (threads, last issues, memory, channel ends, synchronisers, locks) and what instructions do to them: at most one
-//! issue in a slot. See docs/MACHINE.md and docs/INSTRUCTIONS.md.
+//! The units of a core (threads, last issues, memory, channel ends, timers, clock blocks, synchronisers, locks, what gives
+//! events) and what instructions do to them: at most one issue in a slot. See docs/MACHINE.md and docs/INSTRUCTIONS.md.
 #![tactic(auto)]
 
 mod actions;
 mod chans;
+mod events;
 mod holders;
 mod issue;
 mod locks;
@@ -13,6 +14,7 @@ mod refused;
 mod resources;
 mod rows;
 mod threads;
+mod times;
 mod units;
 mod waits;
 

@@ -3,7 +3,8 @@ ghost use Rattle.std.specs.Prelude.{◌≡◌, ◌<◌};
 ghost use Rattle.xs_base.specs.declared.numbers.TheConstants.{THREADS, LOCKS};
 ghost use Rattle.xs_model.specs.Record.{lock_of};
 ghost use Rattle.xs_model.specs.Syncs.{claimed, released};
-ghost use Rattle.step_model.specs.ResourceRows.{claimed_there, goes_on_in, without_lock};
+ghost use Rattle.step_model.specs.Effect.{goes_on_in};
+ghost use Rattle.step_model.specs.ResourceRows.{claimed_there, without_lock};
 ghost use Rattle.core_units.specs.Units.{Ends};
 
 use crate::refused::illegal;
@@ -37,12 +38,7 @@ impl Units {
         ensures { Ends result self.old self.new (goes_on_in k name (without_lock self.old lock (released k (lock_of self.old lock)))) }
     {
         self.able = None;
-        match self.syncs.release(lock, k) {
-            Ok(()) => {
-                self.go_on(k);
-                Outcome::Done
-            }
-            Err(_) => illegal(name),
-        }
+        let released = self.syncs.release(lock, k).is_ok();
+        self.end(k, name, released)
     }
 }

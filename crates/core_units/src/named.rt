@@ -7,8 +7,8 @@ ghost use Rattle.core_units.specs.Named.{IsWithin};
 
 use xs_base::chan_id;
 use xs_base::numbers::{
-    CHAN_END_KIND, CHAN_ENDS, LOCK_KIND, LOCKS, SYNCHRONISER_KIND, SYNCHRONISERS, THREAD_KIND,
-    THREADS,
+    CHAN_END_KIND, CHAN_ENDS, CLOCK_BLOCK_KIND, CLOCK_BLOCKS, LOCK_KIND, LOCKS, SYNCHRONISER_KIND,
+    SYNCHRONISERS, THREAD_KIND, THREADS, TIMER_KIND, TIMERS,
 };
 use xs_model::{Dest, Resource};
 
@@ -18,10 +18,12 @@ pub(crate) fn resource_named(id: u16, name: u32) -> Option<Resource>
     ensures within { IfSome result IsWithin }
 {
     match (name % 256) as u8 {
+        TIMER_KIND => number_below(TIMERS, name).map(|timer| Resource::Timer { timer }),
         CHAN_END_KIND => chan_named(id, name).map(|chan| Resource::Chan { chan }),
         SYNCHRONISER_KIND => number_below(SYNCHRONISERS, name).map(|sync| Resource::Sync { sync }),
         THREAD_KIND => number_below(THREADS, name).map(|thread| Resource::Thread { thread }),
         LOCK_KIND => number_below(LOCKS, name).map(|lock| Resource::Lock { lock }),
+        CLOCK_BLOCK_KIND => number_below(CLOCK_BLOCKS, name).map(|clock| Resource::Clock { clock }),
         _ => None,
     }
 }

@@ -1,7 +1,11 @@
 //! What a row is refused.
-ghost use Rattle.std.specs.Prelude.{◌≡◌};
+ghost use Rattle.std.specs.Prelude.{◌≡◌, ◌<◌};
+ghost use Rattle.xs_base.specs.declared.numbers.TheConstants.{THREADS};
 ghost use Rattle.xs_model.specs.declared.traps.TheConstants.{ILLEGAL_RESOURCE};
+ghost use Rattle.step_model.specs.Effect.{allowed_where, goes_on, goes_on_with};
+ghost use Rattle.core_units.specs.Units.{Ends};
 
+use crate::units::Units;
 use xs_model::Outcome;
 use xs_model::traps::ILLEGAL_RESOURCE;
 
@@ -12,5 +16,32 @@ pub(crate) fn illegal(name: u32) -> Outcome
     Outcome::Trap {
         et: ILLEGAL_RESOURCE,
         ed: name,
+    }
+}
+
+impl Units {
+    /// Thread k goes on where its row was done, and else it is refused what the word `name` names.
+    pub(crate) fn end(&mut self, k: u8, name: u32, done: bool) -> Outcome
+        requires { k < THREADS }
+        ensures { Ends result self.old self.new (allowed_where done name (goes_on self.old k)) }
+    {
+        if !done {
+            return illegal(name);
+        }
+        self.go_on(k);
+        Outcome::Done
+    }
+
+    /// Thread k goes on with a word in register d where the resource is in use, and else it is refused it.
+    pub(crate) fn tell(&mut self, k: u8, d: u8, name: u32, used: bool, word: u32) -> Outcome
+        requires thread { k < THREADS }
+        requires target { d < 12 }
+        ensures { Ends result self.old self.new (allowed_where used name (goes_on_with self.old k d word)) }
+    {
+        if !used {
+            return illegal(name);
+        }
+        self.go_on_with(k, d, word);
+        Outcome::Done
     }
 }

@@ -1,28 +1,32 @@
 //! The rows on resources. See docs/THREADS.md and docs/LINKS.md.
 ghost use Rattle.std.specs.Prelude.{ℕ, ◌≡◌, ◌<◌, ◌%◌, IsTrue};
-ghost use Rattle.xs_base.specs.declared.numbers.TheConstants.{THREADS};
+ghost use Rattle.xs_base.specs.declared.numbers.TheConstants.{THREADS, CHAN_ENDS, TIMERS};
+ghost use Rattle.xs_model.specs.Record.{chan_of, timer_of};
+ghost use Rattle.xs_model.specs.Time.{freed_timer};
+ghost use Rattle.net_model.specs.Chans.{freed_chan};
 ghost use Rattle.xs_instructions.specs.Rows.{is_built};
 ghost use Rattle.xs_instructions.specs.Operands.{row_of_resources};
 ghost use Rattle.xs_instructions.specs.Instr.{ResourcesInRange};
 ghost use Rattle.step_model.specs.Effect.{Setting, reg, goes_on_with};
 ghost use Rattle.step_model.specs.Named.{resource_named};
-ghost use Rattle.step_model.specs.ResourceRows.{resources_row, resource_got, without, freed, takes_in, puts_out};
+ghost use Rattle.step_model.specs.ResourceRows.{resources_row, resource_got, without, without_chan, without_timer, freed, takes_in, puts_out};
 ghost use Rattle.core_units.specs.Here.{IsHere, AreBusy};
 ghost use Rattle.core_units.specs.Units.{Ends};
 ghost use Rattle.core_units.specs.Named.{IsWithin};
 ghost use Rattle.core_units.specs.Found.{name_of};
-ghost use Rattle.core_units.specs.Freed.{IsFreed};
+ghost use Rattle.core_units.specs.Changed.{IsChanged};
 
 use crate::actions::Action;
 use crate::chans::got_chan;
+use crate::events::Change;
 use crate::holders::Holders;
 use crate::named::resource_named;
 use crate::refused::illegal;
 use crate::units::Units;
-use xs_base::numbers::{CHAN_END_KIND, LOCK_KIND, SYNCHRONISER_KIND, THREAD_KIND};
+use xs_base::numbers::{CHAN_END_KIND, LOCK_KIND, SYNCHRONISER_KIND, THREAD_KIND, TIMER_KIND};
 use xs_base::{Token, res_id};
 use xs_instructions::ResIns;
-use xs_model::{Outcome, Resource};
+use xs_model::{Outcome, Res, Resource};
 
 impl Units {
     // On the node with this id, in a slot.
@@ -56,7 +60,7 @@ impl Units {
                 self.on_chan(id, k, s, Action::Put(t), None)
             }
             ResIns::OutctImm(s, i) => self.on_chan(id, k, s, Action::Put(Token::Ctrl(i)), None),
-            ResIns::In(d, s) => self.take_in(id, k, d, s),
+            ResIns::In(d, s) => self.take_in(id, slot, k, d, s),
             ResIns::Int(d, s) => self.on_chan(id, k, s, Action::TakeByte, Some(d)),
             ResIns::Inct(d, s) => self.on_chan(id, k, s, Action::TakeCtrl, Some(d)),
             ResIns::Chkct(s, x) => {
@@ -66,11 +70,38 @@ impl Units {
             ResIns::ChkctImm(s, i) => self.on_chan(id, k, s, Action::Check(u32::from(i)), None),
             ResIns::Testct(d, s) => self.on_chan(id, k, s, Action::Look, Some(d)),
             ResIns::Testwct(d, s) => self.on_chan(id, k, s, Action::LookWord, Some(d)),
-            ResIns::Setd(s, x) => {
-                let dest = self.reg(k, x);
-                self.on_chan(id, k, s, Action::SetDest(dest), None)
+            ResIns::Setd(s, x) => self.set_data(id, k, s, x),
+            ResIns::Getd(d, s) => self.tell_data(id, k, d, s),
+            ResIns::SetcImm(s, u) => self.set_mode(id, k, s, u32::from(u)),
+            ResIns::Setc(s, x) => {
+                let mode = self.reg(k, x);
+                self.set_mode(id, k, s, mode)
             }
-            ResIns::Getd(d, s) => self.on_chan(id, k, s, Action::TellDest, Some(d)),
+            ResIns::Setv(s) => {
+                let vector = self.reg(k, 11);
+                self.set_events(id, k, s, Change::Vector(vector))
+            }
+            ResIns::Setev(s) => {
+                let environment = self.reg(k, 11);
+                self.set_events(id, k, s, Change::Environment(environment))
+            }
+            ResIns::Eeu(s) => self.enable(id, k, s, true),
+            ResIns::Edu(s) => self.enable(id, k, s, false),
+            ResIns::Eet(x, s) => {
+                let on = self.reg(k, x) != 0;
+                self.enable(id, k, s, on)
+            }
+            ResIns::Eef(x, s) => {
+                let on = self.reg(k, x) == 0;
+                self.enable(id, k, s, on)
+            }
+            ResIns::Clre => {
+                self.clre(k);
+                Outcome::Done
+            }
+            ResIns::Waiteu => self.wait_where(k, true),
+            ResIns::Waitet(x) => self.wait_where(k, self.reg(k, x) != 0),
+            ResIns::Waitef(x) => self.wait_where(k, self.reg(k, x) == 0),
             _ => unreachable!(),
         }
     }
@@ -82,6 +113,7 @@ impl Units {
     {
         self.able = None;
         match kind {
+            TIMER_KIND => name_of(self.timers.get(), kind),
             CHAN_END_KIND => got_chan(id, &mut self.chans),
             SYNCHRONISER_KIND => name_of(self.syncs.get_sync(k), kind),
             THREAD_KIND => name_of(self.get_thread(slot), kind),
@@ -101,40 +133,67 @@ impl Units {
         let Some(resource) = resource_named(id, name) else {
             return illegal(name);
         };
-        if self.is_paused_on(resource) || !self.free(k, holders, resource) {
-            return illegal(name);
-        }
-        self.go_on(k);
-        Outcome::Done
+        let freed = !self.is_paused_on(resource) && self.free(k, holders, resource);
+        self.end(k, name, freed)
     }
 
     // Whether a resource could be freed by thread k, and then it is.
     fn free<H: Holders>(&mut self, k: u8, holders: &H, resource: Resource) -> bool
         requires thread { k < THREADS }
         requires within { IsWithin resource }
-        ensures { (here : Setting) → AreBusy (H.busy holders.now) here → IsFreed result self.old self.new (without here self.old k resource) }
+        ensures { (here : Setting) → AreBusy (H.busy holders.now) here → IsChanged result self.old self.new (without here self.old k resource) }
     {
         self.able = None;
         match resource {
-            Resource::Chan { chan } => self.chans.free(chan, holders.is_busy(chan)).is_ok(),
+            Resource::Chan { chan } => self.free_chan(chan, holders.is_busy(chan)),
+            Resource::Timer { timer } => self.free_timer(timer),
             Resource::Sync { sync } => self.syncs.free_sync(sync, k).is_ok(),
             Resource::Lock { lock } => self.syncs.free_lock(lock).is_ok(),
-            Resource::Thread { .. } => false,
+            Resource::Thread { .. } | Resource::Clock { .. } => false,
         }
     }
 
-    // A word from the channel end that register s names goes into register d, or thread k owns the lock that it names.
-    fn take_in(&mut self, id: u16, k: u8, d: u8, s: u8) -> Outcome
+    // Frees a channel end, where it may be; `held` says that the switch is at work with it. What was set of its events is
+    // forgotten.
+    fn free_chan(&mut self, chan: u8, held: bool) -> bool
+        requires { chan < CHAN_ENDS }
+        ensures { IsChanged result self.old self.new (without_chan self.old chan (freed_chan held (chan_of self.old chan))) }
+    {
+        self.able = None;
+        if self.chans.free(chan, held).is_err() {
+            return false;
+        }
+        self.events.forget(Res::Chan(chan));
+        true
+    }
+
+    // Frees a timer that is in use. What was set of its events is forgotten.
+    fn free_timer(&mut self, timer: u8) -> bool
+        requires { timer < TIMERS }
+        ensures { IsChanged result self.old self.new (without_timer self.old timer (freed_timer (timer_of self.old timer))) }
+    {
+        self.able = None;
+        if self.timers.free(timer).is_err() {
+            return false;
+        }
+        self.events.forget(Res::Timer(timer));
+        true
+    }
+
+    // A word from the channel end that register s names goes into register d, or the time, where it names a timer; or thread k
+    // owns the lock that it names.
+    fn take_in(&mut self, id: u16, slot: u32, k: u8, d: u8, s: u8) -> Outcome
         requires thread { k < THREADS }
         requires target { d < 12 }
         requires source { s < 12 }
-        ensures { Ends result self.old self.new (takes_in self.old k d (reg self.old k s) (resource_named id (reg self.old k s))) }
+        ensures { Ends result self.old self.new (takes_in slot self.old k d (reg self.old k s) (resource_named id (reg self.old k s))) }
     {
         let name = self.reg(k, s);
         match resource_named(id, name) {
             Some(Resource::Chan { chan }) => {
                 self.at_chan(k, name, chan, Action::TakeWord, Some(d))
             }
+            Some(Resource::Timer { timer }) => self.take_time(slot, k, d, name, timer),
             Some(Resource::Lock { lock }) => self.claim(k, d, name, lock),
             _ => illegal(name),
         }

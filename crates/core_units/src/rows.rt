@@ -1,9 +1,10 @@
 //! The rows on the thread that issues and on the memory: the unit of a row does it, and here it is put into the core.
 ghost use Rattle.std.specs.Prelude.{◌≡◌, ◌<◌, IsTrue};
 ghost use Rattle.xs_base.specs.declared.numbers.TheConstants.{THREADS};
+ghost use Rattle.xs_model.specs.declared.thread.Run.TheVariants.{Going};
 ghost use Rattle.xs_model.specs.Record.{thread_of, with_thread};
 ghost use Rattle.xs_model.specs.Entry.{returned};
-ghost use Rattle.xs_instructions.specs.Instr.{InRange, WordsInRange, built};
+ghost use Rattle.xs_instructions.specs.Instr.{InRange, WordsInRange};
 ghost use Rattle.step_model.specs.Effect.{Setting, on_registers};
 ghost use Rattle.step_model.specs.WordRows.{words_row};
 ghost use Rattle.step_model.specs.Rows.{effect};
@@ -22,6 +23,7 @@ impl Units {
     #[inline]
     pub(crate) fn words(&mut self, k: u8, ins: WordIns) -> Outcome
         requires thread { k < THREADS }
+        requires going { (thread_of self.old k).run ≡ Going }
         requires range { WordsInRange ins }
         ensures row { Ends result self.old self.new (on_registers self.old k (words_row (thread_of self.old k) ins)) }
     {
@@ -35,9 +37,9 @@ impl Units {
     #[inline]
     pub(crate) fn local(&mut self, k: u8, ins: Instr) -> Outcome
         requires thread { k < THREADS }
+        requires going { (thread_of self.old k).run ≡ Going }
         requires part { IsTrue (is_local ins) }
         requires range { InRange ins }
-        requires built { IsTrue (built ins) }
         ensures row { (here : Setting) → Ends result self.old self.new (effect here self.old k ins) }
     {
         let thread = &mut self.threads[k as usize];
@@ -46,7 +48,8 @@ impl Units {
 
     // The return from a trap or an interrupt.
     pub(crate) fn kret(&mut self, k: u8)
-        requires { k < THREADS }
+        requires thread { k < THREADS }
+        requires going { (thread_of self.old k).run ≡ Going }
         ensures { self.new ≡ with_thread self.old k (returned (thread_of self.old k)) }
     {
         trap_unit::kret(&mut self.threads[k as usize]);

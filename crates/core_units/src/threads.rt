@@ -1,17 +1,15 @@
 //! The rows on threads. See docs/THREADS.md.
 ghost use Rattle.std.specs.Prelude.{ℕ, ◌≡◌, ◌<◌, [], true, false, IsTrue, IfSome, IfOk, IfErr, length, slice_index_or};
-ghost use Rattle.std.specs.List.{list_all};
 ghost use Rattle.xs_base.specs.declared.numbers.TheConstants.{THREADS, SYNCHRONISERS};
 ghost use Rattle.xs_model.specs.Threads.{fresh_thread};
-ghost use Rattle.xs_model.specs.Record.{CoreRec, thread_of, sync_of, with_sync};
+ghost use Rattle.xs_model.specs.Record.{CoreRec, thread_of, sync_of};
 ghost use Rattle.xs_model.specs.Free.{lowest_free};
-ghost use Rattle.xs_model.specs.Masks.{in_mask, members};
-ghost use Rattle.xs_model.specs.Syncs.{is_thread, unbound};
-ghost use Rattle.xs_model.specs.Waits.{is_in, all_in};
+ghost use Rattle.xs_model.specs.Syncs.{is_thread};
+ghost use Rattle.xs_model.specs.Waits.{all_in};
 ghost use Rattle.xs_instructions.specs.Instr.{ThreadsInRange};
 ghost use Rattle.step_model.specs.Effect.{Setting, Done, reg, after_it, goes_on, goes_on_with};
 ghost use Rattle.step_model.specs.Named.{resource_named};
-ghost use Rattle.step_model.specs.ThreadRows.{threads_row, as_master, when_all_in, is_taken, thread_to_get, slave_got, is_slave, may_start, sets_other, with_runs, with_slaves_run};
+ghost use Rattle.step_model.specs.ThreadRows.{threads_row, as_master, when_all_in, is_taken, thread_to_get, slave_got, is_slave, may_start, sets_other, with_slaves_run, slaves_are_freed};
 ghost use Rattle.core_units.specs.Units.{Ends};
 ghost use Rattle.core_units.specs.Named.{named_thread, mastered};
 ghost use Rattle.core_units.specs.Found.{with_thread_got};
@@ -20,6 +18,7 @@ ghost use Rattle.core_units.specs.Targets.{IsTarget, with_target};
 use crate::named::resource_named;
 use crate::refused::illegal;
 use crate::units::Units;
+use core_waits::{drop_threads, is_in, set_runs};
 use xs_base::numbers::{THREAD_KIND, THREADS};
 use xs_base::res_id;
 use xs_instructions::ThreadIns;
@@ -108,8 +107,7 @@ impl Units {
         match self.met(id, k, s) {
             Err(outcome) => outcome,
             Ok(sync) => {
-                self.set_slaves(sync, Run::Free);
-                self.unbind_all(sync);
+                self.free_slaves(sync);
                 self.go_on(k);
                 Outcome::Done
             }
@@ -189,7 +187,7 @@ impl Units {
     fn all_in(&self, sync: u8) -> bool
         ensures { result ≡ all_in self.now sync }
     {
-        all_in(&self.threads, self.syncs.slaves(sync))
+        core_waits::all_in(&self.threads, self.syncs.slaves(sync))
     }
 
     // What the slaves of a synchroniser do from now on.
@@ -201,12 +199,15 @@ impl Units {
         set_runs(&mut self.threads, slaves, run);
     }
 
-    // A synchroniser is left with no slaves.
-    fn unbind_all(&mut self, sync: u8)
+    // The slaves of a synchroniser are free, and no slaves any more; what they enabled is disabled.
+    fn free_slaves(&mut self, sync: u8)
         requires { sync < SYNCHRONISERS }
-        ensures { self.new ≡ with_sync self.old sync (unbound (sync_of self.old sync)) }
+        ensures { self.new ≡ slaves_are_freed self.old sync }
     {
+        let slaves = self.syncs.slaves(sync);
+        self.set_slaves(sync, Run::Free);
         self.able = None;
+        drop_threads(&mut self.events, slaves);
         self.syncs.unbind_all(sync);
     }
 
@@ -278,6 +279,8 @@ impl Units {
         }
         self.go_on(k);
         self.set_run(k, Run::Free);
+        self.able = None;
+        self.events.drop_thread(k);
         Outcome::Gone
     }
 
@@ -326,37 +329,6 @@ pub(crate) fn go_on(thread: &mut Thread)
     thread.pc = thread.pc.wrapping_add(4);
 }
 
-/// Whether the threads of a mask are all unstarted or at sync.
-pub(crate) fn all_in(threads: &[Thread; 8], slaves: u8) -> bool
-    ensures { result ≡ list_all (λ k. is_in (slice_index_or threads.now k fresh_thread).run) (members slaves) }
-{
-    for k in 0..THREADS {
-        if is_member(k, slaves) && !is_in(threads[k as usize].run) {
-            return false;
-        }
-    }
-    true
-}
-
-// What the threads of a mask do from now on.
-fn set_runs(threads: &mut [Thread], slaves: u8, run: Run)
-    requires { length threads.old ≡ THREADS }
-    ensures { threads.new ≡ with_runs run (members slaves) threads.old }
-{
-    for k in 0..THREADS {
-        if is_member(k, slaves) {
-            threads[k as usize].run = run;
-        }
-    }
-}
-
-fn is_member(k: u8, mask: u8) -> bool
-    requires { k < THREADS }
-    ensures { result ≡ in_mask mask k }
-{
-    (mask >> k) & 1 == 1
-}
-
 fn set(thread: &mut Thread, target: Target, value: u32)
     requires { IsTarget target }
     ensures { thread.new ≡ with_target target value thread.old }
@@ -365,13 +337,6 @@ fn set(thread: &mut Thread, target: Target, value: u32)
         Target::Pc => thread.pc = value,
         Target::Register(g) => thread.set_reg(g, value),
     }
-}
-
-// Whether a thread is where its synchroniser waits for it.
-fn is_in(run: Run) -> bool
-    ensures { result ≡ is_in run }
-{
-    matches!(run, Run::Unstarted | Run::AtSync)
 }
 
 // The thread, 0 to 7, that a word names.

@@ -9,22 +9,28 @@ ghost use Rattle.xs_model.specs.Memory.{load_word, is_word_address};
 
 use chan_ends::ChanEnds;
 use core_memory::{BadAddress, Ram};
+use core_waits::Able;
+use event_unit::Events;
 use std::marker::Model;
 use sync_locks::Syncs;
 use thread_slots::Slots;
+use timers_clocks::{Clocks, Timers};
 use xs_model::{Entry0, Run, Thread};
 
-/// A core's threads with their last issues, its memory, channel ends, synchronisers and locks. Contracts see the core
-/// record. See docs/MACHINE.md and docs/THREADS.md.
+/// A core's threads with their last issues, its memory, channel ends, timers, clock blocks, synchronisers and locks, and
+/// what gives events. Contracts see the core record. See docs/MACHINE.md.
 #[derive(Drop)]
 pub struct Units {
     pub(crate) threads: [Thread; 8],
-    // The threads that would issue if they were rested, as the bits of a mask, where that is known.
-    pub(crate) able: Option<u8>,
+    // The threads that would issue if they were rested, where that is known.
+    pub(crate) able: Option<Able>,
     pub(crate) slots: Slots,
     pub(crate) ram: Ram,
     pub(crate) chans: ChanEnds,
+    pub(crate) timers: Timers,
+    pub(crate) clocks: Clocks,
     pub(crate) syncs: Syncs,
+    pub(crate) events: Events,
 }
 
 impl Model for Units {
@@ -53,7 +59,10 @@ impl Units {
             slots: Slots::new(),
             ram,
             chans: ChanEnds::new(id),
+            timers: Timers::new(),
+            clocks: Clocks::new(),
             syncs: Syncs::new(),
+            events: Events::new(),
         }
     }
 

@@ -8,6 +8,6 @@ use Rattle.core_units.proofs.units.Units.all_in.Goals as goal
 
 pub returns : goal.returns
 returns c =
-    c.all_in.ensures
+    c.all_in.ensures.value
     ∙ ap (list_all (λ k. is_in (slice_index_or c.self.inside.threads k fresh_thread).run)) c.slaves.ensures.value
     ∙ ap (λ (core : CoreRec). all_in core c.args.sync) c.self.view_is

@@ -1,31 +1,25 @@
-use Rattle.std.proofs.Common.{◌≡◌, ap, sym, ◌∙◌}
-use Rattle.xs_model.specs.Record.{CoreRec, thread_of}
-use Rattle.xs_instructions.specs.Code.{code_at}
-use Rattle.step_model.specs.Effect.{Setting}
-use Rattle.step_model.specs.Step.{Issued, issue_begins, executed, settled}
-use Rattle.step_model.specs.Rows.{effect}
-use Rattle.core_units.specs.Here.{IsHere}
-use Rattle.core_units.specs.Units.{and_happened, effect_of}
-use Rattle.core_units.proofs.Settles.{same_settled}
-use Rattle.core_units.proofs.units.Units.issue_by.Given.{Over}
+use Rattle.std.proofs.Common.{ap, sym, ◌∙◌}
+use Rattle.step_model.specs.Step.{Issued}
+use Rattle.core_units.specs.Units.{and_happened}
+use Rattle.core_units.proofs.Issues.{nothing_happened, issue_taken, issue_executed}
 use Rattle.core_units.proofs.units.Units.issue_by.Goals as goal
-use Rattle.core_units.proofs.units.Units.issue_by.Goals.{After-settle}
-
--- what the outcome makes of the thread is what the definition executes
-its_issue : (g : Over) (c : After-settle g) (here : Setting) → IsHere c.args.program.now.id c.args.slot (g.H.Holders.busy c.args.holders.now) here
-    → settled c.args.program.now.code c.execute-outcome.new.self c.args.k (effect_of c.execute-outcome.result c.execute-outcome.new.self)
-    ≡ executed c.args.program.now.code here (issue_begins c.args.self.now here.slot c.args.k) c.args.k (code_at c.args.program.now.code (thread_of (issue_begins c.args.self.now here.slot c.args.k) c.args.k).pc)
-its_issue g c here at =
-    let code = c.args.program.now.code in
-    let begun : c.begin.new.self ≡ issue_begins c.args.self.now here.slot c.args.k =
-    c.begin.ensures ∙ ap (λ t. issue_begins c.args.self.now t c.args.k) (sym at.slot)
-    in
-    same_settled code c.args.k c.begin.new.self c.execute-outcome.new.self c.execute-outcome.result (effect here c.begin.new.self c.args.k c.in-Some.ins) (c.execute-outcome.ensures.row here (record { id = at.id ∙ sym c.id.ensures; slot = at.slot; busy = at.busy }))
-    ∙ ap (λ ins. executed code here c.begin.new.self c.args.k ins) (sym c.in-Some.is ∙ c.at.ensures.value ∙ ap (code_at code) c.pc_of-pc.ensures)
-    ∙ ap (λ (core : CoreRec). executed code here core c.args.k (code_at code (thread_of core c.args.k).pc)) begun
 
 pub returns-in-Some-clause-units : goal.returns-in-Some-clause-units
-returns-in-Some-clause-units g c = λ here at. c.settle.ensures.units ∙ ap (λ (i : Issued). i.core) (its_issue g c here at)
+returns-in-Some-clause-units g c = λ here at.
+    c.enter.ensures
+    ∙ ap (λ (i : Issued). i.core) (issue_taken c.args.program.now.code here c.args.self.now c.begin.new.self c.args.slot c.args.k at.slot c.begin.ensures.units c.in-Some.choice (sym c.in-Some.is ∙ c.choice.ensures))
 
 pub returns-in-Some-clause-events : goal.returns-in-Some-clause-events
-returns-in-Some-clause-events g c = λ here at. c.settle.ensures.events ∙ ap (λ (i : Issued). and_happened c.args.out.now c.args.slot i.happened) (its_issue g c here at)
+returns-in-Some-clause-events g c = λ here at.
+    nothing_happened c.args.out.now c.args.slot
+    ∙ ap (λ (i : Issued). and_happened c.args.out.now c.args.slot i.happened) (issue_taken c.args.program.now.code here c.args.self.now c.begin.new.self c.args.slot c.args.k at.slot c.begin.ensures.units c.in-Some.choice (sym c.in-Some.is ∙ c.choice.ensures))
+
+pub returns-in-None-clause-units : goal.returns-in-None-clause-units
+returns-in-None-clause-units g c = λ here at.
+    c.execute_at.ensures.units here at
+    ∙ ap (λ (i : Issued). i.core) (issue_executed c.args.program.now.code here c.args.self.now c.begin.new.self c.args.slot c.args.k at.slot c.begin.ensures.units (sym c.in-None.is ∙ c.choice.ensures))
+
+pub returns-in-None-clause-events : goal.returns-in-None-clause-events
+returns-in-None-clause-events g c = λ here at.
+    c.execute_at.ensures.events here at
+    ∙ ap (λ (i : Issued). and_happened c.args.out.now c.args.slot i.happened) (issue_executed c.args.program.now.code here c.args.self.now c.begin.new.self c.args.slot c.args.k at.slot c.begin.ensures.units (sym c.in-None.is ∙ c.choice.ensures))

@@ -1,5 +1,5 @@
-use Rattle.std.proofs.Common.{subst, arith}
-use Rattle.xs_model.specs.Record.{CoreRec}
+use Rattle.std.proofs.Common.{ap, subst, ◌∙◌, arith}
+use Rattle.xs_model.specs.Record.{CoreRec, thread_of}
 use Rattle.step_model.specs.Effect.{with_local}
 use Rattle.step_model.specs.Rows.{effect}
 use Rattle.flow_unit.specs.Local.{local}
@@ -19,4 +19,7 @@ returns c = record {
 }
 
 pub invariant_of-self : goal.invariant_of-self
-invariant_of-self c = thread-set c.self.inside c.args.k _ _ c.flow.new.ram c.requires.thread c.flow.ensures.run c.self.invariant
+invariant_of-self c =
+    thread-set c.self.inside c.args.k _ _ c.flow.new.ram c.requires.thread
+    (ap (λ (core : CoreRec). (thread_of core c.args.k).run) c.self.view_is ∙ c.requires.going)
+    c.flow.ensures.run c.self.invariant

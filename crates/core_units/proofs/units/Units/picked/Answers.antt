@@ -13,4 +13,4 @@ returns-clause-value c =
     subst (λ (core : CoreRec). c.pick.result ≡ picked core slot) same
     (c.pick.ensures.value (λ k. eligible core k slot) (λ k below.
     ap (λ able. able && is_rested (last_of core k) slot)
-    (ap (λ (core : CoreRec). is_able core k slot) same ∙ sym (c.able-able.ensures.value slot k below))))
+    (ap (λ (core : CoreRec). is_able core k slot) same ∙ sym (c.able-able.ensures.value k below))))

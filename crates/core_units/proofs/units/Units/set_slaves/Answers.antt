@@ -1,5 +1,17 @@
-use Rattle.std.proofs.Common.{◌∙◌}
+use Rattle.std.proofs.Common.{ℕ, ◌≡◌, List, [], ◌∷◌, length, refl, ap, ◌∙◌}
+use Rattle.std.proofs.lemmas.List.{length-set}
+use Rattle.xs_model.specs.declared.thread.Thread.{Thread}
+use Rattle.xs_model.specs.declared.thread.Run.{Run}
+use Rattle.step_model.specs.ThreadRows.{with_runs}
 use Rattle.core_units.proofs.units.Units.set_slaves.Goals as goal
 
+as_many : (run : Run) (ks : List ℕ) (threads : List Thread) → length (with_runs run ks threads) ≡ length threads
+unfolding with_runs
+as_many run [] threads = refl
+as_many run (k ∷ ks) threads = as_many run ks _ ∙ length-set threads k _
+
 pub invariant_of-self : goal.invariant_of-self
-invariant_of-self c = record { eight = c.set_runs.auto.threads ∙ c.self.invariant.eight; known = tt }
+invariant_of-self c = record {
+  eight = ap length c.set_runs.ensures.set ∙ as_many c.args.run _ c.self.inside.threads ∙ c.self.invariant.eight;
+  known = tt;
+}

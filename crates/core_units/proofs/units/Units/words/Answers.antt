@@ -14,6 +14,7 @@ use Rattle.core_units.proofs.units.Units.words.Goals as goal
 pub invariant_of-self : goal.invariant_of-self
 invariant_of-self c =
     thread-set c.self.inside c.args.k _ _ c.self.inside.ram c.requires.thread
+    (ap (λ (core : CoreRec). (thread_of core c.args.k).run) c.self.view_is ∙ c.requires.going)
     (ap (λ (th : Thread). th.run) c.go_on_where_done.ensures ∙ gone_on-run c.alu-outcome.result c.alu-outcome.new.thread ∙ ap (λ (th : Thread). th.run) c.alu-outcome.ensures.stays)
     c.self.invariant
 
