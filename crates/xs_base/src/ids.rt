@@ -1,6 +1,6 @@
 //! Resource identifiers. See docs/MACHINE.md.
 ghost use Rattle.std.specs.Prelude.{ℕ, ◌≡◌, ◌≢◌, ◌<◌, ◌+◌, None, IfSome};
-ghost use Rattle.xs_base.specs.Ids.{chan_id, res_id, port_id, port_width, port_index, port_letter};
+ghost use Rattle.xs_base.specs.Ids.{chan_id, res_id, port_id, port_width, port_index, port_letter, port_with, port_by};
 
 use crate::numbers::{CHAN_END_KIND, PORTS};
 
@@ -58,15 +58,30 @@ pub fn port_id(port: u8) -> u32
 
 /// The port with an identifier: `None` exactly where no port has it.
 pub fn port_of(id: u32) -> Option<u8>
+    ensures value { result ≡ port_with id }
     ensures port { IfSome result (λ port. (port < 29) × (port_id port ≡ id)) }
     ensures none { result ≡ None → (port : ℕ) → port < 29 → port_id port ≢ id }
 {
-    for port in 0..PORTS {
-        if port_id(port) == id {
-            return Some(port);
-        }
+    let port = port_by(id);
+    if port < PORTS && port_id(port) == id {
+        Some(port)
+    } else {
+        None
     }
-    None
+}
+
+// The port that has an identifier, if any has it: the ports of each width stand side by side.
+fn port_by(id: u32) -> u8
+    ensures { result ≡ port_by id }
+{
+    let first = match id / 65_536 {
+        1 => 0,
+        4 => 16,
+        8 => 22,
+        16 => 26,
+        _ => 28,
+    };
+    first + (id / 256 % 16) as u8
 }
 
 /// The port of a width in bits with a letter, an upper-case one as a byte: `None` exactly where there is none.
