@@ -1,12 +1,11 @@
--- The code of a source without faults: each instruction is in range and of a built row, and what it names by a label is there.
-use Rattle.std.proofs.Common.{◌≡◌, ℕ, zero, suc, ◌+◌, ◌*◌, ◌≤◌, min, true, false, List, [], ◌∷◌, map, replicate, Option, Some, None, option_and_then, refl, sym, ap, ◌∙◌, subst, arith, IsTrue}
+-- The code of a source without faults: each instruction is in range, and what it names by a label is there.
+use Rattle.std.proofs.Common.{◌≡◌, ℕ, zero, suc, ◌+◌, ◌*◌, ◌≤◌, min, true, false, List, [], ◌∷◌, map, replicate, Option, Some, None, option_and_then, refl, sym, ◌∙◌, subst, arith, IsTrue}
 use Rattle.std.specs.Prelude.{IfSome, is_none, option_to_list}
 use Rattle.std.specs.List.{AllByRecursion, list_any}
 use Rattle.std.proofs.lemmas.Bool.{false≢true, or_parts, cond_both}
 use Rattle.xs_instructions.specs.Code.{code_start, place_address}
 use Rattle.xs_instructions.specs.Image.{Symbol, has_symbol_at}
-use Rattle.xs_instructions.specs.Instr.{InRange, built, label_of, value_parts}
-use Rattle.xs_instructions.specs.Rows.{is_built}
+use Rattle.xs_instructions.specs.Instr.{InRange, label_of, value_parts}
 use Rattle.xs_instructions.specs.Operands.{made}
 use Rattle.xs_instructions.specs.Find.{are_in_range, build}
 use Rattle.xs_instructions.specs.declared.instr.Instr.{Instr}
@@ -38,7 +37,6 @@ IsThere symbols place = IsTrue (has_symbol_at symbols (place_address place))
 -- what every image keeps of an instruction
 pub record IsGood (symbols : List Symbol) (ins : Instr) : Type 0 where
   pub operands : InRange ins
-  pub built : IsTrue (built ins)
   pub target : IfSome (label_of ins) (IsThere symbols)
 
 -- what all lines say, where no fault is
@@ -98,27 +96,26 @@ targets_there whole (p ∷ parts) (amount ∷ amounts) (n ∷ values) w t h d =
 
 -- an instruction that a line makes
 
-made_good : (whole : Sofar) (row : Row) (amounts : List Amount) (values : List ℕ) → IsWhole whole → values_in whole amounts ≡ Some values → is_built row ≡ true → HasTargets (value_parts row) amounts
+made_good : (whole : Sofar) (row : Row) (amounts : List Amount) (values : List ℕ) → IsWhole whole → values_in whole amounts ≡ Some values → HasTargets (value_parts row) amounts
     → list_any (is_missing whole) amounts ≡ false → are_in_range (value_parts row) values ≡ true → IsGood (symbols_of whole) (made row values)
-made_good whole row amounts values w h b t d r =
+made_good whole row amounts values w h t d r =
     let facts = made-facts row values r in
     let there = targets_there whole (value_parts row) amounts values w t h d in
     let label : label_of (made row values) ≡ labelled (value_parts row) values = label_labelled (made row values) ∙ (rw (facts.1, facts.2) refl) in
     record {
       operands = facts.0;
-      built = ap is_built facts.1 ∙ b;
       target = subst (λ o. IfSome o (IsThere (symbols_of whole))) (sym label) there;
     }
 
-instruction_good : (whole : Sofar) (row : Row) (amounts : List Amount) (o : Option (List ℕ)) → IsWhole whole → values_in whole amounts ≡ o → is_built row ≡ true → HasTargets (value_parts row) amounts
+instruction_good : (whole : Sofar) (row : Row) (amounts : List Amount) (o : Option (List ℕ)) → IsWhole whole → values_in whole amounts ≡ o → HasTargets (value_parts row) amounts
     → list_any (is_missing whole) amounts ≡ false → AllByRecursion (IsGood (symbols_of whole)) (option_to_list (option_and_then (build row) o))
-instruction_good whole row amounts None w h b t d = tt
-instruction_good whole row amounts (Some values) w h b t d =
+instruction_good whole row amounts None w h t d = tt
+instruction_good whole row amounts (Some values) w h t d =
     cond_both (are_in_range (value_parts row) values) (Some (made row values)) None (λ o. AllByRecursion (IsGood (symbols_of whole)) (option_to_list o))
-    (λ r. (made_good whole row amounts values w h b t d r, tt)) (λ r. tt)
+    (λ r. (made_good whole row amounts values w h t d r, tt)) (λ r. tt)
 
 nop_good : (symbols : List Symbol) → IsGood symbols (Words Nop)
-nop_good symbols = record { operands = tt; built = refl; target = tt }
+nop_good symbols = record { operands = tt; target = tt }
 
 all_replicate : {A : Type 0} (P : A → Type 0) (n : ℕ) (x : A) → P x → AllByRecursion P (replicate n x)
 all_replicate P zero x h = tt
@@ -128,7 +125,7 @@ says_good : (whole : Sofar) (long : ℕ) (home : Home) (says : Says) → IsWhole
 says_good whole long home NoEffect w s d = tt
 says_good whole long home Unknown w s d = tt
 says_good whole long home Misshapen w s d = tt
-says_good whole long home (Instruction row amounts) w s d = instruction_good whole row amounts (values_in whole amounts) w refl s.1 s.2 d
+says_good whole long home (Instruction row amounts) w s d = instruction_good whole row amounts (values_in whole amounts) w refl s.1 d
 says_good whole long home (Values width amounts) w s d = tt
 says_good whole long home (Zeros count) w s d = tt
 says_good whole long home (Align None) w s d = tt

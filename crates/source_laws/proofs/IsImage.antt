@@ -1,11 +1,11 @@
 -- What a source without faults stands for keeps what every image keeps.
-use Rattle.std.proofs.Common.{◌≡◌, ℕ, ◌+◌, ◌%◌, ◌<◌, List, [], ◌∷◌, length, map, Option, Some, None, refl, ap, ◌∙◌, subst, arith, length-append, IsTrue}
+use Rattle.std.proofs.Common.{◌≡◌, ℕ, ◌+◌, ◌%◌, ◌<◌, List, [], ◌∷◌, length, map, Option, Some, None, refl, ap, ◌∙◌, subst, arith, length-append}
 use Rattle.std.specs.Prelude.{IfSome}
 use Rattle.std.specs.List.{AllByRecursion}
 use Rattle.std.proofs.lemmas.List.{length-replicate}
 use Rattle.xs_text.specs.Lines.{lines_of}
 use Rattle.xs_instructions.specs.Image.{ImageRec, IsImage, data_start}
-use Rattle.xs_instructions.specs.Instr.{InRange, built, label_of}
+use Rattle.xs_instructions.specs.Instr.{InRange, label_of}
 use Rattle.source_model.specs.declared.AsmKind.{AsmKind}
 use Rattle.source_model.specs.declared.layout.Section.TheVariants.{Data, Constants}
 use Rattle.source_model.specs.Statement.{Line, line_of}
@@ -63,7 +63,6 @@ module _ (lines : List Line) (fine : AreFine (whole_of lines) nothing_yet lines)
     code_fits = omega (arith, code_is, bounded.code);
     bytes_fit = omega (arith, bytes_is, bounded.bytes);
     operands = all_then _ InRange _ (λ ins h. h.operands) good;
-    built = all_then _ (λ ins. IsTrue (built ins)) _ (λ ins h. h.built) good;
     targets = all_then _ (λ ins. IfSome (label_of ins) (IsThere (image_of (whole_of lines) lines).symbols)) _ (λ ins h. h.target) good;
     names = table.names;
     order = table.order;

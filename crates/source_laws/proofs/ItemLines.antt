@@ -19,7 +19,7 @@ use Rattle.xs_instructions.specs.declared.instr.Instr.{Instr}
 use Rattle.xs_instructions.specs.Words.{same_name}
 use Rattle.xs_instructions.specs.Rows.{name_of, parts_of}
 use Rattle.xs_instructions.specs.Operands.{row_of, values_of, at}
-use Rattle.xs_instructions.specs.Instr.{InRange, built}
+use Rattle.xs_instructions.specs.Instr.{InRange}
 use Rattle.xs_instructions.specs.Find.{find, known, first_row, is_of_row, have_form}
 use Rattle.xs_instructions.specs.Spelling.{Spelled, spelled, spelled_at, spelling, shapes, values_after}
 use Rattle.xs_instructions.specs.Image.{Symbol, may_be_label, is_reserved}
@@ -51,10 +51,9 @@ line_item symbols item.DataSection = record { bad_byte = false; labels = []; sta
 line_item symbols item.ConstantSection = record { bad_byte = false; labels = []; statement = record { home = BeginsConstants; says = says.NoEffect } }
 line_item symbols (item.Byte value) = record { bad_byte = false; labels = []; statement = record { home = InBytes; says = says.Values width.Byte (Known (Some value) ∷ []) } }
 
--- an instruction that can be read: in range, built, and with a name for each label
+-- an instruction that can be read: in range, and with a name for each label
 pub record IsReadable (symbols : List Symbol) (ins : Instr) : Type 0 where
   pub in_range : InRange ins
-  pub is_built : built ins ≡ true
   pub named : AllByRecursion (HasName symbols) (label_values (parts_of (row_of ins)) (values_of ins))
 
 -- what the item's line needs
@@ -285,12 +284,12 @@ module _ (symbols : List Symbol) where
 
   module _ (found : (ins : Instr) → InRange ins → find (name_of (row_of ins)) (shapes (parts_of (row_of ins)) (values_of ins)) ≡ Some (row_of ins)) where
     -- what the name and the operands say
-    says_instruction : (ins : Instr) (operands : List Operand) → InRange ins → built ins ≡ true → AreRead symbols (parts_of (row_of ins)) (values_of ins) operands → instruction (name_of (row_of ins)) operands ≡ says.Instruction (row_of ins) (amounts_at symbols (parts_of (row_of ins)) (values_of ins))
-    says_instruction ins operands h b r =
+    says_instruction : (ins : Instr) (operands : List Operand) → InRange ins → AreRead symbols (parts_of (row_of ins)) (values_of ins) operands → instruction (name_of (row_of ins)) operands ≡ says.Instruction (row_of ins) (amounts_at symbols (parts_of (row_of ins)) (values_of ins))
+    says_instruction ins operands h r =
         let name = name_of (row_of ins) in
         let f : option_and_then (find name) (shapes_of operands) ≡ Some (row_of ins) = ap (λ o. option_and_then (find name) o) r.shapes ∙ found ins h in
         cond-true _ _ _ (found_is_known name _ (row_of ins) (found ins h))
-        ∙ (ap (λ o. of_row operands o) f ∙ (cond-true _ _ _ b ∙ ap (λ a. says.Instruction (row_of ins) a) r.amounts))
+        ∙ (ap (λ o. of_row operands o) f ∙ ap (λ a. says.Instruction (row_of ins) a) r.amounts)
 
     instruction_line : (ins : Instr) → IsReadable symbols ins → line_of (item_line symbols (item.Instruction ins)) ≡ line_item symbols (item.Instruction ins)
     instruction_line ins h =
@@ -315,7 +314,7 @@ module _ (symbols : List Symbol) where
         ∙ (ap (λ (s : Statement). record { bad_byte = false; labels = []; statement = s })
         (cond-false _ _ _ (ap not (ap is_name_kind (name_kind name n.named)))
         ∙ cond-false _ _ _ n.no_directive)
-        ∙ ap (λ (s : Says). record { bad_byte = false; labels = []; statement = record { home = InText; says = s } }) (says_instruction ins (operands_of (operand_tokens parts vs)) h.in_range h.is_built read)))
+        ∙ ap (λ (s : Says). record { bad_byte = false; labels = []; statement = record { home = InText; says = s } }) (says_instruction ins (operands_of (operand_tokens parts vs)) h.in_range read)))
 
     -- each item's line says what the item is
     pub item_is_read : (it : Item) → IsPlain symbols it → line_of (item_line symbols it) ≡ line_item symbols it

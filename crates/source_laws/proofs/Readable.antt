@@ -1,11 +1,11 @@
 -- The instructions of an image can be read: their labels' names lead to their places.
-use Rattle.std.proofs.Common.{◌≡◌, ℕ, ◌≤◌, true, false, List, [], ◌∷◌, length, sym, ap, ◌∙◌, subst, arith, IsTrue}
+use Rattle.std.proofs.Common.{◌≡◌, ℕ, ◌≤◌, false, List, [], ◌∷◌, length, sym, ap, ◌∙◌, subst, arith, IsTrue}
 use Rattle.std.specs.Prelude.{Option, Some, None, IfSome, option_to_list, option_and_then}
 use Rattle.std.specs.List.{AllByRecursion, list_any}
 use Rattle.xs_instructions.specs.declared.instr.Instr.{Instr}
 use Rattle.xs_instructions.specs.Rows.{parts_of}
 use Rattle.xs_instructions.specs.Operands.{row_of, values_of}
-use Rattle.xs_instructions.specs.Instr.{InRange, label_of, built}
+use Rattle.xs_instructions.specs.Instr.{InRange, label_of}
 use Rattle.xs_instructions.specs.Find.{build}
 use Rattle.xs_instructions.specs.Code.{place_address}
 use Rattle.xs_instructions.specs.Image.{ImageRec, IsImage, Symbol, has_symbol_at}
@@ -48,10 +48,9 @@ module _ (image : ImageRec) (h : IsImage image) (whole : Sofar) (labels : whole.
         omega (arith, short, h.code_fits),
       )
 
-  pub is_readable : (ins : Instr) → InRange ins → built ins ≡ true → IfSome (label_of ins) Leads → IsReadable image.symbols ins
-  is_readable ins r b k = record {
+  pub is_readable : (ins : Instr) → InRange ins → IfSome (label_of ins) Leads → IsReadable image.symbols ins
+  is_readable ins r k = record {
     in_range = r;
-    is_built = b;
     named = each Leads (HasName image.symbols) named (label_values (parts_of (row_of ins)) (values_of ins)) (leads ins k);
   }
 
@@ -64,16 +63,16 @@ module _ (image : ImageRec) (h : IsImage image) (whole : Sofar) (labels : whole.
         present = none_missing image.symbols whole parts (values_of ins) all;
       }
 
-  all_readable : (code : List Instr) → AllByRecursion InRange code → AllByRecursion (λ ins. IsTrue (built ins)) code → AllByRecursion (λ ins. IfSome (label_of ins) Leads) code → AllByRecursion (IsReadable image.symbols) code
-  all_readable [] r b k = tt
-  all_readable (ins ∷ code) r b k = (is_readable ins r.0 b.0 k.0, all_readable code r.1 b.1 k.1)
+  all_readable : (code : List Instr) → AllByRecursion InRange code → AllByRecursion (λ ins. IfSome (label_of ins) Leads) code → AllByRecursion (IsReadable image.symbols) code
+  all_readable [] r k = tt
+  all_readable (ins ∷ code) r k = (is_readable ins r.0 k.0, all_readable code r.1 k.1)
 
   all_given : (code : List Instr) → AllByRecursion InRange code → AllByRecursion (λ ins. IfSome (label_of ins) Leads) code → AllByRecursion (IsGiven image.symbols whole) code
   all_given [] r k = tt
   all_given (ins ∷ code) r k = (is_given ins r.0 k.0, all_given code r.1 k.1)
 
   pub code_readable : AllByRecursion (IsReadable image.symbols) image.code
-  code_readable = all_readable image.code h.operands h.built h.targets
+  code_readable = all_readable image.code h.operands h.targets
 
   pub code_given : AllByRecursion (IsGiven image.symbols whole) image.code
   code_given = all_given image.code h.operands h.targets

@@ -10,7 +10,7 @@ use Rattle.xs_text.specs.declared.token_reader.TokKind.TheVariants.{Name, Number
 use Rattle.xs_instructions.specs.Image.{same_name, is_reserved}
 use Rattle.xs_instructions.specs.Instr.{takes_value, value_parts}
 use Rattle.xs_instructions.specs.Find.{find, known, shape_fits, have_form, is_of_row, first_row, values_among}
-use Rattle.xs_instructions.specs.Rows.{name_of, parts_of, is_built}
+use Rattle.xs_instructions.specs.Rows.{name_of, parts_of}
 use Rattle.xs_instructions.specs.Words.{fixed, register_number}
 use Rattle.xs_instructions.specs.declared.rows.TheConstants.{ROWS}
 use Rattle.xs_instructions.specs.declared.rows.Row.{Row}
@@ -43,9 +43,9 @@ HasTargets [] amounts = Unit {0}
 HasTargets (p ∷ parts) [] = Unit {0}
 HasTargets (p ∷ parts) (amount ∷ amounts) = IsTargetAt p amount × HasTargets parts amounts
 
--- what adds to a section has its home, and an instruction is of a built row
+-- what adds to a section has its home, and where an instruction's row takes a label a code label's name stands
 abbrev pub IsSoundAt : Home → Says → Type 0
-IsSoundAt home (Instruction row amounts) = (home ≡ InText) × (is_built row ≡ true) × HasTargets (value_parts row) amounts
+IsSoundAt home (Instruction row amounts) = (home ≡ InText) × HasTargets (value_parts row) amounts
 IsSoundAt home (Values width amounts) = home ≡ InBytes
 IsSoundAt home (Zeros count) = home ≡ InBytes
 IsSoundAt home _ = Unit {0}
@@ -175,8 +175,7 @@ form_found found name shapes h = form_in found ROWS name shapes h
 
 row_sound : (operands : List Operand) (o : Option Row) → ((row : Row) → o ≡ Some row → HasTargets (value_parts row) (amounts_of row operands)) → IsSoundAt InText (of_row operands o)
 row_sound operands None h = tt
-row_sound operands (Some row) h =
-    cond_both (is_built row) (Instruction row (amounts_of row operands)) Unknown (IsSoundAt InText) (λ e. (refl, e, h row refl)) (λ e. tt)
+row_sound operands (Some row) h = (refl, h row refl)
 
 row_targets : (name : List ℕ) (operands : List Operand) (o : Option (List Shape)) → shapes_of operands ≡ o → (row : Row) → option_and_then (find name) o ≡ Some row → HasTargets (value_parts row) (amounts_of row operands)
 row_targets name operands None e row h = cc

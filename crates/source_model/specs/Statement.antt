@@ -6,7 +6,7 @@ use Rattle.xs_text.specs.Numbers.{source_number_of, at_most}
 use Rattle.xs_text.specs.declared.token_reader.TokKind.{TokKind}
 use Rattle.xs_text.specs.declared.token_reader.TokKind.TheVariants.{Name, Number}
 use Rattle.xs_instructions.specs.Image.{same_name}
-use Rattle.xs_instructions.specs.Table.{find, known, is_built}
+use Rattle.xs_instructions.specs.Table.{find, known}
 use Rattle.xs_instructions.specs.declared.rows.Row.{Row}
 use Rattle.source_model.specs.declared.layout.Home.{Home}
 use Rattle.source_model.specs.declared.layout.Home.TheVariants.{Anywhere, InText, InBytes, BeginsData, BeginsConstants, Nowhere}
@@ -94,10 +94,10 @@ directive name rest =
     else (if same_name (codes ".cp") name then record { home = BeginsConstants; says = shaped (is_nothing rest) }
     else bytes_directive name rest))))
 
--- the instruction of a row, if the row is built
+-- the instruction of the row that is found, if one is
 abbrev pub of_row : List Operand → Option Row → Says
 of_row operands None = Misshapen
-of_row operands (Some row) = if is_built row then Instruction row (amounts_of row operands) else Unknown
+of_row operands (Some row) = Instruction row (amounts_of row operands)
 
 abbrev pub instruction : List ℕ → List Operand → Says
 instruction name operands =

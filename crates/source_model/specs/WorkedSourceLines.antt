@@ -9,7 +9,7 @@ use Rattle.xs_instructions.specs.declared.instr.WordIns.TheVariants.{AddImm, Shl
 use Rattle.xs_instructions.specs.declared.instr.MemIns.TheVariants.{LdwDp, LdwCp, StwDp, LdawBack}
 use Rattle.xs_instructions.specs.declared.instr.FlowIns.TheVariants.{Bu, Bt, Bl}
 use Rattle.xs_instructions.specs.declared.instr.KernelIns.TheVariants.{KcallImm, LdwSpc}
-use Rattle.xs_instructions.specs.declared.instr.ResIns.TheVariants.{Outct, OutctImm}
+use Rattle.xs_instructions.specs.declared.instr.ResIns.TheVariants.{Outct, OutctImm, Inpw, Outpw, Inshr, Outshr, Setclk}
 use Rattle.xs_instructions.specs.declared.rows.Row.TheVariants as row
 use Rattle.source_model.specs.declared.AsmKind.TheVariants.{BadByte, UnknownName, WrongOperands, NumberOutOfRange, LabelTwice, LabelMissing, DirectiveNotAllowed, TooManyInstructions, TooManyBytes}
 use Rattle.source_model.specs.declared.layout.Section.TheVariants.{Data, Constants}
@@ -59,19 +59,22 @@ pub record WorkedUnknownNames : Type 0 where
   pub label : assembled (codes "main: main") ≡ Fault 1 UnknownName
   pub after_a_reserved_label : assembled (codes "r0: foo") ≡ Fault 1 UnknownName
   pub malformed_number : assembled (codes "foo 12ab") ≡ Fault 1 UnknownName
-  -- a row that is not built is as no row
-  pub not_built : assembled (codes "inshr r1, res[r0]") ≡ Fault 1 UnknownName
-  pub not_built_out_of_range : assembled (codes "inpw r1, res[r0], 9") ≡ Fault 1 UnknownName
-  pub not_built_misshapen : assembled (codes "inshr r1") ≡ Fault 1 WrongOperands
-  pub not_built_after_one : assembled (codes "setd res[r0], r1\nsetclk res[r0], r1") ≡ Fault 2 UnknownName
-  -- of two rows with a name both are built
-  pub both_built : code_of_source (codes "outct res[r0], 1\noutct res[r0], r1") ≡ Some (Resources (OutctImm 0 1) ∷ Resources (Outct 0 1) ∷ [])
+  pub after_a_row : assembled (codes "setclk res[r0], r1\nsetclock res[r0], r1") ≡ Fault 2 UnknownName
+  -- of two rows with a name both are found
+  pub two_rows : code_of_source (codes "outct res[r0], 1\noutct res[r0], r1") ≡ Some (Resources (OutctImm 0 1) ∷ Resources (Outct 0 1) ∷ [])
+  -- the rows on ports alone, in which a register stands before the resource or after it
+  pub port_rows : code_of_source (codes "inshr r1, res[r0]\noutshr res[r2], r3\nsetclk res[r4], r5") ≡ Some (Resources (Inshr 1 0) ∷ Resources (Outshr 2 3) ∷ Resources (Setclk 4 5) ∷ [])
 
 -- shapes
 pub record WorkedShapes : Type 0 where
   pub operand_missing : assembled (codes "add r0, r1") ≡ Fault 1 WrongOperands
   pub operand_more : assembled (codes "add r0, r1, r2 r3") ≡ Fault 1 WrongOperands
   pub operand_missing_in_a_product : assembled (codes "mul r0, r1") ≡ Fault 1 WrongOperands
+  pub resource_missing : assembled (codes "inpw r0") ≡ Fault 1 WrongOperands
+  pub bits_missing : assembled (codes "inpw r0, res[r1]") ≡ Fault 1 WrongOperands
+  pub register_for_bits : assembled (codes "outpw res[r0], r1, r2") ≡ Fault 1 WrongOperands
+  pub register_before_resource : assembled (codes "outshr r1, res[r0]") ≡ Fault 1 WrongOperands
+  pub number_for_clock : assembled (codes "setclk res[r0], 1") ≡ Fault 1 WrongOperands
   pub product : code_of_source (codes "mul r0, r1, r2") ≡ Some (Words (Mul 0 1 2) ∷ [])
   pub commas_missing : assembled (codes "add r0 r1 r2") ≡ Fault 1 WrongOperands
   pub no_name : assembled (codes "5") ≡ Fault 1 WrongOperands
@@ -131,6 +134,9 @@ pub record WorkedRanges : Type 0 where
   pub bits_last : code_of_source (codes "shl r0, r1, 32") ≡ Some (Words (ShlImm 0 1 32) ∷ [])
   pub bits_between : assembled (codes "shl r0, r1, 9") ≡ Fault 1 NumberOutOfRange
   pub bits_none : assembled (codes "shl r0, r1, 0") ≡ Fault 1 NumberOutOfRange
+  pub transfer_bits : code_of_source (codes "inpw r1, res[r0], 32\noutpw res[r2], r3, 0x18") ≡ Some (Resources (Inpw 1 0 32) ∷ Resources (Outpw 2 3 24) ∷ [])
+  pub transfer_bits_between : assembled (codes "inpw r1, res[r0], 9") ≡ Fault 1 NumberOutOfRange
+  pub transfer_bits_none : assembled (codes "nop\noutpw res[r0], r1, 0") ≡ Fault 2 NumberOutOfRange
   pub fixed_number : code_of_source (codes "ldw spc, sp[1]") ≡ Some (Kernel LdwSpc ∷ [])
   pub other_fixed_number : assembled (codes "ldw spc, sp[2]") ≡ Fault 1 NumberOutOfRange
   pub call_last : code_of_source (codes "kcall 65535") ≡ Some (Kernel (KcallImm 65535) ∷ [])

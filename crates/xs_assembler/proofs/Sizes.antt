@@ -6,7 +6,7 @@ use Rattle.std.proofs.lemmas.Bool.{leb-true}
 use Rattle.xs_text.specs.Tokens.{Token, tokens_of, tokens_after, token_at, skip_at, token_of, tail_length, begins_comment}
 use Rattle.xs_text.specs.Bytes.{begins_with, is_blank}
 use Rattle.xs_text.specs.Numbers.{source_number_of, at_most}
-use Rattle.xs_instructions.specs.Table.{find, known, is_built}
+use Rattle.xs_instructions.specs.Table.{find, known}
 use Rattle.xs_instructions.specs.declared.rows.Row.{Row}
 use Rattle.xs_instructions.specs.Image.{same_name}
 use Rattle.source_model.specs.declared.layout.Width.{Width}
@@ -150,7 +150,7 @@ adds_says_if n false x y h k = k
 
 adds_of_row : (n : ℕ) (operands : List Operand) (o : Option Row) → Adds n (of_row operands o)
 adds_of_row n operands None = λ long. omega arith
-adds_of_row n operands (Some row) = adds_says_if n (is_built row) _ _ (λ long. omega arith) (λ long. omega arith)
+adds_of_row n operands (Some row) = λ long. omega arith
 
 adds_instruction : (n : ℕ) (name : List ℕ) (operands : List Operand) → Adds n (instruction name operands)
 adds_instruction n name operands = adds_says_if n (known name) _ _ (adds_of_row n operands (option_and_then (find name) (shapes_of operands))) (λ long. omega arith)

@@ -21,7 +21,7 @@ pub enum Says<'a> {
     // An instruction whose name no row has.
     Unknown,
     Misshapen,
-    // A row that is built, and the text after its name.
+    // A row, and the text after its name.
     Instruction(Row, &'a [u8]),
     Values(ValueList<'a>),
     // So many zero bytes; None is a number out of range, here and below.
@@ -176,8 +176,7 @@ fn read_instruction<'a>(name: &[u8], rest: &'a [u8]) -> Says<'a>
     ensures { says_of result ≡ instruction name.now (operands_of (tokens_of rest.now)) }
 {
     match find_row(name, rest) {
-        Some(row) if row.is_built() => Says::Instruction(row, rest),
-        Some(_) => Says::Unknown,
+        Some(row) => Says::Instruction(row, rest),
         None if known(name) => Says::Misshapen,
         None => Says::Unknown,
     }

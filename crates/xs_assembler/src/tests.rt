@@ -47,10 +47,10 @@ fn refused(rt: HostRuntime) {
         // Names.
         (b"ADD r0, r1, r2", 1, UnknownName),
         (b"sr", 1, UnknownName),
-        (b"inshr r1, res[r0]", 1, UnknownName),
-        (b"inpw r1, res[r0], 9", 1, UnknownName),
+        (b"inpw r1, res[r0], 9", 1, NumberOutOfRange),
         (b"setsr 65536", 1, NumberOutOfRange),
         (b"inshr r1", 1, WrongOperands),
+        (b"setclk res[r0], 1", 1, WrongOperands),
         (b"mul r0, r1", 1, WrongOperands),
         (b"5", 1, WrongOperands),
         (b": nop", 1, WrongOperands),

@@ -6,7 +6,7 @@ use Rattle.xs_base.specs.declared.numbers.TheConstants.{MEMORY_START}
 use Rattle.xs_text.specs.Tokens.{is_name}
 use Rattle.xs_instructions.specs.declared.instr.Instr.{Instr}
 pub use Rattle.xs_instructions.specs.Words.{same_name}
-use Rattle.xs_instructions.specs.Instr.{InRange, built, label_of}
+use Rattle.xs_instructions.specs.Instr.{InRange, label_of}
 use Rattle.xs_instructions.specs.Code.{code_start, place_address}
 
 -- a name and the address that it stands for
@@ -114,8 +114,6 @@ pub record IsImage (image : ImageRec) : Type 0 where
   pub code_fits : length image.code ≤ 16384
   pub bytes_fit : length image.bytes ≤ 65536
   pub operands : AllByRecursion InRange image.code
-  -- the core can do each instruction
-  pub built : AllByRecursion (λ ins. IsTrue (built ins)) image.code
   -- each label that an instruction names has a symbol
   pub targets : AllByRecursion (λ ins. IfSome (label_of ins) (λ place. IsTrue (has_symbol_at image.symbols (place_address place)))) image.code
   pub names : AreLabels image.symbols

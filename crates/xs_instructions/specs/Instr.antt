@@ -1,4 +1,4 @@
--- The ranges of an instruction's operands, its label, and whether it is built.
+-- The ranges of an instruction's operands, and its label.
 use Rattle.std.specs.Prelude.{ℕ, ◌≡◌, ◌<◌, ◌^◌, Bool, true, false, ◌||◌, ◌&&◌, ◌==◌, nat_le, Option, Some, None, List, [], ◌∷◌, IsTrue}
 use Rattle.std.specs.List.{filter}
 use Rattle.xs_instructions.specs.declared.instr.Instr.{Instr}
@@ -14,8 +14,8 @@ use Rattle.xs_instructions.specs.declared.instr.ResIns.{ResIns}
 use Rattle.xs_instructions.specs.declared.rows.Part.{Part}
 use Rattle.xs_instructions.specs.declared.rows.Part.TheVariants.{Common, AnyRegister, Register, Small, Width, Short, Exactly, Label, Word}
 use Rattle.xs_instructions.specs.declared.rows.Row.{Row}
-use Rattle.xs_instructions.specs.Rows.{parts_of, is_built}
-use Rattle.xs_instructions.specs.Operands.{row_of, row_of_words, row_of_memory, row_of_flow, row_of_kernel, row_of_threads, row_of_resources, values_of_words, values_of_memory, values_of_flow, values_of_kernel, values_of_threads, values_of_resources}
+use Rattle.xs_instructions.specs.Rows.{parts_of}
+use Rattle.xs_instructions.specs.Operands.{row_of_words, row_of_memory, row_of_flow, row_of_kernel, row_of_threads, row_of_resources, values_of_words, values_of_memory, values_of_flow, values_of_kernel, values_of_threads, values_of_resources}
 
 -- r0 to r11
 abbrev pub IsRegister : ℕ → Type 0
@@ -124,7 +124,3 @@ abbrev pub labelled : List Part → List ℕ → Option ℕ
 labelled [] values = None
 labelled (p ∷ parts) [] = None
 labelled (p ∷ parts) (v ∷ values) = labelled_at p v (labelled parts values)
-
--- whether the core can do the instruction
-abbrev pub built : Instr → Bool
-built ins = is_built (row_of ins)

@@ -1,5 +1,5 @@
 -- The instruction table: for each row its name and what stands at each place of its form, by the lists of the program.
-use Rattle.std.specs.Prelude.{ℕ, zero, suc, Bool, nat_le, List, [], ◌∷◌}
+use Rattle.std.specs.Prelude.{ℕ, zero, suc, List, [], ◌∷◌}
 use Rattle.xs_instructions.specs.declared.rows.Part.{Part}
 use Rattle.xs_instructions.specs.declared.rows.Row.{Row}
 use Rattle.xs_instructions.specs.declared.rows.Row.TheVariants as row
@@ -176,7 +176,3 @@ name_of r = shown (λ name. name.now) NAMES (row_number r)
 -- what stands at each place of a row's form after its name
 abbrev pub parts_of : Row → List Part
 parts_of r = shown (λ parts. parts.now) PARTS (row_number r)
-
--- the rows that are built so far: all but those on ports alone, which stand last
-abbrev pub is_built : Row → Bool
-is_built r = nat_le (row_number r) (row_number row.Waitef)

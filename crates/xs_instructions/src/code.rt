@@ -1,7 +1,7 @@
-ghost use Rattle.std.specs.Prelude.{◌≡◌, IfSome, IsTrue};
+ghost use Rattle.std.specs.Prelude.{◌≡◌, IfSome};
 ghost use Rattle.std.specs.List.{AllByRecursion};
 ghost use Rattle.xs_instructions.specs.Code.{code_at};
-ghost use Rattle.xs_instructions.specs.Instr.{InRange, built};
+ghost use Rattle.xs_instructions.specs.Instr.{InRange};
 
 use crate::instr::Instr;
 use xs_base::numbers::CODE_START;
@@ -14,7 +14,6 @@ pub const MOST_CODE: usize = 16_384;
 pub fn instr_at(code: &[Instr], pc: u32) -> Option<Instr>
     ensures value { result ≡ code_at code.now pc }
     ensures in_range { AllByRecursion InRange code.now → IfSome result InRange }
-    ensures built { AllByRecursion (λ ins. IsTrue (built ins)) code.now → IfSome result (λ ins. IsTrue (built ins)) }
 {
     let offset = pc.checked_sub(CODE_START)?;
     if offset % 4 != 0 {

@@ -1,5 +1,5 @@
 ghost use Rattle.std.specs.Prelude.{◌≡◌};
-ghost use Rattle.xs_instructions.specs.Rows.{name_of, parts_of, is_built};
+ghost use Rattle.xs_instructions.specs.Rows.{name_of, parts_of};
 ghost use Rattle.xs_instructions.specs.Instr.{takes_value};
 
 use crate::rows::{Part, Row};
@@ -97,13 +97,6 @@ impl Row {
         ensures value { result.now ≡ parts_of self }
     {
         PARTS[self as usize]
-    }
-
-    /// Whether the core can do the row's instructions.
-    pub fn is_built(self) -> bool
-        ensures value { result ≡ is_built self }
-    {
-        self as usize <= Row::Waitef as usize
     }
 }
 

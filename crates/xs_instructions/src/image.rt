@@ -1,6 +1,6 @@
-ghost use Rattle.std.specs.Prelude.{◌≡◌, IfSome, IsTrue, length, option_map};
+ghost use Rattle.std.specs.Prelude.{◌≡◌, IfSome, length, option_map};
 ghost use Rattle.xs_instructions.specs.Code.{code_at};
-ghost use Rattle.xs_instructions.specs.Instr.{InRange, built};
+ghost use Rattle.xs_instructions.specs.Instr.{InRange};
 ghost use Rattle.xs_instructions.specs.Image.{IsImage, entry_of, symbol_at, symbol_of_pair};
 
 use crate::code::instr_at;
@@ -43,12 +43,10 @@ impl Image {
         }
     }
 
-    /// The instruction at an address, with its operands in range and of a row that the core can do. None comes exactly
-    /// where none stands there.
+    /// The instruction at an address, with its operands in range. None comes exactly where none stands there.
     pub fn at(&self, pc: u32) -> Option<Instr>
         ensures value { result ≡ code_at self.now.code pc }
         ensures in_range { IfSome result InRange }
-        ensures built { IfSome result (λ ins. IsTrue (built ins)) }
     {
         instr_at(self.code(), pc)
     }

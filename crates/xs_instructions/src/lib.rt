@@ -25,7 +25,7 @@ pub use rows::{Part, ROWS, Row};
 pub use shape::{Form, Piece, Shape};
 pub use symbols::{Symbols, is_reserved, same_name};
 pub use words::{fixed, register_number};
-pub use writing::{built, spelling};
+pub use writing::spelling;
 
 #[cfg(test)]
 mod tests;

@@ -154,7 +154,7 @@ struct Case {
     expected: &'static str,
 }
 
-static CASES: [Case; 22] = [
+static CASES: [Case; 26] = [
     Case {
         name: b"add",
         shapes: &[R0, COMMA, R11, COMMA, R5],
@@ -287,6 +287,30 @@ static CASES: [Case; 22] = [
         values: &[1, 2],
         expected: " init t [ r1 ] : r14 , r2",
     },
+    Case {
+        name: b"inpw",
+        shapes: &[R1, COMMA, RES, LEFT, R0, RIGHT, COMMA, NUM],
+        values: &[1, 0, 24],
+        expected: " inpw r1 , res [ r0 ] , 24",
+    },
+    Case {
+        name: b"outpw",
+        shapes: &[RES, LEFT, R0, RIGHT, COMMA, R1, COMMA, NUM],
+        values: &[0, 1, 9],
+        expected: "out of range",
+    },
+    Case {
+        name: b"outshr",
+        shapes: &[RES, LEFT, R0, RIGHT, COMMA, R1],
+        values: &[0, 1],
+        expected: " outshr res [ r0 ] , r1",
+    },
+    Case {
+        name: b"setclk",
+        shapes: &[RES, LEFT, R0, RIGHT, COMMA, NUM],
+        values: &[0, 1],
+        expected: "no row",
+    },
 ];
 
 #[test]
@@ -305,13 +329,4 @@ fn knows_names(rt: HostRuntime) {
     assert_eq!(rt; register_number(b"r12"), None);
     assert_eq!(rt; fixed(b"-"), Some(15));
     assert_eq!(rt; fixed(b"sr"), None);
-    assert!(rt; built(Instr::Threads(ThreadIns::Freet)));
-    assert!(rt; built(Instr::Threads(ThreadIns::Ssync)));
-    assert!(rt; built(Instr::Resources(ResIns::In(0, 1))));
-    assert!(rt; !built(Instr::Resources(ResIns::Inshr(0, 1))));
-    assert!(rt; built(Instr::Words(WordIns::AddImm(0, 1, 11))));
-    assert!(rt; built(Instr::Kernel(KernelIns::StwEt)));
-    assert!(rt; built(Instr::Kernel(KernelIns::Setsr(1))));
-    assert!(rt; built(Instr::Resources(ResIns::Waitef(11))));
-    assert!(rt; !built(Instr::Resources(ResIns::Inpw(0, 1, 8))));
 }

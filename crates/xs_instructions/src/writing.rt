@@ -1,8 +1,6 @@
 ghost use Rattle.std.specs.Prelude.{◌≡◌, ◌∷◌, map};
 ghost use Rattle.xs_instructions.specs.Words.{fixed_text};
 ghost use Rattle.xs_instructions.specs.Rows.{name_of, parts_of};
-ghost use Rattle.xs_instructions.specs.Operands.{row_of};
-ghost use Rattle.xs_instructions.specs.Instr.{built};
 ghost use Rattle.xs_instructions.specs.declared.instr.Instr.TheVariants as instr;
 ghost use Rattle.xs_instructions.specs.Spelling.{Text, spelled_piece, spelling};
 ghost use Rattle.xs_instructions.specs.Filled.{filled, filled_at, operands_left};
@@ -39,14 +37,6 @@ macro_rules! forms {
     ($ins:ident; $group:ident $kind:ident { $($row:ident $name:literal $form:tt)* }) => {
         match $ins {
             $(operands!($kind $row $form) => form(Row::$row, &pieces!($form)),)*
-        }
-    };
-}
-
-macro_rules! rows_of {
-    ($ins:ident; $($group:ident $kind:ident { $($row:ident $name:literal $form:tt)* })*) => {
-        match $ins {
-            $($(Instr::$group($kind::$row { .. }) => Row::$row,)*)*
         }
     };
 }
@@ -100,19 +90,6 @@ fn resources(ins: ResIns) -> Form
     ensures { map spelled_piece result.items ≡ spelling (instr.Resources ins) }
 {
     table!(group Resources forms ins)
-}
-
-/// Whether the core can do an instruction. See docs/INSTRUCTIONS.md.
-pub fn built(ins: Instr) -> bool
-    ensures value { result ≡ built ins }
-{
-    row_of(ins).is_built()
-}
-
-fn row_of(ins: Instr) -> Row
-    ensures { result ≡ row_of ins }
-{
-    table!(rows_of ins)
 }
 
 // A row's name and its form with the operands filled in.

@@ -17,15 +17,15 @@ returns-clause-bad_bytes c = record { tab = refl; in_a_comment = refl; returns =
 
 pub returns-clause-unknown_names : goal.returns-clause-unknown_names
 unfolding lines_of tokens_after register_number fixed find known operands_after all_some values_from labels_first after_labels place_of define_all after_lines defines_twice first_fault code_of_lines bytes_of_lines
-returns-clause-unknown_names c = record { no_row = refl; capitals = refl; register = refl; status_register = refl; label = refl; after_a_reserved_label = refl; malformed_number = refl; not_built = refl; not_built_out_of_range = refl; not_built_misshapen = refl; not_built_after_one = refl; both_built = refl }
+returns-clause-unknown_names c = record { no_row = refl; capitals = refl; register = refl; status_register = refl; label = refl; after_a_reserved_label = refl; malformed_number = refl; after_a_row = refl; two_rows = refl; port_rows = refl }
 
 pub returns-clause-shapes : goal.returns-clause-shapes
 unfolding lines_of tokens_after register_number fixed find known operands_after all_some values_from labels_first after_labels place_of define_all after_lines defines_twice first_fault code_of_lines bytes_of_lines
-returns-clause-shapes c = record { operand_missing = refl; operand_more = refl; operand_missing_in_a_product = refl; product = refl; commas_missing = refl; no_name = refl; no_label_name = refl; bracket = refl; sign = refl; slash = refl; malformed_number = refl; capital_base = refl; no_digits = refl; two_tokens = refl; signed_number = refl; register_outside = refl; other_register = refl; no_register = refl; status_register = refl; word_for_label = refl; register_for_label = refl; number_for_label = refl; name_in_register = refl; name_in_stack = refl; reserved_in_brackets = refl; register_in_brackets = refl; sign_in_brackets = refl; blanks = refl; reserved_label = refl; reserved_label_twice = refl; data_with_operand = refl; constants_with_operand = refl; text_with_operand = refl; global_missing = refl; global_number = refl; globals = refl; align_name = refl; space_signed = refl; two_signs = refl; signed_name = refl; sum = refl; no_value = refl; comma_more = refl; comma_missing = refl; comma_first = refl; short_of_label = refl; byte_of_label = refl; word_of_register = refl }
+returns-clause-shapes c = record { operand_missing = refl; operand_more = refl; operand_missing_in_a_product = refl; resource_missing = refl; bits_missing = refl; register_for_bits = refl; register_before_resource = refl; number_for_clock = refl; product = refl; commas_missing = refl; no_name = refl; no_label_name = refl; bracket = refl; sign = refl; slash = refl; malformed_number = refl; capital_base = refl; no_digits = refl; two_tokens = refl; signed_number = refl; register_outside = refl; other_register = refl; no_register = refl; status_register = refl; word_for_label = refl; register_for_label = refl; number_for_label = refl; name_in_register = refl; name_in_stack = refl; reserved_in_brackets = refl; register_in_brackets = refl; sign_in_brackets = refl; blanks = refl; reserved_label = refl; reserved_label_twice = refl; data_with_operand = refl; constants_with_operand = refl; text_with_operand = refl; global_missing = refl; global_number = refl; globals = refl; align_name = refl; space_signed = refl; two_signs = refl; signed_name = refl; sum = refl; no_value = refl; comma_more = refl; comma_missing = refl; comma_first = refl; short_of_label = refl; byte_of_label = refl; word_of_register = refl }
 
 pub returns-clause-ranges : goal.returns-clause-ranges
 unfolding lines_of tokens_after register_number fixed find known operands_after all_some values_from labels_first after_labels place_of define_all after_lines defines_twice first_fault code_of_lines bytes_of_lines
-returns-clause-ranges c = record { short_last = refl; short_past = refl; short_wide = refl; zeros_in_front = refl; small_last = refl; small_past = refl; addend_last = refl; addend_past = refl; bits_last = refl; bits_between = refl; bits_none = refl; fixed_number = refl; other_fixed_number = refl; call_last = refl; call_past = refl; offset_past = refl; align_0 = refl; align_1025 = refl; space_past = refl; word_edges = refl; word_past = refl; word_below = refl; short_edges = refl; short_value_past = refl; short_value_below = refl; byte_edges = refl; byte_past = refl; byte_below = refl; before_missing = refl; data_target = refl; data_address = refl; code_offset = refl; offsets = refl; offset_uneven = refl }
+returns-clause-ranges c = record { short_last = refl; short_past = refl; short_wide = refl; zeros_in_front = refl; small_last = refl; small_past = refl; addend_last = refl; addend_past = refl; bits_last = refl; bits_between = refl; bits_none = refl; transfer_bits = refl; transfer_bits_between = refl; transfer_bits_none = refl; fixed_number = refl; other_fixed_number = refl; call_last = refl; call_past = refl; offset_past = refl; align_0 = refl; align_1025 = refl; space_past = refl; word_edges = refl; word_past = refl; word_below = refl; short_edges = refl; short_value_past = refl; short_value_below = refl; byte_edges = refl; byte_past = refl; byte_below = refl; before_missing = refl; data_target = refl; data_address = refl; code_offset = refl; offsets = refl; offset_uneven = refl }
 
 pub returns-clause-labels : goal.returns-clause-labels
 unfolding lines_of tokens_after register_number fixed find known operands_after all_some values_from labels_first after_labels place_of define_all after_lines defines_twice first_fault code_of_lines bytes_of_lines
