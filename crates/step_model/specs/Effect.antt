@@ -26,8 +26,6 @@ pub data Effect : Type 0 where
   Trap : (number : ℕ) (value : Word) → Effect
   -- the thread is free
   Gone : (core : CoreRec) (happened : List Happen) → Effect
-  -- a row that is not built: no image has one, and no core shows it
-  Unbuilt : Effect
 
 -- ---- The thread that issues
 
@@ -67,7 +65,6 @@ pauses_at core name wait = if is_waited_at core wait then Trap RESOURCE_DEPENDEN
 pub data Leaving (A : Type 0) : Type 0 where
   Leaves : (after : A) → Leaving A
   Traps : (number : ℕ) (value : Word) → Leaving A
-  NotBuilt : Leaving A
 
 -- a row that traps where something holds, and else leaves this
 abbrev pub traps_where : {A : Type 0} → Bool → ℕ → Word → A → Leaving A
@@ -88,10 +85,8 @@ with_local core k l = record (with_thread core k l.thread) { memory = l.memory }
 abbrev pub on_local : CoreRec → ThreadNumber → Leaving Local → Effect
 on_local core k (Leaves l) = Done (with_local core k l) []
 on_local core k (Traps number value) = Trap number value
-on_local core k NotBuilt = Unbuilt
 
 -- what a row on the thread's registers alone does to the core: the thread goes on to its next instruction
 abbrev pub on_registers : CoreRec → ThreadNumber → Leaving Thread → Effect
 on_registers core k (Leaves th) = Done (with_thread core k (after_it th)) []
 on_registers core k (Traps number value) = Trap number value
-on_registers core k NotBuilt = Unbuilt

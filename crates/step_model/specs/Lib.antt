@@ -8,6 +8,7 @@ pub mod KernelRows
 pub mod Named
 pub mod ThreadRows
 pub mod TimeRows
+pub mod PortRows
 pub mod EventRows
 pub mod ResourceRows
 pub mod Rows
@@ -33,3 +34,4 @@ pub mod WorkedEventRows
 pub mod WorkedChoices
 pub mod WorkedEntered
 pub mod WorkedTimeRuns
+pub mod WorkedPorts

@@ -1,7 +1,7 @@
 -- The rows on resources.
 use Rattle.std.specs.Prelude.{ℕ, ◌%◌, true, false, not, ◌==◌, if◌then◌else◌, Option, Some, None, []}
 use Rattle.xs_base.specs.Numbers.{Slot, Word, Register, ThreadNumber, ChanNumber, NodeId, Kind, Identifier}
-use Rattle.xs_base.specs.Ids.{chan_id, res_id}
+use Rattle.xs_base.specs.Ids.{chan_id, res_id, port_width}
 use Rattle.xs_base.specs.declared.numbers.TheConstants.{TIMER_KIND, CHAN_END_KIND, SYNCHRONISER_KIND, THREAD_KIND, LOCK_KIND}
 use Rattle.xs_base.specs.declared.token.Token.{Token}
 use Rattle.xs_base.specs.declared.token.Token.TheVariants.{Byte, Ctrl}
@@ -19,14 +19,16 @@ use Rattle.xs_model.specs.Free.{lowest_free}
 use Rattle.xs_model.specs.Syncs.{is_sync_used, got_sync, freed_sync, free_lock, Claimed, Owns, IsHeld, IsRefused, claimed, released, freed_lock}
 use Rattle.xs_model.specs.Time.{got_timer, freed_timer, with_value, divided_by}
 use Rattle.xs_model.specs.Enabling.{with_vector, with_environment, forgotten}
+use Rattle.xs_model.specs.PortRows.{set_value, tell_value, take_in, take_part, put_out, end_in, sync, tell_stamp, set_time, clear_time}
 use Rattle.xs_model.specs.Waits.{is_paused_on}
 use Rattle.xs_instructions.specs.declared.instr.ResIns.{ResIns}
 use Rattle.xs_instructions.specs.declared.instr.ResIns.TheVariants as resources
 use Rattle.net_model.specs.Chans.{Found, Got, Waits, Refused, got_chan, free_chan, freed_chan, chan_named, found_at, put_token, put_word, take_word, take_byte, take_ctrl, check_token, look, look_word, take_dest, tell_dest}
-use Rattle.step_model.specs.Effect.{Setting, Effect, Done, Pause, Trap, Unbuilt, reg, after_it, goes_on, goes_on_with, goes_on_in, pauses_at}
+use Rattle.step_model.specs.Effect.{Setting, Effect, Done, Pause, Trap, reg, after_it, goes_on, goes_on_with, goes_on_in, pauses_at}
 use Rattle.step_model.specs.Named.{resource_named}
 use Rattle.step_model.specs.TimeRows.{timer_becomes, clock_becomes, tells, takes_time}
 use Rattle.step_model.specs.EventRows.{sets_mode, sets_events, enables, clears, waits_where}
+use Rattle.step_model.specs.PortRows.{at_port, on_port, takes_no_word, takes_word, shifts_in_from_above, shifts_out_below, sets_clock, sets_strobe, sets_transfer_width, puts_word, puts_part, peeks, at_any}
 use Rattle.step_model.specs.ThreadRows.{thread_id, thread_to_get, with_got_thread}
 
 -- ---- Getting a resource
@@ -54,7 +56,7 @@ abbrev pub lock_was_got : CoreRec → ThreadNumber → Register → Option ℕ �
 lock_was_got core k d None = goes_on_with core k d 0
 lock_was_got core k d (Some n) = goes_on_with (with_lock core n free_lock) k d (res_id n LOCK_KIND)
 
--- the lowest free resource of a kind is got, where there is one: ports and clock blocks are not got
+-- the lowest free resource of a kind is got, where there is one: ports and clock blocks are not got, but turned on
 abbrev pub resource_got : Setting → CoreRec → ThreadNumber → Register → Kind → CoreRec
 resource_got here core k d kind =
     if kind == TIMER_KIND then timer_was_got core k d (lowest_free (λ timer. timer.used) core.timers 0)
@@ -90,6 +92,7 @@ without here core k (resource.Sync n) = without_sync core n (freed_sync k (sync_
 without here core k (resource.Lock n) = without_lock core n (freed_lock (lock_of core n))
 without here core k (resource.Thread j) = None
 without here core k (resource.Clock n) = None
+without here core k (resource.Port p) = None
 
 abbrev pub freed : Setting → CoreRec → ThreadNumber → Identifier → Option Resource → Effect
 freed here core k name None = Trap ILLEGAL_RESOURCE name
@@ -156,19 +159,22 @@ abbrev pub takes_in : Slot → CoreRec → ThreadNumber → Register → Identif
 takes_in slot core k d name (Some (resource.Chan c)) = at_chan core k name (tokens 4) take_word (takes_into d) c
 takes_in slot core k d name (Some (resource.Timer n)) = takes_time slot core k d name n
 takes_in slot core k d name (Some (resource.Lock n)) = claimed_there core k d name n (claimed k (lock_of core n))
+takes_in slot core k d name (Some (resource.Port p)) = at_port core k name p (takes_word d) (take_in p None)
 takes_in slot core k d name _ = Trap ILLEGAL_RESOURCE name
 
 -- the thread puts a word, or gives the lock up
 abbrev pub puts_out : CoreRec → ThreadNumber → Identifier → Word → Option Resource → Effect
 puts_out core k name word (Some (resource.Chan c)) = at_chan core k name (room 4) (put_word word) takes_nothing c
 puts_out core k name word (Some (resource.Lock n)) = goes_on_in k name (without_lock core n (released k (lock_of core n)))
+puts_out core k name word (Some (resource.Port p)) = at_port core k name p takes_no_word (put_out p word)
 puts_out core k name word _ = Trap ILLEGAL_RESOURCE name
 
--- a channel end takes a destination, a timer the value of its condition, a clock block its divider
+-- a channel end takes a destination, a timer or a port the value of its condition, a clock block its divider
 abbrev pub sets_data : CoreRec → ThreadNumber → Identifier → Word → Option Resource → Effect
 sets_data core k name x (Some (resource.Chan c)) = at_chan core k name no_wait (take_dest x) takes_nothing c
 sets_data core k name x (Some (resource.Timer n)) = goes_on_in k name (timer_becomes core n (with_value x (timer_of core n)))
 sets_data core k name x (Some (resource.Clock n)) = goes_on_in k name (clock_becomes core n (divided_by x (clock_of core n)))
+sets_data core k name x (Some (resource.Port p)) = at_port core k name p takes_no_word (set_value (port_width p) x)
 sets_data core k name x _ = Trap ILLEGAL_RESOURCE name
 
 -- the thread takes what is set
@@ -176,6 +182,7 @@ abbrev pub tells_data : CoreRec → ThreadNumber → Register → Identifier →
 tells_data core k d name (Some (resource.Chan c)) = at_chan core k name no_wait tell_dest (takes_into d) c
 tells_data core k d name (Some (resource.Timer n)) = tells core k d name (timer_of core n).used (timer_of core n).value
 tells_data core k d name (Some (resource.Clock n)) = tells core k d name (clock_of core n).on (clock_of core n).divider
+tells_data core k d name (Some (resource.Port p)) = at_port core k name p (takes_word d) tell_value
 tells_data core k d name _ = Trap ILLEGAL_RESOURCE name
 
 -- what register s names
@@ -212,4 +219,16 @@ resources_row here core k resources.Clre = Done (goes_on (clears core k) k) []
 resources_row here core k resources.Waiteu = waits_where core k true
 resources_row here core k (resources.Waitet x) = waits_where core k (not (reg core k x == 0))
 resources_row here core k (resources.Waitef x) = waits_where core k (reg core k x == 0)
-resources_row here core k _ = Unbuilt
+resources_row here core k (resources.Inpw d s b) = on_port core k s (takes_word d) (λ p. take_part p b)
+resources_row here core k (resources.Outpw s x b) = on_port core k s takes_no_word (puts_part x b core k)
+resources_row here core k (resources.Inshr d s) = on_port core k s (shifts_in_from_above d) (λ p. take_in p None)
+resources_row here core k (resources.Outshr s d) = on_port core k s (shifts_out_below d) (puts_word d core k)
+resources_row here core k (resources.Peek d s) = on_port core k s (takes_word d) (peeks here.outside)
+resources_row here core k (resources.Endin d s) = on_port core k s (takes_word d) (at_any end_in)
+resources_row here core k (resources.Syncr s) = on_port core k s takes_no_word sync
+resources_row here core k (resources.Getts d s) = on_port core k s (takes_word d) (at_any tell_stamp)
+resources_row here core k (resources.Setpt s x) = on_port core k s takes_no_word (at_any (set_time (reg core k x)))
+resources_row here core k (resources.Clrpt s) = on_port core k s takes_no_word (at_any clear_time)
+resources_row here core k (resources.Setclk s x) = on_port core k s takes_no_word (sets_clock here.id core (reg core k x))
+resources_row here core k (resources.Setrdy s x) = on_port core k s takes_no_word (sets_strobe core (reg core k x))
+resources_row here core k (resources.Settw s x) = on_port core k s takes_no_word (sets_transfer_width (reg core k x))

@@ -3,7 +3,7 @@ use Rattle.xs_base.specs.Numbers.{ThreadNumber}
 use Rattle.xs_model.specs.Record.{CoreRec, thread_of}
 use Rattle.xs_instructions.specs.declared.instr.Instr.{Instr}
 use Rattle.xs_instructions.specs.declared.instr.Instr.TheVariants.{Words, Memory, Flow, Kernel, Threads, Resources}
-use Rattle.step_model.specs.Effect.{Setting, Effect, Leaving, NotBuilt, Local, local_of, on_local, on_registers}
+use Rattle.step_model.specs.Effect.{Setting, Effect, Leaving, Leaves, Local, local_of, on_local, on_registers}
 use Rattle.step_model.specs.WordRows.{words_row}
 use Rattle.step_model.specs.MemoryRows.{memory_row}
 use Rattle.step_model.specs.FlowRows.{flow_row}
@@ -11,12 +11,13 @@ use Rattle.step_model.specs.KernelRows.{kernel_row}
 use Rattle.step_model.specs.ThreadRows.{threads_row}
 use Rattle.step_model.specs.ResourceRows.{resources_row}
 
--- what a row on memory, on the flow of control or on the kernel leaves of its thread, which has the number k, and of the memory
+-- What a row on memory, on the flow of control or on the kernel leaves of its thread, which has the number k, and of the
+-- memory. No other row is asked for.
 abbrev pub local_row : ThreadNumber → Local → Instr → Leaving Local
 local_row k l (Memory ins) = memory_row l ins
 local_row k l (Flow ins) = flow_row l ins
 local_row k l (Kernel ins) = kernel_row k l ins
-local_row k l _ = NotBuilt
+local_row k l _ = Leaves l
 
 -- what an instruction does where thread k issues it
 abbrev pub effect : Setting → CoreRec → ThreadNumber → Instr → Effect

@@ -8,9 +8,10 @@ use Rattle.xs_model.specs.declared.event.Happen.{Happen}
 use Rattle.xs_model.specs.declared.event.Happen.TheVariants as happen
 use Rattle.xs_model.specs.declared.outside.Arrivals.{Arrivals}
 use Rattle.xs_model.specs.declared.outside.PinView.{PinView}
-use Rattle.xs_model.specs.Record.{CoreRec, NodeRec, PortRec, EnablingRec, thread_of, with_thread, with_run, with_last}
+use Rattle.xs_model.specs.Record.{CoreRec, NodeRec, EnablingRec, thread_of, with_thread, with_run, with_last}
 use Rattle.xs_model.specs.Outside.{Emitted}
 use Rattle.xs_model.specs.AtWork.{AtWork, slot_begins, emitted_in}
+use Rattle.xs_model.specs.Ports.{PortsEdged, edges_from, levels_of}
 use Rattle.xs_model.specs.Picks.{picked}
 use Rattle.xs_model.specs.Choices.{choice}
 use Rattle.xs_model.specs.Entry.{trapped, return_address, entered}
@@ -19,7 +20,7 @@ use Rattle.xs_instructions.specs.Code.{is_code_place, code_at}
 use Rattle.net_model.specs.Links.{arrive}
 use Rattle.net_model.specs.Switch.{moves, chan_is_busy}
 use Rattle.step_model.specs.Fixed.{Fixed}
-use Rattle.step_model.specs.Effect.{Setting, Effect, Done, Pause, Trap, Gone, Unbuilt}
+use Rattle.step_model.specs.Effect.{Setting, Effect, Done, Pause, Trap, Gone}
 use Rattle.step_model.specs.Rows.{effect}
 
 -- ---- The issue
@@ -52,7 +53,6 @@ settled code core k (Done after happened) = record { core = after; happened = ha
 settled code core k (Pause after wait happened) = record { core = with_run after k (Paused wait); happened = happened }
 settled code core k (Trap number value) = trap code core k number value
 settled code core k (Gone after happened) = record { core = after; happened = happened }
-settled code core k Unbuilt = quietly core
 
 -- the instruction at the thread's pc is executed, or none stands there
 abbrev pub executed : List Instr → Setting → CoreRec → ThreadNumber → Option Instr → Issued
@@ -79,9 +79,17 @@ issued code here core = issued_by code here core (picked core here.slot)
 
 -- ---- The four phases of a slot. Phase 1 is `arrive`, and phase 3 `moves`.
 
--- Phase 2: the edges of the ports' clocks. No port is built yet.
+-- Phase 2: the edges of the ports' clocks, which are those of the clock blocks as the slot begins. The levels of strobes
+-- are those of the end of the slot before.
+abbrev pub after_edges : AtWork → PortsEdged → AtWork
+after_edges m edged = record m {
+  rec = record m.rec { core = record m.rec.core { ports = edged.ports } };
+  happened = m.happened ++ edged.happened;
+}
+
 abbrev pub ports_step : Slot → PinView → AtWork → AtWork
-ports_step slot pins m = m
+ports_step slot pins m =
+    after_edges m (edges_from slot m.rec.core.clocks m.rec.levels 0 m.rec.core.ports pins.level)
 
 -- where an instruction is issued in a slot
 abbrev pub setting_of : Fixed → Slot → PinView → NodeRec → Setting
@@ -98,15 +106,6 @@ and_issued m i = record m { rec = record m.rec { core = i.core }; happened = m.h
 -- Phase 4: at most one issue.
 abbrev pub issue : Fixed → Slot → PinView → AtWork → AtWork
 issue fixed slot pins m = and_issued m (issued fixed.code (setting_of fixed slot pins m.rec) m.rec.core)
-
--- what a pin shows: what its port drives, else what it shows from outside
-abbrev pub level_of : Option Word → Word → Word
-level_of None outside = outside
-level_of (Some driven) outside = driven
-
-abbrev pub levels_of : List PortRec → List Word → List Word
-levels_of (port ∷ ports) (outside ∷ rest) = level_of port.driven outside ∷ levels_of ports rest
-levels_of _ _ = []
 
 -- At the end of the slot what the pins show is noted.
 abbrev pub note_levels : PinView → AtWork → AtWork

@@ -21,6 +21,7 @@ ghost use Rattle.step_model.specs.WorkedEventRows.{WorkedEventRows};
 ghost use Rattle.step_model.specs.WorkedChoices.{WorkedChoices};
 ghost use Rattle.step_model.specs.WorkedEntered.{WorkedEntered};
 ghost use Rattle.step_model.specs.WorkedTimeRuns.{WorkedTimeRuns};
+ghost use Rattle.step_model.specs.WorkedPorts.{WorkedPorts};
 
 /// The definitions give what was worked out by hand: what a node keeps after its first slots, for small code.
 pub fn worked_slots()
@@ -48,4 +49,5 @@ pub fn worked_slots()
     ensures choices { WorkedChoices }
     ensures entries { WorkedEntered }
     ensures time_runs { WorkedTimeRuns }
+    ensures ports { WorkedPorts }
 {}

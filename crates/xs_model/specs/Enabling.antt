@@ -1,5 +1,5 @@
 -- What threads enable: events and interrupts of channel ends, timers and ports.
-use Rattle.std.specs.Prelude.{Bool, true, false, ◌&&◌, not, if◌then◌else◌, Option, Some, None, List, [], ◌∷◌, map, slice_index_or, slice_set}
+use Rattle.std.specs.Prelude.{Bool, true, false, ◌&&◌, not, if◌then◌else◌, Some, None, List, [], ◌∷◌, map, slice_index_or, slice_set}
 use Rattle.xs_base.specs.Numbers.{Word, ThreadNumber}
 use Rattle.xs_model.specs.declared.resource.Res.{Res}
 use Rattle.xs_model.specs.declared.resource.Res.TheVariants.{Chan, Timer, Port}

@@ -7,6 +7,9 @@ pub mod Free
 pub mod Masks
 pub mod Syncs
 pub mod Time
+pub mod Bits
+pub mod Ports
+pub mod PortRows
 pub mod Enabling
 pub mod Choices
 pub mod Outside

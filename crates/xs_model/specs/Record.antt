@@ -67,8 +67,9 @@ pub record TransferRec : Type 0 where
   pub bits : ℕ
   pub time : Option ℕ
 
--- a port: `wanted` is the number of bits that completes a transfer, and `held` says that a sample waits to be taken;
--- `shift` has its bits in the order in which they leave
+-- A port: `wanted` is the number of bits that completes a transfer where there is no time; `held` says that the sample in the
+-- transfer register was taken at its time and stays until a thread takes it; `shift` has its bits in the order in which they
+-- leave.
 pub record PortRec : Type 0 where
   pub on : Bool
   pub output : Bool
@@ -240,6 +241,9 @@ with_timer core n timer = record core { timers = slice_set core.timers n timer }
 
 abbrev pub with_clock : CoreRec → ℕ → ClockRec → CoreRec
 with_clock core n clock = record core { clocks = slice_set core.clocks n clock }
+
+abbrev pub with_port : CoreRec → PortNumber → PortRec → CoreRec
+with_port core p port = record core { ports = slice_set core.ports p port }
 
 abbrev pub with_events : CoreRec → EventsRec → CoreRec
 with_events core events = record core { events = events }

@@ -1,5 +1,5 @@
 -- What a paused thread waits for, and whether it holds.
-use Rattle.std.specs.Prelude.{ℕ, ◌+◌, Bool, true, false, ◌&&◌, ◌||◌, not, ◌==◌, nat_le, nat_lt, Option, Some, None, is_some, is_none, List, length, take}
+use Rattle.std.specs.Prelude.{ℕ, ◌+◌, Bool, true, false, ◌||◌, ◌==◌, nat_le, Option, Some, None, is_some, is_none, List, length, take}
 use Rattle.std.specs.List.{list_any, list_all}
 use Rattle.xs_base.specs.Numbers.{Slot}
 use Rattle.xs_base.specs.declared.numbers.TheConstants.{BUFFER_TOKENS}
@@ -14,6 +14,7 @@ use Rattle.xs_model.specs.declared.thread.Wait.TheVariants.{Room, Tokens, PortFu
 use Rattle.xs_model.specs.declared.resource.Resource.{Resource}
 use Rattle.xs_model.specs.declared.resource.Resource.TheVariants as resource
 use Rattle.xs_model.specs.Time.{timer_holds}
+use Rattle.xs_model.specs.PortRows.{is_idle}
 use Rattle.xs_model.specs.Record.{CoreRec, thread_of, chan_of, timer_of, sync_of, lock_of, port_of}
 
 -- whether so many tokens more fit into a buffer
@@ -44,8 +45,7 @@ holds core slot (Room chan count) = has_room count (chan_of core chan).output
 holds core slot (Tokens chan count) = has_tokens count (chan_of core chan).input
 holds core slot (PortFull port) = is_some (port_of core port).transfer
 holds core slot (PortEmpty port) = is_none (port_of core port).transfer
-holds core slot (PortIdle port) =
-    not ((port_of core port).output && (is_some (port_of core port).transfer || nat_lt 0 (length (port_of core port).shift)))
+holds core slot (PortIdle port) = is_idle (port_of core port)
 holds core slot (Timer timer) = timer_holds slot (timer_of core timer)
 holds core slot (Lock lock) = is_none (lock_of core lock).owner
 holds core slot (Slaves sync) = all_in core sync
@@ -88,6 +88,9 @@ abbrev pub is_on : Resource → Wait → Bool
 is_on (resource.Chan c) (Room chan count) = chan == c
 is_on (resource.Chan c) (Tokens chan count) = chan == c
 is_on (resource.Timer n) (Timer timer) = timer == n
+is_on (resource.Port p) (PortFull port) = port == p
+is_on (resource.Port p) (PortEmpty port) = port == p
+is_on (resource.Port p) (PortIdle port) = port == p
 is_on (resource.Sync n) (Slaves sync) = sync == n
 is_on (resource.Lock n) (Lock lock) = lock == n
 is_on _ _ = false

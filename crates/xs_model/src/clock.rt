@@ -7,10 +7,13 @@ pub enum Clock {
     Block(u8),
 }
 
-/// What a clock does in a slot.
+/// What a clock does in a slot. See docs/TIME.md and docs/PORTS.md.
 #[derive(Clone, Copy)]
 pub enum Edge {
+    /// It has no edge.
     None,
+    /// It rises: ports in direction input sample.
     Rise,
+    /// It falls: counters rise, and ports in direction output go on.
     Fall,
 }

@@ -1,7 +1,9 @@
-/// What of a core an identifier names, its number within its kind; ports are not built yet. See docs/THREADS.md,
-/// docs/LINKS.md and docs/TIME.md.
+/// What of a core an identifier names, its number within its kind. See docs/THREADS.md, docs/LINKS.md, docs/TIME.md and
+/// docs/PORTS.md.
 #[derive(Clone, Copy)]
 pub enum Resource {
+    /// A port, 0 to 28.
+    Port { port: u8 },
     /// A timer, 0 to 9.
     Timer { timer: u8 },
     /// A channel end, 0 to 31.

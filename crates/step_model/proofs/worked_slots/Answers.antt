@@ -1,8 +1,11 @@
 use Rattle.std.proofs.Common.{refl}
+use Rattle.xs_base.specs.Ids.{port_among}
 use Rattle.xs_base.specs.Words.{reversed, leading_zeros}
+use Rattle.xs_model.specs.Bits.{bits_of, value_of}
 use Rattle.xs_model.specs.Choices.{first_ready}
 use Rattle.xs_model.specs.Enabling.{without_threads}
 use Rattle.xs_model.specs.Picks.{best_from}
+use Rattle.xs_model.specs.Ports.{edges_from}
 use Rattle.xs_model.specs.Syncs.{with_slave}
 use Rattle.xs_model.specs.Free.{lowest_free}
 use Rattle.net_model.specs.Ways.{first_difference}
@@ -13,7 +16,7 @@ use Rattle.step_model.specs.Step.{node_step}
 use Rattle.step_model.proofs.worked_slots.Goals as goal
 
 pub returns-clause-issues : goal.returns-clause-issues
-unfolding moves_from links_after_arrivals node_step best_from first_ready
+unfolding moves_from links_after_arrivals node_step best_from first_ready edges_from port_among
 returns-clause-issues c = record {
   threads = refl;
   last = refl;
@@ -33,7 +36,7 @@ returns-clause-issues c = record {
 }
 
 pub returns-clause-words : goal.returns-clause-words
-unfolding moves_from links_after_arrivals node_step best_from first_ready reversed leading_zeros
+unfolding moves_from links_after_arrivals node_step best_from first_ready reversed leading_zeros edges_from port_among
 returns-clause-words c = record {
   sums = record {
     add = refl;
@@ -226,7 +229,7 @@ returns-clause-words c = record {
 }
 
 pub returns-clause-memory : goal.returns-clause-memory
-unfolding moves_from links_after_arrivals node_step best_from first_ready
+unfolding moves_from links_after_arrivals node_step best_from first_ready edges_from port_among
 returns-clause-memory c = record {
   loads = record {
     word = refl;
@@ -336,7 +339,7 @@ returns-clause-memory c = record {
 }
 
 pub returns-clause-flow : goal.returns-clause-flow
-unfolding moves_from links_after_arrivals node_step best_from first_ready
+unfolding moves_from links_after_arrivals node_step best_from first_ready edges_from port_among
 returns-clause-flow c = record {
   branches = record {
     bt_taken = refl;
@@ -403,7 +406,7 @@ returns-clause-flow c = record {
 }
 
 pub returns-clause-kernel : goal.returns-clause-kernel
-unfolding moves_from links_after_arrivals node_step best_from first_ready
+unfolding moves_from links_after_arrivals node_step best_from first_ready edges_from port_among
 returns-clause-kernel c = record {
   calls = record {
     kcall_greatest = refl;
@@ -485,7 +488,7 @@ returns-clause-kernel c = record {
 }
 
 pub returns-clause-traps : goal.returns-clause-traps
-unfolding moves_from links_after_arrivals node_step best_from first_ready
+unfolding moves_from links_after_arrivals node_step best_from first_ready edges_from port_among
 returns-clause-traps c = record {
   no_code = refl;
   no_code_events = refl;
@@ -504,7 +507,7 @@ returns-clause-traps c = record {
 }
 
 pub returns-clause-end : goal.returns-clause-end
-unfolding moves_from links_after_arrivals node_step best_from first_ready with_slave lowest_free
+unfolding moves_from links_after_arrivals node_step best_from first_ready with_slave lowest_free edges_from port_among
 returns-clause-end c = record {
   free = refl;
   no_event = refl;
@@ -515,7 +518,7 @@ returns-clause-end c = record {
 }
 
 pub returns-clause-channels : goal.returns-clause-channels
-unfolding moves_from links_after_arrivals node_step best_from lowest_free free_end first_difference first_ready without_threads
+unfolding moves_from links_after_arrivals node_step best_from lowest_free free_end first_difference first_ready without_threads edges_from port_among
 returns-clause-channels c = record {
   getr = record {
     first_got = refl;
@@ -613,7 +616,7 @@ returns-clause-channels c = record {
 }
 
 pub returns-clause-waits : goal.returns-clause-waits
-unfolding moves_from links_after_arrivals node_step best_from first_ready
+unfolding moves_from links_after_arrivals node_step best_from first_ready edges_from port_among
 returns-clause-waits c = record {
   timer_after = refl;
   timer_equal = refl;
@@ -647,7 +650,7 @@ returns-clause-waits c = record {
 }
 
 pub returns-clause-things : goal.returns-clause-things
-unfolding moves_from links_after_arrivals node_step best_from first_ready
+unfolding moves_from links_after_arrivals node_step best_from first_ready edges_from port_among
 returns-clause-things c = record {
   port = refl;
   port_empty = refl;
@@ -664,14 +667,14 @@ returns-clause-things c = record {
 }
 
 pub returns-clause-levels : goal.returns-clause-levels
-unfolding moves_from links_after_arrivals node_step best_from first_ready
+unfolding moves_from links_after_arrivals node_step best_from first_ready edges_from port_among
 returns-clause-levels c = record {
   driven = refl;
   driven_low = refl;
 }
 
 pub returns-clause-threads : goal.returns-clause-threads
-unfolding moves_from links_after_arrivals node_step best_from with_slave with_runs lowest_free free_end first_difference first_ready without_threads
+unfolding moves_from links_after_arrivals node_step best_from with_slave with_runs lowest_free free_end first_difference first_ready without_threads edges_from port_among
 returns-clause-threads c = record {
   getst = record {
     got = refl;
@@ -891,7 +894,7 @@ returns-clause-threads c = record {
 }
 
 pub returns-clause-syncs : goal.returns-clause-syncs
-unfolding moves_from links_after_arrivals node_step best_from with_slave with_runs lowest_free free_end first_difference first_ready without_threads
+unfolding moves_from links_after_arrivals node_step best_from with_slave with_runs lowest_free free_end first_difference first_ready without_threads edges_from port_among
 returns-clause-syncs c = record {
   getr = record {
     got = refl;
@@ -980,7 +983,7 @@ returns-clause-syncs c = record {
 }
 
 pub returns-clause-locks : goal.returns-clause-locks
-unfolding moves_from links_after_arrivals node_step best_from with_slave with_runs lowest_free free_end first_difference first_ready without_threads
+unfolding moves_from links_after_arrivals node_step best_from with_slave with_runs lowest_free free_end first_difference first_ready without_threads edges_from port_among
 returns-clause-locks c = record {
   getr = record {
     got = refl;
@@ -1080,7 +1083,7 @@ returns-clause-locks c = record {
 }
 
 pub returns-clause-turns : goal.returns-clause-turns
-unfolding moves_from links_after_arrivals node_step best_from with_slave with_runs lowest_free free_end first_difference first_ready without_threads
+unfolding moves_from links_after_arrivals node_step best_from with_slave with_runs lowest_free free_end first_difference first_ready without_threads edges_from port_among
 returns-clause-turns c = record {
   always_able = record {
     one = refl;
@@ -1099,7 +1102,7 @@ returns-clause-turns c = record {
 }
 
 pub returns-clause-tokens : goal.returns-clause-tokens
-unfolding moves_from links_after_arrivals node_step best_from with_slave with_runs lowest_free free_end first_difference first_ready without_threads
+unfolding moves_from links_after_arrivals node_step best_from with_slave with_runs lowest_free free_end first_difference first_ready without_threads edges_from port_among
 returns-clause-tokens c = record {
   out = record {
     puts = refl;
@@ -1279,7 +1282,7 @@ returns-clause-time c = record {
 }
 
 pub returns-clause-timers : goal.returns-clause-timers
-unfolding moves_from links_after_arrivals node_step best_from lowest_free free_end first_difference first_ready without_threads with_runs
+unfolding moves_from links_after_arrivals node_step best_from lowest_free free_end first_difference first_ready without_threads with_runs edges_from port_among
 returns-clause-timers c = record {
   getr = record {
     lowest = refl;
@@ -1411,11 +1414,11 @@ returns-clause-timers c = record {
 }
 
 pub returns-clause-modes : goal.returns-clause-modes
-unfolding moves_from links_after_arrivals node_step best_from lowest_free free_end first_difference first_ready without_threads with_runs
+unfolding moves_from links_after_arrivals node_step best_from lowest_free free_end first_difference first_ready without_threads with_runs edges_from port_among
 returns-clause-modes c = record { chan = refl; timer = refl; clock = refl; sync = refl; thread = refl; lock = refl; nothing = refl; whole_on = refl; whole_off = refl; whole_after = refl; whole_event = refl }
 
 pub returns-clause-events : goal.returns-clause-events
-unfolding moves_from links_after_arrivals node_step best_from lowest_free free_end first_difference first_ready without_threads with_runs
+unfolding moves_from links_after_arrivals node_step best_from lowest_free free_end first_difference first_ready without_threads with_runs edges_from port_among
 returns-clause-events c = record {
   setting = record {
     vector = record {
@@ -1632,7 +1635,7 @@ returns-clause-events c = record {
 }
 
 pub returns-clause-event_rows : goal.returns-clause-event_rows
-unfolding moves_from links_after_arrivals node_step best_from lowest_free free_end first_difference first_ready without_threads with_runs
+unfolding moves_from links_after_arrivals node_step best_from lowest_free free_end first_difference first_ready without_threads with_runs edges_from port_among
 returns-clause-event_rows c = record {
   clearing = record {
     events = refl;
@@ -1673,7 +1676,7 @@ returns-clause-event_rows c = record {
 }
 
 pub returns-clause-choices : goal.returns-clause-choices
-unfolding moves_from links_after_arrivals node_step best_from lowest_free free_end first_difference first_ready without_threads with_runs
+unfolding moves_from links_after_arrivals node_step best_from lowest_free free_end first_difference first_ready without_threads with_runs edges_from port_among
 returns-clause-choices c = record {
   order = record {
     chans = record {
@@ -1782,7 +1785,7 @@ returns-clause-choices c = record {
 }
 
 pub returns-clause-entries : goal.returns-clause-entries
-unfolding moves_from links_after_arrivals node_step best_from lowest_free free_end first_difference first_ready without_threads with_runs
+unfolding moves_from links_after_arrivals node_step best_from lowest_free free_end first_difference first_ready without_threads with_runs edges_from port_among
 returns-clause-entries c = record {
   taken = record {
     event = refl;
@@ -1855,7 +1858,7 @@ returns-clause-entries c = record {
 }
 
 pub returns-clause-time_runs : goal.returns-clause-time_runs
-unfolding moves_from links_after_arrivals node_step best_from lowest_free free_end first_difference first_ready without_threads with_runs
+unfolding moves_from links_after_arrivals node_step best_from lowest_free free_end first_difference first_ready without_threads with_runs edges_from port_among
 returns-clause-time_runs c = record {
   token_or_time = record {
     places = refl;
@@ -1888,5 +1891,63 @@ returns-clause-time_runs c = record {
   };
   started = record {
     edges = refl;
+  };
+}
+
+pub returns-clause-ports : goal.returns-clause-ports
+unfolding moves_from links_after_arrivals node_step best_from lowest_free free_end first_difference first_ready without_threads with_runs edges_from port_among bits_of value_of
+returns-clause-ports c = record {
+  outputs = record {
+    plain_wave = refl;
+    plain_stamp = refl;
+    timed_wave = refl;
+    timed_later = refl;
+    timed_stamp = refl;
+    bits_wave = refl;
+    bits_stamp = refl;
+    next_word = refl;
+    drained = refl;
+    full = refl;
+  };
+  inputs = record {
+    seven_bits = refl;
+    eight_bits = refl;
+    bits_stamp = refl;
+    dropped = refl;
+    dropped_stamp = refl;
+    three_bits = refl;
+    not_yet = refl;
+    met = refl;
+    met_stamp = refl;
+    before_its_time = refl;
+    in_time = refl;
+    held = refl;
+    held_stamp = refl;
+    strobe_low = refl;
+    strobe_high = refl;
+    counts_without = refl;
+  };
+  turns = record {
+    in_turns = refl;
+    in_waits = refl;
+    out_turns = refl;
+    time_drops_sample = refl;
+    part_of_unbuffered = refl;
+    part_no_multiple = refl;
+    part = refl;
+    width_of_unbuffered = refl;
+    width_below = refl;
+    width_none = refl;
+    on_again = refl;
+    no_mode = refl;
+    of_clock_blocks = refl;
+    end_in_output = refl;
+  };
+  runs = record {
+    drives = refl;
+    word = refl;
+    stamp = refl;
+    no_event = refl;
+    ended = refl;
   };
 }
