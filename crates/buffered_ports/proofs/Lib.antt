@@ -1,0 +1,8 @@
+pub mod OneBit
+pub mod Masks
+pub mod Row
+pub mod First
+pub mod High
+pub mod Plain
+pub mod InTurn
+pub mod Fits

@@ -1,0 +1,33 @@
+use Rattle.std.proofs.Common.{sym, subst, ◌<◌, ap, ◌∙◌, length, arith}
+use Rattle.xs_model.specs.Ports.{falls}
+use Rattle.buffered_ports.specs.Keeps.{PortOf, IsPlain}
+use Rattle.buffered_ports.proofs.Plain.{still_plain_fallen}
+use Rattle.buffered_ports.proofs.Row.{read_on, replaced, row_edged, serves_now, port_there}
+use Rattle.buffered_ports.specs.Asks.{port_at}
+use Rattle.buffered_ports.proofs.ports.Ports.fall.Goals as goal
+
+pub invariant_of-self : goal.invariant_of-self
+invariant_of-self c =
+    row_edged c.self.inside c.args.p c.noted-self-inside.result c.index-self-p.result c.falls-fallen.new.self c.falls-fallen.result.differs c.is_ready.result c.self.invariant c.requires.port (ap (λ (that : PortOf). that.width) c.falls-fallen.ensures.port) c.falls-fallen.ensures.role c.falls-fallen.ensures.same c.is_ready.ensures c.noted-self-inside.ensures.its c.noted-self-inside.ensures.same c.noted-self-inside.ensures.others
+    (λ plain. subst IsPlain (ap (λ (that : PortOf). that.port) (sym c.falls-fallen.ensures.port)) (still_plain_fallen _ _ plain))
+
+pub returns-clause-ports : goal.returns-clause-ports
+returns-clause-ports c =
+    let inside : c.args.p < length c.self.inside.ports = omega (arith, c.requires.port, c.self.invariant.count) in
+    replaced c.self.inside.ports c.args.self.now c.args.p c.falls-fallen.new.self _ c.self.view_is
+    (ap (λ (that : PortOf). that.port) c.falls-fallen.ensures.port
+    ∙ read_on (λ width port. (falls width port).port) c.self.inside.ports c.args.self.now c.args.p _ c.self.view_is inside (c.self.invariant.placed c.args.p) c.requires.on)
+
+pub returns-clause-same : goal.returns-clause-same
+returns-clause-same c same =
+    let inside : c.args.p < length c.self.inside.ports = omega (arith, c.requires.port, c.self.invariant.count) in
+    serves_now c.self.inside.ports c.args.self.now c.args.p c.index-self-p.result c.falls-fallen.new.self c.self.view_is inside (c.falls-fallen.ensures.same same)
+
+pub returns-clause-change : goal.returns-clause-change
+returns-clause-change c =
+    let inside : c.args.p < length c.self.inside.ports = omega (arith, c.requires.port, c.self.invariant.count) in
+    c.falls-fallen.ensures.change ∙ read_on (λ width port. (falls width port).change) c.self.inside.ports c.args.self.now c.args.p _ c.self.view_is inside (c.self.invariant.placed c.args.p) c.requires.on
+
+pub returns-clause-others : goal.returns-clause-others
+returns-clause-others c k other =
+    port_there c.self.inside.ports c.args.p k c.falls-fallen.new.self other ∙ ap (λ ports. port_at ports k) c.self.view_is

@@ -1,0 +1,4 @@
+pub mod Asks
+pub mod Keeps
+pub mod Inside
+pub mod Row

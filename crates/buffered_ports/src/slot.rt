@@ -1,0 +1,336 @@
+//! The edges of all ports in a slot.
+ghost use Rattle.std.specs.Prelude.{ℕ, ◌≡◌, ◌≢◌, ◌+◌, ◌<◌, ◌≤◌, ◌++◌, ◌^◌, ◌==◌, if◌then◌else◌, Bool, false, true, List, length, map, slice_index_or, slice_set};
+ghost use Rattle.xs_base.specs.Numbers.{Word, PortNumber};
+ghost use Rattle.xs_base.specs.Ids.{port_width};
+ghost use Rattle.xs_base.specs.declared.numbers.TheConstants.{PORTS, EVENT_ROOM};
+ghost use Rattle.xs_model.specs.declared.clock.Clock.TheVariants.{Reference};
+ghost use Rattle.xs_model.specs.Masks.{in_mask};
+ghost use Rattle.xs_model.specs.Record.{ClockRec};
+ghost use Rattle.xs_model.specs.Outside.{in_slot, LevelsFit};
+ghost use Rattle.xs_model.specs.Time.{edge_at};
+ghost use Rattle.xs_model.specs.Ports.{level_of, levels_of, is_high, at_edge, rises, falls, unchanged, edge_in_slot, edges_from, pin_happens};
+ghost use Rattle.buffered_ports.specs.Asks.{port_at};
+ghost use Rattle.buffered_ports.specs.Keeps.{HighIs, HighAre, IsPlain, ServesAs};
+
+use crate::marks::{has_bit, lowest, noted, with_bit, without};
+use crate::ports::Ports;
+use timers_clocks::Clocks;
+use trace_lines::{Emissions, Event, Happen};
+use xs_base::numbers::PORTS;
+use xs_model::{Clock, Edge, PinChange, PinView};
+
+impl Ports {
+    /// The strobes that are high, bit n for port n, where pins show this from outside: for each port that has a strobe
+    /// whether that pin is 1. Of other pins it says nothing. It costs next to nothing where no port has a strobe.
+    #[inline]
+    pub fn high(&self, pins: &PinView) -> u32
+        ensures high { HighAre result self.now (levels_of self.now pins.now.level) }
+    {
+        if self.strobed == 0 {
+            0
+        } else {
+            self.all_high(&pins.level)
+        }
+    }
+
+    fn all_high(&self, levels: &[u32; 29]) -> u32
+        ensures { HighAre result self.now (levels_of self.now levels.now) }
+    {
+        let mut mask = 0;
+        for p in 0..PORTS {
+            let level = self.ports[p as usize].level(levels[p as usize]);
+            mask = with_bit(mask, p, level == 1);
+        }
+        mask
+    }
+
+    /// The edges of all ports in a slot, in the order of their numbers: what happened is put after the events of the slot.
+    /// Pins show `pins` from outside, and `high` has the strobes that were high at the end of the slot before, as `high`
+    /// gives them. The answer tells whether a wait on a port may hold now that did not, or a port be ready: where it is
+    /// false, no port serves threads otherwise than before. It costs next to nothing where no port is on, and in odd slots,
+    /// in which no clock has an edge. See docs/PORTS.md.
+    #[inline]
+    pub fn edges(
+        &mut self,
+        clocks: &Clocks,
+        slot: u32,
+        pins: &PinView,
+        high: u32,
+        out: &mut Emissions,
+    ) -> bool
+        requires pins { LevelsFit pins.now.level }
+        requires room { length out.old.events + PORTS ≤ EVENT_ROOM }
+        ensures ports { (before : List Word) → HighAre high self.old before → self.new ≡ (edges_from slot clocks.now before 0 self.old pins.now.level).ports }
+        ensures events { (before : List Word) → HighAre high self.old before →
+            out.new ≡ record out.old { events = out.old.events ++ map (in_slot slot) (edges_from slot clocks.now before 0 self.old pins.now.level).happened } }
+        ensures serve { result ≡ false → (p : PortNumber) → ServesAs (port_at self.old p) (port_at self.new p) }
+        ensures room { length out.new.events ≤ length out.old.events + PORTS }
+        ensures count { length self.new ≡ PORTS }
+    {
+        self.edges_in_slot(clocks, slot, &pins.level, high, out)
+    }
+
+    #[inline]
+    fn edges_in_slot(
+        &mut self,
+        clocks: &Clocks,
+        slot: u32,
+        levels: &[u32; 29],
+        high: u32,
+        out: &mut Emissions,
+    ) -> bool
+        requires pins { LevelsFit levels.now }
+        requires room { length out.old.events + PORTS ≤ EVENT_ROOM }
+        ensures ports { (before : List Word) → HighAre high self.old before → self.new ≡ (edges_from slot clocks.now before 0 self.old levels.now).ports }
+        ensures events { (before : List Word) → HighAre high self.old before →
+            out.new ≡ record out.old { events = out.old.events ++ map (in_slot slot) (edges_from slot clocks.now before 0 self.old levels.now).happened } }
+        ensures serve { result ≡ false → (p : PortNumber) → ServesAs (port_at self.old p) (port_at self.new p) }
+        ensures room { length out.new.events ≤ length out.old.events + PORTS }
+        ensures count { length self.new ≡ PORTS }
+    {
+        if self.has_no_edge(slot) {
+            return false;
+        }
+        self.all_edges(clocks, slot, levels, high, out)
+    }
+
+    // Whether it is plain that no port has an edge in a slot: none is on, or the slot is odd.
+    #[inline]
+    fn has_no_edge(&self, slot: u32) -> bool
+        ensures none { result ≡ true → (clocks : List ClockRec) (before : List Word) (p : PortNumber) (outside : Word) → p < PORTS →
+            edge_in_slot slot clocks before p (port_at self.now p) outside ≡ unchanged (port_at self.now p) }
+        ensures count { length self.now ≡ PORTS }
+    {
+        self.on == 0 || slot % 2 == 1
+    }
+
+    fn all_edges(
+        &mut self,
+        clocks: &Clocks,
+        slot: u32,
+        levels: &[u32; 29],
+        high: u32,
+        out: &mut Emissions,
+    ) -> bool
+        requires pins { LevelsFit levels.now }
+        requires room { length out.old.events + PORTS ≤ EVENT_ROOM }
+        ensures ports { (before : List Word) → HighAre high self.old before → self.new ≡ (edges_from slot clocks.now before 0 self.old levels.now).ports }
+        ensures events { (before : List Word) → HighAre high self.old before →
+            out.new ≡ record out.old { events = out.old.events ++ map (in_slot slot) (edges_from slot clocks.now before 0 self.old levels.now).happened } }
+        ensures serve { result ≡ false → (p : PortNumber) → ServesAs (port_at self.old p) (port_at self.new p) }
+        ensures room { length out.new.events ≤ length out.old.events + PORTS }
+        ensures count { length self.new ≡ PORTS }
+    {
+        let reference = clocks.edge(Clock::Reference, slot);
+        let mut differs = false;
+        // The ports that are on and had no edge yet.
+        let mut rest = self.ports_on();
+        while rest != 0 {
+            let p = lowest(rest);
+            let changed = self.edge_in_slot(p, clocks, reference, slot, levels, high, out);
+            differs = either(differs, changed);
+            rest = without(rest, p);
+        }
+        differs
+    }
+
+    // The ports that are on, bit n for port n.
+    #[inline]
+    fn ports_on(&self) -> u32
+        ensures on { (k : PortNumber) → k < 32 → in_mask result k ≡ (port_at self.now k).on }
+        ensures count { length self.now ≡ PORTS }
+    {
+        self.on
+    }
+
+    // The edge of port `p`, which is on, in a slot in which the reference clock has this one: whether it may serve threads
+    // otherwise than before.
+    #[inline]
+    fn edge_in_slot(
+        &mut self,
+        p: u8,
+        clocks: &Clocks,
+        reference: Edge,
+        slot: u32,
+        levels: &[u32; 29],
+        high: u32,
+        out: &mut Emissions,
+    ) -> bool
+        requires port { p < PORTS }
+        requires on { (port_at self.old p).on ≡ true }
+        requires reference { reference ≡ edge_at clocks.now Reference slot }
+        requires pin { slice_index_or levels.now p 0 < 2 ^ port_width p }
+        requires room { length out.old.events < EVENT_ROOM }
+        ensures ports { (before : List Word) → HighIs high (port_at self.old p).strobe before →
+            self.new ≡ slice_set self.old p (at_edge (port_width p) (edge_at clocks.now (port_at self.old p).clock slot) (level_of (port_at self.old p).driven (slice_index_or levels.now p 0)) (is_high before (port_at self.old p).strobe) (port_at self.old p)).port }
+        ensures events { (before : List Word) → HighIs high (port_at self.old p).strobe before →
+            out.new.events ≡ out.old.events ++ map (in_slot slot)
+            (pin_happens p (at_edge (port_width p) (edge_at clocks.now (port_at self.old p).clock slot) (level_of (port_at self.old p).driven (slice_index_or levels.now p 0)) (is_high before (port_at self.old p).strobe) (port_at self.old p)).change) }
+        ensures rest { out.new ≡ record out.old { events = out.new.events } }
+        ensures room { length out.new.events ≤ length out.old.events + 1 }
+        ensures others { (k : PortNumber) → k ≢ p → port_at self.new k ≡ port_at self.old k }
+        ensures count { length self.old ≡ PORTS → length self.new ≡ PORTS }
+        ensures same { result ≡ false → ServesAs (port_at self.old p) (port_at self.new p) }
+    {
+        if self.is_plain(p) {
+            return self.plain_edge(p, reference, levels);
+        }
+        let edge = self.edge_of(p, clocks, reference, slot);
+        self.edge_at(p, edge, slot, levels[p as usize], high, out)
+    }
+
+    // Whether port `p` is known to be plain.
+    #[inline]
+    fn is_plain(&self, p: u8) -> bool
+        requires { p < PORTS }
+        ensures { result ≡ true → IsPlain (port_at self.now p) }
+    {
+        has_bit(self.plain, p)
+    }
+
+    // The edge of port `p`, which is plain: whether it may serve threads otherwise than before.
+    #[inline]
+    fn plain_edge(&mut self, p: u8, reference: Edge, levels: &[u32; 29]) -> bool
+        requires port { p < PORTS }
+        requires plain { IsPlain (port_at self.old p) }
+        requires pin { slice_index_or levels.now p 0 < 2 ^ port_width p }
+        ensures edged { (high : Bool) → at_edge (port_width p) reference (level_of (port_at self.old p).driven (slice_index_or levels.now p 0)) high (port_at self.old p) ≡ unchanged (port_at self.new p) }
+        ensures ports { self.new ≡ slice_set self.old p (port_at self.new p) }
+        ensures others { (k : PortNumber) → k ≢ p → port_at self.new k ≡ port_at self.old k }
+        ensures count { length self.old ≡ PORTS → length self.new ≡ PORTS }
+        ensures same { result ≡ false → ServesAs (port_at self.old p) (port_at self.new p) }
+    {
+        match reference {
+            Edge::None => false,
+            Edge::Rise => self.plain_rise(p, levels[p as usize]),
+            Edge::Fall => {
+                self.plain_fall(p);
+                false
+            }
+        }
+    }
+
+    #[inline]
+    fn plain_rise(&mut self, p: u8, outside: u32) -> bool
+        requires port { p < PORTS }
+        requires plain { IsPlain (port_at self.old p) }
+        requires pin { outside < 2 ^ port_width p }
+        ensures port { (high : Bool) → rises (port_width p) (level_of (port_at self.old p).driven outside) high (port_at self.old p) ≡ port_at self.new p }
+        ensures ports { self.new ≡ slice_set self.old p (port_at self.new p) }
+        ensures others { (k : PortNumber) → k ≢ p → port_at self.new k ≡ port_at self.old k }
+        ensures count { length self.new ≡ PORTS }
+        ensures same { result ≡ false → ServesAs (port_at self.old p) (port_at self.new p) }
+    {
+        let differs = !has_bit(self.ready, p);
+        let port = &mut self.ports[p as usize];
+        port.rises_plainly(outside);
+        self.ready = noted(self.ready, p, differs, true);
+        differs
+    }
+
+    #[inline]
+    fn plain_fall(&mut self, p: u8)
+        requires port { p < PORTS }
+        requires plain { IsPlain (port_at self.old p) }
+        ensures edged { falls (port_width p) (port_at self.old p) ≡ unchanged (port_at self.new p) }
+        ensures ports { self.new ≡ slice_set self.old p (port_at self.new p) }
+        ensures others { (k : PortNumber) → k ≢ p → port_at self.new k ≡ port_at self.old k }
+        ensures count { length self.new ≡ PORTS }
+        ensures same { ServesAs (port_at self.old p) (port_at self.new p) }
+    {
+        let port = &mut self.ports[p as usize];
+        port.falls_plainly();
+    }
+
+    // The edge of the clock of port `p` in a slot, in which the reference clock has this one.
+    #[inline]
+    fn edge_of(&self, p: u8, clocks: &Clocks, reference: Edge, slot: u32) -> Edge
+        requires port { p < PORTS }
+        requires reference { reference ≡ edge_at clocks.now Reference slot }
+        ensures { result ≡ edge_at clocks.now (port_at self.now p).clock slot }
+    {
+        match self.clock(p) {
+            Clock::Reference => reference,
+            clock => clocks.edge(clock, slot),
+        }
+    }
+
+    // This edge of port `p`, which is on: whether it may serve threads otherwise than before.
+    #[inline]
+    fn edge_at(
+        &mut self,
+        p: u8,
+        edge: Edge,
+        slot: u32,
+        outside: u32,
+        high: u32,
+        out: &mut Emissions,
+    ) -> bool
+        requires port { p < PORTS }
+        requires on { (port_at self.old p).on ≡ true }
+        requires pin { outside < 2 ^ port_width p }
+        requires room { length out.old.events < EVENT_ROOM }
+        ensures ports { (before : List Word) → HighIs high (port_at self.old p).strobe before →
+            self.new ≡ slice_set self.old p (at_edge (port_width p) edge (level_of (port_at self.old p).driven outside) (is_high before (port_at self.old p).strobe) (port_at self.old p)).port }
+        ensures events { (before : List Word) → HighIs high (port_at self.old p).strobe before →
+            out.new.events ≡ out.old.events ++ map (in_slot slot)
+            (pin_happens p (at_edge (port_width p) edge (level_of (port_at self.old p).driven outside) (is_high before (port_at self.old p).strobe) (port_at self.old p)).change) }
+        ensures rest { out.new ≡ record out.old { events = out.new.events } }
+        ensures room { length out.new.events ≤ length out.old.events + 1 }
+        ensures others { (k : PortNumber) → k ≢ p → port_at self.new k ≡ port_at self.old k }
+        ensures count { length self.old ≡ PORTS → length self.new ≡ PORTS }
+        ensures same { result ≡ false → ServesAs (port_at self.old p) (port_at self.new p) }
+    {
+        match edge {
+            Edge::None => false,
+            Edge::Rise => {
+                let strobe = self.is_high(p, high);
+                self.rise(p, outside, strobe)
+            }
+            Edge::Fall => {
+                let fallen = self.fall(p);
+                tell(p, fallen.change, slot, out);
+                fallen.differs
+            }
+        }
+    }
+
+    // Whether the strobe of port `p`, if it has one, is high, by the mask of those that are.
+    #[inline]
+    fn is_high(&self, p: u8, high: u32) -> bool
+        requires { p < PORTS }
+        ensures { (before : List Word) → HighIs high (port_at self.now p).strobe before → result ≡ is_high before (port_at self.now p).strobe }
+    {
+        match self.strobe(p) {
+            None => false,
+            Some(strobe) => has_bit(high, strobe),
+        }
+    }
+}
+
+// Whether one or the other.
+#[inline]
+fn either(one: bool, other: bool) -> bool
+    ensures one { result ≡ false → one ≡ false }
+    ensures other { result ≡ false → other ≡ false }
+{
+    one || other
+}
+
+// Puts the change of a port's pins, if they changed, after the events of a slot.
+#[inline]
+fn tell(port: u8, change: Option<PinChange>, slot: u32, out: &mut Emissions)
+    requires port { port < PORTS }
+    requires room { length out.old.events < EVENT_ROOM }
+    ensures events { out.new.events ≡ out.old.events ++ map (in_slot slot) (pin_happens port change) }
+    ensures rest { out.new ≡ record out.old { events = out.new.events } }
+    ensures room { length out.new.events ≤ length out.old.events + 1 }
+{
+    if let Some(change) = change {
+        let what = match change {
+            PinChange::Drive(value) => Happen::Drive { port, value },
+            PinChange::Float => Happen::Float { port },
+        };
+        out.add_event(Event { slot, what });
+    }
+}

@@ -1,0 +1,7 @@
+use Rattle.std.proofs.Common.{refl}
+use Rattle.xs_model.specs.Bits.{bits_of}
+use Rattle.port_shift.proofs.shift.Shift.new.Goals as goal
+
+pub returns : goal.returns
+unfolding bits_of
+returns c = refl

@@ -1,0 +1,8 @@
+//! The shift register of a port: bits that leave, or come in, a beat at a time. See docs/PORTS.md.
+#![tactic(auto)]
+
+mod shift;
+#[cfg(test)]
+mod tests;
+
+pub use shift::Shift;
