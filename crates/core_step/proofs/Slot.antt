@@ -1,22 +1,25 @@
--- One slot of a core: the network, and then an issue.
-use Rattle.std.proofs.Common.{◌≡◌, ℕ, ◌+◌, ◌<◌, ◌≤◌, List, [], ◌∷◌, Option, Some, None, refl, ap, sym, ◌∙◌, arith, subst}
+-- One slot of a core: the edges, the network, and then an issue.
+use Rattle.std.proofs.Common.{◌≡◌, ℕ, ◌+◌, ◌<◌, ◌≤◌, List, [], ◌∷◌, Option, Some, None, ap, sym, ◌∙◌, arith, subst}
 use Rattle.std.specs.Prelude.{IfSome}
 use Rattle.std.specs.List.{AllByRecursion}
 use Rattle.std.proofs.lemmas.List.{map-append}
+use Rattle.xs_base.specs.Numbers.{Slot}
 use Rattle.xs_base.specs.declared.numbers.TheConstants.{CHAN_ENDS}
 use Rattle.xs_model.specs.declared.outside.Arrivals.{Arrivals}
 use Rattle.xs_model.specs.declared.outside.PinView.{PinView}
 use Rattle.xs_model.specs.declared.event.Event.{Event}
-use Rattle.xs_model.specs.Record.{CoreRec, NodeRec, LinkRec}
-use Rattle.xs_model.specs.Outside.{Emitted, emitted_events, in_slot}
-use Rattle.xs_model.specs.AtWork.{AtWork, slot_begins}
+use Rattle.xs_model.specs.Record.{CoreRec, NodeRec, LinkRec, ChanRec}
+use Rattle.xs_model.specs.Outside.{Emitted, in_slot}
+use Rattle.xs_model.specs.AtWork.{AtWork, slot_begins, emitted_in}
+use Rattle.xs_model.specs.Ports.{levels_of}
+use Rattle.buffered_ports.specs.Keeps.{HighAre}
 use Rattle.net_model.specs.Links.{latest}
 use Rattle.net_model.specs.Switch.{is_busy_among}
 use Rattle.link_ends.specs.Counts.{EndCounts, CountsOf, NeverFall}
 use Rattle.switch_routes.specs.Rows.{AllCountsOf, CreditedBy, SentBy}
 use Rattle.step_model.specs.Fixed.{Fixed}
 use Rattle.step_model.specs.Effect.{Setting}
-use Rattle.step_model.specs.Step.{Issued, node_step, issued, setting_of, before_issue}
+use Rattle.step_model.specs.Step.{Issued, node_step, issued, setting_of, before_issue, ports_step}
 use Rattle.core_units.specs.Units.{and_happened}
 use Rattle.core_step.specs.Core.{CoreValue, StandsAt, SentBefore, IsLinkBefore}
 use Rattle.core_step.specs.Network.{NetworkRec, NetworkStands, Brings}
@@ -83,19 +86,25 @@ links_before slot (Some counts ∷ row) (Some link ∷ links) of sent credited =
 -- ---- The phases
 
 -- what contracts see of a core with these parts
-abbrev value_with : Fixed → CoreRec → NetworkRec → CoreValue
-value_with fixed core n = record { fixed = fixed; core = core; inputs = n.switch.inputs; links = n.links }
+abbrev value_with : Fixed → CoreRec → ℕ → NetworkRec → CoreValue
+value_with fixed core high n = record { fixed = fixed; core = core; high = high; inputs = n.switch.inputs; links = n.links }
 
--- a core that stands for a node before a slot stands for the node as its slot begins
-pub begins : (fixed : Fixed) (core : CoreRec) (n : NetworkRec) (rec : NodeRec) (slot : ℕ) → StandsAt (value_with fixed core n) rec slot → NetworkStands slot n core.chans (emitted_events []) (slot_begins rec)
-begins fixed core n rec slot at = record {
+-- the node as its slot begins, after the edges
+abbrev pub edged : NodeRec → Slot → PinView → AtWork
+edged rec slot pins = ports_step slot pins (slot_begins rec)
+
+-- a core that stands for a node before a slot stands for the node after the edges, which change ports alone
+pub begins : (fixed : Fixed) (core : CoreRec) (high : ℕ) (n : NetworkRec) (rec : NodeRec) (slot : ℕ) (pins : PinView) (chans : List ChanRec) (out : Emitted)
+    → StandsAt (value_with fixed core high n) rec slot → chans ≡ core.chans → out ≡ emitted_in slot (edged rec slot pins)
+    → NetworkStands slot n chans out (edged rec slot pins)
+begins fixed core high n rec slot pins chans out at same gives = record {
   parts = record {
     inputs = at.stands.inputs;
-    chans = ap (λ (c : CoreRec). c.chans) at.stands.core;
+    chans = same ∙ ap (λ (c : CoreRec). c.chans) at.stands.core;
     links = at.stands.links;
     credited = credited_by slot rec.links at.links;
   };
-  emitted = refl;
+  emitted = gives;
 }
 
 module _ (fixed : Fixed) (rec : NodeRec) (slot : ℕ) (arrivals : Arrivals) (pins : PinView) where
@@ -106,7 +115,7 @@ module _ (fixed : Fixed) (rec : NodeRec) (slot : ℕ) (arrivals : Arrivals) (pin
   abbrev pub its_setting : Setting
   its_setting = setting_of fixed slot pins before.rec
 
-  module _ (core : CoreRec) (n : NetworkRec) (out : Emitted) (core_is : core ≡ record rec.core { chans = core.chans }) (b : Brings slot arrivals fixed.routes n core.chans out (slot_begins rec)) where
+  module _ (core : CoreRec) (n : NetworkRec) (out : Emitted) (core_is : core ≡ record (edged rec slot pins).rec.core { chans = core.chans }) (b : Brings slot arrivals fixed.routes n core.chans out (edged rec slot pins)) where
     -- the switch of the core says which channel ends are at work in the node
     pub busy_is : (c : ℕ) → c < CHAN_ENDS → its_setting.is_busy c ≡ is_busy_among n.switch.inputs c
     busy_is c below = ap (λ inputs. is_busy_among inputs c) (sym b.stands.parts.inputs)
@@ -116,11 +125,13 @@ module _ (fixed : Fixed) (rec : NodeRec) (slot : ℕ) (arrivals : Arrivals) (pin
     issue_is = ap (λ (c : CoreRec). issued fixed.code its_setting c) (core_is ∙ sym (ap (λ (r : NodeRec). r.core) b.rest))
 
     -- so the core stands for the node after the slot
-    pub stepped : (any : Fixed) (new : CoreRec) → new ≡ (issued fixed.code its_setting core).core → SentBy slot n.links → StandsAt (value_with any new n) (node_step fixed rec slot arrivals pins).rec (slot + 1)
+    pub stepped : (any : Fixed) (new : CoreRec) (high : ℕ) → new ≡ (issued fixed.code its_setting core).core → HighAre high new.ports (levels_of new.ports pins.level) → SentBy slot n.links → StandsAt (value_with any new high n) (node_step fixed rec slot arrivals pins).rec (slot + 1)
     unfolding node_step
-    stepped any new made sent = record {
+    stepped any new high made highs sent = record {
       stands = record {
         core = made ∙ ap (λ (i : Issued). i.core) issue_is;
+        high =
+            subst (λ (c : CoreRec). HighAre high c.ports (levels_of c.ports pins.level)) (made ∙ ap (λ (i : Issued). i.core) issue_is) highs;
         inputs = b.stands.parts.inputs;
         links = b.stands.parts.links;
       };

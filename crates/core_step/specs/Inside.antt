@@ -8,6 +8,7 @@ abbrev pub value_of : Inside → CoreValue
 value_of c = record {
   fixed = record { code = c.program.code; routes = routes_of c.network };
   core = c.units;
+  high = c.high;
   inputs = c.network.switch.inputs;
   links = c.network.links;
 }

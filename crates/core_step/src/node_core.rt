@@ -24,6 +24,8 @@ pub struct Core {
     program: Program,
     units: Units,
     network: Network,
+    // The strobes that were high at the end of the slot before.
+    high: u32,
 }
 
 impl Model for Core {
@@ -53,6 +55,7 @@ impl Core {
             program: Program::new(plan.id, code),
             units: Units::first(plan.id, plan.image.entry(), plan.image.cp_at(), ram),
             network: Network::new(plan.id, plan.ways, gaps),
+            high: 0,
         })
     }
 
@@ -76,20 +79,25 @@ impl Core {
     }
 
     /// One slot of the node: what arrives by the link ends, the edges of the ports' clocks, the switch, and at most
-    /// one issue. `out` is emptied first, and then holds what the slot gives. See docs/MACHINE.md.
-    pub fn slot(&mut self, slot: u32, arrivals: &Arrivals, _pins: &PinView, out: &mut Emissions)
+    /// one issue. The pins show `pins` where no port drives them, each level below 2^width of its port. `out` is emptied
+    /// first, and then holds what the slot gives. See docs/MACHINE.md.
+    pub fn slot(&mut self, slot: u32, arrivals: &Arrivals, pins: &PinView, out: &mut Emissions)
         requires before { SlotsBefore self.old slot }
-        requires levels { LevelsFit _pins.now.level }
+        requires levels { LevelsFit pins.now.level }
 
         ensures fixed { self.new.fixed ≡ self.old.fixed }
         ensures step { (rec : NodeRec) → StandsAt self.old rec slot →
-            StandsAt self.new (node_step self.old.fixed rec slot arrivals.now _pins.now).rec (slot + 1) }
+            StandsAt self.new (node_step self.old.fixed rec slot arrivals.now pins.now).rec (slot + 1) }
         ensures emissions { (rec : NodeRec) → StandsAt self.old rec slot →
-            out.new ≡ (node_step self.old.fixed rec slot arrivals.now _pins.now).emitted }
+            out.new ≡ (node_step self.old.fixed rec slot arrivals.now pins.now).emitted }
         ensures after { SlotsBefore self.new (slot + 1) }
     {
         out.clear();
+        // What arrives changes no port, so it may come after the edges.
+        self.units.edges(slot, pins, self.high, out);
         self.network.bring(&mut self.units, slot, arrivals, out);
-        self.units.issue(&self.program, slot, &self.network, out);
+        self.units
+            .issue(&self.program, slot, pins, &self.network, out);
+        self.high = self.units.high(pins);
     }
 }

@@ -1,4 +1,6 @@
 pub mod Able
+pub mod Served
+pub mod PortEnds
 pub mod Settles
 pub mod Issues
 pub mod Parts

@@ -9,7 +9,7 @@ use Rattle.xs_model.specs.Threads.{fresh_thread}
 use Rattle.xs_model.specs.Record.{CoreRec, thread_of, with_thread}
 use Rattle.xs_instructions.specs.declared.instr.Instr.{Instr}
 use Rattle.xs_instructions.specs.declared.instr.Instr.TheVariants.{Words, Memory, Flow, Kernel, Threads, Resources}
-use Rattle.step_model.specs.Effect.{Setting, Leaving, Leaves, Traps, NotBuilt, Local, local_of, with_local, on_registers, on_local, after_it}
+use Rattle.step_model.specs.Effect.{Setting, Leaving, Leaves, Traps, Local, local_of, with_local, on_registers, on_local, after_it}
 use Rattle.step_model.specs.Rows.{effect, local_row}
 use Rattle.step_model.specs.Outcomes.{EndsAs}
 use Rattle.flow_unit.specs.Local.{is_local, local}
@@ -23,20 +23,16 @@ module _ (core : CoreRec) (k : ℕ) where
   pub registers_end : (o : Outcome) (after : Thread) (row : Leaving Thread) → EndsAs o (thread_of core k) after row → Ends o core (with_thread core k (gone_on o after)) (on_registers core k row)
   registers_end outcome.Done after (Leaves th) is = ap (λ (t : Thread). with_thread core k (after_it t)) is
   registers_end outcome.Done after (Traps number value) is = absurd is
-  registers_end outcome.Done after NotBuilt is = absurd is
   registers_end (outcome.Trap et ed) after (Traps number value) is = (is.0, is.1, ap (with_thread core k) is.2 ∙ same_thread core k)
   registers_end (outcome.Trap et ed) after (Leaves th) is = absurd is
-  registers_end (outcome.Trap et ed) after NotBuilt is = absurd is
   registers_end (outcome.Pause wait) after row is = absurd is
   registers_end outcome.Gone after row is = absurd is
 
   part_end : (o : Outcome) (after : Local) (row : Leaving Local) → EndsAs o (local_of core k) after row → Ends o core (with_local core k after) (on_local core k row)
   part_end outcome.Done after (Leaves l) is = ap (with_local core k) is
   part_end outcome.Done after (Traps number value) is = absurd is
-  part_end outcome.Done after NotBuilt is = absurd is
   part_end (outcome.Trap et ed) after (Traps number value) is = (is.0, is.1, ap (with_local core k) is.2 ∙ same_thread core k)
   part_end (outcome.Trap et ed) after (Leaves l) is = absurd is
-  part_end (outcome.Trap et ed) after NotBuilt is = absurd is
   part_end (outcome.Pause wait) after row is = absurd is
   part_end outcome.Gone after row is = absurd is
 

@@ -1,4 +1,5 @@
 pub mod Program
+pub mod Ended
 pub mod Units
 pub mod Found
 pub mod Lends
@@ -8,3 +9,5 @@ pub mod Changed
 pub mod Changes
 pub mod Here
 pub mod Actions
+pub mod Ports
+pub mod Resources

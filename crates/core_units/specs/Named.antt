@@ -1,7 +1,7 @@
 -- What of a core a word names, as rows take it.
 use Rattle.std.specs.Prelude.{ℕ, ◌<◌, if◌then◌else◌, Option, Some, None}
 use Rattle.xs_base.specs.Numbers.{ThreadNumber}
-use Rattle.xs_base.specs.declared.numbers.TheConstants.{THREADS, TIMERS, CHAN_ENDS, SYNCHRONISERS, LOCKS, CLOCK_BLOCKS}
+use Rattle.xs_base.specs.declared.numbers.TheConstants.{THREADS, TIMERS, CHAN_ENDS, SYNCHRONISERS, LOCKS, CLOCK_BLOCKS, PORTS}
 use Rattle.xs_model.specs.declared.resource.Resource.{Resource}
 use Rattle.xs_model.specs.declared.resource.Resource.TheVariants as resource
 use Rattle.xs_model.specs.Record.{CoreRec, sync_of}
@@ -15,6 +15,7 @@ IsWithin (resource.Sync n) = n < SYNCHRONISERS
 IsWithin (resource.Thread j) = j < THREADS
 IsWithin (resource.Lock n) = n < LOCKS
 IsWithin (resource.Clock n) = n < CLOCK_BLOCKS
+IsWithin (resource.Port p) = p < PORTS
 
 -- the thread that was named, if one was
 abbrev pub named_thread : Option Resource → Option ThreadNumber

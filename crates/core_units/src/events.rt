@@ -6,17 +6,20 @@ ghost use Rattle.event_unit.specs.Ready.{IsRes};
 ghost use Rattle.step_model.specs.Effect.{reg, goes_on};
 ghost use Rattle.step_model.specs.Named.{resource_named};
 ghost use Rattle.step_model.specs.EventRows.{eventful, with_changed, sets_events, enables, in_event_mode, timer_in_mode, resource_in_mode, sets_mode, clears, waits_where};
-ghost use Rattle.core_units.specs.Units.{Ends};
+ghost use Rattle.xs_model.specs.Outside.{LevelsFit};
+ghost use Rattle.core_units.specs.Ended.{IsEnded};
+ghost use Rattle.core_units.specs.Units.{Ends, EndsWith};
 ghost use Rattle.core_units.specs.Named.{IsWithin};
 ghost use Rattle.core_units.specs.Changed.{IsChanged};
 ghost use Rattle.core_units.specs.Changes.{makes, IsChange};
 
+use crate::ended::Ended;
 use crate::named::resource_named;
 use crate::units::Units;
 use bitflags::Flags;
 use event_unit::Events;
 use xs_model::modes::{AFTER, EVENT, INTERRUPT, NO_CONDITION};
-use xs_model::{EEBLE, INENB, Outcome, Res, Resource, Status, WAITING, Wait};
+use xs_model::{EEBLE, INENB, Outcome, PinView, Res, Resource, Status, WAITING, Wait};
 
 // The status bits of a thread that takes no events any more, and of one that waits for an event.
 const CLEARED: Status = Status {
@@ -56,7 +59,7 @@ impl Change {
 impl Units {
     // ---- What a resource gives
 
-    /// Changes what the channel end or the timer gives that register s names.
+    /// Changes what the channel end, the timer or the port gives that register s names.
     pub(crate) fn set_events(&mut self, id: u16, k: u8, s: u8, change: Change) -> Outcome
         requires thread { k < THREADS }
         requires source { s < 12 }
@@ -87,6 +90,7 @@ impl Units {
         match named {
             Some(Resource::Chan { chan }) if self.chans.used(chan) => Some(Res::Chan(chan)),
             Some(Resource::Timer { timer }) if self.timers.used(timer) => Some(Res::Timer(timer)),
+            Some(Resource::Port { port }) if self.ports.on(port) => Some(Res::Port(port)),
             _ => None,
         }
     }
@@ -108,17 +112,25 @@ impl Units {
     // ---- `setc`
 
     /// Puts what register s names into a mode.
-    pub(crate) fn set_mode(&mut self, id: u16, k: u8, s: u8, mode: u32) -> Outcome
+    pub(crate) fn set_mode(&mut self, id: u16, k: u8, s: u8, mode: u32, pins: &PinView) -> Ended
         requires thread { k < THREADS }
         requires source { s < 12 }
-        ensures { Ends result self.old self.new (sets_mode self.old k (reg self.old k s) mode (resource_named id (reg self.old k s))) }
+        requires levels { LevelsFit pins.now.level }
+        ensures within { IsEnded result }
+        ensures row { EndsWith result self.old self.new (sets_mode self.old k (reg self.old k s) mode (resource_named id (reg self.old k s))) }
     {
         let name = self.reg(k, s);
-        let set = self.resource_in_mode(mode, resource_named(id, name));
-        self.end(k, name, set)
+        let named = resource_named(id, name);
+        match named {
+            Some(Resource::Port { port }) => self.port_in_mode(k, name, port, mode, pins),
+            _ => {
+                let set = self.resource_in_mode(mode, named);
+                Ended::Quietly(self.end(k, name, set))
+            }
+        }
     }
 
-    // A resource is in a mode, where its kind has that mode.
+    // A resource other than a port is in a mode, where its kind has that mode.
     fn resource_in_mode(&mut self, mode: u32, named: Option<Resource>) -> bool
         requires { IfSome named IsWithin }
         ensures { IsChanged result self.old self.new (resource_in_mode self.old mode named) }
@@ -142,8 +154,8 @@ impl Units {
         }
     }
 
-    // In the modes of what may give events.
-    fn in_event_mode(&mut self, mode: u32, named: Option<Resource>) -> bool
+    /// In the modes of what may give events.
+    pub(crate) fn in_event_mode(&mut self, mode: u32, named: Option<Resource>) -> bool
         requires { IfSome named IsWithin }
         ensures { IsChanged result self.old self.new (in_event_mode self.old mode (eventful self.old named)) }
     {

@@ -1,16 +1,19 @@
 //! At most one issue in a slot.
-ghost use Rattle.std.specs.Prelude.{◌≡◌, ◌<◌, ◌≤◌, ◌+◌, Some, None, length, IsTrue};
+ghost use Rattle.std.specs.Prelude.{◌≡◌, ◌<◌, ◌≤◌, ◌+◌, Some, None, length};
 ghost use Rattle.xs_base.specs.declared.numbers.TheConstants.{THREADS, EVENT_ROOM, ISSUE_EVENTS};
 ghost use Rattle.xs_model.specs.declared.thread.Run.TheVariants.{Going};
 ghost use Rattle.xs_model.specs.Record.{thread_of, with_thread, with_run};
-ghost use Rattle.xs_instructions.specs.Instr.{InRange, built};
+ghost use Rattle.xs_instructions.specs.Instr.{InRange};
 ghost use Rattle.xs_instructions.specs.Code.{code_at};
 ghost use Rattle.step_model.specs.Effect.{Setting};
 ghost use Rattle.step_model.specs.Rows.{effect};
 ghost use Rattle.step_model.specs.Step.{issue_begins, executed, settled, trap, issued, issued_by};
 ghost use Rattle.core_units.specs.Here.{IsHere};
-ghost use Rattle.core_units.specs.Units.{Ends, effect_of, and_happened, entered_by};
+ghost use Rattle.xs_model.specs.Outside.{LevelsFit};
+ghost use Rattle.core_units.specs.Ended.{IsEnded};
+ghost use Rattle.core_units.specs.Units.{Ends, EndsWith, effect_of, effect_with, and_happened, entered_by};
 
+use crate::ended::Ended;
 use crate::holders::Holders;
 use crate::program::Program;
 use crate::units::Units;
@@ -19,26 +22,29 @@ use trace_lines::Emissions;
 use trap_unit::{enter_event, enter_interrupt, enter_trap, return_address};
 use xs_instructions::{Instr, KernelIns};
 use xs_model::traps::ILLEGAL_PC;
-use xs_model::{Event, Happen, Outcome, Run, Thread};
+use xs_model::{Event, Happen, Outcome, PinView, Run, Thread};
 
 impl Units {
     /// At most one issue, by the thread that is picked in a slot. What happens is put after the events of `out`.
     /// See docs/MACHINE.md.
+    #[inline]
     pub fn issue<H: Holders>(
         &mut self,
         program: &Program,
         slot: u32,
+        pins: &PinView,
         holders: &H,
         out: &mut Emissions,
     )
         requires room { length out.old.events + ISSUE_EVENTS ≤ EVENT_ROOM }
-        ensures units { (here : Setting) → IsHere program.now.id slot (H.busy holders.now) here →
+        requires levels { LevelsFit pins.now.level }
+        ensures units { (here : Setting) → IsHere program.now.id slot pins.now (H.busy holders.now) here →
             self.new ≡ (issued program.now.code here self.old).core }
-        ensures events { (here : Setting) → IsHere program.now.id slot (H.busy holders.now) here →
+        ensures events { (here : Setting) → IsHere program.now.id slot pins.now (H.busy holders.now) here →
             out.new ≡ and_happened out.old slot (issued program.now.code here self.old).happened }
     {
         if let Some(k) = self.picked(slot) {
-            self.issue_by(k, program, slot, holders, out);
+            self.issue_by(k, program, slot, pins, holders, out);
         }
     }
 
@@ -49,20 +55,22 @@ impl Units {
         k: u8,
         program: &Program,
         slot: u32,
+        pins: &PinView,
         holders: &H,
         out: &mut Emissions,
     )
         requires thread { k < THREADS }
         requires room { length out.old.events + ISSUE_EVENTS ≤ EVENT_ROOM }
-        ensures units { (here : Setting) → IsHere program.now.id slot (H.busy holders.now) here →
+        requires levels { LevelsFit pins.now.level }
+        ensures units { (here : Setting) → IsHere program.now.id slot pins.now (H.busy holders.now) here →
             self.new ≡ (issued_by program.now.code here self.old (Some k)).core }
-        ensures events { (here : Setting) → IsHere program.now.id slot (H.busy holders.now) here →
+        ensures events { (here : Setting) → IsHere program.now.id slot pins.now (H.busy holders.now) here →
             out.new ≡ and_happened out.old slot (issued_by program.now.code here self.old (Some k)).happened }
     {
         self.begin(k, slot);
         match self.choice(k, slot) {
             Some(choice) => self.enter(k, choice),
-            None => self.execute_at(k, program, slot, holders, out),
+            None => self.execute_at(k, program, slot, pins, holders, out),
         }
     }
 
@@ -81,23 +89,25 @@ impl Units {
         k: u8,
         program: &Program,
         slot: u32,
+        pins: &PinView,
         holders: &H,
         out: &mut Emissions,
     )
         requires thread { k < THREADS }
         requires going { (thread_of self.old k).run ≡ Going }
         requires room { length out.old.events + ISSUE_EVENTS ≤ EVENT_ROOM }
-        ensures units { (here : Setting) → IsHere program.now.id slot (H.busy holders.now) here →
+        requires levels { LevelsFit pins.now.level }
+        ensures units { (here : Setting) → IsHere program.now.id slot pins.now (H.busy holders.now) here →
             self.new ≡ (executed program.now.code here self.old k (code_at program.now.code (thread_of self.old k).pc)).core }
-        ensures events { (here : Setting) → IsHere program.now.id slot (H.busy holders.now) here →
+        ensures events { (here : Setting) → IsHere program.now.id slot pins.now (H.busy holders.now) here →
             out.new ≡ and_happened out.old slot (executed program.now.code here self.old k (code_at program.now.code (thread_of self.old k).pc)).happened }
     {
         let pc = self.pc_of(k);
         match program.at(pc) {
             None => self.trap(k, program, ILLEGAL_PC, pc, slot, out),
             Some(ins) => {
-                let outcome = self.execute(k, program.id(), slot, holders, ins);
-                self.settle(k, program, outcome, slot, out);
+                let ended = self.execute(k, program.id(), slot, pins, holders, ins);
+                self.settle(k, program, ended, slot, out);
             }
         }
     }
@@ -132,27 +142,63 @@ impl Units {
     }
 
     // What an instruction does when thread k issues it.
-    fn execute<H: Holders>(&mut self, k: u8, id: u16, slot: u32, holders: &H, ins: Instr) -> Outcome
+    fn execute<H: Holders>(
+        &mut self,
+        k: u8,
+        id: u16,
+        slot: u32,
+        pins: &PinView,
+        holders: &H,
+        ins: Instr,
+    ) -> Ended
         requires thread { k < THREADS }
         requires going { (thread_of self.old k).run ≡ Going }
         requires range { InRange ins }
-        requires built { IsTrue (built ins) }
-        ensures row { (here : Setting) → IsHere id slot (H.busy holders.now) here → Ends result self.old self.new (effect here self.old k ins) }
+        requires levels { LevelsFit pins.now.level }
+        ensures row { (here : Setting) → IsHere id slot pins.now (H.busy holders.now) here → EndsWith result self.old self.new (effect here self.old k ins) }
+        ensures within { IsEnded result }
     {
         match ins {
-            Instr::Words(ins) => self.words(k, ins),
+            Instr::Words(ins) => Ended::Quietly(self.words(k, ins)),
             Instr::Kernel(KernelIns::Kret) => {
                 self.kret(k);
-                Outcome::Done
+                Ended::Quietly(Outcome::Done)
             }
-            Instr::Memory(_) | Instr::Flow(_) | Instr::Kernel(_) => self.local(k, ins),
-            Instr::Threads(ins) => self.on_threads(id, slot, k, ins),
-            Instr::Resources(ins) => self.on_resources(id, slot, k, holders, ins),
+            Instr::Memory(_) | Instr::Flow(_) | Instr::Kernel(_) => {
+                Ended::Quietly(self.local(k, ins))
+            }
+            Instr::Threads(ins) => Ended::Quietly(self.on_threads(id, slot, k, ins)),
+            Instr::Resources(ins) => self.on_resources(id, slot, k, pins, holders, ins),
         }
     }
 
-    // What the outcome of its instruction makes of thread k.
-    fn settle(&mut self, k: u8, program: &Program, outcome: Outcome, slot: u32, out: &mut Emissions)
+    // What the end of its instruction makes of thread k, and what happens by it.
+    fn settle(&mut self, k: u8, program: &Program, ended: Ended, slot: u32, out: &mut Emissions)
+        requires thread { k < THREADS }
+        requires within { IsEnded ended }
+        requires room { length out.old.events + ISSUE_EVENTS ≤ EVENT_ROOM }
+        ensures units { self.new ≡ (settled program.now.code self.old k (effect_with ended self.old)).core }
+        ensures events { out.new ≡ and_happened out.old slot (settled program.now.code self.old k (effect_with ended self.old)).happened }
+    {
+        match ended {
+            Ended::Quietly(outcome) => self.settle_quietly(k, program, outcome, slot, out),
+            Ended::Done(what) => out.add_event(Event { slot, what }),
+            Ended::Pause(wait, what) => {
+                self.set_run(k, Run::Paused(wait));
+                out.add_event(Event { slot, what });
+            }
+        }
+    }
+
+    // The same of an outcome by which nothing happens but a trap.
+    fn settle_quietly(
+        &mut self,
+        k: u8,
+        program: &Program,
+        outcome: Outcome,
+        slot: u32,
+        out: &mut Emissions,
+    )
         requires thread { k < THREADS }
         requires room { length out.old.events + ISSUE_EVENTS ≤ EVENT_ROOM }
         ensures units { self.new ≡ (settled program.now.code self.old k (effect_of outcome self.old)).core }

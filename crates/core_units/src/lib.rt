@@ -1,14 +1,17 @@
-//! The units of a core (threads, last issues, memory, channel ends, timers, clock blocks, synchronisers, locks, what gives
-//! events) and what instructions do to them: at most one issue in a slot. See docs/MACHINE.md and docs/INSTRUCTIONS.md.
+//! The units of a core (threads, last issues, memory, channel ends, timers, clock blocks, synchronisers, locks, ports, what
+//! gives events) and what instructions do to them: at most one issue in a slot. See docs/MACHINE.md and docs/INSTRUCTIONS.md.
 #![tactic(auto)]
 
 mod actions;
 mod chans;
+mod edges;
+mod ended;
 mod events;
 mod holders;
 mod issue;
 mod locks;
 mod named;
+mod ports;
 mod program;
 mod refused;
 mod resources;

@@ -5,14 +5,14 @@ ghost use Rattle.net_model.specs.Chans.{chan_named};
 ghost use Rattle.step_model.specs.Named.{resource_named};
 ghost use Rattle.core_units.specs.Named.{IsWithin};
 
-use xs_base::chan_id;
 use xs_base::numbers::{
     CHAN_END_KIND, CHAN_ENDS, CLOCK_BLOCK_KIND, CLOCK_BLOCKS, LOCK_KIND, LOCKS, SYNCHRONISER_KIND,
     SYNCHRONISERS, THREAD_KIND, THREADS, TIMER_KIND, TIMERS,
 };
+use xs_base::{chan_id, port_of};
 use xs_model::{Dest, Resource};
 
-/// What a word names on the node with this id, in use or not: `None` exactly where it names nothing that is built.
+/// What a word names on the node with this id, in use or not: `None` exactly where it names nothing.
 pub(crate) fn resource_named(id: u16, name: u32) -> Option<Resource>
     ensures value { result ≡ resource_named id name }
     ensures within { IfSome result IsWithin }
@@ -24,7 +24,7 @@ pub(crate) fn resource_named(id: u16, name: u32) -> Option<Resource>
         THREAD_KIND => number_below(THREADS, name).map(|thread| Resource::Thread { thread }),
         LOCK_KIND => number_below(LOCKS, name).map(|lock| Resource::Lock { lock }),
         CLOCK_BLOCK_KIND => number_below(CLOCK_BLOCKS, name).map(|clock| Resource::Clock { clock }),
-        _ => None,
+        _ => port_of(name).map(|port| Resource::Port { port }),
     }
 }
 

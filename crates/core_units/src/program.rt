@@ -1,7 +1,7 @@
 //! `Program`, what a core executes.
-ghost use Rattle.std.specs.Prelude.{◌≡◌, IfSome, IsTrue};
+ghost use Rattle.std.specs.Prelude.{◌≡◌, IfSome};
 ghost use Rattle.xs_instructions.specs.Code.{code_at, is_code_place};
-ghost use Rattle.xs_instructions.specs.Instr.{InRange, built};
+ghost use Rattle.xs_instructions.specs.Instr.{InRange};
 ghost use Rattle.core_units.specs.Program.{IsCode};
 
 use std::marker::Model;
@@ -45,7 +45,6 @@ impl Program {
     pub(crate) fn at(&self, pc: u32) -> Option<Instr>
         ensures value { result ≡ code_at self.now.code pc }
         ensures in_range { IfSome result InRange }
-        ensures built { IfSome result (λ ins. IsTrue (built ins)) }
     {
         instr_at(&self.code, pc)
     }

@@ -4,33 +4,94 @@ ghost use Rattle.xs_base.specs.declared.numbers.TheConstants.{THREADS, CHAN_ENDS
 ghost use Rattle.xs_model.specs.Record.{chan_of, timer_of};
 ghost use Rattle.xs_model.specs.Time.{freed_timer};
 ghost use Rattle.net_model.specs.Chans.{freed_chan};
-ghost use Rattle.xs_instructions.specs.Rows.{is_built};
-ghost use Rattle.xs_instructions.specs.Operands.{row_of_resources};
 ghost use Rattle.xs_instructions.specs.Instr.{ResourcesInRange};
 ghost use Rattle.step_model.specs.Effect.{Setting, reg, goes_on_with};
 ghost use Rattle.step_model.specs.Named.{resource_named};
 ghost use Rattle.step_model.specs.ResourceRows.{resources_row, resource_got, without, without_chan, without_timer, freed, takes_in, puts_out};
 ghost use Rattle.core_units.specs.Here.{IsHere, AreBusy};
-ghost use Rattle.core_units.specs.Units.{Ends};
+ghost use Rattle.xs_model.specs.Outside.{LevelsFit};
+ghost use Rattle.core_units.specs.Ended.{IsEnded};
+ghost use Rattle.core_units.specs.Units.{Ends, EndsWith};
+ghost use Rattle.core_units.specs.Resources.{is_quiet};
 ghost use Rattle.core_units.specs.Named.{IsWithin};
 ghost use Rattle.core_units.specs.Found.{name_of};
 ghost use Rattle.core_units.specs.Changed.{IsChanged};
 
 use crate::actions::Action;
 use crate::chans::got_chan;
+use crate::ended::Ended;
 use crate::events::Change;
 use crate::holders::Holders;
 use crate::named::resource_named;
+use crate::ports::Takes;
 use crate::refused::illegal;
 use crate::units::Units;
+use buffered_ports::Ask;
 use xs_base::numbers::{CHAN_END_KIND, LOCK_KIND, SYNCHRONISER_KIND, THREAD_KIND, TIMER_KIND};
 use xs_base::{Token, res_id};
 use xs_instructions::ResIns;
-use xs_model::{Outcome, Res, Resource};
+use xs_model::{Outcome, PinView, Res, Resource};
 
 impl Units {
     // On the node with this id, in a slot.
     pub(crate) fn on_resources<H: Holders>(
+        &mut self,
+        id: u16,
+        slot: u32,
+        k: u8,
+        pins: &PinView,
+        holders: &H,
+        ins: ResIns,
+    ) -> Ended
+        requires thread { k < THREADS }
+        requires range { ResourcesInRange ins }
+        requires levels { LevelsFit pins.now.level }
+        ensures within { IsEnded result }
+        ensures row { (here : Setting) → IsHere id slot pins.now (H.busy holders.now) here → EndsWith result self.old self.new (resources_row here self.old k ins) }
+    {
+        match ins {
+            ResIns::In(d, s) => self.take_in(id, slot, k, d, s, pins),
+            ResIns::Out(s, x) => self.put_out(id, k, s, x, pins),
+            ResIns::Setd(s, x) => self.set_data(id, k, s, x, pins),
+            ResIns::Getd(d, s) => self.tell_data(id, k, d, s, pins),
+            ResIns::SetcImm(s, u) => self.set_mode(id, k, s, u32::from(u), pins),
+            ResIns::Setc(s, x) => {
+                let mode = self.reg(k, x);
+                self.set_mode(id, k, s, mode, pins)
+            }
+            ResIns::Inpw(d, s, b) => {
+                self.on_port(k, s, Takes::Into(d), Ask::InPart(u32::from(b)), pins)
+            }
+            ResIns::Outpw(s, x, b) => {
+                let ask = Ask::OutPart(self.reg(k, x), u32::from(b));
+                self.on_port(k, s, Takes::Nothing, ask, pins)
+            }
+            ResIns::Inshr(d, s) => self.on_port(k, s, Takes::ShiftedIn(d), Ask::In, pins),
+            ResIns::Outshr(s, d) => {
+                let ask = Ask::Out(self.reg(k, d));
+                self.on_port(k, s, Takes::ShiftedOut(d), ask, pins)
+            }
+            ResIns::Peek(d, s) => self.on_port(k, s, Takes::Into(d), Ask::Peek, pins),
+            ResIns::Endin(d, s) => self.on_port(k, s, Takes::Into(d), Ask::EndIn, pins),
+            ResIns::Syncr(s) => self.on_port(k, s, Takes::Nothing, Ask::Sync, pins),
+            ResIns::Getts(d, s) => self.on_port(k, s, Takes::Into(d), Ask::Stamp, pins),
+            ResIns::Setpt(s, x) => {
+                let ask = Ask::Time(self.reg(k, x));
+                self.on_port(k, s, Takes::Nothing, ask, pins)
+            }
+            ResIns::Clrpt(s) => self.on_port(k, s, Takes::Nothing, Ask::NoTime, pins),
+            ResIns::Setclk(s, x) => self.set_clock(id, k, s, x, pins),
+            ResIns::Setrdy(s, x) => self.set_strobe(k, s, x, pins),
+            ResIns::Settw(s, x) => {
+                let ask = Ask::Width(self.reg(k, x));
+                self.on_port(k, s, Takes::Nothing, ask, pins)
+            }
+            _ => Ended::Quietly(self.on_other_resources(id, slot, k, holders, ins)),
+        }
+    }
+
+    // The rows that no port takes part in, but for those on its events.
+    fn on_other_resources<H: Holders>(
         &mut self,
         id: u16,
         slot: u32,
@@ -40,8 +101,8 @@ impl Units {
     ) -> Outcome
         requires thread { k < THREADS }
         requires range { ResourcesInRange ins }
-        requires built { IsTrue (is_built (row_of_resources ins)) }
-        ensures row { (here : Setting) → IsHere id slot (H.busy holders.now) here → Ends result self.old self.new (resources_row here self.old k ins) }
+        requires other { IsTrue (is_quiet ins) }
+        ensures row { (here : Setting) → here.id ≡ id → here.slot ≡ slot → AreBusy (H.busy holders.now) here → Ends result self.old self.new (resources_row here self.old k ins) }
     {
         match ins {
             ResIns::Getr(d, kind) => {
@@ -50,7 +111,6 @@ impl Units {
                 Outcome::Done
             }
             ResIns::Freer(s) => self.freer(id, k, holders, s),
-            ResIns::Out(s, x) => self.put_out(id, k, s, x),
             ResIns::Outt(s, x) => {
                 let t = Token::Byte(low_byte(self.reg(k, x)));
                 self.on_chan(id, k, s, Action::Put(t), None)
@@ -60,7 +120,6 @@ impl Units {
                 self.on_chan(id, k, s, Action::Put(t), None)
             }
             ResIns::OutctImm(s, i) => self.on_chan(id, k, s, Action::Put(Token::Ctrl(i)), None),
-            ResIns::In(d, s) => self.take_in(id, slot, k, d, s),
             ResIns::Int(d, s) => self.on_chan(id, k, s, Action::TakeByte, Some(d)),
             ResIns::Inct(d, s) => self.on_chan(id, k, s, Action::TakeCtrl, Some(d)),
             ResIns::Chkct(s, x) => {
@@ -70,13 +129,6 @@ impl Units {
             ResIns::ChkctImm(s, i) => self.on_chan(id, k, s, Action::Check(u32::from(i)), None),
             ResIns::Testct(d, s) => self.on_chan(id, k, s, Action::Look, Some(d)),
             ResIns::Testwct(d, s) => self.on_chan(id, k, s, Action::LookWord, Some(d)),
-            ResIns::Setd(s, x) => self.set_data(id, k, s, x),
-            ResIns::Getd(d, s) => self.tell_data(id, k, d, s),
-            ResIns::SetcImm(s, u) => self.set_mode(id, k, s, u32::from(u)),
-            ResIns::Setc(s, x) => {
-                let mode = self.reg(k, x);
-                self.set_mode(id, k, s, mode)
-            }
             ResIns::Setv(s) => {
                 let vector = self.reg(k, 11);
                 self.set_events(id, k, s, Change::Vector(vector))
@@ -149,7 +201,7 @@ impl Units {
             Resource::Timer { timer } => self.free_timer(timer),
             Resource::Sync { sync } => self.syncs.free_sync(sync, k).is_ok(),
             Resource::Lock { lock } => self.syncs.free_lock(lock).is_ok(),
-            Resource::Thread { .. } | Resource::Clock { .. } => false,
+            Resource::Thread { .. } | Resource::Clock { .. } | Resource::Port { .. } => false,
         }
     }
 
@@ -180,39 +232,52 @@ impl Units {
         true
     }
 
-    // A word from the channel end that register s names goes into register d, or the time, where it names a timer; or thread k
-    // owns the lock that it names.
-    fn take_in(&mut self, id: u16, slot: u32, k: u8, d: u8, s: u8) -> Outcome
+    // A word from the channel end or the port that register s names goes into register d, or the time, where it names a timer;
+    // or thread k owns the lock that it names.
+    fn take_in(&mut self, id: u16, slot: u32, k: u8, d: u8, s: u8, pins: &PinView) -> Ended
         requires thread { k < THREADS }
         requires target { d < 12 }
         requires source { s < 12 }
-        ensures { Ends result self.old self.new (takes_in slot self.old k d (reg self.old k s) (resource_named id (reg self.old k s))) }
+        requires levels { LevelsFit pins.now.level }
+        ensures within { IsEnded result }
+        ensures row { EndsWith result self.old self.new (takes_in slot self.old k d (reg self.old k s) (resource_named id (reg self.old k s))) }
     {
         let name = self.reg(k, s);
         match resource_named(id, name) {
             Some(Resource::Chan { chan }) => {
-                self.at_chan(k, name, chan, Action::TakeWord, Some(d))
+                Ended::Quietly(self.at_chan(k, name, chan, Action::TakeWord, Some(d)))
             }
-            Some(Resource::Timer { timer }) => self.take_time(slot, k, d, name, timer),
-            Some(Resource::Lock { lock }) => self.claim(k, d, name, lock),
-            _ => illegal(name),
+            Some(Resource::Timer { timer }) => {
+                Ended::Quietly(self.take_time(slot, k, d, name, timer))
+            }
+            Some(Resource::Lock { lock }) => Ended::Quietly(self.claim(k, d, name, lock)),
+            Some(Resource::Port { port }) => {
+                self.at_port(k, name, port, Takes::Into(d), Ask::In, pins)
+            }
+            _ => Ended::Quietly(illegal(name)),
         }
     }
 
-    // The word of register x goes to the channel end that register s names, or thread k gives up the lock that it names.
-    fn put_out(&mut self, id: u16, k: u8, s: u8, x: u8) -> Outcome
+    // The word of register x goes to the channel end or the port that register s names, or thread k gives up the lock that it
+    // names.
+    fn put_out(&mut self, id: u16, k: u8, s: u8, x: u8, pins: &PinView) -> Ended
         requires thread { k < THREADS }
         requires source { s < 12 }
         requires value { x < 12 }
-        ensures { Ends result self.old self.new (puts_out self.old k (reg self.old k s) (reg self.old k x) (resource_named id (reg self.old k s))) }
+        requires levels { LevelsFit pins.now.level }
+        ensures within { IsEnded result }
+        ensures row { EndsWith result self.old self.new (puts_out self.old k (reg self.old k s) (reg self.old k x) (resource_named id (reg self.old k s))) }
     {
         let (name, word) = (self.reg(k, s), self.reg(k, x));
         match resource_named(id, name) {
             Some(Resource::Chan { chan }) => {
-                self.at_chan(k, name, chan, Action::PutWord(word), None)
+                Ended::Quietly(self.at_chan(k, name, chan, Action::PutWord(word), None))
             }
-            Some(Resource::Lock { lock }) => self.release(k, name, lock),
-            _ => illegal(name),
+            Some(Resource::Lock { lock }) => Ended::Quietly(self.release(k, name, lock)),
+            Some(Resource::Port { port }) => {
+                self.at_port(k, name, port, Takes::Nothing, Ask::Out(word), pins)
+            }
+            _ => Ended::Quietly(illegal(name)),
         }
     }
 }

@@ -1,23 +1,29 @@
-//! `in` on a timer, and what is set and told of timers and clock blocks. See docs/TIME.md.
-ghost use Rattle.std.specs.Prelude.{◌≡◌, ◌<◌};
+//! `in` on a timer, and what is set and told of timers and clock blocks, and by the same rows of channel ends and ports. See
+//! docs/TIME.md.
+ghost use Rattle.std.specs.Prelude.{◌≡◌, ◌<◌, option_map};
 ghost use Rattle.xs_base.specs.declared.numbers.TheConstants.{THREADS, TIMERS, CLOCK_BLOCKS};
 ghost use Rattle.xs_model.specs.Record.{timer_of, clock_of};
-ghost use Rattle.xs_model.specs.Time.{with_value, with_after, divided_by};
+ghost use Rattle.xs_model.specs.Time.{with_value, with_after, divided_by, started};
+ghost use Rattle.xs_model.specs.Outside.{LevelsFit};
 ghost use Rattle.step_model.specs.Effect.{reg};
 ghost use Rattle.step_model.specs.Named.{resource_named};
 ghost use Rattle.step_model.specs.TimeRows.{timer_becomes, clock_becomes, takes_time};
 ghost use Rattle.step_model.specs.ResourceRows.{sets_data, tells_data};
-ghost use Rattle.step_model.specs.EventRows.{clock_in_mode};
-ghost use Rattle.core_units.specs.Units.{Ends};
+ghost use Rattle.step_model.specs.EventRows.{clock_in_mode, with_restarted};
+ghost use Rattle.core_units.specs.Ended.{IsEnded};
+ghost use Rattle.core_units.specs.Units.{Ends, EndsWith};
 ghost use Rattle.core_units.specs.Changed.{IsChanged};
 
 use crate::actions::Action;
+use crate::ended::Ended;
 use crate::named::resource_named;
+use crate::ports::Takes;
 use crate::refused::illegal;
 use crate::units::Units;
+use buffered_ports::Ask;
 use timers_clocks::Timers;
 use xs_model::modes::{OFF, ON, START, STOP};
-use xs_model::{Outcome, Resource, Wait};
+use xs_model::{Clock, Outcome, PinView, Resource, Wait};
 
 impl Units {
     /// Thread k takes the time into register d, or waits until the condition of a timer, which the word `name` names,
@@ -38,52 +44,62 @@ impl Units {
         self.wait(name, Wait::Timer { timer })
     }
 
-    /// The channel end that register s names takes the word of register x as its destination, the timer takes it as its
-    /// value, or the clock block as its divider.
-    pub(crate) fn set_data(&mut self, id: u16, k: u8, s: u8, x: u8) -> Outcome
+    /// The channel end that register s names takes the word of register x as its destination, the timer or the port takes it
+    /// as its value, or the clock block as its divider.
+    pub(crate) fn set_data(&mut self, id: u16, k: u8, s: u8, x: u8, pins: &PinView) -> Ended
         requires thread { k < THREADS }
         requires source { s < 12 }
         requires value { x < 12 }
-        ensures { Ends result self.old self.new (sets_data self.old k (reg self.old k s) (reg self.old k x) (resource_named id (reg self.old k s))) }
+        requires levels { LevelsFit pins.now.level }
+        ensures within { IsEnded result }
+        ensures row { EndsWith result self.old self.new (sets_data self.old k (reg self.old k s) (reg self.old k x) (resource_named id (reg self.old k s))) }
     {
         let (name, word) = (self.reg(k, s), self.reg(k, x));
         match resource_named(id, name) {
             Some(Resource::Chan { chan }) => {
-                self.at_chan(k, name, chan, Action::SetDest(word), None)
+                Ended::Quietly(self.at_chan(k, name, chan, Action::SetDest(word), None))
             }
             Some(Resource::Timer { timer }) => {
                 let set = self.set_value(timer, word);
-                self.end(k, name, set)
+                Ended::Quietly(self.end(k, name, set))
             }
             Some(Resource::Clock { clock }) => {
                 let set = self.set_divider(clock, word);
-                self.end(k, name, set)
+                Ended::Quietly(self.end(k, name, set))
             }
-            _ => illegal(name),
+            Some(Resource::Port { port }) => {
+                self.at_port(k, name, port, Takes::Nothing, Ask::Value(word), pins)
+            }
+            _ => Ended::Quietly(illegal(name)),
         }
     }
 
     /// What of these is set goes into register d.
-    pub(crate) fn tell_data(&mut self, id: u16, k: u8, d: u8, s: u8) -> Outcome
+    pub(crate) fn tell_data(&mut self, id: u16, k: u8, d: u8, s: u8, pins: &PinView) -> Ended
         requires thread { k < THREADS }
         requires target { d < 12 }
         requires source { s < 12 }
-        ensures { Ends result self.old self.new (tells_data self.old k d (reg self.old k s) (resource_named id (reg self.old k s))) }
+        requires levels { LevelsFit pins.now.level }
+        ensures within { IsEnded result }
+        ensures row { EndsWith result self.old self.new (tells_data self.old k d (reg self.old k s) (resource_named id (reg self.old k s))) }
     {
         let name = self.reg(k, s);
         match resource_named(id, name) {
             Some(Resource::Chan { chan }) => {
-                self.at_chan(k, name, chan, Action::TellDest, Some(d))
+                Ended::Quietly(self.at_chan(k, name, chan, Action::TellDest, Some(d)))
             }
             Some(Resource::Timer { timer }) => {
                 let (used, value) = (self.timers.used(timer), self.timers.value(timer));
-                self.tell(k, d, name, used, value)
+                Ended::Quietly(self.tell(k, d, name, used, value))
             }
             Some(Resource::Clock { clock }) => {
                 let (on, divider) = (self.clocks.used(clock), self.clocks.div(clock));
-                self.tell(k, d, name, on, divider)
+                Ended::Quietly(self.tell(k, d, name, on, divider))
             }
-            _ => illegal(name),
+            Some(Resource::Port { port }) => {
+                self.at_port(k, name, port, Takes::Into(d), Ask::GetValue, pins)
+            }
+            _ => Ended::Quietly(illegal(name)),
         }
     }
 
@@ -117,7 +133,7 @@ impl Units {
     /// A clock block is turned on or off, starts or stops, where it may.
     pub(crate) fn clock_in_mode(&mut self, clock: u8, mode: u32) -> bool
         requires { clock < CLOCK_BLOCKS }
-        ensures { IsChanged result self.old self.new (clock_becomes self.old clock (clock_in_mode (clock_of self.old clock) mode)) }
+        ensures { IsChanged result self.old self.new (clock_in_mode self.old clock mode) }
     {
         self.able = None;
         match mode {
@@ -126,9 +142,22 @@ impl Units {
                 true
             }
             OFF => self.clocks.turn_off(clock).is_ok(),
-            START => self.clocks.start(clock).is_ok(),
+            START => self.start_clock(clock),
             STOP => self.clocks.stop(clock).is_ok(),
             _ => false,
         }
+    }
+
+    // A clock block starts, where it is on, and restarts the counters of the ports that go by it.
+    fn start_clock(&mut self, clock: u8) -> bool
+        requires { clock < CLOCK_BLOCKS }
+        ensures { IsChanged result self.old self.new (option_map (with_restarted clock) (clock_becomes self.old clock (started (clock_of self.old clock)))) }
+    {
+        self.able = None;
+        if self.clocks.start(clock).is_err() {
+            return false;
+        }
+        self.ports.restart(Clock::Block(clock));
+        true
     }
 }

@@ -7,6 +7,7 @@ ghost use Rattle.xs_base.specs.declared.numbers.TheConstants.{MEMORY_BYTES, CHAN
 ghost use Rattle.xs_model.specs.Record.{first_core, free_thread, thread_of};
 ghost use Rattle.xs_model.specs.Memory.{load_word, is_word_address};
 
+use buffered_ports::Ports;
 use chan_ends::ChanEnds;
 use core_memory::{BadAddress, Ram};
 use core_waits::Able;
@@ -17,8 +18,8 @@ use thread_slots::Slots;
 use timers_clocks::{Clocks, Timers};
 use xs_model::{Entry0, Run, Thread};
 
-/// A core's threads with their last issues, its memory, channel ends, timers, clock blocks, synchronisers and locks, and
-/// what gives events. Contracts see the core record. See docs/MACHINE.md.
+/// A core's threads with their last issues, its memory, channel ends, timers, clock blocks, synchronisers, locks and ports,
+/// and what gives events. Contracts see the core record. See docs/MACHINE.md.
 #[derive(Drop)]
 pub struct Units {
     pub(crate) threads: [Thread; 8],
@@ -30,6 +31,7 @@ pub struct Units {
     pub(crate) timers: Timers,
     pub(crate) clocks: Clocks,
     pub(crate) syncs: Syncs,
+    pub(crate) ports: Ports,
     pub(crate) events: Events,
 }
 
@@ -47,7 +49,7 @@ impl Model for Units {
 
 impl Units {
     /// The units of the node with this id as they start: thread 0 goes at the entry `pc`, with the constant pool at
-    /// `cp`, and no channel end is in use.
+    /// `cp`, and no resource is in use.
     pub fn first(id: u16, pc: u32, cp: u32, ram: Ram) -> Units
         ensures value { result ≡ first_core pc cp ram }
     {
@@ -62,6 +64,7 @@ impl Units {
             timers: Timers::new(),
             clocks: Clocks::new(),
             syncs: Syncs::new(),
+            ports: Ports::new(),
             events: Events::new(),
         }
     }

@@ -61,6 +61,7 @@ impl Units {
                 &self.chans,
                 &self.timers,
                 &self.syncs,
+                &self.ports,
                 &self.events,
                 slot,
             ),
@@ -85,7 +86,15 @@ impl Units {
         ensures { result ≡ choice_of (choice self.now slot k) }
     {
         let sr = self.threads[k as usize].sr;
-        taken(k, sr, &self.chans, &self.timers, &self.events, slot)
+        taken(
+            k,
+            sr,
+            &self.chans,
+            &self.timers,
+            &self.ports,
+            &self.events,
+            slot,
+        )
     }
 
     /// Whether a thread is paused on a resource.

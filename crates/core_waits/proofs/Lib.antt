@@ -5,4 +5,3 @@ pub mod Told
 pub mod Bits
 pub mod Choosing
 pub mod Alike
-pub mod Unbuilt

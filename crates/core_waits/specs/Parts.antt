@@ -1,9 +1,9 @@
 -- The parts of a core by which threads may issue, and what is known of them.
-use Rattle.std.specs.Prelude.{ℕ, ◌≡◌, ◌<◌, ◌+◌, Bool, true, false, ◌&&◌, List, replicate}
+use Rattle.std.specs.Prelude.{ℕ, ◌≡◌, ◌<◌, ◌+◌, Bool, true, false, ◌&&◌, List}
 use Rattle.xs_base.specs.Numbers.{Slot}
 use Rattle.xs_base.specs.declared.numbers.TheConstants.{THREADS, TIMERS}
 use Rattle.xs_model.specs.declared.thread.Thread.{Thread}
-use Rattle.xs_model.specs.Record.{CoreRec, ChanRec, TimerRec, EventsRec, off_port}
+use Rattle.xs_model.specs.Record.{CoreRec, ChanRec, TimerRec, PortRec, EventsRec}
 use Rattle.xs_model.specs.Masks.{in_mask}
 use Rattle.xs_model.specs.Status.{has_bits}
 use Rattle.xs_model.specs.declared.status.TheConstants.{EEBLE, IEBLE}
@@ -13,15 +13,15 @@ use Rattle.timers_clocks.specs.Timers.{timer_at}
 use Rattle.sync_locks.specs.Syncs.{SyncsRec}
 use Rattle.core_waits.specs.declared.able.Able.{Able}
 
--- a core has these parts, and its ports are as at the start
-pub record HasParts (core : CoreRec) (its_threads : List Thread) (its_chans : List ChanRec) (its_timers : List TimerRec) (its_syncs : SyncsRec) (its_events : EventsRec) : Type 0 where
+-- a core has these parts
+pub record HasParts (core : CoreRec) (its_threads : List Thread) (its_chans : List ChanRec) (its_timers : List TimerRec) (its_syncs : SyncsRec) (its_ports : List PortRec) (its_events : EventsRec) : Type 0 where
   pub threads : core.threads ≡ its_threads
   pub chans : core.chans ≡ its_chans
   pub timers : core.timers ≡ its_timers
   pub syncs : core.syncs ≡ its_syncs.syncs
   pub locks : core.locks ≡ its_syncs.locks
   pub events : core.events ≡ its_events
-  pub ports : core.ports ≡ replicate 29 off_port
+  pub ports : core.ports ≡ its_ports
 
 -- the slots in which timers show what they show in one slot; or all slots, where that does not matter
 abbrev pub IsAtTime : Bool → Slot → Slot → Type 0

@@ -1,11 +1,10 @@
-//! The threads that may issue. No port is built yet: each is as it was at the start, so for those the wait alone says
-//! whether it holds.
-ghost use Rattle.std.specs.Prelude.{◌≡◌, ℕ, ◌<◌, ◌&&◌, true, ◌↔◌, IfSome, is_some, replicate, slice_index_or};
+//! The threads that may issue.
+ghost use Rattle.std.specs.Prelude.{◌≡◌, ℕ, ◌<◌, ◌&&◌, true, ◌↔◌, IfSome, is_some, slice_index_or};
 ghost use Rattle.xs_base.specs.declared.numbers.TheConstants.{THREADS};
 ghost use Rattle.xs_model.specs.Masks.{in_mask};
 ghost use Rattle.xs_model.specs.Status.{no_status};
 ghost use Rattle.xs_model.specs.Threads.{fresh_thread};
-ghost use Rattle.xs_model.specs.Record.{CoreRec, EventsRec, thread_of, off_port};
+ghost use Rattle.xs_model.specs.Record.{CoreRec, EventsRec, thread_of};
 ghost use Rattle.xs_model.specs.Waits.{holds};
 ghost use Rattle.xs_model.specs.Choices.{choice, choice_by, ready_in};
 ghost use Rattle.xs_model.specs.Picks.{goes_or_holds, is_paused};
@@ -15,6 +14,7 @@ ghost use Rattle.core_waits.specs.Parts.{HasParts, IsFor, AreAble, may_choose};
 
 use crate::slaves::all_in;
 use bitflags::Flags;
+use buffered_ports::Ports;
 use chan_ends::ChanEnds;
 use event_unit::{Choice, Events, Ready};
 use sync_locks::Syncs;
@@ -50,14 +50,15 @@ impl Able {
         chans: &ChanEnds,
         timers: &Timers,
         syncs: &Syncs,
+        ports: &Ports,
         events: &Events,
         slot: u32,
     ) -> Able
-        ensures value { (core : CoreRec) → HasParts core threads.now chans.now timers.now syncs.now events.now → AreAble core result }
+        ensures value { (core : CoreRec) → HasParts core threads.now chans.now timers.now syncs.now ports.now events.now → AreAble core result }
         ensures now { IsFor result slot }
     {
-        let going = going(threads, chans, timers, syncs, slot);
-        let choosing = choosing(threads, chans, timers, events, slot);
+        let going = going(threads, chans, timers, syncs, ports, slot);
+        let choosing = choosing(threads, chans, timers, ports, events, slot);
         Able {
             threads: going | choosing,
             slot,
@@ -98,38 +99,54 @@ pub fn taken(
     sr: Status,
     chans: &ChanEnds,
     timers: &Timers,
+    ports: &Ports,
     events: &Events,
     slot: u32,
 ) -> Option<Choice>
     requires { k < THREADS }
-    ensures value { (core : CoreRec) → core.chans ≡ chans.now → core.timers ≡ timers.now → core.ports ≡ replicate 29 off_port →
+    ensures value { (core : CoreRec) → core.chans ≡ chans.now → core.timers ≡ timers.now → core.ports ≡ ports.now →
         result ≡ choice_of (choice_by k sr (ready_in core slot) events.now) }
 {
     if !sr.intersects(TAKES) {
         return None;
     }
-    events.choose(k, sr, ready(chans, timers, slot))
+    events.choose(k, sr, ready(chans, timers, ports, slot))
 }
 
 /// What is ready in a slot, for `Events::choose`. See docs/EVENTS.md.
-pub fn ready(chans: &ChanEnds, timers: &Timers, slot: u32) -> Ready
-    ensures value { (core : CoreRec) → core.chans ≡ chans.now → core.timers ≡ timers.now → core.ports ≡ replicate 29 off_port → AreReady result (ready_in core slot) }
+pub fn ready(chans: &ChanEnds, timers: &Timers, ports: &Ports, slot: u32) -> Ready
+    ensures value { (core : CoreRec) → core.chans ≡ chans.now → core.timers ≡ timers.now → core.ports ≡ ports.now → AreReady result (ready_in core slot) }
 {
     Ready {
         chans: chans.ready(),
         timers: timers.ready(slot),
-        ports: 0,
+        ports: ports.ready(),
     }
 }
 
 // The threads that go, or whose pause's condition holds.
-fn going(threads: &[Thread; 8], chans: &ChanEnds, timers: &Timers, syncs: &Syncs, slot: u32) -> u8
-    ensures { (core : CoreRec) (events : EventsRec) → HasParts core threads.now chans.now timers.now syncs.now events →
+fn going(
+    threads: &[Thread; 8],
+    chans: &ChanEnds,
+    timers: &Timers,
+    syncs: &Syncs,
+    ports: &Ports,
+    slot: u32,
+) -> u8
+    ensures { (core : CoreRec) (events : EventsRec) → HasParts core threads.now chans.now timers.now syncs.now ports.now events →
         (k : ℕ) → k < THREADS → in_mask result k ≡ goes_or_holds core slot (thread_of core k).run }
 {
     let mut going = no_threads();
     for k in 0..THREADS {
-        if goes(threads[k as usize].run, threads, chans, timers, syncs, slot) {
+        if goes(
+            threads[k as usize].run,
+            threads,
+            chans,
+            timers,
+            syncs,
+            ports,
+            slot,
+        ) {
             going = with_able(going, k);
         }
     }
@@ -141,17 +158,18 @@ fn choosing(
     threads: &[Thread; 8],
     chans: &ChanEnds,
     timers: &Timers,
+    ports: &Ports,
     events: &Events,
     slot: u32,
 ) -> u8
-    ensures { (core : CoreRec) (syncs : SyncsRec) → HasParts core threads.now chans.now timers.now syncs events.now →
+    ensures { (core : CoreRec) (syncs : SyncsRec) → HasParts core threads.now chans.now timers.now syncs ports.now events.now →
         (k : ℕ) → k < THREADS → in_mask result k ≡ (is_paused (thread_of core k).run && is_some (choice core slot k)) }
 {
     let may = allowing(threads);
     if may == 0 {
         return 0;
     }
-    may & events.wake_mask(&statuses(threads), ready(chans, timers, slot))
+    may & events.wake_mask(&statuses(threads), ready(chans, timers, ports, slot))
 }
 
 // The threads that are paused and whose status lets events or interrupts through.
@@ -195,14 +213,15 @@ fn goes(
     chans: &ChanEnds,
     timers: &Timers,
     syncs: &Syncs,
+    ports: &Ports,
     slot: u32,
 ) -> bool
-    ensures { (core : CoreRec) (events : EventsRec) → HasParts core threads.now chans.now timers.now syncs.now events →
+    ensures { (core : CoreRec) (events : EventsRec) → HasParts core threads.now chans.now timers.now syncs.now ports.now events →
         result ≡ goes_or_holds core slot run }
 {
     match run {
         Run::Going => true,
-        Run::Paused(wait) => holds(wait, threads, chans, timers, syncs, slot),
+        Run::Paused(wait) => holds(wait, threads, chans, timers, syncs, ports, slot),
         _ => false,
     }
 }
@@ -214,9 +233,10 @@ fn holds(
     chans: &ChanEnds,
     timers: &Timers,
     syncs: &Syncs,
+    ports: &Ports,
     slot: u32,
 ) -> bool
-    ensures { (core : CoreRec) (events : EventsRec) → HasParts core threads.now chans.now timers.now syncs.now events →
+    ensures { (core : CoreRec) (events : EventsRec) → HasParts core threads.now chans.now timers.now syncs.now ports.now events →
         result ≡ holds core slot wait }
 {
     match wait {
@@ -225,7 +245,9 @@ fn holds(
         Wait::Timer { timer } => timers.holds(timer, slot),
         Wait::Lock { lock } => syncs.owner(lock).is_none(),
         Wait::Slaves { sync } => all_in(threads, syncs.slaves(sync)),
-        Wait::PortFull { .. } | Wait::Choice => false,
-        Wait::PortEmpty { .. } | Wait::PortIdle { .. } => true,
+        Wait::PortFull { port } => ports.is_full(port),
+        Wait::PortEmpty { port } => !ports.is_full(port),
+        Wait::PortIdle { port } => ports.is_idle(port),
+        Wait::Choice => false,
     }
 }

@@ -50,6 +50,10 @@ fn is_on(resource: Resource, wait: Wait) -> bool
         (Resource::Timer { timer: n }, Wait::Timer { timer }) => timer == n,
         (Resource::Sync { sync: n }, Wait::Slaves { sync }) => sync == n,
         (Resource::Lock { lock: n }, Wait::Lock { lock }) => lock == n,
+        (
+            Resource::Port { port: p },
+            Wait::PortFull { port } | Wait::PortEmpty { port } | Wait::PortIdle { port },
+        ) => port == p,
         _ => false,
     }
 }

@@ -5,7 +5,6 @@ use Rattle.xs_model.specs.declared.thread.Thread.{Thread}
 use Rattle.xs_model.specs.Threads.{fresh_thread}
 use Rattle.xs_model.specs.Record.{SyncRec, unused_sync}
 use Rattle.xs_model.specs.Waits.{holds, is_in}
-use Rattle.core_waits.proofs.Unbuilt.{never_holds, always_holds}
 use Rattle.core_waits.proofs.able.holds.Goals as goal
 
 pub returns-in-Slaves : goal.returns-in-Slaves
@@ -15,9 +14,3 @@ returns-in-Slaves c = λ core events parts.
     ∙ ap (λ (syncs : List SyncRec). list_all (λ k. is_in (slice_index_or c.args.threads.now k fresh_thread).run) (slice_index_or syncs c.in-Slaves.sync unused_sync).slaves) (sym parts.syncs)
     ∙ ap (λ (threads : List Thread). list_all (λ k. is_in (slice_index_or threads k fresh_thread).run) (slice_index_or core.syncs c.in-Slaves.sync unused_sync).slaves) (sym parts.threads)
     ∙ sym (ap (holds core c.args.slot) c.in-Slaves.is)
-
-pub returns-in-PortFull : goal.returns-in-PortFull
-returns-in-PortFull c = λ core events parts. sym (never_holds core c.args.slot parts.ports c.args.wait c.in-PortFull.is)
-
-pub returns-in-PortEmpty : goal.returns-in-PortEmpty
-returns-in-PortEmpty c = λ core events parts. sym (always_holds core c.args.slot parts.ports c.args.wait c.in-PortEmpty.is)

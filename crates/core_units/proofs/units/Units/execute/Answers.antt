@@ -8,4 +8,5 @@ returns-in-Threads g c = record {
   row =
       λ here at.
       subst (λ ins. Ends c.on_threads.result c.args.self.now c.on_threads.new.self (effect here c.args.self.now c.args.k ins)) (sym c.in-Threads.is) (c.on_threads.ensures.row here at.id at.slot);
+  within = tt;
 }

@@ -7,7 +7,7 @@ use Rattle.step_model.specs.Named.{resource_named}
 use Rattle.step_model.specs.EventRows.{enables}
 use Rattle.step_model.specs.ResourceRows.{resources_row, named_in}
 use Rattle.core_units.specs.Units.{Ends}
-use Rattle.core_units.proofs.units.Units.on_resources.Goals as goal
+use Rattle.core_units.proofs.units.Units.on_other_resources.Goals as goal
 
 -- a register says whether the resource is enabled, on the node where the issue is made
 module _ (outcome : Outcome) (old new : CoreRec) (here : Setting) (id k s : ℕ) (at : here.id ≡ id) (of_value : ℕ → Bool) (value wanted : ℕ) (same : value ≡ wanted) where
@@ -19,15 +19,15 @@ module _ (outcome : Outcome) (old new : CoreRec) (here : Setting) (id k s : ℕ)
 pub returns-in-Eet : goal.returns-in-Eet
 returns-in-Eet g c = record {
   row =
-      λ here at.
+      λ here id slot busy.
       subst (λ ins. Ends c.enable-in-Eet.result c.args.self.now c.enable-in-Eet.new.self (resources_row here c.args.self.now c.args.k ins)) (sym c.in-Eet.is)
-      (enables_by c.enable-in-Eet.result c.args.self.now c.enable-in-Eet.new.self here c.args.id c.args.k c.in-Eet.s at.id (λ value. not (value == 0)) _ _ c.reg-on.ensures c.enable-in-Eet.ensures);
+      (enables_by c.enable-in-Eet.result c.args.self.now c.enable-in-Eet.new.self here c.args.id c.args.k c.in-Eet.s id (λ value. not (value == 0)) _ _ c.reg-on.ensures c.enable-in-Eet.ensures);
 }
 
 pub returns-in-Eef : goal.returns-in-Eef
 returns-in-Eef g c = record {
   row =
-      λ here at.
+      λ here id slot busy.
       subst (λ ins. Ends c.enable-in-Eef.result c.args.self.now c.enable-in-Eef.new.self (resources_row here c.args.self.now c.args.k ins)) (sym c.in-Eef.is)
-      (enables_by c.enable-in-Eef.result c.args.self.now c.enable-in-Eef.new.self here c.args.id c.args.k c.in-Eef.s at.id (λ value. value == 0) _ _ c.reg-on-in-Eef.ensures c.enable-in-Eef.ensures);
+      (enables_by c.enable-in-Eef.result c.args.self.now c.enable-in-Eef.new.self here c.args.id c.args.k c.in-Eef.s id (λ value. value == 0) _ _ c.reg-on-in-Eef.ensures c.enable-in-Eef.ensures);
 }
