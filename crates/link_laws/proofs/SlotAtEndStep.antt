@@ -1,4 +1,5 @@
--- A slot of a node at one of its link ends: what arrives, and then the switch's steps. The issue leaves the link ends as they are.
+-- A slot of a node at one of its link ends: what arrives, and then the switch's steps. The edges of the ports and the issue leave
+-- the link ends as they are.
 use Rattle.std.proofs.Common.{◌≡◌, ℕ, zero, suc, ◌+◌, ◌<◌, Bool, false, Option, None, List, [], ◌∷◌, get_or, slice_index, refl, ap, sym, subst, subst₂, ◌∙◌, arith}
 use Rattle.std.proofs.lemmas.List.{get_or-replicate}
 use Rattle.xs_base.specs.Numbers.{Slot, EndNumber}
@@ -9,7 +10,7 @@ use Rattle.xs_model.specs.Record.{NodeRec, LinkRec}
 use Rattle.xs_model.specs.AtWork.{slot_begins}
 use Rattle.net_model.specs.Links.{link_after_arrivals, links_after_arrivals, arrive}
 use Rattle.net_model.specs.Switch.{Routes, link_at}
-use Rattle.step_model.specs.Step.{node_step}
+use Rattle.step_model.specs.Step.{node_step, ports_step}
 use Rattle.link_laws.specs.LinkSlot.{LinkSlotAt, arrived_at, SlotAtLinkEnd}
 use Rattle.link_laws.proofs.SlotAtEnd.{begins_so}
 use Rattle.link_laws.proofs.SlotAtEndMoves.{At, moves_so}
@@ -56,5 +57,13 @@ pub slot_at_link_end : SlotAtLinkEnd
 unfolding node_step
 slot_at_link_end fixed rec slot arrivals pins end within long =
     let before = arrived_at rec slot arrivals end in
-    let arrived = arrive slot arrivals (slot_begins rec) in
-    moves_so fixed.routes slot end before long 0 INPUTS arrived (first_so rec slot arrivals end fixed.routes within)
+    let first = first_so rec slot arrivals end fixed.routes within in
+    -- the edges of the ports leave link ends as they are
+    let edged = ports_step slot pins (arrive slot arrivals (slot_begins rec)) in
+    let still : At fixed.routes slot end before 0 edged = record {
+      has_token = first.has_token;
+      has_credit = first.has_credit;
+      untaken = first.untaken;
+      so_far = first.so_far;
+    } in
+    moves_so fixed.routes slot end before long 0 INPUTS edged still

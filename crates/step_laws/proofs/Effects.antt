@@ -4,7 +4,7 @@ use Rattle.xs_base.specs.Numbers.{ThreadNumber, Identifier}
 use Rattle.xs_model.specs.declared.thread.Thread.{Thread}
 use Rattle.xs_model.specs.declared.traps.TheConstants.{ILLEGAL_RESOURCE}
 use Rattle.xs_model.specs.Record.{CoreRec}
-use Rattle.step_model.specs.Effect.{Effect, Done, Pause, Trap, Gone, Unbuilt, allowed_where, Leaving, Leaves, Traps, NotBuilt, Local, on_local, on_registers}
+use Rattle.step_model.specs.Effect.{Effect, Done, Pause, Trap, Gone, allowed_where, Leaving, Leaves, Traps, Local, on_local, on_registers}
 use Rattle.step_laws.specs.StatusBits.{AllKnown}
 use Rattle.step_laws.proofs.Threads.{on_known, with_thread_known}
 use Rattle.step_laws.proofs.Rows.{LeftKnown, LocalKnown}
@@ -15,7 +15,6 @@ EffectKnown (Done core happened) = AllKnown core.threads
 EffectKnown (Pause core wait happened) = AllKnown core.threads
 EffectKnown (Trap number value) = Unit {0}
 EffectKnown (Gone core happened) = AllKnown core.threads
-EffectKnown Unbuilt = Unit {0}
 
 -- one effect or another
 pub branch_known : (holds : Bool) (x y : Effect) → EffectKnown x → EffectKnown y → EffectKnown (if holds then x else y)
@@ -29,9 +28,7 @@ module _ (core : CoreRec) (k : ThreadNumber) (all : AllKnown core.threads) where
   pub on_registers_known : (left : Leaving Thread) → LeftKnown left → EffectKnown (on_registers core k left)
   on_registers_known (Leaves th) h = with_thread_known core k _ all (on_known th h)
   on_registers_known (Traps number value) h = tt
-  on_registers_known NotBuilt h = tt
 
   pub on_local_known : (left : Leaving Local) → LocalKnown left → EffectKnown (on_local core k left)
   on_local_known (Leaves l) h = with_thread_known core k _ all h
   on_local_known (Traps number value) h = tt
-  on_local_known NotBuilt h = tt

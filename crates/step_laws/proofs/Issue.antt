@@ -13,7 +13,7 @@ use Rattle.xs_model.specs.Picks.{picked}
 use Rattle.xs_instructions.specs.declared.instr.Instr.{Instr}
 use Rattle.xs_instructions.specs.declared.instr.Instr.TheVariants.{Words, Memory, Flow, Kernel, Threads, Resources}
 use Rattle.xs_instructions.specs.Code.{code_at}
-use Rattle.step_model.specs.Effect.{Setting, Effect, Done, Pause, Trap, Gone, Unbuilt, local_of}
+use Rattle.step_model.specs.Effect.{Setting, Effect, Done, Pause, Trap, Gone, local_of}
 use Rattle.step_model.specs.Rows.{effect}
 use Rattle.step_model.specs.Step.{halt_unless, trap, settled, executed, issue_begins, issued_with, issued_by, issued}
 use Rattle.step_laws.specs.StatusBits.{AllKnown}
@@ -45,7 +45,6 @@ module _ (core : CoreRec) (k : ThreadNumber) (all : AllKnown core.threads) where
   settled_known code (Pause after wait happened) h = with_run_known after k (Paused wait) h
   settled_known code (Trap number value) h = trap_known code number value
   settled_known code (Gone after happened) h = h
-  settled_known code Unbuilt h = all
 
   executed_known : (code : List Instr) (here : Setting) (found : Option Instr) → AllKnown (executed code here core k found).core.threads
   executed_known code here None = trap_known code ILLEGAL_PC _

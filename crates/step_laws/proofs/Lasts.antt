@@ -1,43 +1,69 @@
--- What an issue does to last issues: the slot is that of the thread that issues, and perhaps of one that was free.
-use Rattle.std.proofs.Common.{◌≡◌, ◌≢◌, ◌⊎◌, inl, inr, ℕ, zero, suc, ◌<◌, Bool, true, false, ◌&&◌, ◌||◌, Option, Some, None, is_some, List, [], ◌∷◌, length, get_or, slice_set, refl, ap, sym, ◌∙◌, length-set, get_or-set_same, get_or-set_other}
+-- What an issue does to last issues: the slot is that of the thread that issues, and perhaps of one that was free. And what it
+-- does to ports.
+use Rattle.std.proofs.Common.{◌≡◌, ◌≢◌, ◌⊎◌, inl, inr, ℕ, zero, suc, ◌<◌, ◌≤◌, Bool, true, false, ◌&&◌, ◌||◌, Option, Some, None, is_some, List, [], ◌∷◌, length, get_or, slice_set, refl, ap, sym, ◌∙◌, length-set, get_or-set_same, get_or-set_other, arith}
 use Rattle.std.proofs.lemmas.Bool.{both_ways}
-use Rattle.xs_base.specs.Numbers.{Slot, ThreadNumber}
+use Rattle.std.specs.List.{AllByRecursion}
+use Rattle.xs_base.specs.Numbers.{Slot, Word, ThreadNumber}
 use Rattle.xs_model.specs.declared.event.Happen.{Happen}
+use Rattle.xs_model.specs.declared.event.Happen.TheVariants as happen
+use Rattle.xs_model.specs.declared.traps.TheConstants.{ILLEGAL_PC}
 use Rattle.xs_model.specs.declared.thread.Run.{Run}
 use Rattle.xs_model.specs.declared.thread.Run.TheVariants.{Going, Free, Unstarted, AtSync, Paused, Halted}
 use Rattle.xs_model.specs.declared.thread.Thread.{Thread}
 use Rattle.xs_model.specs.Threads.{fresh_thread}
-use Rattle.xs_model.specs.Record.{CoreRec, EnablingRec, thread_of, last_of}
+use Rattle.xs_model.specs.Record.{CoreRec, PortRec, EnablingRec, thread_of, last_of}
 use Rattle.xs_model.specs.Choices.{choice}
 use Rattle.xs_model.specs.Picks.{goes_or_holds, is_paused, is_able}
 use Rattle.xs_instructions.specs.declared.instr.Instr.{Instr}
 use Rattle.xs_instructions.specs.Code.{code_at}
-use Rattle.step_model.specs.Effect.{Setting, Effect, Done, Pause, Trap, Gone, Unbuilt}
+use Rattle.step_model.specs.Effect.{Setting, Effect, Done, Pause, Trap, Gone}
 use Rattle.step_model.specs.ThreadRows.{is_taken}
-use Rattle.step_model.specs.Step.{halt_unless, settled, executed, issue_begins, issued_with, issued_by}
-use Rattle.step_laws.proofs.RowLasts.{LastsAfter, as_before, with_got, EffectLasts, effect_lasts}
+use Rattle.step_model.specs.Step.{Issued, halt_unless, settled, executed, issue_begins, issued_with, issued_by}
+use Rattle.step_laws.proofs.PinsAfter.{PinsAfter, pins_stay}
+use Rattle.step_laws.proofs.RowsAfter.{LastsAfter, as_before, with_got, After, EffectAfter, effect_after}
 
 -- ---- What the thread that issues does
 
-halt_lasts : (slot : Slot) (core : CoreRec) (k : ThreadNumber) (stands : Bool) (th : Thread) (happened : List Happen) → LastsAfter core slot (halt_unless stands k th happened core).core.last
-halt_lasts slot core k true th happened = as_before
-halt_lasts slot core k false th happened = as_before
+-- thread k traps, or halts
+abbrev pub IsOf : ThreadNumber → Happen → Type 0
+IsOf k (happen.Trap thread number pc value) = thread ≡ k
+IsOf k (happen.Halt thread) = thread ≡ k
+IsOf k _ = ⊥
 
-settled_lasts : (code : List Instr) (slot : Slot) (core : CoreRec) (k : ThreadNumber) (ends : Effect) → EffectLasts core slot ends → LastsAfter core slot (settled code core k ends).core.last
-settled_lasts code slot core k (Done after happened) h = h
-settled_lasts code slot core k (Pause after wait happened) h = h
-settled_lasts code slot core k (Trap number value) h = halt_lasts slot core k _ _ _
-settled_lasts code slot core k (Gone after happened) h = h
-settled_lasts code slot core k Unbuilt h = as_before
+-- the ports of a core after the issue of thread k, and what happened: what an instruction does, or at most a trap and a halt
+pub data PortsIssued (k : ThreadNumber) (ports : List PortRec) : List PortRec → List Happen → Type 0 where
+  by_row : (after : List PortRec) (happened : List Happen) → PinsAfter ports after happened → PortsIssued k ports after happened
+  by_trap : (happened : List Happen) → length happened ≤ 2 → AllByRecursion (IsOf k) happened → PortsIssued k ports ports happened
 
-executed_lasts : (code : List Instr) (here : Setting) (core : CoreRec) (k : ThreadNumber) (found : Option Instr) → LastsAfter core here.slot (executed code here core k found).core.last
-executed_lasts code here core k None = halt_lasts here.slot core k _ _ _
-executed_lasts code here core k (Some ins) = settled_lasts code here.slot core k _ (effect_lasts here core k ins)
+abbrev pub AfterIssue : CoreRec → Slot → ThreadNumber → Issued → Type 0
+AfterIssue core slot k i = LastsAfter core slot i.core.last × PortsIssued k core.ports i.core.ports i.happened
+
+by_effect : (core after : CoreRec) (slot : Slot) (k : ThreadNumber) (happened : List Happen) → After core slot after happened → AfterIssue core slot k (record { core = after; happened = happened })
+by_effect core after slot k happened h = (h.0, by_row after.ports happened h.1)
+
+trap_after : (slot : Slot) (core : CoreRec) (k : ThreadNumber) (stands : Bool) (th : Thread) (number : ℕ) (next value : Word) → AfterIssue core slot k (halt_unless stands k th (happen.Trap k number next value ∷ []) core)
+trap_after slot core k true th number next value = (as_before, by_trap (happen.Trap k number next value ∷ []) (omega arith) (refl, tt))
+trap_after slot core k false th number next value =
+    (as_before, by_trap (happen.Trap k number next value ∷ happen.Halt k ∷ []) (omega arith) (refl, (refl, tt)))
+
+settled_after : (code : List Instr) (slot : Slot) (core : CoreRec) (k : ThreadNumber) (ends : Effect) → EffectAfter core slot ends → AfterIssue core slot k (settled code core k ends)
+settled_after code slot core k (Done after happened) h = by_effect core after slot k happened h
+settled_after code slot core k (Pause after wait happened) h = by_effect core after slot k happened h
+settled_after code slot core k (Trap number value) h = trap_after slot core k _ _ number _ value
+settled_after code slot core k (Gone after happened) h = by_effect core after slot k happened h
+
+executed_after : (code : List Instr) (here : Setting) (core : CoreRec) (k : ThreadNumber) (found : Option Instr) → AfterIssue core here.slot k (executed code here core k found)
+executed_after code here core k None = trap_after here.slot core k _ _ ILLEGAL_PC _ (thread_of core k).pc
+executed_after code here core k (Some ins) = settled_after code here.slot core k _ (effect_after here core k ins)
 
 -- it executes its instruction, or what it takes sets its own registers alone
-taken_lasts : (code : List Instr) (here : Setting) (core : CoreRec) (k : ThreadNumber) (taken : Option EnablingRec) → LastsAfter core here.slot (issued_with code here core k taken).core.last
-taken_lasts code here core k (Some taken) = as_before
-taken_lasts code here core k None = executed_lasts code here core k (code_at code (thread_of core k).pc)
+taken_after : (code : List Instr) (here : Setting) (core : CoreRec) (k : ThreadNumber) (taken : Option EnablingRec) → AfterIssue core here.slot k (issued_with code here core k taken)
+taken_after code here core k (Some taken) = (as_before, by_row core.ports [] pins_stay)
+taken_after code here core k None = executed_after code here core k (code_at code (thread_of core k).pc)
+
+pub issue_ports : (code : List Instr) (here : Setting) (core : CoreRec) (k : ThreadNumber) → PortsIssued k core.ports (issued_by code here core (Some k)).core.ports (issued_by code here core (Some k)).happened
+issue_ports code here core k =
+    let begun = issue_begins core here.slot k in (taken_after code here begun k (choice begun here.slot k)).1
 
 -- ---- Place by place
 
@@ -95,7 +121,7 @@ pub issue_lasts : (code : List Instr) (here : Setting) (core : CoreRec) (p : Thr
 issue_lasts code here core p =
     let begun = issue_begins core here.slot p in
     let after = (issued_by code here core (Some p)).core in
-    let does : LastsAfter begun here.slot after.last = taken_lasts code here begun p (choice begun here.slot p) in
+    let does : LastsAfter begun here.slot after.last = (taken_after code here begun p (choice begun here.slot p)).0 in
     record {
       as_many = after_length begun here.slot after.last does ∙ length-set core.last p (Some here.slot);
       places = λ i. then_places here.slot core.last begun.last after.last i (set_places here.slot core.last p i) (after_places begun here.slot after.last i does);

@@ -1,3 +1,9 @@
+pub mod Lists
+pub mod Tells
+pub mod Edges
+pub mod Named
+pub mod PortActs
+pub mod PinsAfter
 pub mod Bits
 pub mod Threads
 pub mod Rows
@@ -8,10 +14,11 @@ pub mod ResourceRows
 pub mod Issue
 pub mod Slot
 pub mod Free
-pub mod RowLasts
+pub mod RowsAfter
 pub mod Lasts
 pub mod Best
 pub mod Before
 pub mod Phases
 pub mod Turn
 pub mod EightSlots
+pub mod SlotEvents

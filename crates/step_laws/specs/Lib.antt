@@ -1,2 +1,4 @@
 pub mod StatusBits
 pub mod EightSlots
+pub mod Pins
+pub mod Shape

@@ -1,7 +1,10 @@
-//! Laws of a node's step: what every issue keeps, and how soon an eligible thread issues. See docs/MACHINE.md.
+//! Laws of a node's step: what every issue keeps, how soon an eligible thread issues, and what the events of a slot tell. See
+//! docs/MACHINE.md.
 #![tactic(auto)]
 
 ghost use Rattle.step_laws.specs.EightSlots.{EligibleIssues, FirstHasAllLastIssues, SlotKeepsAllLastIssues};
+ghost use Rattle.step_laws.specs.Pins.{SlotTellsChanges, SlotTellsDriven};
+ghost use Rattle.step_laws.specs.Shape.{FirstHasShape, SlotKeepsShape, SlotMakesFewEvents, SlotNamesWhatIsThere};
 ghost use Rattle.step_laws.specs.StatusBits.{FirstIsKnown, IssueStaysKnown, SlotStaysKnown};
 
 /// The status registers of every thread have the seven status bits and no others, whatever program runs: as a core
@@ -20,4 +23,22 @@ pub fn eligible_thread_issues()
     ensures law { EligibleIssues }
     ensures first { FirstHasAllLastIssues }
     ensures slot { SlotKeepsAllLastIssues }
+{}
+
+/// After a slot of a node each port drives exactly what the slot's events say, and each event of a port tells a change of
+/// what it drives: whatever the node, its code and what comes to it. It does nothing. See docs/PORTS.md.
+pub fn slot_tells_pins()
+    ensures driven { SlotTellsDriven }
+    ensures changes { SlotTellsChanges }
+{}
+
+/// A slot of a node makes at most 71 events, one for each of its 29 ports, one for each of the 40 inputs of its switch, and
+/// two for its issue; and each port, channel end and thread that an event names is one that every core has. This holds of
+/// a node that has 29 ports and 8 threads, and whose switch holds no other channel ends than those that are there; every
+/// node starts so, and stays so in each slot. It does nothing. See docs/MACHINE.md.
+pub fn slot_has_few_events()
+    ensures first { FirstHasShape }
+    ensures slot { SlotKeepsShape }
+    ensures few { SlotMakesFewEvents }
+    ensures within { SlotNamesWhatIsThere }
 {}

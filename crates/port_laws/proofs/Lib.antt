@@ -1,0 +1,4 @@
+pub mod Bits
+pub mod Changes
+pub mod Edges
+pub mod Rows
