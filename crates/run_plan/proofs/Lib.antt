@@ -1,3 +1,4 @@
+pub mod Shown
 pub mod Due
 pub mod Through
 pub mod Systems

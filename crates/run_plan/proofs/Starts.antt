@@ -46,7 +46,7 @@ start-play : (plan : PlanRec) (n : ℕ) (nodes : List NodePlan) (seats : List Se
 start-play plan n [] [] all = tt
 start-play plan n [] (x ∷ xs) all = absurd all
 start-play plan n (y ∷ ys) [] all = absurd all
-start-play plan n (y ∷ ys) (x ∷ xs) all = (record { fixed = all.0.fixed; incoming = all.0.incoming; stands = all.0.stands; keeps = all.0.keeps }, start-play plan (n + 1) ys xs all.1)
+start-play plan n (y ∷ ys) (x ∷ xs) all = (record { fixed = all.0.fixed; incoming = all.0.incoming; script = all.0.script; number = all.0.number; stands = all.0.stands; keeps = all.0.keeps }, start-play plan (n + 1) ys xs all.1)
 
 start-carry : (ds : List Direction) → AllCarry ds (tracks_at_start ds) (map (λ (d : Direction). []) ds)
 start-carry [] = tt
@@ -61,6 +61,7 @@ start-seats plan n links (y ∷ ys) (x ∷ xs) e all = (
     before = all.0.before;
     incoming = subst (λ (m : ℕ). AllByRecursion (IsBelow m) x.incoming.links) e all.0.below;
     more = omega (arith, all.0.keeps.rest);
+    shown = all.0.shown;
   },
   start-seats plan (n + 1) links ys xs e all.1,
 )

@@ -12,6 +12,7 @@ use Rattle.step_model.specs.Start.{fixed_of}
 use Rattle.step_model.specs.Step.{Stepped, node_step}
 use Rattle.trace_lines.specs.Kept.{KeptEvents, Keeps}
 use Rattle.core_step.specs.Core.{StandsAt}
+use Rattle.pin_scripts.specs.Script.{view_at}
 use Rattle.serial_model.specs.Serial.{arriving, arriving_by, token_among, credit_among, arrivals_at, pins_at, steps_from, steps_of, sent_by, longer_histories, longer_events, system_step, serial}
 use Rattle.run_plan.specs.declared.track.Crossing.{Crossing}
 use Rattle.run_plan.specs.declared.track.Track.{Track}
@@ -53,13 +54,15 @@ module _ (plan : PlanRec) (slot nodes_count : ℕ) where
         → step_of slot tracks seat rec ≡ node_step (fixed_of node (gaps_of plan n)) rec slot (arrivals_at plan histories slot n) (pins_at plan n slot)
     step-same n node seat rec events p =
         let arrivals = ap (arrivals_by tracks) p.incoming ∙ arrivals-same n in
-        λ i. node_step (p.fixed i) rec slot (arrivals i) (pins_at plan n slot)
+        λ i. node_step (p.fixed i) rec slot (arrivals i) (view_at (p.script i) (p.number i) slot)
 
     plays-next : (n : ℕ) (node : NodePlan) (before after : Seat) (rec : NodeRec) (events : List Event) → Plays plan slot n node before rec events → StepsOn slot tracks before after
         → (step : Stepped) → step_of slot tracks before rec ≡ step → Plays plan (slot + 1) n node after step.rec (events ++ step.emitted.events)
     plays-next n node before after rec events p s step same = record {
       fixed = s.fixed ∙ p.fixed;
       incoming = s.incoming ∙ p.incoming;
+      script = s.script ∙ p.script;
+      number = s.number ∙ p.number;
       stands = subst (λ (st : Stepped). StandsAt after.core st.rec (slot + 1)) same (s.stands rec p.stands);
       keeps =
           subst (λ (es : List Event). Keeps after.events (events ++ es))
@@ -129,6 +132,7 @@ seats-next slot count tracks seats after = all-zip (StepsOn slot tracks) (IsSeat
   before = s.before_next;
   incoming = subst (AllByRecursion (IsBelow count)) (sym s.incoming) h.incoming;
   more = omega (arith, s.more, h.more);
+  shown = s.shown_next;
 }) seats after
 
 tracks-next : (slot count : ℕ) (seats : List Seat) (tracks after : List Track) → AllZip (Advances slot seats) tracks after → AllByRecursion (IsReadyTrack slot count) tracks → AllByRecursion (IsReadyTrack (slot + 1) count) after
@@ -150,7 +154,14 @@ play-same plan slot n [] [] [] [] (a ∷ afters) play zip = absurd zip
 play-same plan slot n (node ∷ nodes) (seat ∷ seats) (rec ∷ recs) (es ∷ all_events) [] play zip = absurd zip
 play-same plan slot n (node ∷ nodes) (seat ∷ seats) (rec ∷ recs) (es ∷ all_events) (a ∷ afters) play zip =
     let p = subst (λ (s : Seat). Plays plan slot n node s rec es) (sym zip.0) play.0 in (
-      record { fixed = p.fixed; incoming = p.incoming; stands = p.stands; keeps = record { first = p.keeps.first; rest = p.keeps.rest } },
+      record {
+        fixed = p.fixed;
+        incoming = p.incoming;
+        script = p.script;
+        number = p.number;
+        stands = p.stands;
+        keeps = record { first = p.keeps.first; rest = p.keeps.rest };
+      },
       play-same plan slot (n + 1) nodes seats recs all_events afters play.1 zip.1,
     )
 play-same plan slot n _ _ _ _ _ play zip = absurd play
@@ -167,7 +178,12 @@ carry-same _ _ _ _ carry zip = absurd carry
 pub seats-same : (slot count : ℕ) (seats after : List Seat) → AllZip SameSeat seats after → AllByRecursion (IsSeat slot count) seats → AllByRecursion (IsSeat slot count) after
 seats-same slot count seats after =
     all-zip SameSeat (IsSeat slot count) (IsSeat slot count)
-    (λ x y s h. let k = subst (IsSeat slot count) (sym s) h in record { before = k.before; incoming = k.incoming; more = k.more }) seats after
+    (λ x y s h. let k = subst (IsSeat slot count) (sym s) h in record {
+      before = k.before;
+      incoming = k.incoming;
+      more = k.more;
+      shown = record { steady = k.shown.steady; next = k.shown.next; levels = k.shown.levels };
+    }) seats after
 
 pub tracks-same : (slot count : ℕ) (tracks after : List Track) → AllZip SameTrack tracks after → AllByRecursion (IsReadyTrack slot count) tracks → AllByRecursion (IsReadyTrack slot count) after
 tracks-same slot count tracks after =
@@ -185,6 +201,12 @@ play-at plan slot n [] [] [] [] k s r play h = absurd (omega arith)
 play-at plan slot n (node ∷ nodes) (seat ∷ seats) (rec ∷ recs) (es ∷ events) zero s r play h = (play.0.stands, play.0.keeps)
 play-at plan slot n (node ∷ nodes) (seat ∷ seats) (rec ∷ recs) (es ∷ events) (suc k) s r play h = play-at plan slot (n + 1) nodes seats recs events k s r play.1 (omega arith)
 play-at plan slot n _ _ _ _ k s r play h = absurd play
+
+-- what is kept of the events of each node
+pub play-keeps : (plan : PlanRec) (slot n : ℕ) (nodes : List NodePlan) (seats : List Seat) (recs : List NodeRec) (events : List (List Event)) → AllPlay plan slot n nodes seats recs events → AllZip Keeps (map (λ (s : Seat). s.events) seats) events
+play-keeps plan slot n [] [] [] [] play = tt
+play-keeps plan slot n (node ∷ nodes) (seat ∷ seats) (rec ∷ recs) (es ∷ events) play = (play.0.keeps, play-keeps plan slot (n + 1) nodes seats recs events play.1)
+play-keeps plan slot n _ _ _ _ play = absurd play
 
 pub play-length : (plan : PlanRec) (slot n : ℕ) (nodes : List NodePlan) (seats : List Seat) (recs : List NodeRec) (events : List (List Event)) → AllPlay plan slot n nodes seats recs events → length seats ≡ length nodes
 play-length plan slot n [] [] [] [] play = refl

@@ -1,3 +1,4 @@
+pub mod Shown
 pub mod Tracks
 pub mod Incoming
 pub mod Seats

@@ -1,12 +1,12 @@
 -- What nodes and directed links at work have to do with the serial machine.
-use Rattle.std.specs.Prelude.{◌≡◌, ◌+◌, List, [], ◌∷◌, length}
+use Rattle.std.specs.Prelude.{◌≡◌, ◌+◌, List, [], ◌∷◌, length, slice_index}
 use Rattle.std.specs.List.{AllByRecursion}
 use Rattle.xs_base.specs.Numbers.{Slot, Position}
 use Rattle.xs_base.specs.declared.entry.Entry.{Entry}
 use Rattle.xs_model.specs.declared.event.Event.{Event}
 use Rattle.xs_model.specs.Record.{NodeRec}
 use Rattle.sys_plan.specs.declared.NodePlan.{NodePlan}
-use Rattle.sys_plan.specs.Plan.{PlanRec, Direction, gaps_of, directions}
+use Rattle.sys_plan.specs.Plan.{PlanRec, Direction, gaps_of, directions, node_numbers}
 use Rattle.step_model.specs.Start.{fixed_of}
 use Rattle.trace_lines.specs.Kept.{Keeps}
 use Rattle.core_step.specs.Core.{StandsAt}
@@ -21,6 +21,8 @@ use Rattle.run_plan.specs.Passes.{IsReadyTrack}
 pub record Plays (plan : PlanRec) (slot : Slot) (n : Position) (node : NodePlan) (seat : Seat) (rec : NodeRec) (events : List Event) : Type 0 where
   pub fixed : seat.core.fixed ≡ fixed_of node (gaps_of plan n)
   pub incoming : seat.incoming.links ≡ incoming_of plan n
+  pub script : seat.pins.script.now ≡ plan.script
+  pub number : seat.pins.number ≡ slice_index (node_numbers plan) n
   pub stands : StandsAt seat.core rec slot
   pub keeps : Keeps seat.events events
 

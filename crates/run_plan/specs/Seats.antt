@@ -6,23 +6,25 @@ use Rattle.xs_base.specs.declared.numbers.TheConstants.{EVENT_ROOM}
 use Rattle.xs_model.specs.declared.event.Event.{Event}
 use Rattle.xs_model.specs.declared.outside.PinView.{PinView}
 use Rattle.xs_model.specs.Record.{NodeRec}
-use Rattle.xs_model.specs.Outside.{low_pins}
+use Rattle.pin_scripts.specs.Script.{view_at}
 use Rattle.trace_lines.specs.Kept.{Keeps}
 use Rattle.step_model.specs.Step.{Stepped, node_step}
 use Rattle.core_step.specs.Core.{StandsAt, SlotsBefore}
 use Rattle.run_plan.specs.declared.track.Track.{Track}
 use Rattle.run_plan.specs.declared.seat.Seat.{Seat}
 use Rattle.run_plan.specs.Incoming.{IsBelow, arrivals_by}
+use Rattle.run_plan.specs.Shown.{IsShown}
 
 -- a node as it is before a slot, among so many directed links
 pub record IsSeat (slot : Slot) (link_count : ℕ) (seat : Seat) : Type 0 where
   pub before : SlotsBefore seat.core slot
   pub incoming : AllByRecursion (IsBelow link_count) seat.incoming.links
   pub more : seat.events.more ≤ EVENT_ROOM * slot
+  pub shown : IsShown slot seat.pins
 
 -- what the pins of a node show in a slot, where its ports do not drive them
 abbrev pub pins_shown : Seat → Slot → PinView
-pins_shown seat slot = low_pins
+pins_shown seat slot = view_at seat.pins.script.now seat.pins.number slot
 
 -- what the slot of a node is
 abbrev pub step_of : Slot → List Track → Seat → NodeRec → Stepped
@@ -37,3 +39,6 @@ pub record StepsOn (slot : Slot) (tracks : List Track) (before after : Seat) : T
   pub given : (rec : NodeRec) → StandsAt before.core rec slot → after.given ≡ (step_of slot tracks before rec).emitted
   pub keeps : (all : List Event) → Keeps before.events all → Keeps after.events (all ++ after.given.events)
   pub more : after.events.more ≤ before.events.more + EVENT_ROOM
+  pub script : after.pins.script.now ≡ before.pins.script.now
+  pub number : after.pins.number ≡ before.pins.number
+  pub shown_next : IsShown (slot + 1) after.pins

@@ -1,9 +1,9 @@
 -- The nodes and the directed links of a plan as they start.
-use Rattle.std.specs.Prelude.{ℕ, ◌≡◌, ◌+◌, List, [], ◌∷◌, length, map}
+use Rattle.std.specs.Prelude.{ℕ, ◌≡◌, ◌+◌, List, [], ◌∷◌, length, map, slice_index}
 use Rattle.std.specs.List.{AllByRecursion}
 use Rattle.xs_base.specs.Numbers.{Position, EndNumber}
 use Rattle.sys_plan.specs.declared.NodePlan.{NodePlan}
-use Rattle.sys_plan.specs.Plan.{PlanRec, Direction, directions, gaps_of}
+use Rattle.sys_plan.specs.Plan.{PlanRec, Direction, directions, gaps_of, node_numbers}
 use Rattle.step_model.specs.Start.{fixed_of, node_of}
 use Rattle.trace_lines.specs.Kept.{Keeps}
 use Rattle.core_step.specs.Core.{StandsAt, SlotsBefore}
@@ -11,6 +11,7 @@ use Rattle.run_plan.specs.declared.track.Track.{Track}
 use Rattle.run_plan.specs.declared.seat.Seat.{Seat}
 use Rattle.run_plan.specs.Tracks.{no_crossing}
 use Rattle.run_plan.specs.Incoming.{IsBelow, incoming_of}
+use Rattle.run_plan.specs.Shown.{IsShown}
 
 -- the node at a position as it starts
 pub record StartsAs (plan : PlanRec) (n : Position) (node : NodePlan) (seat : Seat) : Type 0 where
@@ -20,6 +21,9 @@ pub record StartsAs (plan : PlanRec) (n : Position) (node : NodePlan) (seat : Se
   pub incoming : seat.incoming.links ≡ incoming_of plan n
   pub below : AllByRecursion (IsBelow (length (directions plan.links))) seat.incoming.links
   pub keeps : Keeps seat.events []
+  pub script : seat.pins.script.now ≡ plan.script
+  pub number : seat.pins.number ≡ slice_index (node_numbers plan) n
+  pub shown : IsShown 0 seat.pins
 
 -- that is so of these nodes, the first of which stands at position n
 abbrev pub AllStart : PlanRec → Position → List NodePlan → List Seat → Type 0

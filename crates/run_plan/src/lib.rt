@@ -4,6 +4,7 @@
 mod incoming;
 mod machine;
 mod passes;
+mod pins;
 mod seat;
 mod track;
 mod wiring;

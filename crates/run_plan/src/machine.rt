@@ -1,5 +1,6 @@
 //! `SerialMachine`, all nodes of a system stepped together.
 ghost use Rattle.std.specs.Prelude.{◌≡◌, ◌+◌, ◌-◌, ◌^◌, ◌<◌, ◌≤◌, max, [], length, slice_index_or, IfOk, OnOk, OnErr};
+ghost use Rattle.std.specs.List.{AllZip};
 ghost use Rattle.sys_plan.specs.Plan.{directions};
 ghost use Rattle.serial_model.specs.Serial.{serial};
 ghost use Rattle.trace_lines.specs.Kept.{Keeps};
@@ -21,14 +22,14 @@ use xs_base::Entry;
 /// All nodes of a system, stepped together slot by slot from slot 0 on. Contracts see the plan and how many slots
 /// have passed; what the machine has become is `serial` of `Rattle.serial_model.specs.Serial`. See docs/MACHINE.md.
 #[derive(Drop)]
-pub struct SerialMachine {
+pub struct SerialMachine<'a> {
     plan: Known<Plan>,
     clock: u32,
-    seats: Vec<Seat>,
+    seats: Vec<Seat<'a>>,
     tracks: Vec<Track>,
 }
 
-impl Model for SerialMachine {
+impl<'a> Model for SerialMachine<'a> {
     ghost use Rattle.run_plan.specs.Machine.{MachineRec};
 
     ghost Value = { MachineRec };
@@ -40,9 +41,9 @@ impl Model for SerialMachine {
     ghost invariant = { IsMachine };
 }
 
-impl SerialMachine {
+impl<'a> SerialMachine<'a> {
     /// The nodes of a plan as they start. The error is want of memory.
-    pub fn new(alloc: Global, plan: &Plan) -> Result<SerialMachine, AllocError>
+    pub fn new(alloc: Global, plan: &'a Plan) -> Result<SerialMachine<'a>, AllocError>
         ensures plan { IfOk result (λ m. m.plan ≡ plan.now) }
         ensures now { IfOk result (λ m. m.now ≡ 0) }
     {
@@ -116,5 +117,18 @@ impl SerialMachine {
     {
         let seat = &self.seats[node as usize];
         &seat.events
+    }
+
+    /// What is kept of the events of each node, by position. Nothing else is left of the machine. The error is want of
+    /// memory.
+    pub fn into_events(self, alloc: Global) -> Result<Vec<NodeEvents>, AllocError>
+        ensures keeps { IfOk result (λ v. AllZip Keeps v.items (serial self.entry.plan self.entry.now).events) }
+        ensures nodes { IfOk result (λ v. length v.items ≡ length self.entry.plan.nodes) }
+    {
+        let mut all = Vec::new(alloc);
+        for seat in self.seats {
+            all.push(seat.events)?;
+        }
+        Ok(all)
     }
 }

@@ -2,36 +2,30 @@
 ghost use Rattle.std.specs.Prelude.{ℕ, ◌≡◌, ◌+◌, ◌-◌, ◌*◌, ◌^◌, ◌<◌, ◌≤◌, List, ◌++◌, length, slice_index_or, None, All};
 ghost use Rattle.xs_base.specs.declared.numbers.TheConstants.{EVENT_ROOM};
 ghost use Rattle.xs_model.specs.declared.event.Event.{Event};
-ghost use Rattle.xs_model.specs.Outside.{LevelsFit};
 ghost use Rattle.xs_model.specs.Events.{IsWithinCounts};
 ghost use Rattle.trace_lines.specs.Kept.{Keeps, HasRoom};
-ghost use Rattle.run_plan.specs.Seats.{IsSeat, StepsOn, pins_shown};
+ghost use Rattle.run_plan.specs.Seats.{IsSeat, StepsOn};
 
 use crate::incoming::Incoming;
+use crate::pins::Pins;
 use crate::track::Track;
 use core_step::Core;
 use trace_lines::{Emissions, NodeEvents};
-use xs_model::{Event, PinView};
+use xs_model::Event;
 
 /// A node at work.
 #[derive(Drop)]
-pub(crate) struct Seat {
+pub(crate) struct Seat<'a> {
     pub(crate) core: Core,
     pub(crate) events: NodeEvents,
     // What the node's last slot gave.
     pub(crate) given: Emissions,
     pub(crate) incoming: Incoming,
+    // What its pins show.
+    pub(crate) pins: Pins<'a>,
 }
 
-impl Seat {
-    // What the pins of its ports show in a slot, where the ports do not drive them.
-    fn pins(&self, _slot: u32) -> PinView
-        ensures value { result ≡ pins_shown self.now _slot }
-        ensures levels { LevelsFit result.level }
-    {
-        PinView { level: [0; 29] }
-    }
-
+impl<'a> Seat<'a> {
     /// One slot of the node, with what arrives by its links. Its events are kept, in room that was made for them.
     // Not inlined: the registers of the loop over the nodes are then not shared with all that a slot may do.
     #[inline(never)]
@@ -41,10 +35,14 @@ impl Seat {
         requires room { HasRoom EVENT_ROOM self.old.events }
         ensures steps { StepsOn slot tracks.now self.old self.new }
     {
-        let pins = self.pins(slot);
+        self.pins.look(slot);
         self.incoming.look(tracks);
-        self.core
-            .slot(slot, self.incoming.arrivals(), &pins, &mut self.given);
+        self.core.slot(
+            slot,
+            self.incoming.arrivals(),
+            self.pins.view(),
+            &mut self.given,
+        );
         keep(&mut self.events, self.given.events());
     }
 }

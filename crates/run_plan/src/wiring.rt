@@ -1,9 +1,10 @@
 //! The nodes and the directed links of a plan as they start.
-ghost use Rattle.std.specs.Prelude.{◌≡◌, IfOk};
-ghost use Rattle.sys_plan.specs.Plan.{directions, IsPlan, WaysLead};
+ghost use Rattle.std.specs.Prelude.{◌≡◌, slice_index, IfOk};
+ghost use Rattle.sys_plan.specs.Plan.{directions, node_numbers, IsPlan, WaysLead};
 ghost use Rattle.run_plan.specs.Starts.{StartsAs, AllStart, track_at_start, tracks_at_start};
 
 use crate::incoming::Incoming;
+use crate::pins::Pins;
 use crate::seat::Seat;
 use crate::track::{Crossing, Track};
 use core_step::Core;
@@ -13,7 +14,7 @@ use trace_lines::{Emissions, NodeEvents};
 use xs_base::Batch;
 
 /// The nodes of a plan as they start. The error is want of memory.
-pub(crate) fn seats_of(alloc: Global, plan: &Plan) -> Result<Vec<Seat>, AllocError>
+pub(crate) fn seats_of<'a>(alloc: Global, plan: &'a Plan) -> Result<Vec<Seat<'a>>, AllocError>
     ensures start { IfOk result (λ v. AllStart plan.now 0 plan.now.nodes v.items) }
 {
     let mut seats = Vec::new(alloc);
@@ -25,8 +26,14 @@ pub(crate) fn seats_of(alloc: Global, plan: &Plan) -> Result<Vec<Seat>, AllocErr
 }
 
 // The node at a position as it starts.
-fn seat_of(alloc: Global, plan: &Plan, n: u8, node: &NodePlan) -> Result<Seat, AllocError>
+fn seat_of<'a>(
+    alloc: Global,
+    plan: &'a Plan,
+    n: u8,
+    node: &NodePlan,
+) -> Result<Seat<'a>, AllocError>
     requires node { WaysLead plan.now n node.now.ways }
+    requires number { node.now.number ≡ slice_index (node_numbers plan.now) n }
     ensures start { IfOk result (λ seat. StartsAs plan.now n node.now seat) }
 {
     let core = Core::boot(alloc, node, &plan.gaps(n))?;
@@ -35,6 +42,7 @@ fn seat_of(alloc: Global, plan: &Plan, n: u8, node: &NodePlan) -> Result<Seat, A
         events: NodeEvents::new(alloc),
         given: Emissions::new(),
         incoming: Incoming::of(plan, n),
+        pins: Pins::of(plan.script(), node.number),
     })
 }
 

@@ -1,5 +1,5 @@
 -- The serial machine: all nodes of a system stepped together, slot by slot.
-use Rattle.std.specs.Prelude.{ℕ, zero, suc, ◌+◌, Bool, true, false, ◌&&◌, ◌==◌, nat_le, nat_lt, Option, Some, None, List, [], ◌∷◌, ◌++◌, map, filter, slice_index_or}
+use Rattle.std.specs.Prelude.{ℕ, zero, suc, ◌+◌, Bool, true, false, ◌&&◌, ◌==◌, nat_le, nat_lt, Option, Some, None, List, [], ◌∷◌, ◌++◌, map, filter, slice_index, slice_index_or}
 use Rattle.std.specs.List.{list_any}
 use Rattle.xs_base.specs.Numbers.{Slot, Position, LinkNumber, EndNumber}
 use Rattle.xs_base.specs.declared.token.Token.{Token}
@@ -10,9 +10,10 @@ use Rattle.xs_model.specs.declared.event.Event.{Event}
 use Rattle.xs_model.specs.declared.outside.Arrivals.{Arrivals}
 use Rattle.xs_model.specs.declared.outside.PinView.{PinView}
 use Rattle.xs_model.specs.Record.{NodeRec}
-use Rattle.xs_model.specs.Outside.{Emitted, emitted_events, low_pins}
+use Rattle.xs_model.specs.Outside.{Emitted, emitted_events}
+use Rattle.pin_scripts.specs.Script.{view_at}
 use Rattle.sys_plan.specs.declared.NodePlan.{NodePlan}
-use Rattle.sys_plan.specs.Plan.{PlanRec, Direction, directions, incoming, delay_of, gaps_of, link_ends}
+use Rattle.sys_plan.specs.Plan.{PlanRec, Direction, directions, incoming, delay_of, gaps_of, link_ends, node_numbers}
 use Rattle.step_model.specs.Start.{fixed_of, node_of}
 use Rattle.step_model.specs.Step.{Stepped, node_step}
 
@@ -69,9 +70,9 @@ arrivals_of by_end = record { tokens = map token_among by_end; credits = map cre
 abbrev pub arrivals_at : PlanRec → List (List Entry) → Slot → Position → Arrivals
 arrivals_at plan histories slot node = arrivals_of (map (λ end. arriving_by plan histories slot (incoming plan node end)) link_ends)
 
--- what the pins of the node at a position show in a slot, where its ports do not drive them: no pin script is built yet
+-- what the pins of the node at a position show in a slot, where its ports do not drive them
 abbrev pub pins_at : PlanRec → Position → Slot → PinView
-pins_at plan node slot = low_pins
+pins_at plan node slot = view_at plan.script (slice_index (node_numbers plan) node) slot
 
 -- the step of each node in a slot, the first of which stands at position n
 abbrev pub steps_from : PlanRec → List (List Entry) → Slot → Position → List NodePlan → List NodeRec → List Stepped

@@ -1,5 +1,5 @@
 -- Systems worked out by hand.
-use Rattle.std.specs.Prelude.{ℕ, ◌≡◌, true, false, Some, None, ◌∷◌, List, [], map, replicate}
+use Rattle.std.specs.Prelude.{ℕ, ◌≡◌, true, false, Some, None, ◌∷◌, List, [], get_or, map, replicate}
 use Rattle.xs_base.specs.declared.token.Token.{Token}
 use Rattle.xs_base.specs.declared.token.Token.TheVariants.{Byte, Ctrl}
 use Rattle.xs_base.specs.declared.entry.Entry.{Entry}
@@ -15,7 +15,7 @@ use Rattle.xs_instructions.specs.declared.instr.ThreadIns.TheVariants as threads
 use Rattle.xs_instructions.specs.declared.instr.ResIns.TheVariants as resources
 use Rattle.sys_plan.specs.declared.NodePlan.{NodePlan}
 use Rattle.sys_plan.specs.Plan.{PlanRec}
-use Rattle.serial_model.specs.Serial.{SystemRec, sent_by, serial, history}
+use Rattle.serial_model.specs.Serial.{SystemRec, pins_at, sent_by, serial, history}
 
 -- a node whose number is its id, with this code and these bytes of data, that knows no way
 abbrev pub plain_node : ℕ → List Instr → List ℕ → NodePlan
@@ -35,6 +35,7 @@ abbrev pub two_alone : PlanRec
 two_alone = record {
   nodes = plain_node 0 (Words (words.Ldc 3 5) ∷ Threads threads.Freet ∷ []) [] ∷ plain_node 1 [] [] ∷ [];
   links = [];
+  script = [];
 }
 
 -- the same two with a link, by which nothing is sent
@@ -42,6 +43,7 @@ abbrev pub two_joined : PlanRec
 two_joined = record {
   nodes = two_alone.nodes;
   links = record { a = 1; a_end = 2; b = 0; b_end = 7; delay = 5; gap = 4 } ∷ [];
+  script = [];
 }
 
 -- Node 0 issues in slots 0 and 4 and is done; node 1 traps in slot 0, and its thread halts where its trap led.
@@ -68,6 +70,7 @@ abbrev pub talking_pair : PlanRec
 talking_pair = record {
   nodes = sending_node ∷ receiving_node ∷ [];
   links = record { a = 0; a_end = 0; b = 1; b_end = 0; delay = 5; gap = 4 } ∷ [];
+  script = [];
 }
 
 abbrev pub token_sent : ℕ → Token → Entry
@@ -144,6 +147,7 @@ abbrev pub line_of_three : PlanRec
 line_of_three = record {
   nodes = line_end ∷ line_middle ∷ line_other_end ∷ [];
   links = record { a = 0; a_end = 0; b = 1; b_end = 0; delay = 5; gap = 4 } ∷ record { a = 1; a_end = 1; b = 2; b_end = 0; delay = 5; gap = 4 } ∷ [];
+  script = [];
 }
 
 -- The node between passes the packet on from slot 27 to slot 39. Its own waits from slot 29 on and goes out from slot 43 to slot
@@ -159,3 +163,18 @@ pub record PacketOnItsWay : Type 0 where
   pub events : (serial line_of_three 70).events ≡ [] ∷ [] ∷ (in_slot 44 (happen.Chan 0 (Ctrl 1)) ∷ []) ∷ []
   -- before the packet's END came to the node between, its header is already at the last one
   pub not_delivered : (serial line_of_three 44).events ≡ [] ∷ [] ∷ [] ∷ []
+
+-- Two nodes with the numbers 3 and 7. The script names the second one by its number.
+abbrev pub driven_pair : PlanRec
+driven_pair = record {
+  nodes = plain_node 3 [] [] ∷ plain_node 7 [] [] ∷ [];
+  links = [];
+  script = record { slot = 5; node = 7; port = 16; value = 9 } ∷ [];
+}
+
+-- Port 16 shows the value from the line's own slot on, at the second node alone.
+pub record DrivenPins : Type 0 where
+  pub before : get_or (pins_at driven_pair 1 4).level 16 77 ≡ 0
+  pub at : get_or (pins_at driven_pair 1 5).level 16 77 ≡ 9
+  pub next_port : get_or (pins_at driven_pair 1 5).level 17 77 ≡ 0
+  pub first_node : get_or (pins_at driven_pair 0 5).level 16 77 ≡ 0

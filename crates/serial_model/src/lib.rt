@@ -2,7 +2,7 @@
 //! slots. See docs/DEFINITIONS.md.
 #![tactic(auto)]
 
-ghost use Rattle.serial_model.specs.Worked.{SmallSystems, PairAtWork, SentInOrder, LostPacket, PacketOnItsWay};
+ghost use Rattle.serial_model.specs.Worked.{SmallSystems, PairAtWork, SentInOrder, LostPacket, PacketOnItsWay, DrivenPins};
 
 /// The definitions give what was worked out by hand for systems of two and three nodes.
 pub fn worked_systems()
@@ -11,4 +11,5 @@ pub fn worked_systems()
     ensures order { SentInOrder }
     ensures lost { LostPacket }
     ensures on_its_way { PacketOnItsWay }
+    ensures pins { DrivenPins }
 {}

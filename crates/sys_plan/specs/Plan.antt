@@ -1,14 +1,18 @@
--- The plan of a system: its nodes, and the links between them.
+-- The plan of a system: its nodes, the links between them, and the script of its pins.
 use Rattle.std.specs.Prelude.{ℕ, ◌≡◌, ◌≢◌, ◌+◌, ◌<◌, ◌≤◌, Bool, ◌&&◌, ◌==◌, if◌then◌else◌, Option, Some, None, IsSome, List, [], ◌∷◌, length, map, slice_index}
 use Rattle.std.specs.List.{AllByRecursion}
 use Rattle.std.specs.Int.{bit_at}
+use Rattle.pin_scripts.specs.declared.line.PinLine.{PinLine}
+use Rattle.pin_scripts.specs.Script.{IsScript, IsOfNodes}
 use Rattle.sys_plan.specs.declared.NodePlan.{NodePlan}
 use Rattle.sys_plan.specs.declared.LinkPlan.{LinkPlan}
 
--- nodes by ascending number, and links in the order of their lines; a link names its nodes by position
+-- nodes by ascending number, and links and script in the order of their lines; a link names its nodes by position, and the
+-- script by number
 pub record PlanRec : Type 0 where
   pub nodes : List NodePlan
   pub links : List LinkPlan
+  pub script : List PinLine
 
 -- one direction of a link: from a link end of a node to one of another, with the delay and the gap in slots
 pub record Direction : Type 0 where
@@ -106,14 +110,21 @@ abbrev pub AllWaysLead : PlanRec → ℕ → List NodePlan → Type 0
 AllWaysLead plan n [] = Unit {0}
 AllWaysLead plan n (node ∷ nodes) = WaysLead plan n node.ways × AllWaysLead plan (n + 1) nodes
 
+-- the numbers of the nodes
+abbrev pub node_numbers : PlanRec → List ℕ
+node_numbers plan = map (λ (node : NodePlan). node.number) plan.nodes
+
 -- what every plan keeps
 pub record IsPlan (plan : PlanRec) : Type 0 where
   pub few_nodes : length plan.nodes ≤ 16
   pub few_links : length plan.links ≤ 48
   pub numbers : AllByRecursion (λ (node : NodePlan). node.number < 100) plan.nodes
-  pub order : AreAscending (map (λ (node : NodePlan). node.number) plan.nodes)
+  pub order : AreAscending (node_numbers plan)
   pub ids : AreDistinct (map (λ (node : NodePlan). node.id) plan.nodes)
   pub links : AllByRecursion (IsLink (length plan.nodes)) plan.links
   -- no link end belongs to two links
   pub places : AreDistinct (places_of plan.links)
   pub ways : AllWaysLead plan 0 plan.nodes
+  pub script : IsScript plan.script
+  -- the script drives pins of nodes that are there
+  pub script_nodes : IsOfNodes (node_numbers plan) plan.script

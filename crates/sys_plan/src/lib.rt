@@ -1,4 +1,5 @@
-//! The plan of a system: its nodes, and the links between them. See docs/SYSTEM_TEXT.md.
+//! The plan of a system: its nodes, the links between them, and the script of its pins. See docs/SYSTEM_TEXT.md and
+//! docs/PINS.md.
 #![tactic(auto)]
 
 mod system_plan;

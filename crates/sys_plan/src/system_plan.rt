@@ -3,9 +3,10 @@ ghost use Rattle.std.specs.Prelude.{◌≡◌, ◌<◌, ◌≤◌, ◌+◌, ◌*
 ghost use Rattle.sys_plan.specs.Plan.{PlanRec, IsPlan, outgoing, incoming, directions, first_link, leaves_by, comes_to, delay_of, gap_of, gap_by, gaps_of};
 
 use crate::{LinkPlan, NodePlan};
+use pin_scripts::Script;
 use std::marker::Model;
 
-/// The plan of a system: its nodes by ascending number, and its links. The record `IsPlan` says what every plan
+/// The plan of a system: its nodes by ascending number, its links, and the script of its pins. The record `IsPlan` says what every plan
 /// keeps. See docs/SYSTEM_TEXT.md.
 ///
 /// A directed link is one direction of a link. Number 2k leads from the first to the second end of link k, counted
@@ -14,6 +15,7 @@ use std::marker::Model;
 pub struct Plan {
     nodes: Vec<NodePlan>,
     links: Vec<LinkPlan>,
+    script: Script,
 }
 
 impl Model for Plan {
@@ -21,18 +23,22 @@ impl Model for Plan {
 
     ghost Value = { PlanRec };
 
-    ghost view = { λ p. record { nodes = p.nodes.items; links = p.links.items } };
+    ghost view = { λ p. record { nodes = p.nodes.items; links = p.links.items; script = p.script } };
 
-    ghost invariant = { λ p. IsPlan (record { nodes = p.nodes.items; links = p.links.items }) };
+    ghost invariant = { λ p. IsPlan (record { nodes = p.nodes.items; links = p.links.items; script = p.script }) };
 }
 
 impl Plan {
-    /// The plan of these nodes and links. It takes no memory.
-    pub fn of(nodes: Vec<NodePlan>, links: Vec<LinkPlan>) -> Plan
-        requires parts { IsPlan (record { nodes = nodes.items; links = links.items }) }
-        ensures value { result ≡ record { nodes = nodes.items; links = links.items } }
+    /// The plan of these nodes and links and of a script of their pins. It takes no memory.
+    pub fn of(nodes: Vec<NodePlan>, links: Vec<LinkPlan>, script: Script) -> Plan
+        requires parts { IsPlan (record { nodes = nodes.items; links = links.items; script = script }) }
+        ensures value { result ≡ record { nodes = nodes.items; links = links.items; script = script } }
     {
-        Plan { nodes, links }
+        Plan {
+            nodes,
+            links,
+            script,
+        }
     }
 
     /// The nodes by ascending number, at most 16.
@@ -49,6 +55,14 @@ impl Plan {
         ensures plan { IsPlan self.now }
     {
         self.links.as_slice()
+    }
+
+    /// What drives the pins of the nodes from outside. It names them by number.
+    pub fn script(&self) -> &Script
+        ensures value { result.now ≡ self.now.script }
+        ensures plan { IsPlan self.now }
+    {
+        &self.script
     }
 
     /// The number of the directed link that leaves by a link end of the node at a position. `None` comes exactly

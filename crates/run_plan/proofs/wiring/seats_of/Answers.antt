@@ -1,6 +1,6 @@
 use Rattle.std.proofs.Common.{◌≡◌, ◌+◌, ◌<◌, List, [], ◌∷◌, ◌++◌, length, take, get_or, sym, ap, ◌∙◌, subst, arith}
 use Rattle.std.proofs.lemmas.Grind.{common_steps}
-use Rattle.std.proofs.lemmas.List.{take_more, length-take}
+use Rattle.std.proofs.lemmas.List.{get_or-map, take_more, length-take}
 use Rattle.sys_plan.specs.declared.NodePlan.{NodePlan}
 use Rattle.sys_plan.specs.Plan.{WaysLead}
 use Rattle.run_plan.specs.Starts.{AllStart}
@@ -17,6 +17,7 @@ seat_of-requires c =
       node =
           subst (λ (x : NodePlan). WaysLead plan n x.ways) (sym item)
           (ways-at plan 0 plan.nodes n n c.node-item.result c.nodes-node-items.ensures.plan.ways inside (omega arith));
+      number = ap (λ (x : NodePlan). x.number) item ∙ sym (get_or-map (λ (x : NodePlan). x.number) plan.nodes n c.node-item.result 0 inside);
     }
 
 pub loop-n-preserved : goal.loop-n-preserved

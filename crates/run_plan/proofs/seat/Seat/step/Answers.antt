@@ -9,16 +9,19 @@ pub returns : goal.returns
 returns c =
     let fixed = c.args.self.now.core.fixed in
     let slot = c.args.slot in
-    let pins = c.pins-pins.ensures.value in
-    let arrivals = c.arrivals.ensures ∙ c.look.ensures.arrivals in
+    let pins = c.view.ensures ∙ c.look.ensures.view in
+    let arrivals = c.arrivals.ensures ∙ c.look-2.ensures.arrivals in
     record {
       steps = record {
         fixed = c.slot.ensures.fixed;
-        incoming = c.look.ensures.links;
+        incoming = c.look-2.ensures.links;
         before_next = c.slot.ensures.after;
         stands = λ rec h. subst (λ (s : Stepped). StandsAt c.slot.new.self s.rec (slot + 1)) (λ i. node_step fixed rec slot (arrivals i) (pins i)) (c.slot.ensures.step rec h);
         given = λ rec h. c.slot.ensures.emissions rec h ∙ (λ i. (node_step fixed rec slot (arrivals i) (pins i)).emitted);
         keeps = λ all h. subst (λ (es : List Event). Keeps c.keep.new.events (all ++ es)) c.events.ensures.value (c.keep.ensures.keeps all h);
         more = omega (arith, c.keep.ensures.more, c.events.ensures.bound);
+        script = c.look.ensures.script;
+        number = c.look.ensures.number;
+        shown_next = c.look.ensures.shown;
       };
     }

@@ -1,0 +1,6 @@
+pub mod Computes
+pub mod Ports
+pub mod Slots
+pub mod Index
+pub mod Views
+pub mod Reading

@@ -1,0 +1,4 @@
+pub mod Script
+pub mod Pins
+pub mod Worked
+pub mod Facts

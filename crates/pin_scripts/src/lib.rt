@@ -1,0 +1,19 @@
+//! Pin scripts: what drives the pins of a system's nodes from outside. See docs/PINS.md.
+#![tactic(auto)]
+
+mod changes;
+mod form;
+mod line;
+mod node_changes;
+mod pin_error;
+mod reader;
+mod script;
+#[cfg(test)]
+mod tests;
+mod worked;
+
+pub use line::{Change, PinForm, PinLine, PinSays};
+pub use pin_error::{PinError, PinKind};
+pub use reader::read_pins;
+pub use script::Script;
+pub use worked::worked_scripts;

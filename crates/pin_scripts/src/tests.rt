@@ -1,0 +1,104 @@
+//! Scripts that are read, and what pins show by them.
+use crate::PinKind::{BadLine, NoSuchNode, NoSuchPort, PinGivenTwice, SlotFalls, ValueTooWide};
+use crate::{PinError, PinKind, Script, read_pins};
+use std::alloc::Global;
+use std::process::Abort;
+use std::test::Fail;
+use xs_model::PinView;
+
+// Asserts that the text is refused at the line for the kind, in a system of the nodes 0 and 7.
+fn expect_fault(rt: &impl Abort, alloc: Global, text: &[u8], line: u32, kind: PinKind) {
+    assert!(rt; text.len() <= u32::MAX as usize);
+    match read_pins(alloc, text, &[0, 7]) {
+        Err(
+            PinError::Fault {
+                line: found,
+                kind: why,
+            },
+        ) => {
+            assert_eq!(rt; found, line);
+            assert_eq!(rt; why, kind);
+        }
+        _ => assert!(rt; false, "a fault is missing"),
+    }
+}
+
+#[test]
+fn refused(rt: HostRuntime) {
+    let table: &[(&[u8], u32, PinKind)] = &[
+        (b"5 0:A4 1", 1, BadLine),
+        (b"5 0:4 1", 1, BadLine),
+        (b"5 0:4AA 1", 1, BadLine),
+        (b"5 0:0x4A 1", 1, BadLine),
+        (b"5 0:4A 4294967296", 1, BadLine),
+        (b"5 4294967296:4A 1", 1, BadLine),
+        (b"5 0:4A 0X1", 1, BadLine),
+        (b"5 0:4A -1", 1, BadLine),
+        (b"# \x01", 1, BadLine),
+        (b"5 0:4A 1\r\r\n", 1, BadLine),
+        (b"9 0:4A 1\n\n8 7:1A 1", 3, SlotFalls),
+        (b"5 0:4G 1", 1, NoSuchPort),
+        (b"5 0:2A 1", 1, NoSuchPort),
+        (b"5 0:4a 1", 1, NoSuchPort),
+        (b"5 0:04A 1", 1, NoSuchPort),
+        (b"5 0:1A 2", 1, ValueTooWide),
+        (b"9 0:4A 1\n8 0:4A 16", 2, ValueTooWide),
+        (b"5 0:4G 16", 1, NoSuchPort),
+        (b"5 100:4G 16", 1, NoSuchNode),
+        (b"5 0:4A 1\n5 0:4A 1", 2, PinGivenTwice),
+    ];
+    for (text, line, kind) in table {
+        expect_fault(&rt, rt.alloc(), text, *line, *kind);
+    }
+}
+
+// Asserts what the pin of a port of a node shows in a slot.
+fn expect_level(rt: &impl Abort, script: &Script, node: u8, slot: u32, port: usize, level: u32) {
+    let mut view = PinView { level: [77; 29] };
+    script.view(node, slot, &mut view);
+    assert_eq!(rt; view.level.get(port), Some(&level));
+}
+
+#[test]
+fn levels(rt: HostRuntime) -> Result<(), Fail> {
+    let text = b"0x5 0:4A 9\r\n 5 7:4A 2 # both\n\n8 0:1A 1\n10 0:4A 0x4";
+    let script = read_pins(rt.alloc(), text, &[0, 7])?;
+    assert_eq!(&rt; script.lines().len(), 4);
+    expect_level(&rt, &script, 0, 4, 16, 0);
+    expect_level(&rt, &script, 0, 5, 16, 9);
+    expect_level(&rt, &script, 0, 9, 16, 9);
+    expect_level(&rt, &script, 0, 10, 16, 4);
+    expect_level(&rt, &script, 0, u32::MAX, 16, 4);
+    expect_level(&rt, &script, 7, 10, 16, 2);
+    expect_level(&rt, &script, 7, 10, 0, 0);
+    expect_level(&rt, &script, 3, 10, 16, 0);
+    assert_eq!(&rt; script.next_change(0, 0), Some(5));
+    assert_eq!(&rt; script.next_change(0, 5), Some(8));
+    assert_eq!(&rt; script.next_change(0, 10), None);
+    assert_eq!(&rt; script.next_change(7, 5), None);
+    assert_eq!(&rt; script.next_change(3, 0), None);
+    let empty = Script::empty(rt.alloc());
+    expect_level(&rt, &empty, 0, 9, 16, 0);
+    assert_eq!(&rt; empty.next_change(0, 0), None);
+    Ok(())
+}
+
+// So many lines would take minutes, were all of them walked for each line or for each slot.
+#[test]
+fn many_lines(rt: HostRuntime) -> Result<(), Fail> {
+    let alloc = rt.alloc();
+    let mut text = String::new(alloc);
+    for slot in 0..50_000u32 {
+        let line = format!(in alloc; "{} 7:4A {}\n", slot, slot % 16)?;
+        text.push_str(&line)?;
+    }
+    if text.len() > 4_194_304 {
+        return Ok(());
+    }
+    let script = read_pins(alloc, text.as_bytes(), &[0, 7])?;
+    for slot in 0..50_000u32 {
+        expect_level(&rt, &script, 7, slot, 16, slot % 16);
+    }
+    assert_eq!(&rt; script.next_change(7, 49_998), Some(49_999));
+    Ok(())
+}

@@ -1,0 +1,11 @@
+//! Pin scripts worked out by hand.
+ghost use Rattle.pin_scripts.specs.Worked.{WorkedRefusals, WorkedOrder, WorkedScripts, WorkedLevels};
+
+/// A law: the definitions give what was worked out by hand for texts that are refused, for those that are accepted, and
+/// for what pins show. It does nothing.
+pub fn worked_scripts()
+    ensures refusals { WorkedRefusals }
+    ensures order { WorkedOrder }
+    ensures scripts { WorkedScripts }
+    ensures levels { WorkedLevels }
+{}

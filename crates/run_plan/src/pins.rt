@@ -1,0 +1,69 @@
+//! `Pins`, what the pins of a node show. See docs/PINS.md.
+ghost use Rattle.std.specs.Prelude.{◌≡◌, ◌+◌, ◌-◌, ◌^◌, ◌<◌};
+ghost use Rattle.xs_model.specs.Outside.{LevelsFit};
+ghost use Rattle.pin_scripts.specs.Script.{view_at};
+ghost use Rattle.run_plan.specs.Shown.{IsShown, is_due};
+
+use pin_scripts::Script;
+use xs_model::PinView;
+
+/// What the pins of the node with this number show, where its ports do not drive them, and the slot from which on that may
+/// be something else.
+#[derive(Drop)]
+pub(crate) struct Pins<'a> {
+    script: &'a Script,
+    number: u8,
+    view: PinView,
+    next: Option<u32>,
+}
+
+impl<'a> Pins<'a> {
+    /// The pins of a node before slot 0.
+    pub(crate) fn of(script: &'a Script, number: u8) -> Pins<'a>
+        ensures script { result.script.now ≡ script.now }
+        ensures number { result.number ≡ number }
+        ensures shown { IsShown 0 result }
+    {
+        let mut view = PinView { level: [0; 29] };
+        script.view(number, 0, &mut view);
+        Pins {
+            script,
+            number,
+            view,
+            next: script.next_change(number, 0),
+        }
+    }
+
+    /// Looks at what the pins show in a slot. That costs little where it is what they showed before.
+    pub(crate) fn look(&mut self, slot: u32)
+        requires slot { slot < 2 ^ 32 - 1 }
+        requires shown { IsShown slot self.old }
+        ensures script { self.new.script.now ≡ self.old.script.now }
+        ensures number { self.new.number ≡ self.old.number }
+        ensures view { self.new.view ≡ view_at self.old.script.now self.old.number slot }
+        ensures levels { LevelsFit self.new.view.level }
+        ensures shown { IsShown (slot + 1) self.new }
+    {
+        if self.is_due(slot) {
+            self.script.view(self.number, slot, &mut self.view);
+            self.next = self.script.next_change(self.number, slot);
+        }
+    }
+
+    // Whether the next change comes in a slot.
+    fn is_due(&self, slot: u32) -> bool
+        ensures { result ≡ is_due self.now.next slot }
+    {
+        match self.next {
+            Some(next) => next == slot,
+            None => false,
+        }
+    }
+
+    /// What they showed when it last looked.
+    pub(crate) fn view(&self) -> &PinView
+        ensures { result.now ≡ self.now.view }
+    {
+        &self.view
+    }
+}
