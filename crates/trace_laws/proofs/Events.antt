@@ -1,5 +1,5 @@
 -- The events of each node of the serial machine stand by slot.
-use Rattle.std.proofs.Common.{ℕ, zero, suc, ◌≡◌, ◌+◌, ◌≤◌, List, [], ◌∷◌, ◌++◌, refl, ap, ◌∙◌, arith}
+use Rattle.std.proofs.Common.{ℕ, zero, suc, ◌≡◌, ◌+◌, ◌≤◌, List, [], ◌∷◌, ◌++◌, refl, arith}
 use Rattle.std.specs.Prelude.{slice_index_or, map, take}
 use Rattle.std.specs.List.{AllByRecursion}
 use Rattle.xs_base.specs.declared.entry.Entry.{Entry}
@@ -14,11 +14,9 @@ use Rattle.sys_plan.specs.Plan.{PlanRec}
 use Rattle.step_model.specs.Fixed.{Fixed}
 use Rattle.step_model.specs.Step.{Stepped, node_step}
 use Rattle.serial_model.specs.Serial.{serial, steps_from, longer_events}
-use Rattle.xs_model.specs.FirstEvents.{kept_at_most}
-use Rattle.trace_model.specs.EventOrder.{told_by}
-use Rattle.trace_model.specs.Trace.{events_at, events_in_order}
-use Rattle.trace_laws.specs.Order.{RiseFrom, of_slot, node_by_node}
-use Rattle.trace_laws.proofs.Merges.{merged_rise, merged_of_slot}
+use Rattle.xs_model.specs.FirstEvents.{kept_at_most, first_events}
+use Rattle.trace_model.specs.EventOrder.{told_at, RiseFrom}
+use Rattle.trace_model.specs.Trace.{events_at}
 
 -- from the first slot on, no event is in an earlier slot than the one before it, and none is after the last slot
 abbrev Rise : ℕ → ℕ → List Event → Type 0
@@ -72,23 +70,11 @@ at_rise slots [] k h = omega arith
 at_rise slots (events ∷ all) zero h = h.0
 at_rise slots (events ∷ all) (suc k) h = at_rise slots all k h.1
 
--- so the kept events, told by a node, rise
-told_rise : (node n first last : ℕ) (events : List Event) → Rise first last events → RiseFrom first (told_by node (take n events))
-told_rise node zero first last events h = tt
-told_rise node (suc n) first last [] h = tt
-told_rise node (suc n) first last (e ∷ events) h = (h.0, told_rise node n e.slot last events h.1)
+-- so the kept events of a node, with its position, rise
+told_rise : (k n first last : ℕ) (events : List Event) → Rise first last events → RiseFrom first (told_at k (take n events))
+told_rise k zero first last events h = tt
+told_rise k (suc n) first last [] h = tt
+told_rise k (suc n) first last (e ∷ events) h = (h.0, told_rise k n e.slot last events h.1)
 
-module _ (plan : PlanRec) (slots : ℕ) where
-  node_rise : (node k : ℕ) → RiseFrom 0 (told_by node (take kept_at_most (events_at (serial plan slots) k)))
-  node_rise node k = told_rise node kept_at_most 0 slots _ (at_rise slots (serial plan slots).events k (all_rise plan slots))
-
-  pub in_order_rise : (k : ℕ) (nodes : List NodePlan) → RiseFrom 0 (events_in_order (serial plan slots) k nodes)
-  unfolding events_in_order
-  in_order_rise k [] = tt
-  in_order_rise k (node ∷ nodes) = merged_rise 0 _ _ (node_rise node.number k) (in_order_rise (k + 1) nodes)
-
-  pub in_order_by_node : (slot k : ℕ) (nodes : List NodePlan) → of_slot slot (events_in_order (serial plan slots) k nodes) ≡ node_by_node slot (serial plan slots) k nodes
-  unfolding events_in_order
-  in_order_by_node slot k [] = refl
-  in_order_by_node slot k (node ∷ nodes) =
-      merged_of_slot slot 0 _ _ (node_rise node.number k) ∙ ap (λ l. of_slot slot (told_by node.number (take kept_at_most (events_at (serial plan slots) k))) ++ l) (in_order_by_node slot (k + 1) nodes)
+pub node_rise : (plan : PlanRec) (slots k : ℕ) → RiseFrom 0 (told_at k (first_events (events_at (serial plan slots) k)))
+node_rise plan slots k = told_rise k kept_at_most 0 slots _ (at_rise slots (serial plan slots).events k (all_rise plan slots))

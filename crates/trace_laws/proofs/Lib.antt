@@ -1,2 +1,2 @@
-pub mod Merges
 pub mod Events
+pub mod OwnOrder

@@ -16,12 +16,15 @@ use Rattle.xs_model.specs.FirstEvents.{first_events, left_out}
 use Rattle.sys_plan.specs.declared.NodePlan.{NodePlan}
 use Rattle.sys_plan.specs.Plan.{PlanRec, Direction, directions}
 use Rattle.serial_model.specs.Serial.{SystemRec, serial, is_credit}
-use Rattle.trace_model.specs.declared.NodeEvent.{NodeEvent}
-use Rattle.trace_model.specs.EventOrder.{told_by, merged}
+use Rattle.trace_model.specs.EventOrder.{Placed, merged}
 
--- the line of each event
-abbrev pub event_lines : List NodeEvent → List ℕ
-event_lines events = flat_map (λ (e : NodeEvent). event_line e.node e.event) events
+-- the number of the node at a position
+abbrev pub number_at : List NodePlan → ℕ → ℕ
+number_at nodes k = slice_index (map (λ (node : NodePlan). node.number) nodes) k
+
+-- the line of each event, with the number of its node
+abbrev pub event_lines : List NodePlan → List Placed → List ℕ
+event_lines nodes events = flat_map (λ (e : Placed). event_line (number_at nodes e.0) e.1) events
 
 -- `nN more C`, where events were left out
 abbrev pub more_line : ℕ → ℕ → List ℕ
@@ -98,20 +101,13 @@ history_at system link = slice_index_or system.histories link []
 abbrev pub events_at : SystemRec → ℕ → List Event
 events_at system k = slice_index_or system.events k []
 
--- The kept events of the nodes, the first of which stands at position k: by slot, within a slot by node, and each
--- node's in its own order.
-unfoldable pub events_in_order : SystemRec → ℕ → List NodePlan → List NodeEvent
-events_in_order system k [] = []
-events_in_order system k (node ∷ nodes) =
-    merged (told_by node.number (first_events (events_at system k))) (events_in_order system (k + 1) nodes)
+-- the events of the nodes that are kept, by slot, within a slot by node, and each node's in its own order
+abbrev pub events_in_order : SystemRec → List Placed
+events_in_order system = merged (map first_events system.events)
 
 -- the line that tells how many events of the node at position k were left out, where some were
 abbrev pub more_at : SystemRec → ℕ → NodePlan → List ℕ
 more_at system k node = more_line node.number (left_out (events_at system k))
-
--- the number of the node at a position
-abbrev pub number_at : List NodePlan → ℕ → ℕ
-number_at nodes k = slice_index (map (λ (node : NodePlan). node.number) nodes) k
 
 -- the line that tells what was sent on the directed link with number k
 abbrev pub traffic_at : List NodePlan → SystemRec → ℕ → Direction → List ℕ
@@ -126,16 +122,17 @@ halted_at system k node = halted_lines node.number 0 (node_at system k).core.thr
 abbrev pub memory_at : SystemRec → ℕ → NodePlan → List ℕ
 memory_at system k node = memory_lines node.number MEMORY_START (words_of (node_at system k).core.memory)
 
--- all lines but the last: the events in order, what of them was left out, what was sent on each directed link, the
--- halted threads, and the words of the memories that aren't 0
-abbrev pub lines_before_end : PlanRec → SystemRec → List ℕ
-lines_before_end plan system =
-    event_lines (events_in_order system 0 plan.nodes)
-    ++ (by_position (more_at system) 0 plan.nodes
+-- the lines between those of the events and the last: what of the events was left out, what was sent on each directed
+-- link, the halted threads, and the words of the memories that aren't 0
+abbrev pub lines_after_events : PlanRec → SystemRec → List ℕ
+lines_after_events plan system =
+    by_position (more_at system) 0 plan.nodes
     ++ (by_position (traffic_at plan.nodes system) 0 (directions plan.links)
     ++ (by_position (halted_at system) 0 plan.nodes
-    ++ by_position (memory_at system) 0 plan.nodes)))
+    ++ by_position (memory_at system) 0 plan.nodes))
 
--- the trace of a run of so many slots
+-- the trace of a run of so many slots: the events in order, those lines, and the last
 unfoldable pub trace_text : PlanRec → ℕ → List ℕ
-trace_text plan slots = lines_before_end plan (serial plan slots) ++ end_line slots
+trace_text plan slots =
+    let system = serial plan slots in
+    event_lines plan.nodes (events_in_order system) ++ (lines_after_events plan system ++ end_line slots)

@@ -5,8 +5,7 @@ use Rattle.xs_model.specs.declared.event.Happen.TheVariants as happen
 use Rattle.xs_model.specs.Outside.{in_slot}
 use Rattle.sys_plan.specs.Plan.{PlanRec}
 use Rattle.serial_model.specs.Worked.{talking_pair, lost_pair, plain_node}
-use Rattle.trace_model.specs.declared.NodeEvent.{NodeEvent}
-use Rattle.trace_model.specs.EventOrder.{told_by, merged}
+use Rattle.trace_model.specs.EventOrder.{Placed, merged}
 use Rattle.trace_model.specs.Trace.{more_line, trace_text}
 
 -- the lines of the pair system after those of its events
@@ -15,7 +14,7 @@ pair_counts = codes "link 0:0>1:0 tokens 4 credits 0\nlink 1:0>0:0 tokens 0 cred
 
 -- two nodes without code, whose memories begin with 1 and with 2
 abbrev pub both_halt : PlanRec
-both_halt = record { nodes = plain_node 3 [] (1 ∷ []) ∷ plain_node 7 [] (2 ∷ []) ∷ []; links = [] }
+both_halt = record { nodes = plain_node 3 [] (1 ∷ []) ∷ plain_node 7 [] (2 ∷ []) ∷ []; links = []; script = [] }
 
 pub record WorkedTraces : Type 0 where
   pub delivered : trace_text talking_pair 40 ≡ codes "30 n1 chan 0 ct 1\n" ++ pair_counts
@@ -32,12 +31,14 @@ pub record WorkedTraces : Type 0 where
 abbrev pub halts_in : ℕ → Event
 halts_in slot = in_slot slot (happen.Halt 0)
 
-abbrev pub told : ℕ → ℕ → NodeEvent
-told node slot = record { node = node; event = halts_in slot }
+abbrev pub told : ℕ → ℕ → Placed
+told k slot = (k, halts_in slot)
 
 pub record WorkedEventOrder : Type 0 where
-  -- by slot; within slots 5 and 9 the events of node 3 stand first
-  pub in_order : merged (told_by 3 (halts_in 5 ∷ halts_in 5 ∷ halts_in 9 ∷ [])) (told_by 7 (halts_in 3 ∷ halts_in 5 ∷ halts_in 9 ∷ halts_in 12 ∷ []))
-      ≡ told 7 3 ∷ told 3 5 ∷ told 3 5 ∷ told 7 5 ∷ told 3 9 ∷ told 7 9 ∷ told 7 12 ∷ []
+  -- by slot; within slots 5 and 9 the events of the node that stands first come first
+  pub in_order : merged ((halts_in 5 ∷ halts_in 5 ∷ halts_in 9 ∷ []) ∷ (halts_in 3 ∷ halts_in 5 ∷ halts_in 9 ∷ halts_in 12 ∷ []) ∷ [])
+      ≡ told 1 3 ∷ told 0 5 ∷ told 0 5 ∷ told 1 5 ∷ told 0 9 ∷ told 1 9 ∷ told 1 12 ∷ []
+  -- of three nodes one has no events
+  pub of_three : merged ((halts_in 9 ∷ []) ∷ [] ∷ (halts_in 4 ∷ halts_in 9 ∷ []) ∷ []) ≡ told 2 4 ∷ told 0 9 ∷ told 2 9 ∷ []
   pub some_left_out : more_line 3 2 ≡ codes "n3 more 2\n"
   pub none_left_out : more_line 3 0 ≡ []

@@ -1,4 +1,3 @@
 pub mod ByPosition
-pub mod EventOrder
-pub mod EventsInOrder
+pub mod Kept
 pub mod TraceLines

@@ -1,7 +1,6 @@
 //! The text that a run of a system writes. See docs/OUTPUT.md.
 #![tactic(auto)]
 
-mod event_order;
 mod node_lines;
 mod traffic_lines;
 mod whole_trace;

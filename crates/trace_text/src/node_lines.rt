@@ -1,35 +1,45 @@
 //! The lines of a node: what of its events was left out, its halted threads, and the words of its memory.
-ghost use Rattle.std.specs.Prelude.{◌≡◌, ◌++◌, OnOk};
+ghost use Rattle.std.specs.Prelude.{◌≡◌, ◌<◌, ◌++◌, length, OnOk};
 ghost use Rattle.xs_base.specs.declared.numbers.TheConstants.{MEMORY_START};
 ghost use Rattle.xs_model.specs.Memory.{words_of};
-ghost use Rattle.trace_model.specs.EventOrder.{AreWithinCounts};
-ghost use Rattle.trace_model.specs.Trace.{event_lines, more_line, halted_line, halted_lines, memory_line, memory_lines, end_line};
+ghost use Rattle.trace_merge.specs.Nodes.{AreWithinCounts, AreOfNodes};
+ghost use Rattle.trace_model.specs.Trace.{number_at, event_lines, more_line, halted_line, halted_lines, memory_line, memory_lines, end_line};
 
 use core_memory::words_in_order;
 use core_step::Core;
 use line_text::{append_decimal, append_hex_word, line_of};
 use std::alloc::{AllocError, Global};
-use trace_model::NodeEvent;
+use sys_plan::NodePlan;
 use xs_base::Text;
 use xs_base::numbers::MEMORY_START;
-use xs_model::Run;
+use xs_model::{Event, Run};
 
 // How many words the memory has.
 const MEMORY_WORDS: u32 = 16384;
 
-// The line of each event.
+// The line of each event, with the number of the node at its position.
 pub(crate) fn append_event_lines(
     out: &mut Text,
     alloc: Global,
-    events: &[NodeEvent],
+    nodes: &[NodePlan],
+    events: &[(u8, Event)],
 ) -> Result<(), AllocError>
-    requires { AreWithinCounts events.now }
-    ensures { OnOk result (out.new ≡ out.old ++ event_lines events.now) }
+    requires within { AreWithinCounts events.now }
+    requires positions { AreOfNodes (length nodes.now) events.now }
+    ensures { OnOk result (out.new ≡ out.old ++ event_lines nodes.now events.now) }
 {
     for e in events {
-        line_of(alloc, e.node, e.event, out)?;
+        line_of(alloc, number_of(nodes, e.0), e.1, out)?;
     }
     Ok(())
+}
+
+// The number of the node at a position.
+fn number_of(nodes: &[NodePlan], k: u8) -> u8
+    requires { k < length nodes.now }
+    ensures { result ≡ number_at nodes.now k }
+{
+    nodes[k as usize].number
 }
 
 // How many events were left out, where some were.

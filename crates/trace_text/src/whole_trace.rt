@@ -2,10 +2,8 @@
 ghost use Rattle.std.specs.Prelude.{◌≡◌, ◌<◌, ◌≤◌, ◌++◌, length, IfOk, OnOk, ◌+◌, ◌*◌, [], ◌∷◌};
 ghost use Rattle.sys_plan.specs.Plan.{directions, forth, back};
 ghost use Rattle.serial_model.specs.Serial.{serial};
-ghost use Rattle.trace_model.specs.EventOrder.{AreWithinCounts};
-ghost use Rattle.trace_model.specs.Trace.{by_position, events_in_order, halted_at, memory_at, more_at, traffic_at, lines_before_end, trace_text};
+ghost use Rattle.trace_model.specs.Trace.{by_position, event_lines, events_in_order, halted_at, memory_at, more_at, traffic_at, lines_after_events, trace_text};
 
-use crate::event_order::merge;
 use crate::node_lines::{
     append_end_line, append_event_lines, append_halted_lines, append_memory_lines, append_more_line,
 };
@@ -13,7 +11,7 @@ use crate::traffic_lines::append_traffic_line;
 use run_plan::SerialMachine;
 use std::alloc::{AllocError, Global};
 use sys_plan::{LinkPlan, NodePlan, Plan};
-use trace_model::NodeEvent;
+use trace_merge::merge;
 use xs_base::Text;
 
 /// The trace of a system that runs for so many slots. The error is want of memory. See docs/OUTPUT.md.
@@ -22,50 +20,42 @@ pub fn trace(alloc: Global, plan: &Plan, slots: u32) -> Result<Text, AllocError>
 {
     let mut machine = SerialMachine::new(alloc, plan)?;
     machine.run(slots)?;
+    // The machine is taken apart for its events, which come first, so the rest is written before.
+    let mut rest = Text::new(alloc);
+    append_rest(&mut rest, plan, &machine)?;
+    append_end_line(&mut rest, slots)?;
     let mut out = Text::new(alloc);
-    append_system(&mut out, alloc, plan, &machine)?;
-    append_end_line(&mut out, slots)?;
+    append_events(&mut out, alloc, plan, machine)?;
+    out.append(rest.bytes())?;
     Ok(out)
 }
 
-// All lines but the last.
-fn append_system(
+// The line of each kept event of all nodes: by slot, within a slot by node, and each node's in its own order.
+fn append_events(
     out: &mut Text,
     alloc: Global,
     plan: &Plan,
-    machine: &SerialMachine,
+    machine: SerialMachine,
 ) -> Result<(), AllocError>
-    requires plan { machine.now.plan ≡ plan.now }
-    ensures { OnOk result (out.new ≡ out.old ++ lines_before_end plan.now (serial plan.now machine.now.now)) }
+    requires plan { machine.plan ≡ plan.now }
+    ensures { OnOk result (out.new ≡ out.old ++ event_lines plan.now.nodes (events_in_order (serial plan.now machine.entry.now))) }
 {
     let nodes = plan.nodes();
-    let events = events_in_order(alloc, nodes, machine)?;
-    append_event_lines(out, alloc, &events)?;
+    let events = machine.into_events(alloc)?;
+    let merged = merge(alloc, &events)?;
+    append_event_lines(out, alloc, nodes, merged.list())
+}
+
+// The lines between those of the events and the last.
+fn append_rest(out: &mut Text, plan: &Plan, machine: &SerialMachine) -> Result<(), AllocError>
+    requires plan { machine.now.plan ≡ plan.now }
+    ensures { OnOk result (out.new ≡ out.old ++ lines_after_events plan.now (serial plan.now machine.now.now)) }
+{
+    let nodes = plan.nodes();
     append_more(out, nodes, machine)?;
     append_links(out, plan, machine)?;
     append_halted(out, nodes, machine)?;
     append_memory(out, nodes, machine)
-}
-
-// The kept events of all nodes: by slot, within a slot by node, and each node's in its own order.
-fn events_in_order(
-    alloc: Global,
-    nodes: &[NodePlan],
-    machine: &SerialMachine,
-) -> Result<Vec<NodeEvent>, AllocError>
-    requires nodes { nodes.now ≡ machine.now.plan.nodes }
-    requires few { length nodes.now ≤ 16 }
-    ensures order { IfOk result (λ all. all.items ≡ events_in_order (serial machine.now.plan machine.now.now) 0 nodes.now) }
-    ensures within { IfOk result (λ all. AreWithinCounts all.items) }
-{
-    let mut all = Vec::new(alloc);
-    let mut k = nodes.len();
-    while k > 0 {
-        k -= 1;
-        let events = machine.events(k as u8);
-        all = merge(alloc, nodes[k].number, events.events(), &all)?;
-    }
-    Ok(all)
 }
 
 // How many events of each node were left out, where some were.

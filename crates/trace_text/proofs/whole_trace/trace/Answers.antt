@@ -1,23 +1,31 @@
 use Rattle.std.proofs.Common.{◌≡◌, ℕ, List, [], ◌++◌, refl, ap, ◌∙◌, arith}
 use Rattle.sys_plan.specs.Plan.{PlanRec}
 use Rattle.serial_model.specs.Serial.{serial}
-use Rattle.trace_model.specs.Trace.{lines_before_end, end_line, trace_text}
+use Rattle.trace_model.specs.Trace.{event_lines, events_in_order, lines_after_events, end_line, trace_text}
 use Rattle.trace_text.proofs.whole_trace.trace.Goals as goal
 
-trace_text-is : (plan : PlanRec) (slots : ℕ) → lines_before_end plan (serial plan slots) ++ end_line slots ≡ trace_text plan slots
+-- the lines of the events of the system as it is after so many slots
+abbrev first_lines : PlanRec → ℕ → List ℕ
+first_lines plan now = event_lines plan.nodes (events_in_order (serial plan now))
+
+trace_text-is : (plan : PlanRec) (slots : ℕ) → first_lines plan slots ++ (lines_after_events plan (serial plan slots) ++ end_line slots) ≡ trace_text plan slots
 unfolding trace_text
 trace_text-is plan slots = refl
 
--- the lines of the system as it is after so many slots, and then the last line
-trace_whole : (plan : PlanRec) (slots now : ℕ) (none lines whole : List ℕ) → none ≡ [] → lines ≡ none ++ lines_before_end plan (serial plan now) → whole ≡ lines ++ end_line slots → now ≡ slots → whole ≡ trace_text plan slots
-trace_whole plan slots now none lines whole empty added ended ran =
-    ended
-    ∙ (ap (λ (t : List ℕ). t ++ end_line slots) (added ∙ (ap (λ (t : List ℕ). t ++ lines_before_end plan (serial plan now)) empty ∙ ap (λ (n : ℕ). lines_before_end plan (serial plan n)) ran))
-    ∙ trace_text-is plan slots)
+trace_whole : (plan : PlanRec) (slots now : ℕ) (none lines rest empty events whole : List ℕ) → none ≡ [] → lines ≡ none ++ lines_after_events plan (serial plan now) → rest ≡ lines ++ end_line slots → empty ≡ [] → events ≡ empty ++ first_lines plan now → whole ≡ events ++ rest → now ≡ slots → whole ≡ trace_text plan slots
+trace_whole plan slots now none lines rest empty events whole no_lines after ended no_events first joined ran =
+    let after_is : lines ≡ lines_after_events plan (serial plan slots) =
+    after ∙ (ap (λ (t : List ℕ). t ++ lines_after_events plan (serial plan now)) no_lines ∙ ap (λ (n : ℕ). lines_after_events plan (serial plan n)) ran) in
+    let first_is : events ≡ first_lines plan slots =
+    first ∙ (ap (λ (t : List ℕ). t ++ first_lines plan now) no_events ∙ ap (λ (n : ℕ). first_lines plan n) ran) in
+    joined
+    ∙ (ap (λ (t : List ℕ). t ++ rest) first_is
+    ∙ (ap (λ (t : List ℕ). first_lines plan slots ++ t) (ended ∙ ap (λ (t : List ℕ). t ++ end_line slots) after_is)
+    ∙ trace_text-is plan slots))
 
 pub returns : goal.returns
 returns c =
     let ran : c.run.new.self.now ≡ c.args.slots = omega (arith, c.in_ok-run.ensures.ran, c.in_ok-machine.ensures.now) in
     record {
-      text = trace_whole c.args.plan.now c.args.slots c.run.new.self.now _ _ _ c.new-out.ensures.empty c.in_ok-append_system.ensures c.in_ok-append_end_line.ensures ran;
+      text = trace_whole c.args.plan.now c.args.slots c.run.new.self.now _ _ _ _ _ _ c.new-rest.ensures.empty c.in_ok-append_rest.ensures c.in_ok-append_end_line.ensures c.new-out.ensures.empty c.in_ok-append_events.ensures (c.in_ok-append.ensures.ok ∙ ap (λ (t : List ℕ). c.append_events.new.out ++ t) c.bytes.ensures.value) ran;
     }
