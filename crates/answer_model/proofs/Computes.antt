@@ -3,9 +3,10 @@ use Rattle.std.specs.Fmt.{digits}
 use Rattle.xs_text.specs.Words.{without_comment, parted}
 use Rattle.xs_text.specs.Lines.{lines_of}
 use Rattle.xs_text.specs.Tokens.{tokens_after}
-use Rattle.system_model.specs.FrameLines.{node_line, end_name, link_line, numbers_of, bit_line, source_line, frame_line}
+use Rattle.system_model.specs.FrameLines.{node_line, end_name, link_line, numbers_of, bit_line, section_line, frame_line}
 use Rattle.system_model.specs.Frame.{frame_from, framed}
 use Rattle.system_model.specs.System.{mask_where, node_plans, system_of}
+use Rattle.pin_scripts.specs.Pins.{port_of, pin_form, pins_from, pins_of}
 use Rattle.answer_model.specs.Top.{form_of_words, answer}
 use Rattle.xs_instructions.specs.Words.{register_number, fixed}
 use Rattle.xs_instructions.specs.Find.{find, known}
@@ -17,6 +18,7 @@ use Rattle.source_model.specs.Statement.{labels_first, after_labels}
 use Rattle.source_model.specs.Layout.{place_of, define_all, after_lines}
 use Rattle.source_model.specs.Source.{defines_twice, first_fault, code_of_lines, bytes_of_lines}
 use Rattle.xs_model.specs.Picks.{best_from}
+use Rattle.xs_model.specs.Ports.{edges_from}
 use Rattle.xs_model.specs.Memory.{words_of}
 use Rattle.net_model.specs.Ways.{first_difference}
 use Rattle.net_model.specs.Links.{links_after_arrivals}
@@ -25,10 +27,10 @@ use Rattle.net_model.specs.Switch.{free_end, moves_from}
 use Rattle.step_model.specs.Step.{node_step}
 use Rattle.serial_model.specs.Serial.{serial}
 use Rattle.trace_model.specs.EventLines.{hex_word}
-use Rattle.trace_model.specs.EventOrder.{merged}
-use Rattle.trace_model.specs.Trace.{halted_lines, memory_lines, by_position, events_in_order, trace_text}
+use Rattle.trace_model.specs.EventOrder.{by_slot}
+use Rattle.trace_model.specs.Trace.{halted_lines, memory_lines, by_position, trace_text}
 
 -- names them all on its own line, so that they unfold where it does
 unfoldable pub computes : Type 0
-unfolding digits without_comment parted lines_of tokens_after node_line end_name link_line numbers_of bit_line source_line frame_line frame_from framed mask_where node_plans system_of form_of_words answer register_number fixed find known behind_labels first_name_at all_some operands_after values_from labels_first after_labels place_of define_all after_lines defines_twice first_fault code_of_lines bytes_of_lines best_from words_of first_difference links_after_arrivals lowest_free free_end moves_from node_step serial hex_word merged halted_lines memory_lines by_position events_in_order trace_text
+unfolding digits without_comment parted lines_of tokens_after node_line end_name link_line numbers_of bit_line section_line frame_line frame_from framed mask_where node_plans system_of port_of pin_form pins_from pins_of form_of_words answer register_number fixed find known behind_labels first_name_at all_some operands_after values_from labels_first after_labels place_of define_all after_lines defines_twice first_fault code_of_lines bytes_of_lines best_from words_of first_difference links_after_arrivals lowest_free free_end moves_from edges_from node_step serial hex_word by_slot halted_lines memory_lines by_position trace_text
 computes = Unit {0}

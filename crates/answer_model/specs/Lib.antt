@@ -5,3 +5,4 @@ pub mod WorkedEdges
 pub mod WorkedPairs
 pub mod WorkedPrograms
 pub mod StatusNumber
+pub mod WorkedPins

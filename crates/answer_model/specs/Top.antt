@@ -5,6 +5,8 @@ use Rattle.xs_instructions.specs.Image.{same_name}
 use Rattle.xs_text.specs.Numbers.{at_most, value_in}
 use Rattle.source_model.specs.declared.AsmKind.{AsmKind}
 use Rattle.source_model.specs.declared.AsmKind.TheVariants as asm
+use Rattle.pin_scripts.specs.declared.pin_error.PinKind.{PinKind}
+use Rattle.pin_scripts.specs.declared.pin_error.PinKind.TheVariants as pin
 use Rattle.sys_plan.specs.Plan.{PlanRec}
 use Rattle.system_model.specs.declared.SysKind.{SysKind}
 use Rattle.system_model.specs.declared.SysKind.TheVariants as sys
@@ -12,7 +14,7 @@ use Rattle.answer_model.specs.declared.Form.{Form}
 use Rattle.answer_model.specs.declared.Form.TheVariants.{Run, Check}
 use Rattle.answer_model.specs.declared.Answer.{Answer}
 use Rattle.answer_model.specs.declared.Status.TheVariants as status
-use Rattle.system_model.specs.System.{System, Plan, Frame, Source, system_of, longest_input}
+use Rattle.system_model.specs.System.{System, Plan, Frame, Source, Pins, system_of, longest_input}
 use Rattle.answer_model.specs.Check.{check_text}
 use Rattle.trace_model.specs.Trace.{trace_text}
 
@@ -63,6 +65,14 @@ text_of_asm_kind asm.DirectiveNotAllowed = codes "A7 directive not allowed"
 text_of_asm_kind asm.TooManyInstructions = codes "A8 too many instructions"
 text_of_asm_kind asm.TooManyBytes = codes "A9 too many bytes"
 
+abbrev pub text_of_pin_kind : PinKind → List ℕ
+text_of_pin_kind pin.BadLine = codes "P1 bad line"
+text_of_pin_kind pin.SlotFalls = codes "P2 slot falls"
+text_of_pin_kind pin.NoSuchPort = codes "P3 no such port"
+text_of_pin_kind pin.ValueTooWide = codes "P4 value too wide"
+text_of_pin_kind pin.NoSuchNode = codes "P5 no such node"
+text_of_pin_kind pin.PinGivenTwice = codes "P6 pin given twice"
+
 -- `system line L: KIND TEXT`
 abbrev pub frame_text : ℕ → SysKind → List ℕ
 frame_text line kind = codes "system line " ++ (decimal line ++ (codes ": " ++ (text_of_sys_kind kind ++ (10 ∷ []))))
@@ -71,6 +81,10 @@ frame_text line kind = codes "system line " ++ (decimal line ++ (codes ": " ++ (
 abbrev pub source_text : ℕ → ℕ → AsmKind → List ℕ
 source_text node line kind =
     codes "source " ++ (decimal node ++ (codes " line " ++ (decimal line ++ (codes ": " ++ (text_of_asm_kind kind ++ (10 ∷ []))))))
+
+-- `pins line L: KIND TEXT`
+abbrev pub pins_text : ℕ → PinKind → List ℕ
+pins_text line kind = codes "pins line " ++ (decimal line ++ (codes ": " ++ (text_of_pin_kind kind ++ (10 ∷ []))))
 
 -- what a form writes for a system that is not refused
 abbrev pub text_for : Form → PlanRec → List ℕ
@@ -82,6 +96,7 @@ abbrev pub answer_to : Form → System → Answer
 answer_to form (Plan plan) = record { text = text_for form plan; status = status.Done }
 answer_to form (Frame line kind) = record { text = frame_text line kind; status = status.SystemFault }
 answer_to form (Source node line kind) = record { text = source_text node line kind; status = status.SourceFault }
+answer_to form (Pins line kind) = record { text = pins_text line kind; status = status.ScriptFault }
 
 abbrev pub usage_answer : Answer
 usage_answer = record { text = usage_text; status = status.Usage }

@@ -53,7 +53,8 @@ pub record WorkedAnswers : Type 0 where
   pub open_section : answer (run_for (codes "1")) (codes "xs1 1\nnode 0 id 0\nsource 0\n") ≡ frame_refused (codes "system line 3: S9 section not ended\n")
   pub comments : answer (run_for (codes "0")) (codes "# a system\r\n\nxs1 1 // edition 1\n  node 007 id 0xFf\nsource 7\n foo: # here\nend # of it\n\n//") ≡ done (codes "end 0\n")
   pub unknown_name : answer (run_for (codes "1")) (lone (codes "foo\n")) ≡ source_refused (codes "source 0 line 1: A2 unknown name\n")
-  pub not_built : answer (run_for (codes "1")) (lone (codes "inshr r1, res[r0]\n")) ≡ source_refused (codes "source 0 line 1: A2 unknown name\n")
+  pub wrong_shape : answer (run_for (codes "1")) (lone (codes "inshr r1\n")) ≡ source_refused (codes "source 0 line 1: A3 wrong operands\n")
+  pub no_number_of_bits : answer (run_for (codes "1")) (lone (codes "inpw r1, res[r0], 9\n")) ≡ source_refused (codes "source 0 line 1: A4 number out of range\n")
   pub label_twice : answer (run_for (codes "1")) (lone (codes "a: nop\na: nop\n")) ≡ source_refused (codes "source 0 line 2: A5 label defined twice\n")
   pub no_such_label : answer (run_for (codes "1")) (lone (codes "bu gone\n")) ≡ source_refused (codes "source 0 line 1: A6 label missing\n")
   pub two_labels : answer (run_for (codes "1")) (lone (codes "a: b: nop\n")) ≡ done (codes "end 1\n")
@@ -81,6 +82,8 @@ pub record WorkedChecks : Type 0 where
   pub sections : answer check (lone (codes "bu z\n.align 3\nz:\n.data\nv: .word z, -1\nw:\n.cp\n.byte 7\n")) ≡ done (codes "source 0\n  bu z\n  nop\n  nop\nz:\n.data\nv:\n  .byte 12\n  .byte 0\n  .byte 4\n  .byte 0\n  .byte 255\n  .byte 255\n  .byte 255\n  .byte 255\n.cp\nw:\n  .byte 7\nend\n")
   -- a name in brackets is written as its number, and zeros come before the constants
   pub names_in_brackets : answer check (lone (codes "ldw r0, dp[x]\n.data\n.word 1\nx: .byte 2\n.cp\n.byte 3\n")) ≡ done (codes "source 0\n  ldw r0, dp[1]\n.data\n  .byte 1\n  .byte 0\n  .byte 0\n  .byte 0\nx:\n  .byte 2\n  .byte 0\n  .byte 0\n  .byte 0\n.cp\n  .byte 3\nend\n")
+  -- the rows on ports alone
+  pub port_rows : answer check (lone (codes "inpw r0, res[r1], 0x8\noutshr res[r2], r3\nsetclk res[r4],r5\n")) ≡ done (codes "source 0\n  inpw r0, res[r1], 8\n  outshr res[r2], r3\n  setclk res[r4], r5\n.data\n.cp\nend\n")
   pub least_line : answer check (lone (codes "foo r0\na: a:\n")) ≡ source_refused (codes "source 0 line 1: A2 unknown name\n")
   pub wrong_shape : answer check (lone (codes "add r0, r1\n")) ≡ source_refused (codes "source 0 line 1: A3 wrong operands\n")
   pub least_node : answer check (swapped (codes "nop\n\nbu gone\n") (codes "foo\n")) ≡ source_refused (codes "source 3 line 3: A6 label missing\n")

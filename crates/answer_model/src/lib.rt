@@ -7,6 +7,7 @@ ghost use Rattle.answer_model.specs.StatusNumber.{number_of_status, WorkedStatus
 ghost use Rattle.answer_model.specs.Worked.{WorkedAnswers, WorkedChecks};
 ghost use Rattle.answer_model.specs.WorkedEdges.{WorkedFrames, WorkedSources, WorkedRuns};
 ghost use Rattle.answer_model.specs.WorkedPairs.{WorkedPairs};
+ghost use Rattle.answer_model.specs.WorkedPins.{WorkedPins};
 ghost use Rattle.answer_model.specs.WorkedPrograms.{WorkedPrograms, WorkedCalls};
 
 use xs_base::Text;
@@ -70,6 +71,11 @@ pub fn worked_checks()
 /// The same at the frame of a system text.
 pub fn worked_frames()
     ensures { WorkedFrames }
+{}
+
+/// The same at a pin script.
+pub fn worked_pins()
+    ensures { WorkedPins }
 {}
 
 /// The same at the lines of a source.

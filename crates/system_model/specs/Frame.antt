@@ -1,4 +1,4 @@
--- The frame of a system text: all its lines but those of the sources. Each line is tested by what the lines before it
+-- The frame of a system text: all its lines but those of its sections. Each line is tested by what the lines before it
 -- have given, and the first line that has a fault refuses the text.
 use Rattle.std.specs.Prelude.{ℕ, ◌+◌, Bool, true, false, not, ◌&&◌, ◌||◌, ◌==◌, nat_le, nat_lt, if◌then◌else◌, Option, Some, None, option_map, option_to_list, List, [], ◌∷◌, ◌++◌, length, map, find}
 use Rattle.std.specs.List.{list_any, list_all}
@@ -8,37 +8,39 @@ use Rattle.system_model.specs.declared.SysKind.{SysKind}
 use Rattle.system_model.specs.declared.SysKind.TheVariants.{FirstLine, BadLine, GivenTwice, IdTwice, LinkEndTwice, LinkToItself, NumberOutOfRange, NodeWithoutSource, SectionNotEnded, BitTwice, NoSuchNode, TooMany}
 use Rattle.system_model.specs.declared.frame_line.EndName.{EndName}
 use Rattle.system_model.specs.declared.frame_line.FrameLine.{FrameLine}
-use Rattle.system_model.specs.declared.frame_line.FrameLine.TheVariants.{Node, Link, Bit, Source}
+use Rattle.system_model.specs.declared.frame_line.FrameLine.TheVariants.{Node, Link, Bit, Section}
 use Rattle.system_model.specs.declared.frame_line.GivenNode.{GivenNode}
 use Rattle.system_model.specs.declared.frame_line.LinkLine.{LinkLine}
+use Rattle.system_model.specs.declared.frame_line.SectionKind.{SectionKind}
+use Rattle.system_model.specs.declared.frame_line.SectionKind.TheVariants.{Source, Pins}
 use Rattle.system_model.specs.Bits.{BitRec}
 use Rattle.system_model.specs.FrameLines.{is_header, is_end, frame_line, are_numbers_in_range}
 
--- a source: the number of its node, the line that begins it, and its own lines
-pub record SourceText : Type 0 where
-  pub number : ℕ
+-- a section: what it holds, the line that begins it, and its own lines
+pub record SectionText : Type 0 where
+  pub kind : SectionKind
   pub line : ℕ
   pub lines : List (List ℕ)
 
 -- What the lines so far have given: whether one of them had words; the nodes, by ascending number; the links, the bits
--- and the sources that have ended, in the order of the lines; and the source that has not ended yet.
+-- and the sections that have ended, in the order of the lines; and the section that has not ended yet.
 pub record Given : Type 0 where
   pub begun : Bool
   pub nodes : List GivenNode
   pub links : List LinkLine
   pub bits : List BitRec
-  pub sources : List SourceText
-  pub reading : Option SourceText
+  pub sections : List SectionText
+  pub reading : Option SectionText
 
 abbrev pub nothing_given : Given
-nothing_given = record { begun = false; nodes = []; links = []; bits = []; sources = []; reading = None }
+nothing_given = record { begun = false; nodes = []; links = []; bits = []; sections = []; reading = None }
 
 -- What a line says
 
 pub data FrameSays : Type 0 where
-  -- it is a source's own
+  -- it is a section's own
   Own : FrameSays
-  -- it ends a source
+  -- it ends a section
   End : FrameSays
   -- it has no words
   Blank : FrameSays
@@ -55,15 +57,15 @@ abbrev pub says_form : Option FrameLine → FrameSays
 says_form None = NoForm
 says_form (Some form) = Form form
 
--- outside of the sources, by whether a line before it had words, and by its own words
+-- outside of the sections, by whether a line before it had words, and by its own words
 abbrev pub says_in_frame : Bool → List (List ℕ) → FrameSays
 says_in_frame begun [] = Blank
 says_in_frame false (w ∷ ws) = if is_header (w ∷ ws) then Header else NoHeader
 says_in_frame true (w ∷ ws) = says_form (frame_line (w ∷ ws))
 
-abbrev pub says_by : Bool → Option SourceText → List ℕ → FrameSays
+abbrev pub says_by : Bool → Option SectionText → List ℕ → FrameSays
 says_by begun None l = says_in_frame begun (words_of_line l)
-says_by begun (Some source) l = if is_end l then End else Own
+says_by begun (Some section) l = if is_end l then End else Own
 
 -- what a line says after what is given
 abbrev pub says : Given → List ℕ → FrameSays
@@ -85,15 +87,21 @@ has_link_end links name = list_any (λ (link : LinkLine). is_same_end link.a nam
 abbrev pub has_link_ends : List LinkLine → ℕ → List ℕ → Bool
 has_link_ends links node ends = list_all (λ end. has_link_end links (record { node = node; end = end })) ends
 
-abbrev pub has_source : List SourceText → ℕ → Bool
-has_source sources number = list_any (λ (source : SourceText). source.number == number) sources
+abbrev pub is_same_kind : SectionKind → SectionKind → Bool
+is_same_kind (Source m) (Source n) = m == n
+is_same_kind (Source m) Pins = false
+is_same_kind Pins (Source n) = false
+is_same_kind Pins Pins = true
+
+abbrev pub has_section : List SectionText → SectionKind → Bool
+has_section sections kind = list_any (λ (section : SectionText). is_same_kind section.kind kind) sections
 
 -- it is the first line with words, and is not `xs1 1`
 abbrev pub is_other_first_line : FrameSays → Bool
 is_other_first_line NoHeader = true
 is_other_first_line _ = false
 
--- the frame looks at each line but a source's own
+-- the frame looks at each line but a section's own
 abbrev pub is_of_the_frame : FrameSays → Bool
 is_of_the_frame Own = false
 is_of_the_frame _ = true
@@ -110,13 +118,13 @@ has_frame_number_out_of_range _ = false
 abbrev pub names_none : Given → FrameSays → Bool
 names_none given (Form (Link link)) = not (has_node given.nodes link.a.node && has_node given.nodes link.b.node)
 names_none given (Form (Bit bit)) = not (has_node given.nodes bit.node && has_link_ends given.links bit.node bit.ends)
-names_none given (Form (Source n)) = not (has_node given.nodes n)
+names_none given (Form (Section (Source n))) = not (has_node given.nodes n)
 names_none given _ = false
 
--- it gives the number of a node, or the source of a node, once more
+-- it gives the number of a node, the source of a node, or the pin script once more
 abbrev pub is_given_twice : Given → FrameSays → Bool
 is_given_twice given (Form (Node node)) = has_node given.nodes node.number
-is_given_twice given (Form (Source n)) = has_source given.sources n
+is_given_twice given (Form (Section kind)) = has_section given.sections kind
 is_given_twice given _ = false
 
 abbrev pub is_id_twice : Given → FrameSays → Bool
@@ -197,20 +205,20 @@ abbrev pub put_by_number : GivenNode → List GivenNode → List GivenNode
 put_by_number node [] = node ∷ []
 put_by_number node (n ∷ nodes) = if nat_lt n.number node.number then n ∷ put_by_number node nodes else node ∷ (n ∷ nodes)
 
-abbrev pub with_own_line : List ℕ → SourceText → SourceText
-with_own_line l source = record source { lines = source.lines ++ l ∷ [] }
+abbrev pub with_own_line : List ℕ → SectionText → SectionText
+with_own_line l section = record section { lines = section.lines ++ l ∷ [] }
 
 -- what is given after line n
 abbrev pub given_with : ℕ → List ℕ → FrameSays → Given → Given
 given_with n l Own given = record given { reading = option_map (with_own_line l) given.reading }
-given_with n l End given = record given { sources = given.sources ++ option_to_list given.reading; reading = None }
+given_with n l End given = record given { sections = given.sections ++ option_to_list given.reading; reading = None }
 given_with n l Header given = record given { begun = true }
 given_with n l (Form (Node node)) given =
     record given { nodes = put_by_number (record { line = n; number = node.number; id = node.id }) given.nodes }
 given_with n l (Form (Link link)) given = record given { links = given.links ++ link ∷ [] }
 given_with n l (Form (Bit bit)) given = record given { bits = given.bits ++ bit ∷ [] }
-given_with n l (Form (Source number)) given =
-    record given { reading = Some (record { number = number; line = n; lines = [] }) }
+given_with n l (Form (Section kind)) given =
+    record given { reading = Some (record { kind = kind; line = n; lines = [] }) }
 given_with n l _ given = given
 
 abbrev pub given_after : ℕ → List ℕ → Given → Given
@@ -225,15 +233,15 @@ pub data Framed : Type 0 where
 
 -- the first node that has no source
 abbrev pub without_source : Given → Option GivenNode
-without_source given = find (λ (node : GivenNode). not (has_source given.sources node.number)) given.nodes
+without_source given = find (λ (node : GivenNode). not (has_section given.sections (Source node.number))) given.nodes
 
 abbrev pub whole_but_for : Option GivenNode → Given → Framed
 whole_but_for None given = Whole given
 whole_but_for (Some node) given = Refused node.line NodeWithoutSource
 
--- the end of the text: no source may be without an end, and no node without a source
-abbrev pub at_the_end : Given → Option SourceText → Framed
-at_the_end given (Some source) = Refused source.line SectionNotEnded
+-- the end of the text: no section may be without an end, and no node without a source
+abbrev pub at_the_end : Given → Option SectionText → Framed
+at_the_end given (Some section) = Refused section.line SectionNotEnded
 at_the_end given None = whole_but_for (without_source given) given
 
 -- line n and those after it, by its fault

@@ -1,5 +1,5 @@
--- The forms of the lines of a frame, by their words. Numbers are taken however great they are. The sections `pins` and `play`
--- are not built yet, and their lines have no form.
+-- The forms of the lines of a frame, by their words. Numbers are taken however great they are. The section `play` is not
+-- built yet, and its lines have no form.
 use Rattle.std.specs.Prelude.{ℕ, ◌+◌, Bool, true, false, not, ◌&&◌, ◌==◌, nat_le, if◌then◌else◌, Option, Some, None, option_map, option_and_then, List, [], ◌∷◌, length, take, drop, codes}
 use Rattle.std.specs.List.{prefix_len, list_all}
 use Rattle.xs_text.specs.Numbers.{number_of}
@@ -7,9 +7,11 @@ use Rattle.xs_text.specs.Words.{words_of_line}
 use Rattle.xs_instructions.specs.Image.{same_name}
 use Rattle.system_model.specs.declared.frame_line.EndName.{EndName}
 use Rattle.system_model.specs.declared.frame_line.FrameLine.{FrameLine}
-use Rattle.system_model.specs.declared.frame_line.FrameLine.TheVariants.{Node, Link, Bit, Source}
+use Rattle.system_model.specs.declared.frame_line.FrameLine.TheVariants.{Node, Link, Bit, Section}
 use Rattle.system_model.specs.declared.frame_line.LinkLine.{LinkLine}
 use Rattle.system_model.specs.declared.frame_line.NodeLine.{NodeLine}
+use Rattle.system_model.specs.declared.frame_line.SectionKind.{SectionKind}
+use Rattle.system_model.specs.declared.frame_line.SectionKind.TheVariants.{Source, Pins}
 use Rattle.system_model.specs.Bits.{BitRec}
 
 infixl 10 ◌>>=◌
@@ -72,10 +74,11 @@ bit_line (k ∷ n ∷ b ∷ e ∷ more) =
     else None
 bit_line _ = None
 
--- `source N`
-unfoldable pub source_line : List (List ℕ) → Option ℕ
-source_line (a ∷ n ∷ []) = if same_name (codes "source") a then number_of n else None
-source_line _ = None
+-- `pins`, and `source N`
+unfoldable pub section_line : List (List ℕ) → Option SectionKind
+section_line (a ∷ []) = if same_name (codes "pins") a then Some Pins else None
+section_line (a ∷ n ∷ []) = if same_name (codes "source") a then option_map Source (number_of n) else None
+section_line _ = None
 
 abbrev pub or_line : Option FrameLine → Option FrameLine → Option FrameLine
 or_line (Some l) other = Some l
@@ -85,7 +88,7 @@ or_line None other = other
 unfoldable pub frame_line : List (List ℕ) → Option FrameLine
 frame_line words =
     or_line (option_map Node (node_line words))
-    (or_line (option_map Link (link_line words)) (or_line (option_map Bit (bit_line words)) (option_map Source (source_line words))))
+    (or_line (option_map Link (link_line words)) (or_line (option_map Bit (bit_line words)) (option_map Section (section_line words))))
 
 abbrev pub is_between : ℕ → ℕ → ℕ → Bool
 is_between least most n = nat_le least n && nat_le n most
@@ -106,4 +109,5 @@ are_numbers_in_range (Node node) = is_node_number node.number && nat_le node.id 
 are_numbers_in_range (Link link) =
     is_end_in_range link.a && (is_end_in_range link.b && (is_between 1 1000 link.delay && is_between 4 1000 link.gap))
 are_numbers_in_range (Bit bit) = is_node_number bit.node && (nat_le bit.bit 15 && list_all is_end_number bit.ends)
-are_numbers_in_range (Source n) = is_node_number n
+are_numbers_in_range (Section (Source n)) = is_node_number n
+are_numbers_in_range (Section Pins) = true

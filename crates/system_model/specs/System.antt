@@ -5,6 +5,9 @@ use Rattle.xs_base.specs.declared.numbers.TheConstants.{LINK_ENDS}
 use Rattle.xs_text.specs.Lines.{lines_of}
 use Rattle.source_model.specs.Source.{Assembled, Image, Fault, assembled_lines}
 use Rattle.source_model.specs.declared.AsmKind.{AsmKind}
+use Rattle.pin_scripts.specs.declared.pin_error.PinKind.{PinKind}
+use Rattle.pin_scripts.specs.Pins.{PinsRead, pins_of}
+use Rattle.pin_scripts.specs.Pins as pins
 use Rattle.sys_plan.specs.Plan.{PlanRec}
 use Rattle.sys_plan.specs.declared.LinkPlan.{LinkPlan}
 use Rattle.sys_plan.specs.declared.NodePlan.{NodePlan}
@@ -12,8 +15,10 @@ use Rattle.system_model.specs.declared.SysKind.{SysKind}
 use Rattle.system_model.specs.declared.SysKind.TheVariants.{TooLong}
 use Rattle.system_model.specs.declared.frame_line.GivenNode.{GivenNode}
 use Rattle.system_model.specs.declared.frame_line.LinkLine.{LinkLine}
+use Rattle.system_model.specs.declared.frame_line.SectionKind.{SectionKind}
+use Rattle.system_model.specs.declared.frame_line.SectionKind.TheVariants as section
 use Rattle.system_model.specs.Bits.{BitRec}
-use Rattle.system_model.specs.Frame.{SourceText, Given, Framed, Whole, Refused, framed}
+use Rattle.system_model.specs.Frame.{SectionText, Given, Framed, Whole, Refused, framed, is_same_kind}
 
 -- what a system text stands for
 pub data System : Type 0 where
@@ -22,6 +27,8 @@ pub data System : Type 0 where
   Frame : (line : ℕ) (kind : SysKind) → System
   -- the source of a node is refused: the node's number, the line of its source, counted from 1, and why
   Source : (node line : ℕ) (kind : AsmKind) → System
+  -- the pin script is refused: its line, counted from 1, and why
+  Pins : (line : ℕ) (kind : PinKind) → System
 
 -- the link ends by which a node sends what differs from its id at a bit first: those of the line of the bit
 abbrev pub ends_for : List BitRec → ℕ → ℕ → List ℕ
@@ -43,10 +50,10 @@ id_bits = 0 ∷ 1 ∷ 2 ∷ 3 ∷ 4 ∷ 5 ∷ 6 ∷ 7 ∷ 8 ∷ 9 ∷ 10 ∷ 11 
 abbrev pub ways_of : List BitRec → ℕ → List ℕ
 ways_of bits number = map (way bits number) id_bits
 
--- the lines of a node's source
-abbrev pub source_of : List SourceText → ℕ → List (List ℕ)
-source_of [] number = []
-source_of (source ∷ sources) number = if source.number == number then source.lines else source_of sources number
+-- the lines of the section that holds this, none where there is no such section
+abbrev pub section_lines : List SectionText → SectionKind → List (List ℕ)
+section_lines [] kind = []
+section_lines (s ∷ sections) kind = if is_same_kind s.kind kind then s.lines else section_lines sections kind
 
 -- the refusal of a node's source
 pub record SourceFault : Type 0 where
@@ -66,10 +73,10 @@ plan_before (Ok plan) (Err fault) = Err fault
 plan_before (Ok plan) (Ok plans) = Ok (plan ∷ plans)
 
 -- the plans of nodes, or the refusal of the first source that is refused
-unfoldable pub node_plans : List BitRec → List SourceText → List GivenNode → Result (List NodePlan) SourceFault
-node_plans bits sources [] = Ok []
-node_plans bits sources (node ∷ nodes) =
-    plan_before (planned bits node (assembled_lines (source_of sources node.number))) (node_plans bits sources nodes)
+unfoldable pub node_plans : List BitRec → List SectionText → List GivenNode → Result (List NodePlan) SourceFault
+node_plans bits sections [] = Ok []
+node_plans bits sections (node ∷ nodes) =
+    plan_before (planned bits node (assembled_lines (section_lines sections (section.Source node.number)))) (node_plans bits sections nodes)
 
 -- where a node stands among nodes by ascending number: so many have a lesser one
 abbrev pub position_by_number : List GivenNode → ℕ → ℕ
@@ -85,14 +92,24 @@ link_plan nodes link = record {
   gap = link.gap;
 }
 
-abbrev pub plan_with : List LinkPlan → Result (List NodePlan) SourceFault → System
-plan_with links (Err fault) = Source fault.node fault.line fault.kind
-plan_with links (Ok plans) = Plan (record { nodes = plans; links = links })
+-- what the pin script stands for, over the numbers of all nodes; where there is none it has no line
+abbrev pub script_of : Given → PinsRead
+script_of given = pins_of (map (λ (node : GivenNode). node.number) given.nodes) (section_lines given.sections section.Pins)
+
+-- the plan with a script, or the refusal of the script
+abbrev pub plan_by : List NodePlan → List LinkPlan → PinsRead → System
+plan_by nodes links (pins.Script script) = Plan (record { nodes = nodes; links = links; script = script })
+plan_by nodes links (pins.Fault line kind) = Pins line kind
+
+-- a source that is refused comes before the script
+abbrev pub plan_with : List LinkPlan → PinsRead → Result (List NodePlan) SourceFault → System
+plan_with links script (Err fault) = Source fault.node fault.line fault.kind
+plan_with links script (Ok plans) = plan_by plans links script
 
 -- the plan of a frame
 abbrev pub plan_of_frame : Given → System
 plan_of_frame given =
-    plan_with (map (link_plan given.nodes) given.links) (node_plans given.bits given.sources given.nodes)
+    plan_with (map (link_plan given.nodes) given.links) (script_of given) (node_plans given.bits given.sections given.nodes)
 
 abbrev pub plan_of : Framed → System
 plan_of (Refused line kind) = Frame line kind

@@ -6,6 +6,7 @@ use Rattle.xs_instructions.specs.Image.{ImageRec}
 use Rattle.sys_plan.specs.Plan.{PlanRec}
 use Rattle.system_model.specs.declared.SysKind.{SysKind}
 use Rattle.system_model.specs.declared.SysKind.TheVariants.{FirstLine, BadLine, GivenTwice, IdTwice, LinkEndTwice, LinkToItself, NumberOutOfRange, NodeWithoutSource, SectionNotEnded, TooLong, BitTwice, NoSuchNode, TooMany}
+use Rattle.system_model.specs.declared.frame_line.SectionKind.TheVariants as section
 use Rattle.system_model.specs.Frame.{Framed, Whole, framed}
 use Rattle.system_model.specs.System.{Plan, Frame, plan_of, system_of}
 
@@ -61,7 +62,6 @@ bad_lines =
     ∷ (codes "xs1 1\n\n# " ++ (127 ∷ codes "\n"), 3, BadLine)
     ∷ (codes "xs1 1\nxs1 1\n", 2, BadLine)
     ∷ (codes "xs1 1\nend\n", 2, BadLine)
-    ∷ (codes "xs1 1\npins\nend\n", 2, BadLine)
     ∷ (codes "xs1 1\nplay\nfoo\nend\n", 2, BadLine)
     ∷ (codes "xs1 1\nnode\n", 2, BadLine)
     ∷ (codes "xs1 1\nnode 0 id\n", 2, BadLine)
@@ -184,6 +184,31 @@ twice =
     ∷ (linked (codes "bit 7 0 0\nbit 3 0 0\nbit 0x7 0x0 0\n"), 7, BitTwice)
     ∷ []
 
+-- the section of the pin script
+abbrev pub of_pins : Refusals
+of_pins =
+    (codes "xs1 1\npins 0\nend\n", 2, BadLine)
+    ∷ (codes "xs1 1\npins x\nend\n", 2, BadLine)
+    ∷ (codes "xs1 1\nPins\nend\n", 2, BadLine)
+    ∷ (codes "xs1 1\npins # " ++ (1 ∷ codes "\nend\n"), 2, BadLine)
+    -- the line that ends it, and those after it
+    ∷ (codes "xs1 1\npins\nfoo\nend # " ++ (1 ∷ codes "\n"), 4, BadLine)
+    ∷ (codes "xs1 1\npins\nend\nend\n", 4, BadLine)
+    ∷ (codes "xs1 1\npins\nend\nplay\nend\n", 4, BadLine)
+    -- the second one, at its first line, whatever the lines of the first one and of its own are
+    ∷ (codes "xs1 1\npins\nend\npins\nend\n", 4, GivenTwice)
+    ∷ (codes "xs1 1\npins\nfoo\n" ++ (1 ∷ codes "\nend # x\n  pins//\n"), 6, GivenTwice)
+    -- what stands in a source is the source's own, so the third one here is the second
+    ∷ (codes "xs1 1\nnode 0 id 0\nsource 0\npins\nend\npins\nend\npins\n", 8, GivenTwice)
+    -- it has no end
+    ∷ (codes "xs1 1\npins\n", 2, SectionNotEnded)
+    ∷ (codes "xs1 1\nnode 0 id 0\npins\nend:\nend 0\n5 0:4A 1\n", 3, SectionNotEnded)
+    ∷ (codes "xs1 1\npins\nend\r", 2, SectionNotEnded)
+    -- what stands in it is its own, also `source 0`
+    ∷ (codes "xs1 1\nnode 0 id 0\npins\nsource 0\nend\n", 2, NodeWithoutSource)
+    ∷ (codes "xs1 1\nnode 0 id 0\npins\npins\nxs1 1\n" ++ (1 ∷ codes "\nend\nfoo\n"), 8, BadLine)
+    ∷ []
+
 -- sixteen nodes
 abbrev pub sixteen : List ℕ
 sixteen =
@@ -253,6 +278,7 @@ pub record WorkedRefusals : Type 0 where
   pub wide : AreRefused wide_numbers
   pub none : AreRefused missing
   pub again : AreRefused twice
+  pub pins : AreRefused of_pins
   pub too_many : AreRefused many
   pub too_many_links : AreRefused many_links
   pub at_the_end : AreRefused ends
@@ -281,9 +307,9 @@ mixed_frame = Whole (record {
       ∷ record { node = 7; bit = 0; ends = 7 ∷ 0 ∷ [] }
       ∷ record { node = 3; bit = 15; ends = 0 ∷ [] }
       ∷ [];
-  sources =
-      record { number = 7; line = 5; lines = codes "end:" ∷ codes " pins" ∷ codes "xs1 1" ∷ [] }
-      ∷ record { number = 3; line = 13; lines = [] }
+  sections =
+      record { kind = section.Source 7; line = 5; lines = codes "end:" ∷ codes " pins" ∷ codes "xs1 1" ∷ [] }
+      ∷ record { kind = section.Source 3; line = 13; lines = [] }
       ∷ [];
   reading = None;
 })
@@ -304,6 +330,7 @@ plan_of_3_and_7 = record {
       ∷ record { number = 7; id = 1; image = empty_image; ways = replicate 15 0 ++ 1 ∷ [] }
       ∷ [];
   links = record { a = 1; a_end = 0; b = 0; b_end = 0; delay = 5; gap = 4 } ∷ [];
+  script = [];
 }
 
 -- a line of three nodes whose numbers do not rise with their place in it; node 5 has two ways for bit 1
@@ -324,6 +351,7 @@ plan_of_three = record {
       ∷ record { a = 2; a_end = 0; b = 1; b_end = 3; delay = 5; gap = 9 }
       ∷ record { a = 1; a_end = 4; b = 0; b_end = 0; delay = 6; gap = 5 }
       ∷ [];
+  script = [];
 }
 
 -- two nodes with eight links between them, all of them for a bit at one and one for each of two bits at the other
@@ -339,6 +367,7 @@ plan_of_eight = record {
       ∷ [];
   links =
       map (λ end. record { a = 0; a_end = end; b = 1; b_end = end; delay = 5; gap = 4 }) (0 ∷ 1 ∷ 2 ∷ 3 ∷ 4 ∷ 5 ∷ 6 ∷ 7 ∷ []);
+  script = [];
 }
 
 -- two nodes that no link joins, at the edges of their numbers
@@ -349,6 +378,7 @@ plan_of_0_and_99 = record {
       ∷ record { number = 99; id = 0; image = empty_image; ways = replicate 16 0 }
       ∷ [];
   links = [];
+  script = [];
 }
 
 pub record WorkedPlans : Type 0 where
@@ -358,7 +388,7 @@ pub record WorkedPlans : Type 0 where
   pub three : system_of line_of_three ≡ Plan plan_of_three
   pub eight : system_of eight_between ≡ Plan plan_of_eight
   pub edges : system_of (codes "xs1 1\nnode 99 id 0\nnode 0 id 65535\nsource 99\nend\nsource 0\nend\n") ≡ Plan plan_of_0_and_99
-  pub no_node : system_of (codes "xs1 1") ≡ Plan (record { nodes = []; links = [] })
+  pub no_node : system_of (codes "xs1 1") ≡ Plan (record { nodes = []; links = []; script = [] })
 
 -- the longest input stands for what its lines say, and one byte more is too long, whatever the bytes
 pub record WorkedLength : Type 0 where

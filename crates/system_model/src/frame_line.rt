@@ -41,6 +41,15 @@ impl Model for BitLine {
     ghost view = { λ line. record { node = line.node; bit = line.bit; ends = line.ends.items } };
 }
 
+/// What a section of a system text holds. See docs/SYSTEM_TEXT.md.
+#[derive(Clone, Copy)]
+pub enum SectionKind {
+    /// The source of the node with this number, 0 to 99.
+    Source(u8),
+    /// The pin script.
+    Pins,
+}
+
 /// A line of the frame of a system text, but for the first. See docs/SYSTEM_TEXT.md.
 #[derive(Drop)]
 pub enum FrameLine {
@@ -50,8 +59,8 @@ pub enum FrameLine {
     Link(LinkLine),
     /// `bit N B E`, with up to seven more link ends.
     Bit(BitLine),
-    /// `source N`: it begins the source of the node with this number.
-    Source(u8),
+    /// `source N` or `pins`: it begins a section.
+    Section(SectionKind),
 }
 
 /// A node as a system text gives it: the number of its line, counted from 1, and what that line says.

@@ -2,13 +2,14 @@
 //! docs/SYSTEM_TEXT.md.
 #![tactic(auto)]
 
+ghost use Rattle.system_model.specs.WorkedPins.{WorkedPlansWithPins, WorkedPinRefusals};
 ghost use Rattle.system_model.specs.WorkedPlans.{WorkedRefusals, WorkedPlans, WorkedLength};
 
 mod first_fault;
 mod frame_line;
 
 pub use first_fault::least_faulty_line_decides;
-pub use frame_line::{BitLine, EndName, FrameLine, GivenNode, LinkLine, NodeLine};
+pub use frame_line::{BitLine, EndName, FrameLine, GivenNode, LinkLine, NodeLine, SectionKind};
 
 /// Why the frame of a system text is refused. See docs/SYSTEM_TEXT.md.
 #[derive(Clone, Copy, PartialEq, Eq, Debug)]
@@ -17,7 +18,7 @@ pub enum SysKind {
     FirstLine,
     /// S2: a line that has no known form, or a byte that is not allowed.
     BadLine,
-    /// S3: a node's number or a node's source is given twice.
+    /// S3: a node's number, a node's source or `pins` is given twice.
     GivenTwice,
     /// S4: two nodes have one id.
     IdTwice,
@@ -47,4 +48,10 @@ pub fn worked_systems_read()
     ensures refusals { WorkedRefusals }
     ensures systems { WorkedPlans }
     ensures length { WorkedLength }
+{}
+
+/// The same of systems with a pin script.
+pub fn worked_pins_read()
+    ensures systems { WorkedPlansWithPins }
+    ensures refusals { WorkedPinRefusals }
 {}

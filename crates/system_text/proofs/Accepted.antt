@@ -9,12 +9,12 @@ use Rattle.system_model.specs.declared.SysKind.{SysKind}
 use Rattle.system_model.specs.declared.SysKind.TheVariants.{FirstLine, BadLine, GivenTwice, IdTwice, LinkEndTwice, LinkToItself, NumberOutOfRange, BitTwice, NoSuchNode, TooMany}
 use Rattle.system_model.specs.declared.frame_line.EndName.{EndName}
 use Rattle.system_model.specs.declared.frame_line.FrameLine.{FrameLine}
-use Rattle.system_model.specs.declared.frame_line.FrameLine.TheVariants.{Node, Link, Bit, Source}
+use Rattle.system_model.specs.declared.frame_line.FrameLine.TheVariants.{Node, Link, Bit, Section}
 use Rattle.system_model.specs.declared.frame_line.GivenNode.{GivenNode}
 use Rattle.system_model.specs.declared.frame_line.LinkLine.{LinkLine}
 use Rattle.system_model.specs.Bits.{BitRec}
 use Rattle.system_model.specs.FrameLines.{are_numbers_in_range, is_node_number, is_end_number, is_end_in_range, is_between}
-use Rattle.system_model.specs.Frame.{SourceText, Given, FrameSays, Own, End, Blank, Header, NoHeader, NoForm, Form, says, names_none, is_given_twice, is_id_twice, is_link_to_itself, is_link_end_twice, is_bit_twice, is_too_many, fault_of, first_that_holds, given_with, given_after, put_by_number, has_node, has_link_end, has_link_ends, is_same_end, unless_faulty, at_the_end, whole_but_for, without_source, Framed, Whole, Refused, frame_from, framed, nothing_given, have_no_words}
+use Rattle.system_model.specs.Frame.{SectionText, Given, FrameSays, Own, End, Blank, Header, NoHeader, NoForm, Form, says, names_none, is_given_twice, is_id_twice, is_link_to_itself, is_link_end_twice, is_bit_twice, is_too_many, fault_of, first_that_holds, given_with, given_after, put_by_number, has_node, has_link_end, has_link_ends, is_same_end, unless_faulty, at_the_end, whole_but_for, without_source, Framed, Whole, Refused, frame_from, framed, nothing_given, have_no_words}
 use Rattle.system_text.specs.Accepted.{IsLinkOf, ends_of, AreAccepted, IsAccepted}
 use Rattle.system_text.proofs.Judged.{fault_by}
 use Rattle.system_text.proofs.Walk.{from-cons, from-end, framed_is}
@@ -347,7 +347,7 @@ form_keeps n l (Node node) given p k =
     (at_most node.number 99 (both (is_node_number node.number) (nat_le node.id 65535) p.ranged).0) p.new p.new_id k
 form_keeps n l (Link link) given p k = with_link given.nodes given.links link given.bits p.few (link_of given.nodes link p.ranged p.known p.apart) p.new_ends k
 form_keeps n l (Bit bit) given p k = with_bit given.nodes given.links given.bits bit p.known k
-form_keeps n l (Source number) given p k = k
+form_keeps n l (Section kind) given p k = k
 
 line_keeps : (n : ℕ) (l : List ℕ) (what : FrameSays) (given : Given) (allowed : Bool) → fault_by given allowed what ≡ None → IsAccepted given → IsAccepted (given_with n l what given)
 line_keeps n l Own given allowed e k = k
@@ -362,9 +362,9 @@ found_whole : (o : Option GivenNode) (given whole : Given) → whole_but_for o g
 found_whole None given whole e = cc
 found_whole (Some node) given whole e = absurd cc
 
-end_whole : (reading : Option SourceText) (given whole : Given) → at_the_end given reading ≡ Whole whole → given ≡ whole
+end_whole : (reading : Option SectionText) (given whole : Given) → at_the_end given reading ≡ Whole whole → given ≡ whole
 end_whole None given whole e = found_whole (without_source given) given whole e
-end_whole (Some source) given whole e = absurd cc
+end_whole (Some section) given whole e = absurd cc
 
 unless_whole : (fault : Option SysKind) (n : ℕ) (rest : Framed) (whole : Given) → unless_faulty fault n rest ≡ Whole whole → (fault ≡ None) × (rest ≡ Whole whole)
 unless_whole None n rest whole e = (refl, e)

@@ -8,10 +8,12 @@ use Rattle.system_model.specs.declared.SysKind.{SysKind}
 use Rattle.system_model.specs.declared.SysKind.TheVariants.{BadLine}
 use Rattle.system_model.specs.declared.frame_line.EndName.{EndName}
 use Rattle.system_model.specs.declared.frame_line.FrameLine.{FrameLine}
-use Rattle.system_model.specs.declared.frame_line.FrameLine.TheVariants.{Node, Link, Source}
+use Rattle.system_model.specs.declared.frame_line.FrameLine.TheVariants.{Node, Link, Section}
 use Rattle.system_model.specs.declared.frame_line.LinkLine.{LinkLine}
 use Rattle.system_model.specs.declared.frame_line.NodeLine.{NodeLine}
-use Rattle.system_model.specs.FrameLines.{◌>>=◌, node_line, link_line, source_line, end_name, before_colon, is_between, is_end_in_range}
+use Rattle.system_model.specs.declared.frame_line.SectionKind.{SectionKind}
+use Rattle.system_model.specs.declared.frame_line.SectionKind.TheVariants.{Source, Pins}
+use Rattle.system_model.specs.FrameLines.{◌>>=◌, node_line, link_line, section_line, end_name, before_colon, is_between, is_end_in_range}
 use Rattle.system_text.specs.declared.frame_lines.NamedEnd.{NamedEnd}
 use Rattle.system_text.specs.declared.words.Word.{Word}
 use Rattle.system_text.specs.Forms.{ranged, or_bad, formed, capped, capped_end, is_in_range, end_of}
@@ -99,32 +101,46 @@ node_not (a ∷ b ∷ []) h k e = refl
 node_not (a ∷ b ∷ c ∷ []) h k e = rw e refl
 node_not (a ∷ b ∷ c ∷ d ∷ words) h k e = refl
 
--- Sources
+-- Sections
 
-pub source_other : (words : List Word) → (length words ≡ 1 → ⊥) → Err BadLine ≡ formed (option_map (λ (n : ℕ). Source n) (source_line (codes "source" ∷ bytes_of words)))
-unfolding source_line
+abbrev pub section_formed : Option SectionKind → Result FrameLine SysKind
+section_formed o = formed (option_map (λ (kind : SectionKind). Section kind) o)
+
+pub source_other : (words : List Word) → (length words ≡ 1 → ⊥) → Err BadLine ≡ section_formed (section_line (codes "source" ∷ bytes_of words))
+unfolding section_line
 source_other [] h = refl
 source_other (a ∷ []) h = absurd (h refl)
 source_other (a ∷ b ∷ words) h = refl
 
 abbrev pub source_ranged : ℕ → Result FrameLine SysKind
-source_ranged n = chain (ranged (nat_le n 99) n) (λ m. Ok (Source m))
+source_ranged n = chain (ranged (nat_le n 99) n) (λ m. Ok (Section (Source m)))
 
-one_ranged : (b : Bool) (n : ℕ) → ranged b (Source n) ≡ chain (ranged b n) (λ m. Ok (Source m))
+one_ranged : (b : Bool) (n : ℕ) → ranged b (Section (Source n)) ≡ chain (ranged b n) (λ m. Ok (Section (Source m)))
 one_ranged true n = refl
 one_ranged false n = refl
 
-source_steps : (p : Option ℕ) → formed (option_map (λ (n : ℕ). Source n) p) ≡ chain (read p) (λ n. source_ranged n)
+source_steps : (p : Option ℕ) → section_formed (option_map (λ (n : ℕ). Source n) p) ≡ chain (read p) (λ n. source_ranged n)
 source_steps None = refl
 source_steps (Some n) = rw (up_to_capped 99 n (omega arith)) (one_ranged (nat_le n 99) n)
 
 pub source_is : (words : List Word) → 1 ≤ length words → length words < 2
-    → formed (option_map (λ (n : ℕ). Source n) (source_line (codes "source" ∷ bytes_of words))) ≡ chain (read (number_of (word_at words 0)))
+    → section_formed (section_line (codes "source" ∷ bytes_of words)) ≡ chain (read (number_of (word_at words 0)))
     (λ n. source_ranged n)
-unfolding source_line
+unfolding section_line
 source_is [] h k = absurd (omega (arith, h))
 source_is (a ∷ []) h k = source_steps (number_of a.bytes.now)
 source_is (a ∷ b ∷ words) h k = absurd (omega (arith, k))
+
+pub pins_is : (words : List Word) → length words ≡ 0 → Ok (Section Pins) ≡ section_formed (section_line (codes "pins" ∷ bytes_of words))
+unfolding section_line
+pins_is [] e = refl
+pins_is (a ∷ words) e = absurd (omega (arith, e))
+
+pub pins_other : (words : List Word) → (length words ≡ 0 → ⊥) → Err BadLine ≡ section_formed (section_line (codes "pins" ∷ bytes_of words))
+unfolding section_line
+pins_other [] h = absurd (h refl)
+pins_other (a ∷ []) h = refl
+pins_other (a ∷ b ∷ words) h = refl
 
 -- The names of link ends
 

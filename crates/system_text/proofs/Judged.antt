@@ -8,11 +8,12 @@ use Rattle.xs_text.specs.Words.{words_of_line}
 use Rattle.system_model.specs.declared.SysKind.{SysKind}
 use Rattle.system_model.specs.declared.SysKind.TheVariants.{FirstLine, BadLine, NumberOutOfRange}
 use Rattle.system_model.specs.declared.frame_line.FrameLine.{FrameLine}
-use Rattle.system_model.specs.declared.frame_line.FrameLine.TheVariants.{Node, Link, Bit, Source}
+use Rattle.system_model.specs.declared.frame_line.FrameLine.TheVariants.{Node, Link, Bit, Section}
 use Rattle.system_model.specs.declared.frame_line.GivenNode.{GivenNode}
+use Rattle.system_model.specs.declared.frame_line.SectionKind.{SectionKind}
 use Rattle.system_model.specs.FrameLines.{is_header, frame_line, are_numbers_in_range}
-use Rattle.system_model.specs.Frame.{SourceText, Given, FrameSays, Blank, Header, NoHeader, Form, says_in_frame, says_by, says_form, says, is_empty, fault_of, first_that_holds, tests, put_by_number}
-use Rattle.system_model.specs.System.{source_of}
+use Rattle.system_model.specs.Frame.{SectionText, Given, FrameSays, Blank, Header, NoHeader, Form, says_in_frame, says_by, says_form, says, is_empty, fault_of, first_that_holds, tests, put_by_number}
+use Rattle.system_model.specs.System.{section_lines}
 use Rattle.system_text.specs.Forms.{ranged, formed}
 use Rattle.system_text.specs.Judged.{later_fault}
 use Rattle.system_text.proofs.Lists.{none_left}
@@ -92,7 +93,7 @@ bad_form given None = refl
 bad_form given (Some (Node node)) = refl
 bad_form given (Some (Link link)) = refl
 bad_form given (Some (Bit bit)) = refl
-bad_form given (Some (Source n)) = refl
+bad_form given (Some (Section kind)) = refl
 
 pub form_not_allowed : (given : Given) (l : List ℕ) → given.begun ≡ true → given.reading ≡ None → is_empty (words_of_line l) ≡ false → all_allowed l ≡ false → fault_of given l ≡ Some BadLine
 form_not_allowed given l b r e a = fault_is given l false _ a (form_said given l b r e) ∙ bad_form given (frame_line (words_of_line l))
@@ -146,6 +147,6 @@ lines_of-none : lines_of [] ≡ []
 unfolding lines_of
 lines_of-none = refl
 
--- no source is left to be looked at
-pub no_source_left : {X : Type 0} (f : X → SourceText) (xs : List X) (i number : ℕ) → length xs ≤ i → lines_of [] ≡ source_of (map f (drop i xs)) number
-no_source_left f xs i number h = lines_of-none ∙ sym (ap (λ ys. source_of (map f ys) number) (none_left xs i h))
+-- no section is left to be looked at
+pub no_section_left : {X : Type 0} (f : X → SectionText) (xs : List X) (i : ℕ) (kind : SectionKind) → length xs ≤ i → lines_of [] ≡ section_lines (map f (drop i xs)) kind
+no_section_left f xs i kind h = lines_of-none ∙ sym (ap (λ ys. section_lines (map f ys) kind) (none_left xs i h))

@@ -3,15 +3,18 @@ use Rattle.std.proofs.Common.{◌≡◌, ℕ, suc, ◌+◌, ◌<◌, ◌≤◌, 
 use Rattle.std.specs.Prelude.{◌≢◌}
 use Rattle.std.specs.List.{AllByRecursion}
 use Rattle.source_model.specs.Source.{Assembled, Image, Fault, assembled_lines}
+use Rattle.pin_scripts.specs.declared.line.PinLine.{PinLine}
+use Rattle.pin_scripts.specs.Script.{IsScript, IsOfNodes}
 use Rattle.sys_plan.specs.Plan.{PlanRec, IsPlan, IsLink, AllWaysLead, WaysLead, AreDistinct, AreAscending, places_of}
 use Rattle.sys_plan.specs.declared.LinkPlan.{LinkPlan}
 use Rattle.sys_plan.specs.declared.NodePlan.{NodePlan}
 use Rattle.system_model.specs.declared.frame_line.EndName.{EndName}
 use Rattle.system_model.specs.declared.frame_line.GivenNode.{GivenNode}
 use Rattle.system_model.specs.declared.frame_line.LinkLine.{LinkLine}
+use Rattle.system_model.specs.declared.frame_line.SectionKind.TheVariants as section
 use Rattle.system_model.specs.Bits.{BitRec}
-use Rattle.system_model.specs.Frame.{SourceText, Given, has_node}
-use Rattle.system_model.specs.System.{SourceFault, planned, plan_before, source_of, node_plans, link_plan, position_by_number, ways_of}
+use Rattle.system_model.specs.Frame.{SectionText, Given, has_node}
+use Rattle.system_model.specs.System.{SourceFault, planned, plan_before, section_lines, node_plans, link_plan, position_by_number, ways_of}
 use Rattle.system_text.specs.Accepted.{IsLinkOf, AreAccepted, IsAccepted, ends_of}
 use Rattle.system_text.proofs.Places.{Stand, stand, within, same_number}
 use Rattle.system_text.proofs.Plans.{node_plans-cons, node_plans-none}
@@ -46,15 +49,15 @@ plans_by bits node nodes (Ok plan) (Ok later) plans h k e =
     let same : plan ∷ later ≡ plans = cc in
     subst (PlansOf bits (node ∷ nodes)) same (h plan refl, k later refl)
 
-plans_of : (bits : List BitRec) (sources : List SourceText) (nodes : List GivenNode) (plans : List NodePlan) → node_plans bits sources nodes ≡ Ok plans → PlansOf bits nodes plans
-plans_of bits sources [] plans e =
-    let is : Ok [] ≡ Ok plans = sym (node_plans-none bits sources) ∙ e in
+plans_of : (bits : List BitRec) (sections : List SectionText) (nodes : List GivenNode) (plans : List NodePlan) → node_plans bits sections nodes ≡ Ok plans → PlansOf bits nodes plans
+plans_of bits sections [] plans e =
+    let is : Ok [] ≡ Ok plans = sym (node_plans-none bits sections) ∙ e in
     let same : [] ≡ plans = cc in
     subst (PlansOf bits []) same tt
-plans_of bits sources (node ∷ nodes) plans e =
-    let source : Assembled = assembled_lines (source_of sources node.number) in
-    plans_by bits node nodes (planned bits node source) (node_plans bits sources nodes) plans (plan_of_one bits node source) (plans_of bits sources nodes)
-    (sym (node_plans-cons bits sources node nodes) ∙ e)
+plans_of bits sections (node ∷ nodes) plans e =
+    let source : Assembled = assembled_lines (section_lines sections (section.Source node.number)) in
+    plans_by bits node nodes (planned bits node source) (node_plans bits sections nodes) plans (plan_of_one bits node source) (plans_of bits sections nodes)
+    (sym (node_plans-cons bits sections node nodes) ∙ e)
 
 -- What the plans of nodes keep
 
@@ -161,9 +164,14 @@ places_kept nodes links k h =
 
 -- The whole plan
 
-kept_plan : (nodes : List GivenNode) (links : List LinkLine) (bits : List BitRec) (plans : List NodePlan) → AreAccepted nodes links bits → PlansOf bits nodes plans →
-    IsPlan (record { nodes = plans; links = map (link_plan nodes) links })
-kept_plan nodes links bits plans k p = record {
+-- a script that the reader made of the nodes' numbers
+pub record IsScriptOf (nodes : List GivenNode) (script : List PinLine) : Type 0 where
+  pub lines : IsScript script
+  pub named : IsOfNodes (map (λ (node : GivenNode). node.number) nodes) script
+
+kept_plan : (nodes : List GivenNode) (links : List LinkLine) (bits : List BitRec) (plans : List NodePlan) (script : List PinLine) → AreAccepted nodes links bits → PlansOf bits nodes plans →
+    IsScriptOf nodes script → IsPlan (record { nodes = plans; links = map (link_plan nodes) links; script = script })
+kept_plan nodes links bits plans script k p s = record {
   few_nodes = omega (arith, k.few_nodes, as_many bits nodes plans p);
   few_links = omega (arith, k.few_links, as_many_links nodes links);
   numbers = numbers_kept bits nodes plans p k.numbers;
@@ -171,14 +179,16 @@ kept_plan nodes links bits plans k p = record {
   ids = subst (λ ids. AreDistinct ids) (same_ids bits nodes plans p) k.ids;
   links = links_kept nodes (length plans) links (as_many bits nodes plans p) k.links;
   places = places_kept nodes links k.links k.ends;
-  ways = let plan : PlanRec = record { nodes = plans; links = map (link_plan nodes) links } in
+  script = s.lines;
+  script_nodes = subst (λ numbers. IsOfNodes numbers script) (same_numbers bits nodes plans p) s.named;
+  ways = let plan : PlanRec = record { nodes = plans; links = map (link_plan nodes) links; script = script } in
       ways_kept plan bits (position_by_number nodes) (ways_lead plan nodes links bits refl k.bits) 0 nodes plans p (stand nodes k.order);
 }
 
--- the plans of the nodes and the links of a frame that is accepted
-pub frame_plan : (given : Given) (nodes : List GivenNode) (links : List LinkLine) (plans : List NodePlan) (joined : List LinkPlan) → IsAccepted given →
-    nodes ≡ given.nodes → links ≡ given.links → node_plans given.bits given.sources given.nodes ≡ Ok plans → joined ≡ map (link_plan nodes) links →
-    IsPlan (record { nodes = plans; links = joined })
-frame_plan given nodes links plans joined k n l e j =
+-- the plans of the nodes and the links of a frame that is accepted, and its script
+pub frame_plan : (given : Given) (nodes : List GivenNode) (links : List LinkLine) (plans : List NodePlan) (joined : List LinkPlan) (script : List PinLine) → IsAccepted given →
+    nodes ≡ given.nodes → links ≡ given.links → node_plans given.bits given.sections given.nodes ≡ Ok plans → joined ≡ map (link_plan nodes) links → IsScriptOf given.nodes script →
+    IsPlan (record { nodes = plans; links = joined; script = script })
+frame_plan given nodes links plans joined script k n l e j s =
     let same : map (link_plan given.nodes) given.links ≡ joined = sym (j ∙ (ap (λ ns. map (link_plan ns) links) n ∙ ap (map (link_plan given.nodes)) l)) in
-    subst (λ ls. IsPlan (record { nodes = plans; links = ls })) same (kept_plan given.nodes given.links given.bits plans k (plans_of given.bits given.sources given.nodes plans e))
+    subst (λ ls. IsPlan (record { nodes = plans; links = ls; script = script })) same (kept_plan given.nodes given.links given.bits plans script k (plans_of given.bits given.sections given.nodes plans e) s)

@@ -4,10 +4,11 @@ use Rattle.source_model.specs.Source.{assembled_lines}
 use Rattle.sys_plan.specs.declared.NodePlan.{NodePlan}
 use Rattle.system_model.specs.Bits.{BitRec}
 use Rattle.system_model.specs.declared.frame_line.GivenNode.{GivenNode}
-use Rattle.system_model.specs.Frame.{SourceText}
-use Rattle.system_model.specs.System.{SourceFault, planned, plan_before, source_of, node_plans}
+use Rattle.system_model.specs.declared.frame_line.SectionKind.TheVariants as section
+use Rattle.system_model.specs.Frame.{SectionText}
+use Rattle.system_model.specs.System.{SourceFault, planned, plan_before, section_lines, node_plans}
 use Rattle.system_text.specs.declared.system_error.SystemError.{SystemError}
-use Rattle.system_text.specs.declared.system_error.SystemError.TheVariants.{Frame, Source, Memory}
+use Rattle.system_text.specs.declared.system_error.SystemError.TheVariants.{Frame, Source, Pins, Memory}
 use Rattle.system_text.specs.Plans.{GivesNode, GivesNodes}
 use Rattle.system_text.proofs.Lists.{none_left, unrolled}
 
@@ -16,14 +17,14 @@ abbrev pub in_front : List NodePlan → Result (List NodePlan) SourceFault → R
 in_front front (Err fault) = Err fault
 in_front front (Ok plans) = Ok (front ++ plans)
 
-pub node_plans-cons : (bits : List BitRec) (sources : List SourceText) (node : GivenNode) (nodes : List GivenNode) →
-    node_plans bits sources (node ∷ nodes) ≡ plan_before (planned bits node (assembled_lines (source_of sources node.number))) (node_plans bits sources nodes)
+pub node_plans-cons : (bits : List BitRec) (sections : List SectionText) (node : GivenNode) (nodes : List GivenNode) →
+    node_plans bits sections (node ∷ nodes) ≡ plan_before (planned bits node (assembled_lines (section_lines sections (section.Source node.number)))) (node_plans bits sections nodes)
 unfolding node_plans
-node_plans-cons bits sources node nodes = refl
+node_plans-cons bits sections node nodes = refl
 
-pub node_plans-none : (bits : List BitRec) (sources : List SourceText) → node_plans bits sources [] ≡ Ok []
+pub node_plans-none : (bits : List BitRec) (sections : List SectionText) → node_plans bits sections [] ≡ Ok []
 unfolding node_plans
-node_plans-none bits sources = refl
+node_plans-none bits sections = refl
 
 one_more : (first : Result NodePlan SourceFault) (rest : Result (List NodePlan) SourceFault) (front : List NodePlan) (plan : NodePlan) → first ≡ Ok plan →
     in_front (front ++ plan ∷ []) rest ≡ in_front front (plan_before first rest)
@@ -32,40 +33,41 @@ one_more (Ok p) (Err fault) front plan h = refl
 one_more (Ok p) (Ok plans) front plan h = let same : p ≡ plan = cc in rw same (ap (λ (ps : List NodePlan). Ok ps) (append_assoc front (plan ∷ []) plans))
 
 -- what a node's source stands for
-abbrev found : List BitRec → List SourceText → GivenNode → Result NodePlan SourceFault
-found bits sources node = planned bits node (assembled_lines (source_of sources node.number))
+abbrev found : List BitRec → List SectionText → GivenNode → Result NodePlan SourceFault
+found bits sections node = planned bits node (assembled_lines (section_lines sections (section.Source node.number)))
 
-plans_from : (bits : List BitRec) (sources : List SourceText) (nodes : List GivenNode) (i : ℕ) (d : GivenNode) → i < length nodes →
-    node_plans bits sources (drop i nodes) ≡ plan_before (found bits sources (get_or nodes i d)) (node_plans bits sources (drop (i + 1) nodes))
-plans_from bits sources nodes i d h = ap (node_plans bits sources) (unrolled nodes i d h) ∙ node_plans-cons bits sources (get_or nodes i d) (drop (i + 1) nodes)
+plans_from : (bits : List BitRec) (sections : List SectionText) (nodes : List GivenNode) (i : ℕ) (d : GivenNode) → i < length nodes →
+    node_plans bits sections (drop i nodes) ≡ plan_before (found bits sections (get_or nodes i d)) (node_plans bits sections (drop (i + 1) nodes))
+plans_from bits sections nodes i d h = ap (node_plans bits sections) (unrolled nodes i d h) ∙ node_plans-cons bits sections (get_or nodes i d) (drop (i + 1) nodes)
 
 -- one more node has its plan
-pub plans_next : (bits : List BitRec) (sources : List SourceText) (nodes : List GivenNode) (i : ℕ) (d : GivenNode) →
+pub plans_next : (bits : List BitRec) (sections : List SectionText) (nodes : List GivenNode) (i : ℕ) (d : GivenNode) →
     (front : List NodePlan) (all : Result (List NodePlan) SourceFault) (plan : NodePlan) →
-    in_front front (node_plans bits sources (drop i nodes)) ≡ all → i < length nodes → found bits sources (get_or nodes i d) ≡ Ok plan →
-    in_front (front ++ plan ∷ []) (node_plans bits sources (drop (i + 1) nodes)) ≡ all
-plans_next bits sources nodes i d front all plan h k e =
-    one_more (found bits sources (get_or nodes i d)) (node_plans bits sources (drop (i + 1) nodes)) front plan e
-    ∙ (ap (in_front front) (sym (plans_from bits sources nodes i d k)) ∙ h)
+    in_front front (node_plans bits sections (drop i nodes)) ≡ all → i < length nodes → found bits sections (get_or nodes i d) ≡ Ok plan →
+    in_front (front ++ plan ∷ []) (node_plans bits sections (drop (i + 1) nodes)) ≡ all
+plans_next bits sections nodes i d front all plan h k e =
+    one_more (found bits sections (get_or nodes i d)) (node_plans bits sections (drop (i + 1) nodes)) front plan e
+    ∙ (ap (in_front front) (sym (plans_from bits sections nodes i d k)) ∙ h)
 
 -- every node has its plan
-pub plans_done : (bits : List BitRec) (sources : List SourceText) (nodes : List GivenNode) (i : ℕ) (front : List NodePlan) (all : Result (List NodePlan) SourceFault) →
-    in_front front (node_plans bits sources (drop i nodes)) ≡ all → length nodes ≤ i → all ≡ Ok front
-plans_done bits sources nodes i front all h k =
-    sym h ∙ (ap (λ ns. in_front front (node_plans bits sources ns)) (none_left nodes i k)
-    ∙ (ap (in_front front) (node_plans-none bits sources) ∙ ap (λ (ps : List NodePlan). Ok ps) (append-nil front)))
+pub plans_done : (bits : List BitRec) (sections : List SectionText) (nodes : List GivenNode) (i : ℕ) (front : List NodePlan) (all : Result (List NodePlan) SourceFault) →
+    in_front front (node_plans bits sections (drop i nodes)) ≡ all → length nodes ≤ i → all ≡ Ok front
+plans_done bits sections nodes i front all h k =
+    sym h ∙ (ap (λ ns. in_front front (node_plans bits sections ns)) (none_left nodes i k)
+    ∙ (ap (in_front front) (node_plans-none bits sections) ∙ ap (λ (ps : List NodePlan). Ok ps) (append-nil front)))
 
 refused_by : (A : Type 0) (first : Result NodePlan SourceFault) (rest : Result (List NodePlan) SourceFault) (front : List NodePlan) (e : SystemError) →
     GivesNode first (Err e) → GivesNodes {A = A} (in_front front (plan_before first rest)) (Err e)
 refused_by A first rest front (Frame line kind) h = h
 refused_by A first rest front (Source n line kind) h = ap (λ f. in_front front (plan_before f rest)) h
+refused_by A first rest front (Pins line kind) h = h
 refused_by A first rest front Memory h = tt
 
 -- a node's source is refused
-pub plans_refused : (A : Type 0) (bits : List BitRec) (sources : List SourceText) (nodes : List GivenNode) (i : ℕ) (d : GivenNode) →
+pub plans_refused : (A : Type 0) (bits : List BitRec) (sections : List SectionText) (nodes : List GivenNode) (i : ℕ) (d : GivenNode) →
     (front : List NodePlan) (all : Result (List NodePlan) SourceFault) (e : SystemError) →
-    in_front front (node_plans bits sources (drop i nodes)) ≡ all → i < length nodes → GivesNode (found bits sources (get_or nodes i d)) (Err e) →
+    in_front front (node_plans bits sections (drop i nodes)) ≡ all → i < length nodes → GivesNode (found bits sections (get_or nodes i d)) (Err e) →
     GivesNodes {A = A} all (Err e)
-plans_refused A bits sources nodes i d front all e h k r =
-    subst (λ (plans : Result (List NodePlan) SourceFault). GivesNodes {A = A} plans (Err e)) (ap (in_front front) (sym (plans_from bits sources nodes i d k)) ∙ h)
-    (refused_by A (found bits sources (get_or nodes i d)) (node_plans bits sources (drop (i + 1) nodes)) front e r)
+plans_refused A bits sections nodes i d front all e h k r =
+    subst (λ (plans : Result (List NodePlan) SourceFault). GivesNodes {A = A} plans (Err e)) (ap (in_front front) (sym (plans_from bits sections nodes i d k)) ∙ h)
+    (refused_by A (found bits sections (get_or nodes i d)) (node_plans bits sections (drop (i + 1) nodes)) front e r)

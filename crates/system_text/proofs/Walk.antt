@@ -6,15 +6,15 @@ use Rattle.xs_text.specs.Bytes.{all_allowed}
 use Rattle.xs_text.specs.Words.{words_of_line}
 use Rattle.system_model.specs.declared.SysKind.{SysKind}
 use Rattle.system_model.specs.declared.SysKind.TheVariants.{BadLine, SectionNotEnded, FirstLine}
-use Rattle.system_model.specs.declared.frame_line.FrameLine.TheVariants.{Node, Link, Bit, Source}
+use Rattle.system_model.specs.declared.frame_line.FrameLine.TheVariants as form
 use Rattle.system_model.specs.FrameLines.{is_end}
-use Rattle.system_model.specs.Frame.{SourceText, Given, FrameSays, Own, End, says, fault_of, given_with, given_after, with_own_line, unless_faulty, at_the_end, Framed, Refused, frame_from, framed, nothing_given, have_no_words, is_empty}
+use Rattle.system_model.specs.Frame.{SectionText, Given, FrameSays, Own, End, says, fault_of, given_with, given_after, with_own_line, unless_faulty, at_the_end, Framed, Refused, frame_from, framed, nothing_given, have_no_words, is_empty}
 use Rattle.system_text.specs.declared.frame.Said.{Said}
 use Rattle.system_text.specs.declared.frame.Said.TheVariants as said
 use Rattle.system_text.specs.declared.system_error.SystemError.{SystemError}
 use Rattle.system_text.specs.declared.system_error.SystemError.TheVariants as error
 use Rattle.system_text.specs.declared.system_error.SystemError.TheVariants.{Frame, Memory}
-use Rattle.system_text.specs.Judged.{said_by, with_source}
+use Rattle.system_text.specs.Judged.{said_by, with_section}
 use Rattle.system_text.specs.Reads.{ReadsFrame, ReadsLine}
 use Rattle.system_text.specs.Sections.{Section, section_of, with_line}
 use Rattle.system_text.proofs.Judged.{fault_is}
@@ -39,100 +39,100 @@ line_taken n given l ls what e s =
     from-cons n given l ls
     ∙ (ap (λ f. unless_faulty f n (frame_from (n + 1) (given_after n l given) ls)) e ∙ ap (λ w. frame_from (n + 1) (given_with n l w given) ls) s)
 
--- Inside a source
+-- Inside a section
 
-abbrev pub reading : SourceText → Given → Given
-reading source given = record given { reading = Some source }
+abbrev pub reading : SectionText → Given → Given
+reading begun given = record given { reading = Some begun }
 
-says_inside : (given : Given) (source : SourceText) (l : List ℕ) (end : Bool) → is_end l ≡ end → says (reading source given) l ≡ cond end End Own
-says_inside given source l end e = ap (λ b. cond b End Own) e
+says_inside : (given : Given) (begun : SectionText) (l : List ℕ) (end : Bool) → is_end l ≡ end → says (reading begun given) l ≡ cond end End Own
+says_inside given begun l end e = ap (λ b. cond b End Own) e
 
-own_line : (n : ℕ) (given : Given) (source : SourceText) (l : List ℕ) (ls : List (List ℕ)) → is_end l ≡ false
-    → frame_from n (reading source given) (l ∷ ls) ≡ frame_from (n + 1) (reading (with_own_line l source) given) ls
-own_line n given source l ls e =
-    let is = says_inside given source l false e in
-    line_taken n (reading source given) l ls Own (fault_is (reading source given) l (all_allowed l) Own refl is) is
+own_line : (n : ℕ) (given : Given) (begun : SectionText) (l : List ℕ) (ls : List (List ℕ)) → is_end l ≡ false
+    → frame_from n (reading begun given) (l ∷ ls) ≡ frame_from (n + 1) (reading (with_own_line l begun) given) ls
+own_line n given begun l ls e =
+    let is = says_inside given begun l false e in
+    line_taken n (reading begun given) l ls Own (fault_is (reading begun given) l (all_allowed l) Own refl is) is
 
-end_allowed : (n : ℕ) (given : Given) (source : SourceText) (l : List ℕ) (ls : List (List ℕ)) → is_end l ≡ true → all_allowed l ≡ true
-    → frame_from n (reading source given) (l ∷ ls) ≡ frame_from (n + 1) (with_source source given) ls
-end_allowed n given source l ls e a =
-    let is = says_inside given source l true e in
-    line_taken n (reading source given) l ls End (fault_is (reading source given) l true End a is) is
+end_allowed : (n : ℕ) (given : Given) (begun : SectionText) (l : List ℕ) (ls : List (List ℕ)) → is_end l ≡ true → all_allowed l ≡ true
+    → frame_from n (reading begun given) (l ∷ ls) ≡ frame_from (n + 1) (with_section begun given) ls
+end_allowed n given begun l ls e a =
+    let is = says_inside given begun l true e in
+    line_taken n (reading begun given) l ls End (fault_is (reading begun given) l true End a is) is
 
-end_refused : (n : ℕ) (given : Given) (source : SourceText) (l : List ℕ) (ls : List (List ℕ)) → is_end l ≡ true → all_allowed l ≡ false
-    → frame_from n (reading source given) (l ∷ ls) ≡ Refused n BadLine
-end_refused n given source l ls e a =
-    let is = says_inside given source l true e in
-    line_refused n (reading source given) l ls BadLine (fault_is (reading source given) l false End a is)
+end_refused : (n : ℕ) (given : Given) (begun : SectionText) (l : List ℕ) (ls : List (List ℕ)) → is_end l ≡ true → all_allowed l ≡ false
+    → frame_from n (reading begun given) (l ∷ ls) ≡ Refused n BadLine
+end_refused n given begun l ls e a =
+    let is = says_inside given begun l true e in
+    line_refused n (reading begun given) l ls BadLine (fault_is (reading begun given) l false End a is)
 
 -- with so many lines more
-abbrev pub longer : List (List ℕ) → SourceText → SourceText
-longer lines source = record source { lines = source.lines ++ lines }
+abbrev pub longer : List (List ℕ) → SectionText → SectionText
+longer lines begun = record begun { lines = begun.lines ++ lines }
 
--- after a source whose lines are left, from line n on
-abbrev after_section : ℕ → Given → SourceText → Section → Framed
-after_section n given source section =
-    cond (all_allowed section.end) (frame_from (n + length section.lines + 1) (with_source (longer section.lines source) given) section.rest) (Refused (n + length section.lines) BadLine)
+-- after a section whose lines are left, from line n on
+abbrev after_section : ℕ → Given → SectionText → Section → Framed
+after_section n given begun section =
+    cond (all_allowed section.end) (frame_from (n + length section.lines + 1) (with_section (longer section.lines begun) given) section.rest) (Refused (n + length section.lines) BadLine)
 
-abbrev by_section : ℕ → Given → SourceText → Option Section → Framed
-by_section n given source None = Refused source.line SectionNotEnded
-by_section n given source (Some section) = after_section n given source section
+abbrev by_section : ℕ → Given → SectionText → Option Section → Framed
+by_section n given begun None = Refused begun.line SectionNotEnded
+by_section n given begun (Some section) = after_section n given begun section
 
-end_by : (n : ℕ) (given : Given) (source : SourceText) (l : List ℕ) (ls : List (List ℕ)) (a : Bool) → is_end l ≡ true → all_allowed l ≡ a
-    → frame_from n (reading source given) (l ∷ ls) ≡ cond a (frame_from (n + 0 + 1) (with_source (longer [] source) given) ls) (Refused (n + 0) BadLine)
-end_by n given source l ls true e h =
+end_by : (n : ℕ) (given : Given) (begun : SectionText) (l : List ℕ) (ls : List (List ℕ)) (a : Bool) → is_end l ≡ true → all_allowed l ≡ a
+    → frame_from n (reading begun given) (l ∷ ls) ≡ cond a (frame_from (n + 0 + 1) (with_section (longer [] begun) given) ls) (Refused (n + 0) BadLine)
+end_by n given begun l ls true e h =
     let zero_more : n + 0 ≡ n = omega arith in
-    rw (zero_more, append-nil source.lines) (end_allowed n given source l ls e h)
-end_by n given source l ls false e h =
+    rw (zero_more, append-nil begun.lines) (end_allowed n given begun l ls e h)
+end_by n given begun l ls false e h =
     let zero_more : n + 0 ≡ n = omega arith in
-    rw zero_more (end_refused n given source l ls e h)
+    rw zero_more (end_refused n given begun l ls e h)
 
-one_longer : (n : ℕ) (given : Given) (source : SourceText) (l : List ℕ) (o : Option Section)
-    → by_section (n + 1) given (with_own_line l source) o ≡ by_section n given source (option_map (with_line l) o)
-one_longer n given source l None = refl
-one_longer n given source l (Some section) =
+one_longer : (n : ℕ) (given : Given) (begun : SectionText) (l : List ℕ) (o : Option Section)
+    → by_section (n + 1) given (with_own_line l begun) o ≡ by_section n given begun (option_map (with_line l) o)
+one_longer n given begun l None = refl
+one_longer n given begun l (Some section) =
     let count : n + 1 + length section.lines ≡ n + length (l ∷ section.lines) = omega arith in
-    rw (count, append_assoc source.lines (l ∷ []) section.lines) refl
+    rw (count, append_assoc begun.lines (l ∷ []) section.lines) refl
 
-walk_by : (n : ℕ) (given : Given) (source : SourceText) (l : List ℕ) (ls : List (List ℕ)) (end : Bool) → is_end l ≡ end
-    → ((s : SourceText) → frame_from (n + 1) (reading s given) ls ≡ by_section (n + 1) given s (section_of ls))
-    → frame_from n (reading source given) (l ∷ ls) ≡ by_section n given source
+walk_by : (n : ℕ) (given : Given) (begun : SectionText) (l : List ℕ) (ls : List (List ℕ)) (end : Bool) → is_end l ≡ end
+    → ((s : SectionText) → frame_from (n + 1) (reading s given) ls ≡ by_section (n + 1) given s (section_of ls))
+    → frame_from n (reading begun given) (l ∷ ls) ≡ by_section n given begun
     (cond end (Some (record { lines = []; end = l; rest = ls })) (option_map (with_line l) (section_of ls)))
-walk_by n given source l ls true e h = end_by n given source l ls (all_allowed l) e refl
-walk_by n given source l ls false e h = own_line n given source l ls e ∙ (h (with_own_line l source) ∙ one_longer n given source l (section_of ls))
+walk_by n given begun l ls true e h = end_by n given begun l ls (all_allowed l) e refl
+walk_by n given begun l ls false e h = own_line n given begun l ls e ∙ (h (with_own_line l begun) ∙ one_longer n given begun l (section_of ls))
 
--- a source that is being read
-walk : (ls : List (List ℕ)) (n : ℕ) (given : Given) (source : SourceText) → frame_from n (reading source given) ls ≡ by_section n given source (section_of ls)
-walk [] n given source = rw section_of-none (from-end n (reading source given))
-walk (l ∷ ls) n given source = rw (section_of-cons l ls) (walk_by n given source l ls (is_end l) refl (λ s. walk ls (n + 1) given s))
+-- a section that is being read
+walk : (ls : List (List ℕ)) (n : ℕ) (given : Given) (begun : SectionText) → frame_from n (reading begun given) ls ≡ by_section n given begun (section_of ls)
+walk [] n given begun = rw section_of-none (from-end n (reading begun given))
+walk (l ∷ ls) n given begun = rw (section_of-cons l ls) (walk_by n given begun l ls (is_end l) refl (λ s. walk ls (n + 1) given s))
 
 -- no line ends it
-pub source_open : (ls : List (List ℕ)) (n : ℕ) (given : Given) (source : SourceText) → None ≡ section_of ls → frame_from n (reading source given) ls ≡ Refused source.line SectionNotEnded
-source_open ls n given source e = walk ls n given source ∙ ap (by_section n given source) (sym e)
+pub section_unended : (ls : List (List ℕ)) (n : ℕ) (given : Given) (begun : SectionText) → None ≡ section_of ls → frame_from n (reading begun given) ls ≡ Refused begun.line SectionNotEnded
+section_unended ls n given begun e = walk ls n given begun ∙ ap (by_section n given begun) (sym e)
 
 -- the line that ends it has a byte that is not allowed
-pub source_refused : (ls : List (List ℕ)) (n at : ℕ) (given : Given) (source : SourceText) (section : Section) → Some section ≡ section_of ls
-    → all_allowed section.end ≡ false → n + length section.lines ≡ at → frame_from n (reading source given) ls ≡ Refused at BadLine
-source_refused ls n at given source section e a k =
-    walk ls n given source ∙ (ap (by_section n given source) (sym e) ∙ (cond-false _ _ _ a ∙ ap (λ (m : ℕ). Refused m BadLine) k))
+pub section_refused : (ls : List (List ℕ)) (n at : ℕ) (given : Given) (begun : SectionText) (section : Section) → Some section ≡ section_of ls
+    → all_allowed section.end ≡ false → n + length section.lines ≡ at → frame_from n (reading begun given) ls ≡ Refused at BadLine
+section_refused ls n at given begun section e a k =
+    walk ls n given begun ∙ (ap (by_section n given begun) (sym e) ∙ (cond-false _ _ _ a ∙ ap (λ (m : ℕ). Refused m BadLine) k))
 
 -- it has ended
-pub source_taken : (ls : List (List ℕ)) (n at : ℕ) (given new : Given) (source : SourceText) (section : Section) → Some section ≡ section_of ls
-    → all_allowed section.end ≡ true → n + length section.lines ≡ at → new ≡ with_source (longer section.lines source) given
-    → frame_from n (reading source given) ls ≡ frame_from (at + 1) new section.rest
-source_taken ls n at given new source section e a k is =
-    walk ls n given source ∙ (ap (by_section n given source) (sym e) ∙ (cond-true _ _ _ a
-    ∙ (ap (λ (m : ℕ). frame_from (m + 1) (with_source (longer section.lines source) given) section.rest) k ∙ ap (λ (g : Given). frame_from (at + 1) g section.rest) (sym is))))
+pub section_taken : (ls : List (List ℕ)) (n at : ℕ) (given new : Given) (begun : SectionText) (section : Section) → Some section ≡ section_of ls
+    → all_allowed section.end ≡ true → n + length section.lines ≡ at → new ≡ with_section (longer section.lines begun) given
+    → frame_from n (reading begun given) ls ≡ frame_from (at + 1) new section.rest
+section_taken ls n at given new begun section e a k is =
+    walk ls n given begun ∙ (ap (by_section n given begun) (sym e) ∙ (cond-true _ _ _ a
+    ∙ (ap (λ (m : ℕ). frame_from (m + 1) (with_section (longer section.lines begun) given) section.rest) k ∙ ap (λ (g : Given). frame_from (at + 1) g section.rest) (sym is))))
 
 -- A line as the reader takes it
 
 given_without_line : (n : ℕ) (l : List ℕ) (what : Said) (given : Given) → given_with n l (said_by what) given ≡ given_with n [] (said_by what) given
 given_without_line n l said.Blank given = refl
 given_without_line n l said.Header given = refl
-given_without_line n l (said.Form (Node node)) given = refl
-given_without_line n l (said.Form (Link link)) given = refl
-given_without_line n l (said.Form (Bit bit)) given = refl
-given_without_line n l (said.Form (Source number)) given = refl
+given_without_line n l (said.Form (form.Node node)) given = refl
+given_without_line n l (said.Form (form.Link link)) given = refl
+given_without_line n l (said.Form (form.Bit bit)) given = refl
+given_without_line n l (said.Form (form.Section kind)) given = refl
 
 pub line_read : (n at : ℕ) (given : Given) (l : List ℕ) (ls : List (List ℕ)) (what : Said) → fault_of given l ≡ None → says given l ≡ said_by what → at ≡ n
     → frame_from n given (l ∷ ls) ≡ frame_from (at + 1) (given_with n [] (said_by what) given) ls
@@ -148,18 +148,21 @@ pub read_by : (framed other rest : Framed) (result : Result (Unit {0}) SystemErr
 read_by framed other rest (Ok u) e h = e ∙ h
 read_by framed other rest (Err (Frame line kind)) e h = e ∙ h
 read_by framed other rest (Err (error.Source node line kind)) e h = h
+read_by framed other rest (Err (error.Pins line kind)) e h = h
 read_by framed other rest (Err Memory) e h = tt
 
 pub frame_by : (framed other : Framed) (result : Result Given SystemError) → framed ≡ other → ReadsFrame other result → ReadsFrame framed result
 frame_by framed other (Ok given) e h = e ∙ h
 frame_by framed other (Err (Frame line kind)) e h = e ∙ h
 frame_by framed other (Err (error.Source node line kind)) e h = h
+frame_by framed other (Err (error.Pins line kind)) e h = h
 frame_by framed other (Err Memory) e h = tt
 
 -- a line refuses the frame, or memory was wanting
 pub line_decides : (framed other rest : Framed) (e : SystemError) → framed ≡ other → ReadsLine other rest (Err e) → ReadsFrame framed (Err e)
 line_decides framed other rest (Frame line kind) i h = i ∙ h
 line_decides framed other rest (error.Source node line kind) i h = h
+line_decides framed other rest (error.Pins line kind) i h = h
 line_decides framed other rest Memory i h = tt
 
 -- Whether a line has words

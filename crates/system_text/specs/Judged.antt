@@ -3,7 +3,7 @@ use Rattle.std.specs.Prelude.{ℕ, ◌≡◌, Option, Some, None, List, [], ◌�
 use Rattle.system_model.specs.declared.SysKind.{SysKind}
 use Rattle.system_model.specs.declared.SysKind.TheVariants.{GivenTwice, IdTwice, LinkEndTwice, LinkToItself, BitTwice, NoSuchNode, TooMany}
 use Rattle.system_model.specs.declared.frame_line.FrameLine.{FrameLine}
-use Rattle.system_model.specs.Frame.{SourceText, Given, FrameSays, Blank, Header, Form, says, fault_of, first_that_holds, names_none, is_given_twice, is_id_twice, is_link_to_itself, is_link_end_twice, is_bit_twice, is_too_many}
+use Rattle.system_model.specs.Frame.{SectionText, Given, FrameSays, Blank, Header, Form, says, fault_of, first_that_holds, names_none, is_given_twice, is_id_twice, is_link_to_itself, is_link_end_twice, is_bit_twice, is_too_many}
 use Rattle.system_text.specs.declared.frame.Said.{Said}
 use Rattle.system_text.specs.declared.frame.Said.TheVariants as said
 
@@ -30,6 +30,6 @@ later_fault given form = first_that_holds (
     ∷ []
     )
 
--- with a source that has ended
-abbrev pub with_source : SourceText → Given → Given
-with_source source given = record given { sources = given.sources ++ source ∷ []; reading = None }
+-- with a section that has ended
+abbrev pub with_section : SectionText → Given → Given
+with_section section given = record given { sections = given.sections ++ section ∷ []; reading = None }

@@ -2,9 +2,9 @@ ghost use Rattle.std.specs.Prelude.{◌≡◌, ◌≤◌, ℕ, true, false, ◌=
 ghost use Rattle.std.specs.List.{list_any, prefix_len};
 ghost use Rattle.xs_text.specs.Lines.{lines_of};
 ghost use Rattle.xs_text.specs.Words.{words_of_line};
-ghost use Rattle.system_model.specs.Frame.{Given, Form, nothing_given, is_empty, has_node, has_link_end, has_link_ends, is_same_end, has_source, given_with, without_source};
-ghost use Rattle.system_model.specs.System.{source_of};
-ghost use Rattle.system_text.specs.Judged.{Judges, said_by, later_fault, with_source};
+ghost use Rattle.system_model.specs.Frame.{Given, Form, nothing_given, is_empty, has_node, has_link_end, has_link_ends, is_same_end, is_same_kind, has_section, given_with, without_source};
+ghost use Rattle.system_model.specs.System.{section_lines};
+ghost use Rattle.system_text.specs.Judged.{Judges, said_by, later_fault, with_section};
 ghost use Rattle.system_text.specs.Ranges.{IsShortSource};
 
 use crate::end_numbers::stands_twice;
@@ -12,7 +12,9 @@ use crate::frame_lines::frame_line;
 use crate::words::{is_empty, is_header};
 use std::alloc::{AllocError, Global};
 use std::marker::Model;
-use system_model::{BitLine, EndName, FrameLine, GivenNode, LinkLine, NodeLine, SysKind};
+use system_model::{
+    BitLine, EndName, FrameLine, GivenNode, LinkLine, NodeLine, SectionKind, SysKind,
+};
 use xs_text::all_allowed;
 
 // A system has at most so many nodes and so many links.
@@ -30,23 +32,23 @@ pub enum Said {
     Form(FrameLine),
 }
 
-// A source that has ended: the number of its node, the number of the line that begins it, and its part of the text.
+// A section that has ended: what it holds, the number of the line that begins it, and its part of the text.
 #[derive(Clone, Copy)]
-pub struct Source<'a> {
-    pub number: u8,
+pub struct SectionText<'a> {
+    pub kind: SectionKind,
     pub line: u32,
     pub text: &'a [u8],
 }
 
 // What the lines so far have given: the nodes by ascending number, and the rest in the order of the lines. No
-// source is being read.
+// section is being read.
 #[derive(Drop)]
 pub struct Frame<'a> {
     begun: bool,
     nodes: Vec<GivenNode>,
     links: Vec<LinkLine>,
     bits: Vec<BitLine>,
-    sources: Vec<Source<'a>>,
+    sections: Vec<SectionText<'a>>,
 }
 
 impl<'a> Model for Frame<'a> {
@@ -58,9 +60,9 @@ impl<'a> Model for Frame<'a> {
 
     ghost Value = { Given };
 
-    ghost view = { λ f. record { begun = f.begun; nodes = f.nodes.items; links = f.links.items; bits = f.bits.items; sources = map (λ s. record { number = s.number; line = s.line; lines = lines_of s.text.now }) f.sources.items; reading = None } };
+    ghost view = { λ f. record { begun = f.begun; nodes = f.nodes.items; links = f.links.items; bits = f.bits.items; sections = map (λ s. record { kind = s.kind; line = s.line; lines = lines_of s.text.now }) f.sections.items; reading = None } };
 
-    ghost invariant = { λ f. AllByRecursion (λ s. IsShortSource s.text.now) f.sources.items };
+    ghost invariant = { λ f. AllByRecursion (λ s. IsShortSource s.text.now) f.sections.items };
 }
 
 impl<'a> Frame<'a> {
@@ -73,7 +75,7 @@ impl<'a> Frame<'a> {
             nodes: Vec::new(alloc),
             links: Vec::new(alloc),
             bits: Vec::new(alloc),
-            sources: Vec::new(alloc),
+            sections: Vec::new(alloc),
         }
     }
 
@@ -118,7 +120,8 @@ impl<'a> Frame<'a> {
             FrameLine::Node(node) => self.node_fault(*node),
             FrameLine::Link(link) => self.link_fault(*link),
             FrameLine::Bit(bit) => self.bit_fault(bit),
-            FrameLine::Source(number) => self.source_fault(*number),
+            FrameLine::Section(SectionKind::Source(number)) => self.source_fault(*number),
+            FrameLine::Section(SectionKind::Pins) => self.pins_fault(),
         }
     }
 
@@ -167,11 +170,21 @@ impl<'a> Frame<'a> {
     }
 
     fn source_fault(&self, number: u8) -> Option<SysKind>
-        ensures { result ≡ later_fault self.now (FrameLine.Source number) }
+        ensures { result ≡ later_fault self.now (FrameLine.Section (SectionKind.Source number)) }
     {
         if !self.has_node(number) {
             Some(SysKind::NoSuchNode)
-        } else if self.has_source(number) {
+        } else if self.has_section(SectionKind::Source(number)) {
+            Some(SysKind::GivenTwice)
+        } else {
+            None
+        }
+    }
+
+    fn pins_fault(&self) -> Option<SysKind>
+        ensures { result ≡ later_fault self.now (FrameLine.Section SectionKind.Pins) }
+    {
+        if self.has_section(SectionKind::Pins) {
             Some(SysKind::GivenTwice)
         } else {
             None
@@ -213,15 +226,15 @@ impl<'a> Frame<'a> {
             .any(|other| other.node == node && other.bit == bit)
     }
 
-    fn has_source(&self, number: u8) -> bool
-        ensures { result ≡ has_source self.now.sources number }
+    fn has_section(&self, kind: SectionKind) -> bool
+        ensures { result ≡ has_section self.now.sections kind }
     {
-        is_source_of(&self.sources, number)
+        holds(&self.sections, kind)
     }
 
-    // What a line without a fault gives, but for one that begins a source.
+    // What a line without a fault gives, but for one that begins a section.
     pub fn add(&mut self, line: u32, said: Said) -> Result<(), AllocError>
-        requires { (n : ℕ) → said_by said ≡ Form (FrameLine.Source n) → ⊥ }
+        requires { (kind : SectionKind) → said_by said ≡ Form (FrameLine.Section kind) → ⊥ }
         ensures { OnOk result (self.new ≡ given_with line [] (said_by said) self.old) }
     {
         match said {
@@ -250,12 +263,12 @@ impl<'a> Frame<'a> {
         Ok(())
     }
 
-    // One more source, which has ended.
-    pub fn add_source(&mut self, source: Source<'a>) -> Result<(), AllocError>
-        requires { IsShortSource source.text.now }
-        ensures { OnOk result (self.new ≡ with_source (record { number = source.entry.number; line = source.entry.line; lines = lines_of source.entry.text.now }) self.old) }
+    // One more section, which has ended.
+    pub fn add_section(&mut self, section: SectionText<'a>) -> Result<(), AllocError>
+        requires { IsShortSource section.text.now }
+        ensures { OnOk result (self.new ≡ with_section (record { kind = section.entry.kind; line = section.entry.line; lines = lines_of section.entry.text.now }) self.old) }
     {
-        self.sources.push(source)?;
+        self.sections.push(section)?;
         Ok(())
     }
 
@@ -267,7 +280,7 @@ impl<'a> Frame<'a> {
         let node = self
             .nodes
             .iter()
-            .find(|node| !self.has_source(node.number))?;
+            .find(|node| !self.has_section(SectionKind::Source(node.number)))?;
         Some(node.line)
     }
 
@@ -289,14 +302,14 @@ impl<'a> Frame<'a> {
         &self.bits
     }
 
-    // The source of the node with this number, no bytes where it has none.
-    pub fn source(&self, number: u8) -> &'a [u8]
-        ensures lines { lines_of result.now ≡ source_of self.now.sources number }
+    // The text of the section that holds this, no bytes where there is no such section.
+    pub fn section(&self, kind: SectionKind) -> &'a [u8]
+        ensures lines { lines_of result.now ≡ section_lines self.now.sections kind }
         ensures short { IsShortSource result.now }
     {
-        for source in &self.sources {
-            if source.number == number {
-                return source.text;
+        for section in &self.sections {
+            if is_same_kind(section.kind, kind) {
+                return section.text;
             }
         }
         b""
@@ -310,11 +323,24 @@ fn is_same_end(a: EndName, b: EndName) -> bool
     a.node == b.node && a.end == b.end
 }
 
-// Whether one of the sources is that of the node with this number.
-fn is_source_of(sources: &[Source], number: u8) -> bool
-    ensures { result ≡ list_any (λ source. source.number == number) sources.now }
+// Whether two sections hold the same.
+fn is_same_kind(a: SectionKind, b: SectionKind) -> bool
+    ensures { result ≡ is_same_kind a b }
 {
-    sources.iter().any(|source| source.number == number)
+    match (a, b) {
+        (SectionKind::Source(m), SectionKind::Source(n)) => m == n,
+        (SectionKind::Pins, SectionKind::Pins) => true,
+        _ => false,
+    }
+}
+
+// Whether one of the sections holds this.
+fn holds(sections: &[SectionText], kind: SectionKind) -> bool
+    ensures { result ≡ list_any (λ section. is_same_kind section.kind kind) sections.now }
+{
+    sections
+        .iter()
+        .any(|section| is_same_kind(section.kind, kind))
 }
 
 // How many nodes at the front have lesser numbers.

@@ -2,13 +2,13 @@ ghost use Rattle.std.specs.Prelude.{◌≡◌, ◌≤◌, ◌∷◌, codes, is_s
 ghost use Rattle.std.specs.List.{list_all};
 ghost use Rattle.xs_text.specs.Words.{words_of_line};
 ghost use Rattle.xs_text.specs.Numbers.{number_of};
-ghost use Rattle.system_model.specs.FrameLines.{node_line, link_line, bit_line, source_line, frame_line, end_name, before_colon, is_between};
+ghost use Rattle.system_model.specs.FrameLines.{node_line, link_line, bit_line, section_line, frame_line, end_name, before_colon, is_between};
 ghost use Rattle.system_text.specs.Forms.{formed, ranged, or_bad, capped, capped_end, is_in_range, end_of, end_numbers, GivesEnds};
 ghost use Rattle.system_text.specs.LineWords.{bytes_of};
 
 use crate::words::{Word, line_words};
 use arrayvec::ArrayVec;
-use system_model::{BitLine, EndName, FrameLine, LinkLine, NodeLine, SysKind};
+use system_model::{BitLine, EndName, FrameLine, LinkLine, NodeLine, SectionKind, SysKind};
 use xs_instructions::same_name;
 use xs_text::{is_plain_number, number};
 
@@ -45,6 +45,8 @@ fn form_of(words: &[Word]) -> Result<FrameLine, SysKind>
         bit_line(rest)
     } else if same_name(b"source", name.bytes) {
         source_line(rest)
+    } else if same_name(b"pins", name.bytes) {
+        pins_line(rest)
     } else {
         Err(SysKind::BadLine)
     }
@@ -118,13 +120,24 @@ fn bit_line(words: &[Word]) -> Result<FrameLine, SysKind>
 
 // `N` after `source`.
 fn source_line(words: &[Word]) -> Result<FrameLine, SysKind>
-    ensures { result ≡ formed (option_map FrameLine.Source (source_line (codes "source" ∷ bytes_of words.now))) }
+    ensures { result ≡ formed (option_map FrameLine.Section (section_line (codes "source" ∷ bytes_of words.now))) }
 {
     let [number] = words else {
         return Err(SysKind::BadLine);
     };
     let number = any_number(number.bytes)?;
-    Ok(FrameLine::Source(up_to(number, 99)? as u8))
+    Ok(FrameLine::Section(SectionKind::Source(up_to(number, 99)? as u8)))
+}
+
+// No word after `pins`.
+fn pins_line(words: &[Word]) -> Result<FrameLine, SysKind>
+    ensures { result ≡ formed (option_map FrameLine.Section (section_line (codes "pins" ∷ bytes_of words.now))) }
+{
+    if words.is_empty() {
+        Ok(FrameLine::Section(SectionKind::Pins))
+    } else {
+        Err(SysKind::BadLine)
+    }
 }
 
 // The number that a word is, or the greatest number of 32 bits where it is greater than that. A word that is no

@@ -6,12 +6,12 @@ ghost use Rattle.system_text.specs.Ranges.{IsShortSource};
 ghost use Rattle.system_text.specs.Reads.{ReadsFrame, ReadsLine, frame_of_rest};
 ghost use Rattle.system_text.specs.Sections.{with_reading};
 
-use crate::frame::{Frame, Said, Source};
+use crate::frame::{Frame, Said, SectionText};
 use crate::section::read_section;
 use crate::system_error::{SystemError, refusal};
 use crate::words::is_empty;
 use std::alloc::Global;
-use system_model::{FrameLine, SysKind};
+use system_model::{FrameLine, SectionKind, SysKind};
 use xs_text::{Line, Lines, all_allowed};
 
 // The frame of a text.
@@ -56,7 +56,7 @@ fn read_lines<'a>(alloc: Global, text: &'a [u8]) -> Result<Frame<'a>, SystemErro
     whole(frame)
 }
 
-// Adds what a line gives, with the source that it may begin.
+// Adds what a line gives, with the section that it may begin.
 fn read_line<'a>(
     text: &'a [u8],
     line: Line,
@@ -93,7 +93,7 @@ fn read_said<'a>(
     ensures onward { lines.old.at ≤ lines.new.at }
 {
     match said {
-        Said::Form(FrameLine::Source(node)) => read_source(text, node, number, lines, frame),
+        Said::Form(FrameLine::Section(kind)) => add_section(text, kind, number, lines, frame),
         _ => {
             frame.add(number, said)?;
             Ok(())
@@ -101,17 +101,17 @@ fn read_said<'a>(
     }
 }
 
-// Adds the source of a node, whose first line has a number.
-fn read_source<'a>(
+// Adds the section that the line with a number begins.
+fn add_section<'a>(
     text: &'a [u8],
-    number: u8,
+    kind: SectionKind,
     first: u32,
     lines: &mut Lines,
     frame: &mut Frame<'a>,
 ) -> Result<(), SystemError>
     requires same_text { lines.old.text ≡ text.now }
     requires short { IsShortSource text.now }
-    ensures read { ReadsLine (frame_of_rest lines.old (with_reading number first frame.old)) (frame_of_rest lines.new frame.new) result }
+    ensures read { ReadsLine (frame_of_rest lines.old (with_reading kind first frame.old)) (frame_of_rest lines.new frame.new) result }
     ensures same_text { lines.new.text ≡ lines.old.text }
     ensures onward { lines.old.at ≤ lines.new.at }
 {
@@ -121,8 +121,8 @@ fn read_source<'a>(
     if !all_allowed(&text[section.end.from..section.end.to]) {
         return Err(refusal(section.end.number, SysKind::BadLine));
     }
-    frame.add_source(Source {
-        number,
+    frame.add_section(SectionText {
+        kind,
         line: first,
         text: section.text,
     })?;

@@ -1,4 +1,4 @@
-//! Reads a system text: the frame of a system, and the sources of its nodes. See docs/SYSTEM_TEXT.md.
+//! Reads a system text: the frame of a system, the sources of its nodes, and its pin script. See docs/SYSTEM_TEXT.md.
 #![tactic(auto)]
 
 mod end_numbers;
@@ -7,6 +7,7 @@ mod frame_lines;
 mod frame_reader;
 mod link_plans;
 mod node_plans;
+mod script;
 mod section;
 mod system_error;
 mod system_reader;
@@ -14,6 +15,7 @@ mod system_reader;
 mod tests;
 mod words;
 
+pub use pin_scripts::PinKind;
 pub use source_model::AsmKind;
 pub use system_error::SystemError;
 pub use system_model::SysKind;

@@ -5,14 +5,14 @@ ghost use Rattle.system_text.specs.Sections.{section_of};
 use crate::words::is_end;
 use xs_text::{Line, Lines};
 
-// The part of the text that the lines of a source are, and the line that ends it.
+// The part of the text that the lines of a section are, and the line that ends it.
 #[derive(Clone, Copy)]
 pub struct Section<'a> {
     pub text: &'a [u8],
     pub end: Line,
 }
 
-// The source that begins here. The line that ends it is passed over. None where no line ends it.
+// The section that begins here. The line that ends it is passed over. None where no line ends it.
 #[tactic(auto, using(crate::proofs::Sections::part_length))]
 pub fn read_section<'a>(text: &'a [u8], lines: &mut Lines) -> Option<Section<'a>>
     requires { lines.old.text ≡ text.now }

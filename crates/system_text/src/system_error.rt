@@ -1,6 +1,7 @@
 ghost use Rattle.std.specs.Prelude.{◌≡◌};
 ghost use Rattle.system_text.specs.declared.system_error.SystemError.TheVariants.{Memory};
 
+use pin_scripts::PinKind;
 use source_model::AsmKind;
 use std::alloc::{AllocError, AllocFailed};
 use system_model::SysKind;
@@ -16,6 +17,10 @@ pub enum SystemError {
     /// source, counted from 1 after the line that begins it. No node of a lesser number has a refused source.
     #[error("source {node} line {line}: {kind:?}")]
     Source { node: u8, line: u32, kind: AsmKind },
+    /// The frame and all sources are accepted, and the pin script is refused, at this line of the script, counted from 1
+    /// after the line `pins`.
+    #[error("pins line {line}: {kind:?}")]
+    Pins { line: u32, kind: PinKind },
     /// Memory was wanting.
     #[error("out of memory")]
     Memory,

@@ -1,4 +1,5 @@
 ghost use Rattle.std.specs.Prelude.{◌≡◌, ℕ, IfOk};
+ghost use Rattle.pin_scripts.specs.declared.pin_error.PinKind.{PinKind};
 ghost use Rattle.source_model.specs.declared.AsmKind.{AsmKind};
 ghost use Rattle.sys_plan.specs.Plan.{PlanRec};
 ghost use Rattle.system_model.specs.declared.SysKind.{SysKind};
@@ -8,12 +9,13 @@ ghost use Rattle.system_model.specs.System.{system_of, plan_of, plan_of_frame};
 ghost use Rattle.xs_text.specs.Lines.{lines_of};
 ghost use Rattle.system_text.specs.Accepted.{IsAccepted};
 ghost use Rattle.system_text.specs.Ranges.{IsShortSource};
-ghost use Rattle.system_text.specs.Reads.{ReadsSystem, GivesPlan, RefusesFrame, RefusesSource};
+ghost use Rattle.system_text.specs.Reads.{ReadsSystem, GivesPlan, RefusesFrame, RefusesSource, RefusesPins};
 
 use crate::frame::Frame;
 use crate::frame_reader::read_frame;
 use crate::link_plans::link_plans;
 use crate::node_plans::node_plans;
+use crate::script::script_of;
 use crate::system_error::{SystemError, refusal};
 use std::alloc::Global;
 use sys_plan::Plan;
@@ -31,6 +33,7 @@ pub fn read_system(alloc: Global, bytes: &[u8]) -> Result<Plan, SystemError>
     ensures taken { (plan : PlanRec) → system_of bytes.now ≡ stands.Plan plan → GivesPlan plan result }
     ensures frame { (line : ℕ) (kind : SysKind) → system_of bytes.now ≡ stands.Frame line kind → RefusesFrame line kind result }
     ensures source { (node line : ℕ) (kind : AsmKind) → system_of bytes.now ≡ stands.Source node line kind → RefusesSource node line kind result }
+    ensures pins { (line : ℕ) (kind : PinKind) → system_of bytes.now ≡ stands.Pins line kind → RefusesPins line kind result }
 {
     if bytes.len() > LONGEST_INPUT {
         return Err(refusal(0, SysKind::TooLong));
@@ -56,5 +59,6 @@ fn plan_of_frame(alloc: Global, frame: &Frame) -> Result<Plan, SystemError>
 {
     let links = link_plans(alloc, frame.nodes(), frame.links())?;
     let nodes = node_plans(alloc, frame)?;
-    Ok(Plan::of(nodes, links))
+    let script = script_of(alloc, frame)?;
+    Ok(Plan::of(nodes, links, script))
 }

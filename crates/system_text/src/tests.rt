@@ -1,6 +1,6 @@
 //! System texts that are read and some that are refused. The cases of case_runs try the others.
 
-use crate::{SysKind, SystemError, read_system};
+use crate::{PinKind, SysKind, SystemError, read_system};
 use std::alloc::Global;
 use std::process::Abort;
 use std::test::Fail;
@@ -57,8 +57,54 @@ fn three_in_a_line(rt: HostRuntime) -> Result<(), Fail> {
 }
 
 #[test]
+fn pin_script_before_its_nodes(rt: HostRuntime) -> Result<(), Fail> {
+    let text =
+        b"xs1 1\npins # of both\n# slots\n5 3:4A 15\n\n  0x9 7:1B 1 // last\n end\nnode 7 id 1\nnode 3 id 0\nsource 7\nend\nsource 3\nend";
+    let plan = read_system(rt.alloc(), text)?;
+    let lines = plan.script().lines();
+    assert_eq!(rt; lines.len(), 2);
+    assert_eq!(rt; (lines[0].slot, lines[0].node), (5, 3));
+    assert_eq!(rt; (lines[0].port, lines[0].value), (16, 15));
+    assert_eq!(rt; (lines[1].slot, lines[1].node), (9, 7));
+    assert_eq!(rt; (lines[1].port, lines[1].value), (1, 1));
+    Ok(())
+}
+
+#[test]
+fn pin_script_refusals(rt: HostRuntime) {
+    let cases: [(&[u8], u32, PinKind); 3] = [
+        (
+            b"xs1 1\nnode 0 id 0\npins\nsource 0\nend\nsource 0\nend",
+            1,
+            PinKind::BadLine,
+        ),
+        (
+            b"xs1 1\npins\n9 0:4A 1\n8 0:4A 2\nend\nnode 0 id 0\nsource 0\nend",
+            2,
+            PinKind::SlotFalls,
+        ),
+        (b"xs1 1\npins\n\n1 0:4A 1\nend", 2, PinKind::NoSuchNode),
+    ];
+    for (text, at, why) in cases {
+        match read_system(rt.alloc(), text) {
+            Err(SystemError::Pins { line, kind }) => {
+                assert_eq!(rt; kind, why);
+                assert_eq!(rt; line, at);
+            }
+            _ => assert!(rt; false, "the pin script is not refused"),
+        }
+    }
+}
+
+#[test]
 fn refusals(rt: HostRuntime) {
-    let cases: [(&[u8], u32, SysKind); 8] = [
+    let cases: [(&[u8], u32, SysKind); 10] = [
+        (b"xs1 1\npins\nfoo\nend\npins\n", 5, SysKind::GivenTwice),
+        (
+            b"xs1 1\nnode 0 id 0\npins\nend:\n",
+            3,
+            SysKind::SectionNotEnded,
+        ),
         (b"xs1 1\nnode 0 id 0\n", 2, SysKind::NodeWithoutSource),
         (
             b"xs1 1\nnode 0 id 0\nnode 1 id 1\nnode 2 id 2\nlink 0:0 1:0 delay 5 gap 4\nlink 0:1 1:0 delay 5 gap 4",

@@ -3,14 +3,14 @@ use Rattle.std.proofs.Common.{◌≡◌, ℕ, ◌+◌, ◌⊎◌, List, [], leng
 use Rattle.std.proofs.lemmas.List.{length-take}
 use Rattle.std.proofs.Math.Seq.{drop-append_seam}
 use Rattle.std.specs.Io.KnownBytes.{Appends, Consumes}
-use Rattle.xs_edge.specs.Edge.{HasRisen, AppendsPart}
+use Rattle.xs_edge.specs.Edge.{AppendsPart}
 use Rattle.answer_model.specs.declared.Form.{Form}
 use Rattle.answer_model.specs.declared.Answer.{Answer}
 use Rattle.answer_model.specs.declared.Status.{Status}
 use Rattle.answer_model.specs.declared.Status.TheVariants as status
-use Rattle.system_model.specs.System.{System, Plan, Frame, Source, system_of, longest_input}
+use Rattle.system_model.specs.System.{System, Plan, Frame, Source, Pins, system_of, longest_input}
 use Rattle.answer_model.specs.Top.{answer, answer_to, answer_of_form, usage_answer, form_of_words, taken_by}
-use Rattle.xs1_top.specs.Call.{IsWhole, IsInput, Answers, AnswersInPart, TookInput, IsFrameRefusal, IsSourceRefusal, RefusesNothing}
+use Rattle.xs1_top.specs.Call.{IsWhole, IsInput, Answers, AnswersInPart, TookInput, IsFrameRefusal, IsSourceRefusal, IsScriptRefusal, RefusesNothing}
 use Rattle.xs1_top.proofs.Systems.{system_of-front}
 
 -- the status of an answer, or the text was not written whole
@@ -73,26 +73,43 @@ status-frame : (form : Form) (system : System) → (answer_to form system).statu
 status-frame form (Plan plan) e = cc
 status-frame form (Frame line kind) e = tt
 status-frame form (Source node line kind) e = cc
+status-frame form (Pins line kind) e = cc
 
 frame-status : (form : Form) (system : System) → IsFrameRefusal system → (answer_to form system).status ≡ status.SystemFault
 frame-status form (Plan plan) h = absurd h
 frame-status form (Frame line kind) h = refl
 frame-status form (Source node line kind) h = absurd h
+frame-status form (Pins line kind) h = absurd h
 
 status-source : (form : Form) (system : System) → (answer_to form system).status ≡ status.SourceFault → IsSourceRefusal system
 status-source form (Plan plan) e = cc
 status-source form (Frame line kind) e = cc
 status-source form (Source node line kind) e = tt
+status-source form (Pins line kind) e = cc
 
 source-status : (form : Form) (system : System) → IsSourceRefusal system → (answer_to form system).status ≡ status.SourceFault
 source-status form (Plan plan) h = absurd h
 source-status form (Frame line kind) h = absurd h
 source-status form (Source node line kind) h = refl
+source-status form (Pins line kind) h = absurd h
+
+status-script : (form : Form) (system : System) → (answer_to form system).status ≡ status.ScriptFault → IsScriptRefusal system
+status-script form (Plan plan) e = cc
+status-script form (Frame line kind) e = cc
+status-script form (Source node line kind) e = cc
+status-script form (Pins line kind) e = tt
+
+script-status : (form : Form) (system : System) → IsScriptRefusal system → (answer_to form system).status ≡ status.ScriptFault
+script-status form (Plan plan) h = absurd h
+script-status form (Frame line kind) h = absurd h
+script-status form (Source node line kind) h = absurd h
+script-status form (Pins line kind) h = refl
 
 status-plan : (form : Form) (system : System) → (answer_to form system).status ≡ status.Done → RefusesNothing system
 status-plan form (Plan plan) e = tt
 status-plan form (Frame line kind) e = cc
 status-plan form (Source node line kind) e = cc
+status-plan form (Pins line kind) e = cc
 
 ended_at : (form : Form) (system : System) (a : Answer) (ended wanted : Status) → a ≡ answer_to form system → Ends a.status ended → IsWhole wanted → ended ≡ wanted → (answer_to form system).status ≡ wanted
 ended_at form system a ended wanted given ends whole e =
@@ -114,6 +131,12 @@ source-ended form system a ended given ends e = status-source form system (ended
 pub ended-source : (form : Form) (system : System) (a : Answer) (ended : Status) → a ≡ answer_to form system → Ends a.status ended → IsWhole ended → IsSourceRefusal system → ended ≡ status.SourceFault
 ended-source form system a ended given ends whole h = ended_by form system a ended status.SourceFault given ends whole (source-status form system h)
 
+pub script-ended : (form : Form) (system : System) (a : Answer) (ended : Status) → a ≡ answer_to form system → Ends a.status ended → ended ≡ status.ScriptFault → IsScriptRefusal system
+script-ended form system a ended given ends e = status-script form system (ended_at form system a ended status.ScriptFault given ends tt e)
+
+pub ended-script : (form : Form) (system : System) (a : Answer) (ended : Status) → a ≡ answer_to form system → Ends a.status ended → IsWhole ended → IsScriptRefusal system → ended ≡ status.ScriptFault
+ended-script form system a ended given ends whole h = ended_by form system a ended status.ScriptFault given ends whole (script-status form system h)
+
 pub plan-ended : (form : Form) (system : System) (a : Answer) (ended : Status) → a ≡ answer_to form system → Ends a.status ended → ended ≡ status.Done → RefusesNothing system
 plan-ended form system a ended given ends e = status-plan form system (ended_at form system a ended status.Done given ends tt e)
 
@@ -121,6 +144,7 @@ plan-status : (form : Form) (system : System) → RefusesNothing system → (ans
 plan-status form (Plan plan) h = refl
 plan-status form (Frame line kind) h = absurd h
 plan-status form (Source node line kind) h = absurd h
+plan-status form (Pins line kind) h = absurd h
 
 -- nothing is refused, and the text was written
 pub ended-plan : (form : Form) (system : System) (a : Answer) (ended : Status) → a ≡ answer_to form system → Ends a.status ended → ¬ (ended ≡ status.WriteFault) → RefusesNothing system → ended ≡ status.Done

@@ -1,5 +1,5 @@
 -- How often a source that counts its reads is read by reads in a row.
-use Rattle.std.proofs.Common.{ℕ, suc, zero, ◌≡◌, ◌+◌, ◌-◌, ◌^◌, ◌≤◌, Result, arith, ap, inl, inr}
+use Rattle.std.proofs.Common.{ℕ, suc, zero, ◌+◌, ◌-◌, ◌^◌, ◌≤◌, Result, arith, ap, inl, inr}
 use Rattle.std.proofs.lemmas.Bool.{cases_eq}
 use Rattle.xs_edge.specs.declared.Failed.{Failed}
 use Rattle.xs_edge.specs.Edge.{HasRisen}

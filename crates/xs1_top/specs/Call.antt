@@ -6,7 +6,7 @@ use Rattle.answer_model.specs.declared.Form.{Form}
 use Rattle.answer_model.specs.declared.Form.TheVariants.{Run, Check}
 use Rattle.answer_model.specs.declared.Status.{Status}
 use Rattle.answer_model.specs.declared.Status.TheVariants.{Done, Memory, Usage, SystemFault, SourceFault, ScriptFault, ReadFault, WriteFault}
-use Rattle.system_model.specs.System.{System, Plan, Frame, Source, system_of}
+use Rattle.system_model.specs.System.{System, Plan, Frame, Source, Pins, system_of}
 use Rattle.answer_model.specs.Top.{answer, form_of_words, taken, most_slots}
 
 -- a run of the form has no more slots than a run may have
@@ -73,18 +73,28 @@ abbrev pub IsFrameRefusal : System → Type 0
 IsFrameRefusal (Plan plan) = ⊥
 IsFrameRefusal (Frame line kind) = Unit {0}
 IsFrameRefusal (Source node line kind) = ⊥
+IsFrameRefusal (Pins line kind) = ⊥
 
 -- the source of a node is refused
 abbrev pub IsSourceRefusal : System → Type 0
 IsSourceRefusal (Plan plan) = ⊥
 IsSourceRefusal (Frame line kind) = ⊥
 IsSourceRefusal (Source node line kind) = Unit {0}
+IsSourceRefusal (Pins line kind) = ⊥
+
+-- the pin script is refused
+abbrev pub IsScriptRefusal : System → Type 0
+IsScriptRefusal (Plan plan) = ⊥
+IsScriptRefusal (Frame line kind) = ⊥
+IsScriptRefusal (Source node line kind) = ⊥
+IsScriptRefusal (Pins line kind) = Unit {0}
 
 -- nothing is refused
 abbrev pub RefusesNothing : System → Type 0
 RefusesNothing (Plan plan) = Unit {0}
 RefusesNothing (Frame line kind) = ⊥
 RefusesNothing (Source node line kind) = ⊥
+RefusesNothing (Pins line kind) = ⊥
 
 -- Where the words are of a form and the source tells an input whose system is of this kind, the status is the wanted one.
 abbrev pub EndsWhere : (System → Type 0) → Status → List (List ℕ) → Option (List ℕ) → Status → Type 0

@@ -4,13 +4,13 @@ ghost use Rattle.std.specs.Io.KnownBytes.{Appends};
 ghost use Rattle.xs_edge.specs.Edge.{HasRisen, AppendsPart};
 ghost use Rattle.system_model.specs.System.{system_of, longest_input};
 ghost use Rattle.answer_model.specs.Top.{answer_to, form_of_words, text_for};
-ghost use Rattle.xs1_top.specs.Call.{IsWhole, IsRead, IsSilent, Answers, AnswersInPart, TookInput, IsFrameRefusal, IsSourceRefusal, RefusesNothing, EndsWhere, IsCalm};
+ghost use Rattle.xs1_top.specs.Call.{IsWhole, IsRead, IsSilent, Answers, AnswersInPart, TookInput, IsFrameRefusal, IsSourceRefusal, IsScriptRefusal, RefusesNothing, EndsWhere, IsCalm};
 ghost use Rattle.xs1_top.specs.Reads.{ReadsAtMost};
 
 use crate::check::check_text;
 use crate::input::{ReadError, read_all};
 use crate::output::write_all;
-use crate::refusals::{frame_line, source_line, usage_line};
+use crate::refusals::{frame_line, pins_line, source_line, usage_line};
 use crate::words::form_of_words;
 pub use answer_model::Status;
 use answer_model::{Answer, Form};
@@ -35,7 +35,8 @@ use xs_edge::{Gate, Sink, Source};
 /// - `Done`: the trace, or the text of `check`, was written.
 /// - `Memory`: memory was wanting. Nothing was written.
 /// - `Usage`: the words are of no form. The usage line was written.
-/// - `SystemFault`, `SourceFault`: the frame, or a node's source, is refused. The line of the refusal was written.
+/// - `SystemFault`, `SourceFault`, `ScriptFault`: the frame, a node's source, or the pin script is refused, each where
+///   those before it are accepted. The line of the refusal was written.
 /// - `ReadFault`: a read failed, so the source's count of faults has risen. Nothing was written.
 /// - `WriteFault`: a write failed, so the sink's count of faults has risen. A front of what was to be written, or
 ///   nothing, was written.
@@ -67,10 +68,11 @@ pub fn top<S: Source, K: Sink, G: Gate>(
     ensures system_fault_given { IsWhole result → EndsWhere IsFrameRefusal Status.SystemFault (map string_bytes words.now) (S.left source.old) result }
     ensures source_fault { result ≡ Status.SourceFault → IfSome (S.left source.old) (λ input. IsSourceRefusal (system_of input)) }
     ensures source_fault_given { IsWhole result → EndsWhere IsSourceRefusal Status.SourceFault (map string_bytes words.now) (S.left source.old) result }
+    ensures script_fault { result ≡ Status.ScriptFault → IfSome (S.left source.old) (λ input. IsScriptRefusal (system_of input)) }
+    ensures script_fault_given { IsWhole result → EndsWhere IsScriptRefusal Status.ScriptFault (map string_bytes words.now) (S.left source.old) result }
     ensures done { result ≡ Status.Done → IfSome (S.left source.old) (λ input. RefusesNothing (system_of input)) }
     ensures done_given { result ≢ Status.Memory → IsCalm (S.faults source.old) (S.faults source.new) → IsCalm (K.faults sink.old) (K.faults sink.new)
         → EndsWhere RefusesNothing Status.Done (map string_bytes words.now) (S.left source.old) result }
-    ensures script_fault { result ≢ Status.ScriptFault }
 {
     let Some(form) = form_of_words(words) else {
         return finish(sink, usage_line(), Status::Usage);
@@ -102,6 +104,10 @@ fn answer_of(alloc: Global, form: Form, input: &[u8]) -> Result<Answer, AllocErr
         Err(SystemError::Source { node, line, kind }) => Answer {
             text: source_line(alloc, node, line, kind)?,
             status: Status::SourceFault,
+        },
+        Err(SystemError::Pins { line, kind }) => Answer {
+            text: pins_line(alloc, line, kind)?,
+            status: Status::ScriptFault,
         },
         Err(SystemError::Memory) => return Err(AllocError),
     };

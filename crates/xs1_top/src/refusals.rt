@@ -1,8 +1,9 @@
 //! The lines that tell why nothing was run.
 ghost use Rattle.std.specs.Prelude.{◌≡◌, ◌++◌, IfOk, OnOk};
-ghost use Rattle.answer_model.specs.Top.{frame_text, source_text, text_of_asm_kind, text_of_sys_kind, usage_text};
+ghost use Rattle.answer_model.specs.Top.{frame_text, pins_text, source_text, text_of_asm_kind, text_of_pin_kind, text_of_sys_kind, usage_text};
 
 use line_text::append_decimal;
+use pin_scripts::PinKind;
 use source_model::AsmKind;
 use std::alloc::{AllocError, Global};
 use system_model::SysKind;
@@ -44,6 +45,19 @@ pub fn source_line(alloc: Global, node: u8, line: u32, kind: AsmKind) -> Result<
     Ok(text)
 }
 
+/// The line of a refused pin script: `pins line L: KIND TEXT`. The error is want of memory. See docs/OUTPUT.md.
+pub fn pins_line(alloc: Global, line: u32, kind: PinKind) -> Result<Text, AllocError>
+    ensures { IfOk result (λ text. text ≡ pins_text line kind) }
+{
+    let mut text = Text::new(alloc);
+    text.append(b"pins line ")?;
+    append_decimal(&mut text, u64::from(line))?;
+    text.append(b": ")?;
+    text.append(text_of_pin_kind(kind))?;
+    text.append(b"\n")?;
+    Ok(text)
+}
+
 fn text_of_sys_kind(kind: SysKind) -> &'static [u8]
     ensures { result.now ≡ text_of_sys_kind kind }
 {
@@ -77,5 +91,18 @@ fn text_of_asm_kind(kind: AsmKind) -> &'static [u8]
         AsmKind::DirectiveNotAllowed => b"A7 directive not allowed",
         AsmKind::TooManyInstructions => b"A8 too many instructions",
         AsmKind::TooManyBytes => b"A9 too many bytes",
+    }
+}
+
+fn text_of_pin_kind(kind: PinKind) -> &'static [u8]
+    ensures { result.now ≡ text_of_pin_kind kind }
+{
+    match kind {
+        PinKind::BadLine => b"P1 bad line",
+        PinKind::SlotFalls => b"P2 slot falls",
+        PinKind::NoSuchPort => b"P3 no such port",
+        PinKind::ValueTooWide => b"P4 value too wide",
+        PinKind::NoSuchNode => b"P5 no such node",
+        PinKind::PinGivenTwice => b"P6 pin given twice",
     }
 }

@@ -12,6 +12,7 @@ returns c = record {
   labels = refl;
   sections = refl;
   names_in_brackets = refl;
+  port_rows = refl;
   least_line = refl;
   wrong_shape = refl;
   least_node = refl;

@@ -12,6 +12,7 @@ returns-clause-refusals c = record {
   wide = refl;
   none = refl;
   again = refl;
+  pins = refl;
   too_many = refl;
   too_many_links = refl;
   at_the_end = refl;

@@ -6,7 +6,7 @@ use Rattle.system_text.proofs.node_plans.node_plans.Goals as goal
 pub returns-in-Err : goal.returns-in-Err
 returns-in-Err c =
     plans_refused (Unit {0}) _ _ c.nodes-nodes.result.now c.loop-node.node-index _ _ _ _
-    (c.loop-node.invariant ∙ ap (node_plans c.args.frame.now.bits c.args.frame.now.sources) c.nodes-nodes.ensures) c.loop-node-test.true c.in-Err.ensures
+    (c.loop-node.invariant ∙ ap (node_plans c.args.frame.now.bits c.args.frame.now.sections) c.nodes-nodes.ensures) c.loop-node-test.true c.in-Err.ensures
 
 pub loop-node-preserved : goal.loop-node-preserved
 loop-node-preserved c =
@@ -15,5 +15,5 @@ loop-node-preserved c =
 
 pub returns : goal.returns
 returns c =
-    ap (node_plans c.args.frame.now.bits c.args.frame.now.sources) (sym c.nodes-nodes.ensures)
+    ap (node_plans c.args.frame.now.bits c.args.frame.now.sections) (sym c.nodes-nodes.ensures)
     ∙ plans_done _ _ c.nodes-nodes.result.now c.loop-node.node-index _ _ c.loop-node.invariant c.loop-node-test.false

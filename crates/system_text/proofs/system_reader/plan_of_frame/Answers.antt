@@ -2,4 +2,8 @@ use Rattle.system_text.proofs.Planned.{frame_plan}
 use Rattle.system_text.proofs.system_reader.plan_of_frame.Goals as goal
 
 pub of-requires : goal.of-requires
-of-requires c = record { parts = frame_plan c.args.frame.now _ _ _ _ c.requires c.nodes.ensures c.links.ensures c.in_ok-nodes.ensures c.in_ok-links.ensures.plans }
+of-requires c = record {
+  parts =
+      frame_plan c.args.frame.now _ _ _ _ _ c.requires c.nodes.ensures c.links.ensures c.in_ok-nodes.ensures c.in_ok-links.ensures.plans
+      (record { lines = c.in_ok-script.ensures.lines; named = c.in_ok-script.ensures.nodes });
+}

@@ -2,9 +2,9 @@ use Rattle.std.proofs.Common.{◌≡◌, ◌∙◌, ap}
 use Rattle.system_model.specs.System.{system_of}
 use Rattle.answer_model.specs.Top.{answer_to}
 use Rattle.answer_model.specs.declared.Status.TheVariants as status
-use Rattle.xs1_top.specs.Call.{IsFrameRefusal, IsSourceRefusal, RefusesNothing}
+use Rattle.xs1_top.specs.Call.{IsFrameRefusal, IsSourceRefusal, IsScriptRefusal, RefusesNothing}
 use Rattle.xs1_top.proofs.Systems.{told}
-use Rattle.xs1_top.proofs.Calls.{Answers-usage, AnswersInPart-usage, Answers-form, AnswersInPart-form, TookInput-form, frame-ended, ended-frame, source-ended, ended-source, plan-ended, ended-plan}
+use Rattle.xs1_top.proofs.Calls.{Answers-usage, AnswersInPart-usage, Answers-form, AnswersInPart-form, TookInput-form, frame-ended, ended-frame, source-ended, ended-source, script-ended, ended-script, plan-ended, ended-plan}
 use Rattle.xs1_top.proofs.call.top.Goals as goal
 
 pub returns-in_default-clause-answered : goal.returns-in_default-clause-answered
@@ -61,6 +61,20 @@ returns-in-Ok-answer_of-clause-source_fault_given g c = λ whole _.
     let given : c.in-Ok-answer_of.answer ≡ answer_to c.in-Some.form (system_of c.in-Ok.input.items) =
     c.in-Ok-answer_of.ensures ∙ ap (λ bytes. answer_to c.in-Some.form (system_of bytes)) c.deref.ensures.value in
     told (λ system. IsSourceRefusal system → c.finish-in-Ok-answer_of.result ≡ status.SourceFault) _ c.in-Ok.input.items c.in-Ok.ensures.front (ended-source c.in-Some.form _ c.in-Ok-answer_of.answer _ given c.finish-in-Ok-answer_of.ensures.status whole)
+
+pub returns-in-Ok-answer_of-clause-script_fault :
+    goal.returns-in-Ok-answer_of-clause-script_fault
+returns-in-Ok-answer_of-clause-script_fault g c = λ ended.
+    let given : c.in-Ok-answer_of.answer ≡ answer_to c.in-Some.form (system_of c.in-Ok.input.items) =
+    c.in-Ok-answer_of.ensures ∙ ap (λ bytes. answer_to c.in-Some.form (system_of bytes)) c.deref.ensures.value in
+    told IsScriptRefusal _ c.in-Ok.input.items c.in-Ok.ensures.front (script-ended c.in-Some.form _ c.in-Ok-answer_of.answer _ given c.finish-in-Ok-answer_of.ensures.status ended)
+
+pub returns-in-Ok-answer_of-clause-script_fault_given :
+    goal.returns-in-Ok-answer_of-clause-script_fault_given
+returns-in-Ok-answer_of-clause-script_fault_given g c = λ whole _.
+    let given : c.in-Ok-answer_of.answer ≡ answer_to c.in-Some.form (system_of c.in-Ok.input.items) =
+    c.in-Ok-answer_of.ensures ∙ ap (λ bytes. answer_to c.in-Some.form (system_of bytes)) c.deref.ensures.value in
+    told (λ system. IsScriptRefusal system → c.finish-in-Ok-answer_of.result ≡ status.ScriptFault) _ c.in-Ok.input.items c.in-Ok.ensures.front (ended-script c.in-Some.form _ c.in-Ok-answer_of.answer _ given c.finish-in-Ok-answer_of.ensures.status whole)
 
 pub returns-in-Ok-answer_of-clause-done :
     goal.returns-in-Ok-answer_of-clause-done
