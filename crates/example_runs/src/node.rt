@@ -1,5 +1,6 @@
 //! The node of a system that has one.
 ghost use Rattle.std.specs.Prelude.{◌≡◌, false};
+ghost use Rattle.xs_model.specs.Outside.{low_pins};
 ghost use Rattle.xs_model.specs.Picks.{picked};
 ghost use Rattle.step_model.specs.Effect.{Setting};
 ghost use Rattle.step_model.specs.Step.{issued};
@@ -11,8 +12,9 @@ use std::alloc::Global;
 use sys_plan::NodePlan;
 use system_text::read_system;
 use trace_lines::Emissions;
+use xs_model::PinView;
 
-/// The node, with no network: what it runs uses no channel end.
+/// The node, with no network and no pins: what it runs uses no channel end and no port.
 #[derive(Drop)]
 pub struct Node {
     program: Program,
@@ -43,13 +45,14 @@ impl Node {
     /// The issue of the next slot, which has this number: the thread, 0 to 7, or None where nobody issues.
     pub fn issue(&mut self, slot: u32) -> Option<u8>
         ensures issuer { result ≡ picked self.old.units slot }
-        ensures units { (here : Setting) → IsHere self.old.program.id slot (λ _. false) here →
+        ensures units { (here : Setting) → IsHere self.old.program.id slot low_pins (λ _. false) here →
             self.new.units ≡ (issued self.old.program.code here self.old.units).core }
     {
         let issuer = self.units.picked(slot);
+        let pins = PinView { level: [0; 29] };
         self.emissions.clear();
         self.units
-            .issue(&self.program, slot, &Idle, &mut self.emissions);
+            .issue(&self.program, slot, &pins, &Idle, &mut self.emissions);
         issuer
     }
 }
