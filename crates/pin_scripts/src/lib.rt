@@ -3,6 +3,7 @@
 
 mod changes;
 mod form;
+mod kept_script;
 mod line;
 mod node_changes;
 mod pin_error;

@@ -37,7 +37,7 @@ pub fn read_pins(alloc: Global, text: &[u8], nodes: &[u8]) -> Result<Script, Pin
             Err(error) => return Err(error),
         }
     }
-    Ok(Script::of(given.lines, given.nodes))
+    Ok(Script::of(alloc, given.lines, given.nodes)?)
 }
 
 // What the lines so far have given.

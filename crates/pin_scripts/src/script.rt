@@ -1,55 +1,59 @@
 //! `Script`, a pin script that was read.
-ghost use Rattle.std.specs.Prelude.{◌≡◌, []};
+ghost use Rattle.std.specs.Prelude.{◌≡◌, [], IfOk};
 ghost use Rattle.xs_model.specs.Outside.{LevelsFit};
 ghost use Rattle.pin_scripts.specs.Script.{IsNextChange, IsScript, IsSteadyUntil, view_at};
 ghost use Rattle.pin_scripts.specs.Facts.{IsIndex};
 
 use crate::PinLine;
-use crate::node_changes::{NodeChanges, place_of};
-use std::alloc::Global;
+use crate::kept_script::KeptScript;
+use crate::node_changes::NodeChanges;
+use std::alloc::{AllocError, Global};
 use std::marker::Model;
+use std::sync::Arc;
 use xs_model::PinView;
 
 /// What drives the pins of a system's nodes from outside. Contracts see the list of its lines in the order of the text; the
-/// record `IsScript` of `Rattle.pin_scripts.specs.Script` says what every script keeps. See docs/PINS.md.
+/// record `IsScript` of `Rattle.pin_scripts.specs.Script` says what every script keeps. A clone shares the lines and takes no
+/// memory. See docs/PINS.md.
 #[derive(Drop)]
 pub struct Script {
-    lines: Vec<PinLine>,
-    // The same by node and pin.
-    nodes: Vec<NodeChanges>,
+    // Nothing where there are no lines.
+    kept: Option<Arc<KeptScript, Global>>,
 }
 
 impl Model for Script {
     ghost use Rattle.std.specs.Prelude.{List};
     ghost use Rattle.pin_scripts.specs.declared.line.PinLine.{PinLine};
-    ghost use Rattle.pin_scripts.specs.Script.{IsScript};
-    ghost use Rattle.pin_scripts.specs.Facts.{IsIndex};
+    ghost use Rattle.pin_scripts.specs.Shared.{shared_lines};
 
     ghost Value = { List PinLine };
 
-    ghost view = { λ s. s.lines.items };
-
-    ghost invariant = { λ s. IsScript s.lines.items × IsIndex s.lines.items s.nodes.items };
+    ghost view = { λ s. shared_lines s.kept };
 }
 
 impl Script {
     /// The script without lines. It takes no memory.
-    pub fn empty(alloc: Global) -> Script
+    pub fn empty() -> Script
         ensures { result ≡ [] }
     {
-        Script {
-            lines: Vec::new(alloc),
-            nodes: Vec::new(alloc),
-        }
+        Script { kept: None }
     }
 
-    // The script of these lines, which are kept by node and pin too.
-    pub(crate) fn of(lines: Vec<PinLine>, nodes: Vec<NodeChanges>) -> Script
+    // The script of these lines, which are kept by node and pin too. The error is want of memory.
+    pub(crate) fn of(
+        alloc: Global,
+        lines: Vec<PinLine>,
+        nodes: Vec<NodeChanges>,
+    ) -> Result<Script, AllocError>
         requires script { IsScript lines.items }
         requires index { IsIndex lines.items nodes.items }
-        ensures { result ≡ lines.items }
+        ensures { IfOk result (λ script. script ≡ lines.items) }
     {
-        Script { lines, nodes }
+        if lines.is_empty() {
+            return Ok(Script::empty());
+        }
+        let kept = Arc::new(alloc, KeptScript::of(lines, nodes))?;
+        Ok(Script { kept: Some(kept) })
     }
 
     /// The lines in the order of the text.
@@ -57,7 +61,10 @@ impl Script {
         ensures value { result.now ≡ self.now }
         ensures script { IsScript self.now }
     {
-        self.lines.as_slice()
+        match &self.kept {
+            Some(kept) => kept.lines(),
+            None => &[],
+        }
     }
 
     /// What the pins of the node with this number show in a slot, where its ports do not drive them: each the value of its
@@ -66,11 +73,9 @@ impl Script {
         ensures value { out.new ≡ view_at self.now node slot }
         ensures levels { LevelsFit out.new.level }
     {
-        let place = place_of(&self.nodes, u32::from(node));
-        if place < self.nodes.len() {
-            self.nodes[place].show(slot, out);
-        } else {
-            out.level = [0; 29];
+        match &self.kept {
+            Some(kept) => kept.view(node, slot, out),
+            None => out.level = [0; 29],
         }
     }
 
@@ -80,11 +85,24 @@ impl Script {
         ensures next { IsNextChange self.now node slot result }
         ensures steady { IsSteadyUntil self.now node slot result }
     {
-        let place = place_of(&self.nodes, u32::from(node));
-        if place < self.nodes.len() {
-            self.nodes[place].next_after(slot)
-        } else {
-            None
+        match &self.kept {
+            Some(kept) => kept.next_change(node, slot),
+            None => None,
         }
+    }
+}
+
+/// A clone is one more owner of the same lines. It takes no memory; the error is that there are 2^63 - 1 owners already.
+impl Clone for Script {
+    ghost is_clone = { λ script copy. copy ≡ script };
+
+    fn clone(&self) -> Result<Script, AllocError>
+        ensures { IfOk result (λ copy. copy ≡ self.now) }
+    {
+        let kept = match &self.kept {
+            Some(kept) => Some(Arc::try_clone(kept)?),
+            None => None,
+        };
+        Ok(Script { kept })
     }
 }

@@ -77,9 +77,23 @@ fn levels(rt: HostRuntime) -> Result<(), Fail> {
     assert_eq!(&rt; script.next_change(0, 10), None);
     assert_eq!(&rt; script.next_change(7, 5), None);
     assert_eq!(&rt; script.next_change(3, 0), None);
-    let empty = Script::empty(rt.alloc());
-    expect_level(&rt, &empty, 0, 9, 16, 0);
+    let share = script.clone()?;
+    drop(script);
+    assert_eq!(&rt; share.lines().len(), 4);
+    expect_level(&rt, &share, 7, 10, 16, 2);
+    let empty = Script::empty();
+    expect_level(&rt, &empty.clone()?, 0, 9, 16, 0);
     assert_eq!(&rt; empty.next_change(0, 0), None);
+    Ok(())
+}
+
+// Takes what may be sent to other threads and shared with them.
+fn expect_sendable<T: Send + Sync>(_value: &T) {}
+
+#[test]
+fn shares_cross_threads(rt: HostRuntime) -> Result<(), Fail> {
+    let script = read_pins(rt.alloc(), b"5 0:4A 9", &[0])?;
+    expect_sendable(&script);
     Ok(())
 }
 

@@ -21,7 +21,7 @@ use Rattle.run_plan.specs.Passes.{IsReadyTrack}
 pub record Plays (plan : PlanRec) (slot : Slot) (n : Position) (node : NodePlan) (seat : Seat) (rec : NodeRec) (events : List Event) : Type 0 where
   pub fixed : seat.core.fixed ≡ fixed_of node (gaps_of plan n)
   pub incoming : seat.incoming.links ≡ incoming_of plan n
-  pub script : seat.pins.script.now ≡ plan.script
+  pub script : seat.pins.script ≡ plan.script
   pub number : seat.pins.number ≡ slice_index (node_numbers plan) n
   pub stands : StandsAt seat.core rec slot
   pub keeps : Keeps seat.events events

@@ -24,7 +24,7 @@ pub record IsSeat (slot : Slot) (link_count : ℕ) (seat : Seat) : Type 0 where
 
 -- what the pins of a node show in a slot, where its ports do not drive them
 abbrev pub pins_shown : Seat → Slot → PinView
-pins_shown seat slot = view_at seat.pins.script.now seat.pins.number slot
+pins_shown seat slot = view_at seat.pins.script seat.pins.number slot
 
 -- what the slot of a node is
 abbrev pub step_of : Slot → List Track → Seat → NodeRec → Stepped
@@ -39,6 +39,6 @@ pub record StepsOn (slot : Slot) (tracks : List Track) (before after : Seat) : T
   pub given : (rec : NodeRec) → StandsAt before.core rec slot → after.given ≡ (step_of slot tracks before rec).emitted
   pub keeps : (all : List Event) → Keeps before.events all → Keeps after.events (all ++ after.given.events)
   pub more : after.events.more ≤ before.events.more + EVENT_ROOM
-  pub script : after.pins.script.now ≡ before.pins.script.now
+  pub script : after.pins.script ≡ before.pins.script
   pub number : after.pins.number ≡ before.pins.number
   pub shown_next : IsShown (slot + 1) after.pins

@@ -21,7 +21,7 @@ pub record StartsAs (plan : PlanRec) (n : Position) (node : NodePlan) (seat : Se
   pub incoming : seat.incoming.links ≡ incoming_of plan n
   pub below : AllByRecursion (IsBelow (length (directions plan.links))) seat.incoming.links
   pub keeps : Keeps seat.events []
-  pub script : seat.pins.script.now ≡ plan.script
+  pub script : seat.pins.script ≡ plan.script
   pub number : seat.pins.number ≡ slice_index (node_numbers plan) n
   pub shown : IsShown 0 seat.pins
 

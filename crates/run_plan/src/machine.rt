@@ -22,14 +22,14 @@ use xs_base::Entry;
 /// All nodes of a system, stepped together slot by slot from slot 0 on. Contracts see the plan and how many slots
 /// have passed; what the machine has become is `serial` of `Rattle.serial_model.specs.Serial`. See docs/MACHINE.md.
 #[derive(Drop)]
-pub struct SerialMachine<'a> {
+pub struct SerialMachine {
     plan: Known<Plan>,
     clock: u32,
-    seats: Vec<Seat<'a>>,
+    seats: Vec<Seat>,
     tracks: Vec<Track>,
 }
 
-impl<'a> Model for SerialMachine<'a> {
+impl Model for SerialMachine {
     ghost use Rattle.run_plan.specs.Machine.{MachineRec};
 
     ghost Value = { MachineRec };
@@ -41,9 +41,9 @@ impl<'a> Model for SerialMachine<'a> {
     ghost invariant = { IsMachine };
 }
 
-impl<'a> SerialMachine<'a> {
+impl SerialMachine {
     /// The nodes of a plan as they start. The error is want of memory.
-    pub fn new(alloc: Global, plan: &'a Plan) -> Result<SerialMachine<'a>, AllocError>
+    pub fn new(alloc: Global, plan: &Plan) -> Result<SerialMachine, AllocError>
         ensures plan { IfOk result (λ m. m.plan ≡ plan.now) }
         ensures now { IfOk result (λ m. m.now ≡ 0) }
     {
@@ -122,8 +122,8 @@ impl<'a> SerialMachine<'a> {
     /// What is kept of the events of each node, by position. Nothing else is left of the machine. The error is want of
     /// memory.
     pub fn into_events(self, alloc: Global) -> Result<Vec<NodeEvents>, AllocError>
-        ensures keeps { IfOk result (λ v. AllZip Keeps v.items (serial self.entry.plan self.entry.now).events) }
-        ensures nodes { IfOk result (λ v. length v.items ≡ length self.entry.plan.nodes) }
+        ensures keeps { IfOk result (λ v. AllZip Keeps v.items (serial self.plan self.now).events) }
+        ensures nodes { IfOk result (λ v. length v.items ≡ length self.plan.nodes) }
     {
         let mut all = Vec::new(alloc);
         for seat in self.seats {

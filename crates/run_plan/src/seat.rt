@@ -15,17 +15,17 @@ use xs_model::Event;
 
 /// A node at work.
 #[derive(Drop)]
-pub(crate) struct Seat<'a> {
+pub(crate) struct Seat {
     pub(crate) core: Core,
     pub(crate) events: NodeEvents,
     // What the node's last slot gave.
     pub(crate) given: Emissions,
     pub(crate) incoming: Incoming,
     // What its pins show.
-    pub(crate) pins: Pins<'a>,
+    pub(crate) pins: Pins,
 }
 
-impl<'a> Seat<'a> {
+impl Seat {
     /// One slot of the node, with what arrives by its links. Its events are kept, in room that was made for them.
     // Not inlined: the registers of the loop over the nodes are then not shared with all that a slot may do.
     #[inline(never)]

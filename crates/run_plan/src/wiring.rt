@@ -14,7 +14,7 @@ use trace_lines::{Emissions, NodeEvents};
 use xs_base::Batch;
 
 /// The nodes of a plan as they start. The error is want of memory.
-pub(crate) fn seats_of<'a>(alloc: Global, plan: &'a Plan) -> Result<Vec<Seat<'a>>, AllocError>
+pub(crate) fn seats_of(alloc: Global, plan: &Plan) -> Result<Vec<Seat>, AllocError>
     ensures start { IfOk result (λ v. AllStart plan.now 0 plan.now.nodes v.items) }
 {
     let mut seats = Vec::new(alloc);
@@ -26,23 +26,19 @@ pub(crate) fn seats_of<'a>(alloc: Global, plan: &'a Plan) -> Result<Vec<Seat<'a>
 }
 
 // The node at a position as it starts.
-fn seat_of<'a>(
-    alloc: Global,
-    plan: &'a Plan,
-    n: u8,
-    node: &NodePlan,
-) -> Result<Seat<'a>, AllocError>
+fn seat_of(alloc: Global, plan: &Plan, n: u8, node: &NodePlan) -> Result<Seat, AllocError>
     requires node { WaysLead plan.now n node.now.ways }
     requires number { node.now.number ≡ slice_index (node_numbers plan.now) n }
     ensures start { IfOk result (λ seat. StartsAs plan.now n node.now seat) }
 {
     let core = Core::boot(alloc, node, &plan.gaps(n))?;
+    let script = plan.script().clone()?;
     Ok(Seat {
         core,
         events: NodeEvents::new(alloc),
         given: Emissions::new(),
         incoming: Incoming::of(plan, n),
-        pins: Pins::of(plan.script(), node.number),
+        pins: Pins::of(script, node.number),
     })
 }
 

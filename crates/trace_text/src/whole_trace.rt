@@ -38,7 +38,7 @@ fn append_events(
     machine: SerialMachine,
 ) -> Result<(), AllocError>
     requires plan { machine.plan ≡ plan.now }
-    ensures { OnOk result (out.new ≡ out.old ++ event_lines plan.now.nodes (events_in_order (serial plan.now machine.entry.now))) }
+    ensures { OnOk result (out.new ≡ out.old ++ event_lines plan.now.nodes (events_in_order (serial plan.now machine.now))) }
 {
     let nodes = plan.nodes();
     let events = machine.into_events(alloc)?;

@@ -27,10 +27,10 @@ returns-clause-exact c =
     let left : bytes_left c.loop-line.lines ≡ [] = grind (arith, common_steps) in
     c.loop-line.invariant.whole
     ∙ (λ i. pins_from c.args.nodes.now (c.loop-line.lines.number + 1) c.loop-line.given.lines.items (lines_of (left i)))
-    ∙ ap (λ (ls : List PinLine). Script ls) (sym c.of.ensures)
+    ∙ ap (λ (ls : List PinLine). Script ls) (sym c.in_ok-of.ensures)
 
 pub returns-clause-taken : goal.returns-clause-taken
-returns-clause-taken c = λ script e. let same : Script c.of.result ≡ Script script = sym (returns-clause-exact c) ∙ e in cc
+returns-clause-taken c = λ script e. let same : Script c.in_ok-of.field-0 ≡ Script script = sym (returns-clause-exact c) ∙ e in cc
 
 pub returns-clause-refused : goal.returns-clause-refused
-returns-clause-refused c = λ line kind e. let apart : Script c.of.result ≡ Fault line kind = sym (returns-clause-exact c) ∙ e in cc
+returns-clause-refused c = λ line kind e. let apart : Script c.in_ok-of.field-0 ≡ Fault line kind = sym (returns-clause-exact c) ∙ e in cc

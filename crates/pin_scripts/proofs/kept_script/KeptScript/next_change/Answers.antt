@@ -2,7 +2,7 @@ use Rattle.std.proofs.Common.{◌≡◌, ◌≤◌, None, List, length, get_or, 
 use Rattle.pin_scripts.specs.declared.line.PinLine.{PinLine}
 use Rattle.pin_scripts.specs.Facts.{IsIndex, place_of}
 use Rattle.pin_scripts.proofs.Views.{keeps-at, keeps-none, next-line, steady}
-use Rattle.pin_scripts.proofs.script.Script.next_change.Goals as goal
+use Rattle.pin_scripts.proofs.kept_script.KeptScript.next_change.Goals as goal
 
 pub returns-then-place-len-clause-next : goal.returns-then-place-len-clause-next
 returns-then-place-len-clause-next c =

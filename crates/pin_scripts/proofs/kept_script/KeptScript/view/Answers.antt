@@ -5,7 +5,7 @@ use Rattle.pin_scripts.specs.declared.line.PinLine.{PinLine}
 use Rattle.pin_scripts.specs.Script.{IsScript}
 use Rattle.pin_scripts.specs.Facts.{IsIndex, place_of}
 use Rattle.pin_scripts.proofs.Views.{keeps-at, levels-fit, shows}
-use Rattle.pin_scripts.proofs.script.Script.view.Goals as goal
+use Rattle.pin_scripts.proofs.kept_script.KeptScript.view.Goals as goal
 
 pub returns-then-place-len-clause-value : goal.returns-then-place-len-clause-value
 returns-then-place-len-clause-value c =
