@@ -9,7 +9,8 @@ use Rattle.xs_model.specs.Choices.{port_is_ready}
 use Rattle.xs_model.specs.Masks.{in_mask}
 use Rattle.xs_model.specs.Record.{PortRec, off_port}
 use Rattle.buffered_ports.specs.Asks.{no_ports, port_at}
-use Rattle.buffered_ports.specs.Keeps.{PortOf, IsPlaced, AreMasks}
+use Rattle.single_port.specs.Keeps.{PortOf, IsPlaced}
+use Rattle.buffered_ports.specs.Keeps.{AreMasks}
 use Rattle.buffered_ports.specs.Row.{no_place, place_at, ports_in, IsRow}
 
 -- each place is as it is where no port is

@@ -16,7 +16,8 @@ use Rattle.xs_model.specs.Record.{PortRec, ClockRec, off_port, off_clock}
 use Rattle.xs_model.specs.Time.{edge_at, edge_in_period, period}
 use Rattle.xs_model.specs.Ports.{Edged, unchanged, at_edge, port_edge, edge_in_slot, edges_from, edged_before, PortsEdged, pin_happens, level_of, is_high}
 use Rattle.buffered_ports.specs.Asks.{port_at}
-use Rattle.buffered_ports.specs.Keeps.{HighAre, ServesAs}
+use Rattle.single_port.specs.Keeps.{ServesAs}
+use Rattle.buffered_ports.specs.Keeps.{HighAre}
 
 -- ---- The levels of pins
 

@@ -5,4 +5,3 @@ pub mod First
 pub mod High
 pub mod Plain
 pub mod InTurn
-pub mod Fits

@@ -10,7 +10,7 @@ use Rattle.xs_model.specs.Choices.{port_is_ready}
 use Rattle.xs_model.specs.PortRows.{restarted}
 use Rattle.xs_model.specs.Record.{PortRec, off_port}
 use Rattle.buffered_ports.specs.Asks.{port_at}
-use Rattle.buffered_ports.specs.Keeps.{PortOf, IsPlaced, IsPlain, ServesAs, KeepsRole}
+use Rattle.single_port.specs.Keeps.{PortOf, IsPlaced, IsPlain, ServesAs, KeepsRole}
 use Rattle.buffered_ports.specs.Row.{no_place, place_at, ports_in, row, IsRow}
 use Rattle.buffered_ports.specs.declared.ports.Ports.TheInside.{Inside}
 

@@ -1,4 +1,4 @@
 pub mod Asks
 pub mod Keeps
-pub mod Inside
 pub mod Row
+pub use Rattle.single_port.specs.declared.answers

@@ -3,7 +3,8 @@ use Rattle.std.specs.Prelude.{◌≡◌, List, length, map, slice_index_or}
 use Rattle.xs_base.specs.Numbers.{PortNumber}
 use Rattle.xs_model.specs.Record.{PortRec, off_port}
 use Rattle.buffered_ports.specs.declared.ports.Ports.TheInside as ports
-use Rattle.buffered_ports.specs.Keeps.{PortOf, IsPlaced, AreMasks}
+use Rattle.single_port.specs.Keeps.{PortOf, IsPlaced}
+use Rattle.buffered_ports.specs.Keeps.{AreMasks}
 
 -- a place where no port is
 abbrev pub no_place : PortOf

@@ -8,13 +8,13 @@ ghost use Rattle.xs_model.specs.Choices.{port_is_ready};
 ghost use Rattle.xs_model.specs.PortRows.{restarted};
 ghost use Rattle.xs_model.specs.Ports.{level_of, port_edge, rises, falls};
 ghost use Rattle.xs_model.specs.PortRows.{is_idle};
-ghost use Rattle.buffered_ports.specs.Asks.{no_ports, port_at, IsAsk, FitsTransfer, IsClock, IsStrobe, is_allowed, asked, answer_of, port_after, wait_of};
-ghost use Rattle.buffered_ports.specs.Keeps.{ServesAs, ports_restarted};
+ghost use Rattle.single_port.specs.Asks.{IsAsk, FitsTransfer, IsClock, IsStrobe, answer_of, port_after, wait_of};
+ghost use Rattle.buffered_ports.specs.Asks.{no_ports, port_at, is_allowed, asked};
+ghost use Rattle.single_port.specs.Keeps.{ServesAs};
+ghost use Rattle.buffered_ports.specs.Keeps.{ports_restarted};
 
-use crate::answers::{Answer, Ask};
-use crate::edges::Fallen;
 use crate::marks::{noted, with_bit};
-use crate::port::Port;
+use single_port::{Answer, Ask, Fallen, Port, Reply};
 use std::marker::Model;
 use xs_base::numbers::PORTS;
 use xs_base::port_width;
@@ -132,7 +132,10 @@ impl Ports {
         ensures count { length self.new ≡ PORTS }
     {
         if !self.allows(port, ask) {
-            return Answer::bad();
+            return Answer {
+                reply: Reply::Bad,
+                pin: None,
+            };
         }
         let place = &mut self.ports[port as usize];
         let answer = place.act(port, ask, pin);

@@ -10,7 +10,8 @@ ghost use Rattle.xs_model.specs.Outside.{in_slot, LevelsFit};
 ghost use Rattle.xs_model.specs.Time.{edge_at};
 ghost use Rattle.xs_model.specs.Ports.{level_of, levels_of, is_high, at_edge, rises, falls, unchanged, edge_in_slot, edges_from, pin_happens};
 ghost use Rattle.buffered_ports.specs.Asks.{port_at};
-ghost use Rattle.buffered_ports.specs.Keeps.{HighIs, HighAre, IsPlain, ServesAs};
+ghost use Rattle.single_port.specs.Keeps.{IsPlain, ServesAs};
+ghost use Rattle.buffered_ports.specs.Keeps.{HighIs, HighAre};
 
 use crate::marks::{has_bit, lowest, noted, with_bit, without};
 use crate::ports::Ports;
@@ -67,31 +68,10 @@ impl Ports {
         ensures room { length out.new.events ≤ length out.old.events + PORTS }
         ensures count { length self.new ≡ PORTS }
     {
-        self.edges_in_slot(clocks, slot, &pins.level, high, out)
-    }
-
-    #[inline]
-    fn edges_in_slot(
-        &mut self,
-        clocks: &Clocks,
-        slot: u32,
-        levels: &[u32; 29],
-        high: u32,
-        out: &mut Emissions,
-    ) -> bool
-        requires pins { LevelsFit levels.now }
-        requires room { length out.old.events + PORTS ≤ EVENT_ROOM }
-        ensures ports { (before : List Word) → HighAre high self.old before → self.new ≡ (edges_from slot clocks.now before 0 self.old levels.now).ports }
-        ensures events { (before : List Word) → HighAre high self.old before →
-            out.new ≡ record out.old { events = out.old.events ++ map (in_slot slot) (edges_from slot clocks.now before 0 self.old levels.now).happened } }
-        ensures serve { result ≡ false → (p : PortNumber) → ServesAs (port_at self.old p) (port_at self.new p) }
-        ensures room { length out.new.events ≤ length out.old.events + PORTS }
-        ensures count { length self.new ≡ PORTS }
-    {
         if self.has_no_edge(slot) {
             return false;
         }
-        self.all_edges(clocks, slot, levels, high, out)
+        self.all_edges(clocks, slot, &pins.level, high, out)
     }
 
     // Whether it is plain that no port has an edge in a slot: none is on, or the slot is odd.

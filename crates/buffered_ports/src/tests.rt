@@ -8,7 +8,7 @@ use std::process::Abort;
 use timers_clocks::Clocks;
 use trace_lines::Emissions;
 use xs_model::PinView;
-use xs_model::modes::{BUFFERS, EQUAL, OFF, ON};
+use xs_model::modes::{EQUAL, OFF, ON};
 
 // What is seen of a port's pins at an edge.
 #[derive(Clone, Copy, PartialEq, Eq, Debug)]
@@ -75,80 +75,6 @@ fn a_word_is_driven_at_the_next_falling_edge(rt: HostRuntime) {
     let turned = ports.act(0, Ask::In, 0);
     assert_eq!(rt; hear(turned), Heard::Pause);
     assert_eq!(rt; see(turned.pin), Seen::Floats);
-}
-
-#[test]
-fn a_timed_word_waits_for_its_time(rt: HostRuntime) {
-    let mut ports = Ports::new();
-    let _ = ports.act(16, Ask::Mode(ON), 0);
-    let _ = ports.act(16, Ask::Time(3), 0);
-    assert_eq!(rt; hear(ports.act(16, Ask::Out(0x1A), 0)), Heard::Done);
-    for change in [Seen::Stays, Seen::Stays, Seen::Drives(0xA), Seen::Stays] {
-        assert_eq!(rt; fall(&mut ports, 16), change);
-    }
-    assert_eq!(rt; hear(ports.act(16, Ask::Stamp, 0)), Heard::Got(3));
-}
-
-#[test]
-fn a_byte_leaves_a_narrow_port_bit_by_bit(rt: HostRuntime) {
-    let mut ports = Ports::new();
-    let _ = ports.act(0, Ask::Mode(ON), 0);
-    assert_eq!(rt; hear(ports.act(0, Ask::Width(8), 0)), Heard::Bad);
-    let _ = ports.act(0, Ask::Mode(BUFFERS), 0);
-    assert_eq!(rt; hear(ports.act(0, Ask::Width(8), 0)), Heard::Done);
-    assert_eq!(rt; ports.tw(0), 8);
-    assert_eq!(rt; hear(ports.act(0, Ask::Out(0xB2), 0)), Heard::Done);
-    assert_eq!(rt; fall(&mut ports, 0), Seen::Drives(0));
-    assert_eq!(rt; hear(ports.act(0, Ask::Out(0x06), 0)), Heard::Done);
-    assert_eq!(rt; hear(ports.act(0, Ask::Sync, 0)), Heard::Pause);
-    // 0xB2 is 0, 1, 0, 0, 1, 1, 0, 1, and 0x06 is 0, 1, 1, and then 0s.
-    for change in [
-        Seen::Drives(1),
-        Seen::Drives(0),
-        Seen::Stays,
-        Seen::Drives(1),
-        Seen::Stays,
-        Seen::Drives(0),
-        Seen::Drives(1),
-        Seen::Drives(0),
-        Seen::Drives(1),
-        Seen::Stays,
-        Seen::Drives(0),
-        Seen::Stays,
-        Seen::Stays,
-        Seen::Stays,
-        Seen::Stays,
-    ] {
-        assert_eq!(rt; fall(&mut ports, 0), change);
-    }
-    assert_eq!(rt; hear(ports.act(0, Ask::Sync, 0)), Heard::Done);
-}
-
-#[test]
-fn a_byte_comes_in_by_two_beats(rt: HostRuntime) {
-    let mut ports = Ports::new();
-    let _ = ports.act(16, Ask::Mode(ON), 0);
-    let _ = ports.act(16, Ask::Mode(BUFFERS), 0);
-    let _ = ports.act(16, Ask::Width(8), 0);
-    rise(&mut ports, 16, 1);
-    assert_eq!(rt; hear(ports.act(16, Ask::In, 0)), Heard::Pause);
-    rise(&mut ports, 16, 2);
-    assert!(rt; ports.ready() == 0x1_0000);
-    // A full register keeps what it has.
-    rise(&mut ports, 16, 3);
-    rise(&mut ports, 16, 4);
-    assert_eq!(rt; hear(ports.act(16, Ask::In, 0)), Heard::Got(0x21));
-    assert!(rt; ports.ready() == 0);
-    // A part is complete where its bits are there.
-    assert_eq!(rt; hear(ports.act(16, Ask::InPart(6), 0)), Heard::Bad);
-    assert_eq!(rt; hear(ports.act(16, Ask::InPart(4), 0)), Heard::Pause);
-    rise(&mut ports, 16, 9);
-    assert_eq!(rt; hear(ports.act(16, Ask::InPart(4), 0)), Heard::Got(9));
-    // A transfer that is cut short has the bits so far.
-    rise(&mut ports, 16, 5);
-    assert_eq!(rt; hear(ports.act(16, Ask::EndIn, 0)), Heard::Got(4));
-    assert_eq!(rt; hear(ports.act(16, Ask::EndIn, 0)), Heard::Got(8));
-    assert_eq!(rt; hear(ports.act(16, Ask::In, 0)), Heard::Got(5));
 }
 
 #[test]

@@ -13,8 +13,8 @@ use Rattle.xs_model.specs.Ports.{pin_happens}
 use Rattle.xs_model.specs.PortRows.{Acted, Did, Got, Waits, Refused}
 use Rattle.step_model.specs.Effect.{Done, Pause, Trap}
 use Rattle.step_model.specs.PortRows.{ends_at_port, goes_on_taking}
-use Rattle.buffered_ports.specs.declared.answers.Answer.{Answer}
-use Rattle.buffered_ports.specs.declared.answers.Reply.TheVariants as reply
+use Rattle.buffered_ports.specs.answers.Answer.{Answer}
+use Rattle.buffered_ports.specs.answers.Reply.TheVariants as reply
 use Rattle.buffered_ports.specs.Asks.{answer_of, port_after, wait_of}
 use Rattle.core_units.specs.Ended.{ended_done, ended_pause}
 use Rattle.core_units.specs.Units.{EndsWith}

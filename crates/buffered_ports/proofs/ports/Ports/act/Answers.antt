@@ -2,7 +2,8 @@ use Rattle.std.proofs.Common.{ap, sym, subst, ◌∙◌, ◌<◌, length, arith}
 use Rattle.std.proofs.lemmas.Bool.{cond-true}
 use Rattle.std.specs.Prelude.{is_some}
 use Rattle.xs_model.specs.PortRows.{Refused}
-use Rattle.buffered_ports.specs.Asks.{acted, port_after, port_at}
+use Rattle.single_port.specs.Asks.{acted, port_after}
+use Rattle.buffered_ports.specs.Asks.{port_at}
 use Rattle.buffered_ports.proofs.Row.{IsNoted, read, replaced, row_replaced, by_bit}
 use Rattle.buffered_ports.proofs.ports.Ports.act.Goals as goal
 
@@ -13,7 +14,7 @@ invariant_of-self c =
     (subst (IsNoted _ c.self.inside.ready c.args.port) c.is_ready.ensures (by_bit _ _ _ _ (omega (arith, c.requires.port)) c.with_bit-self-inside-2.ensures))
     (subst (IsNoted _ c.self.inside.strobed c.args.port) (c.is_some.ensures ∙ ap (λ strobe. is_some strobe) c.strobe.ensures.value) (by_bit _ _ _ _ (omega (arith, c.requires.port)) c.with_bit-self-inside-3.ensures))
     (by_bit _ _ _ _ (omega (arith, c.requires.port)) c.with_bit-self-inside-4.ensures).others
-    (λ noted. c.is_plain.ensures (sym (by_bit _ _ _ c.is_plain.result (omega (arith, c.requires.port)) c.with_bit-self-inside-4.ensures).its ∙ noted))
+    (λ noted. c.is_plain.ensures.plain (sym (by_bit _ _ _ c.is_plain.result (omega (arith, c.requires.port)) c.with_bit-self-inside-4.ensures).its ∙ noted))
 
 pub returns-clause-port : goal.returns-clause-port
 returns-clause-port c =

@@ -1,7 +1,6 @@
-use Rattle.std.proofs.Common.{sym, subst, ◌<◌, ap, ◌∙◌, length, arith}
+use Rattle.std.proofs.Common.{◌<◌, ap, ◌∙◌, length, arith}
 use Rattle.xs_model.specs.Ports.{falls}
-use Rattle.buffered_ports.specs.Keeps.{PortOf, IsPlain}
-use Rattle.buffered_ports.proofs.Plain.{still_plain_fallen}
+use Rattle.single_port.specs.Keeps.{PortOf}
 use Rattle.buffered_ports.proofs.Row.{read_on, replaced, row_edged, serves_now, port_there}
 use Rattle.buffered_ports.specs.Asks.{port_at}
 use Rattle.buffered_ports.proofs.ports.Ports.fall.Goals as goal
@@ -9,7 +8,7 @@ use Rattle.buffered_ports.proofs.ports.Ports.fall.Goals as goal
 pub invariant_of-self : goal.invariant_of-self
 invariant_of-self c =
     row_edged c.self.inside c.args.p c.noted-self-inside.result c.index-self-p.result c.falls-fallen.new.self c.falls-fallen.result.differs c.is_ready.result c.self.invariant c.requires.port (ap (λ (that : PortOf). that.width) c.falls-fallen.ensures.port) c.falls-fallen.ensures.role c.falls-fallen.ensures.same c.is_ready.ensures c.noted-self-inside.ensures.its c.noted-self-inside.ensures.same c.noted-self-inside.ensures.others
-    (λ plain. subst IsPlain (ap (λ (that : PortOf). that.port) (sym c.falls-fallen.ensures.port)) (still_plain_fallen _ _ plain))
+    c.falls-fallen.ensures.plain
 
 pub returns-clause-ports : goal.returns-clause-ports
 returns-clause-ports c =

@@ -1,7 +1,7 @@
 use Rattle.std.proofs.Common.{◌<◌, true, not, ap, sym, ◌∙◌, length, arith}
 use Rattle.xs_model.specs.Ports.{rises, level_of}
 use Rattle.buffered_ports.specs.Asks.{port_at}
-use Rattle.buffered_ports.specs.Keeps.{PortOf}
+use Rattle.single_port.specs.Keeps.{PortOf}
 use Rattle.buffered_ports.proofs.Plain.{ready_where_full, was_full}
 use Rattle.buffered_ports.proofs.Row.{read_on, replaced, row_edged, serves_now, port_here, port_there}
 use Rattle.buffered_ports.proofs.ports.Ports.plain_rise.Goals as goal

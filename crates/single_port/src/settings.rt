@@ -4,9 +4,9 @@ ghost use Rattle.xs_base.specs.Ids.{port_width};
 ghost use Rattle.xs_base.specs.declared.numbers.TheConstants.{PORTS};
 ghost use Rattle.xs_model.specs.Record.{Always, Equal, NotEqual};
 ghost use Rattle.xs_model.specs.PortRows.{in_mode, turned_on, turned_off, let_go, set_mode, with_condition, resampled, cleared, unbuffered, buffered, set_clock, set_strobe, set_transfer_width, is_transfer_width, set_value, set_time, clear_time, goes_by, restarted};
-ghost use Rattle.buffered_ports.specs.Asks.{answer_of, port_after, IsClock, IsStrobe};
-ghost use Rattle.buffered_ports.specs.Keeps.{IsPlaced, KeepsRole, ServesAs, IsPlain, is_width};
-ghost use Rattle.buffered_ports.specs.Inside.{condition_of};
+ghost use Rattle.single_port.specs.Asks.{answer_of, port_after, IsClock, IsStrobe};
+ghost use Rattle.single_port.specs.Keeps.{IsPlaced, KeepsRole, ServesAs, IsPlain, is_width};
+ghost use Rattle.single_port.specs.Inside.{condition_of};
 
 use crate::answers::{Answer, Reply};
 use crate::port::Port;
@@ -202,7 +202,7 @@ impl Port {
     }
 
     /// Clock block `k` starts: if the port goes by it, its counter begins anew.
-    pub(crate) fn restarted(&mut self, k: u8)
+    pub fn restarted(&mut self, k: u8)
         ensures port { self.new ≡ record self.old { port = restarted k self.old.port } }
         ensures role { KeepsRole self.old.port self.new.port }
         ensures same { ServesAs self.old.port self.new.port }

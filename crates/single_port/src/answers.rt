@@ -1,6 +1,6 @@
 //! What may be asked of a port, and what it answers.
 ghost use Rattle.std.specs.Prelude.{◌≡◌, None};
-ghost use Rattle.buffered_ports.specs.declared.answers.Reply.TheVariants as reply;
+ghost use Rattle.single_port.specs.declared.answers.Reply.TheVariants as reply;
 
 use xs_model::{Clock, PinChange, Wait};
 

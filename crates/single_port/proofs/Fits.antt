@@ -3,7 +3,7 @@ use Rattle.std.proofs.Common.{ℕ, ◌<◌, ◌^◌, Option, Some, None, arith}
 use Rattle.std.specs.Prelude.{IfSome}
 use Rattle.std.proofs.Math.Nat.{pow-le-pow_right}
 use Rattle.xs_model.specs.Record.{TransferRec}
-use Rattle.buffered_ports.specs.Keeps.{IsTransfer}
+use Rattle.single_port.specs.Keeps.{IsTransfer}
 
 pub fits_transfer : (bits : ℕ) (transfer : Option TransferRec) → IfSome transfer (IsTransfer bits) → IfSome transfer (λ t. t.value < 2 ^ bits)
 fits_transfer bits None fits = fits

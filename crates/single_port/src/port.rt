@@ -4,18 +4,18 @@ ghost use Rattle.xs_model.specs.Record.{off_port};
 ghost use Rattle.xs_model.specs.Ports.{level_of};
 ghost use Rattle.xs_model.specs.PortRows.{on_port, has_left, is_idle};
 ghost use Rattle.xs_model.specs.Choices.{port_is_ready};
-ghost use Rattle.buffered_ports.specs.Asks.{IsClock, IsStrobe};
-ghost use Rattle.buffered_ports.specs.Keeps.{IsPort, IsPlain};
+ghost use Rattle.single_port.specs.Asks.{IsClock, IsStrobe};
+ghost use Rattle.single_port.specs.Keeps.{IsPort, IsPlain};
 
 use crate::transfer::{Compare, Transfer};
 use port_shift::Shift;
 use std::marker::Model;
 use xs_model::Clock;
 
-/// One port. Contracts see it as a `PortOf` of `Rattle.buffered_ports.specs.Keeps`: its width, which its shift register
+/// One port. Contracts see it as a `PortOf` of `Rattle.single_port.specs.Keeps`: its width, which its shift register
 /// knows, and the rest as a `PortRec`. See docs/PORTS.md.
 #[derive(Drop)]
-pub(crate) struct Port {
+pub struct Port {
     pub(crate) on: bool,
     pub(crate) output: bool,
     pub(crate) buffered: bool,
@@ -36,11 +36,11 @@ pub(crate) struct Port {
 }
 
 impl Model for Port {
-    ghost use Rattle.buffered_ports.specs.Keeps.{PortOf, IsPort};
+    ghost use Rattle.single_port.specs.Keeps.{PortOf, IsPort};
 
     ghost Value = { PortOf };
 
-    ghost use Rattle.buffered_ports.specs.Inside.{port_in, port_of_width};
+    ghost use Rattle.single_port.specs.Inside.{port_in, port_of_width};
 
     ghost view = { port_of_width };
 
@@ -92,16 +92,17 @@ impl Port {
         }
     }
 
+    /// Whether it is on.
     #[inline]
-    pub(crate) fn is_on(&self) -> bool
+    pub fn is_on(&self) -> bool
         ensures on { result ≡ self.now.port.on }
     {
         self.on
     }
 
-    /// What its pins show, which show this from outside.
+    /// What its pins show, which show this from outside: what it drives, if it does.
     #[inline]
-    pub(crate) fn level(&self, outside: u32) -> u32
+    pub fn level(&self, outside: u32) -> u32
         ensures value { result ≡ level_of self.now.port.driven outside }
         ensures fits { outside < 2 ^ self.now.width → result < 2 ^ self.now.width }
     {
@@ -111,25 +112,27 @@ impl Port {
         }
     }
 
+    /// The clock by whose edges it goes.
     #[inline]
-    pub(crate) fn clock(&self) -> Clock
+    pub fn clock(&self) -> Clock
         ensures value { result ≡ self.now.port.clock }
         ensures is { IsClock result }
     {
         self.clock
     }
 
+    /// The number of the port that is its strobe, 0 to 28: `None` exactly where there is none.
     #[inline]
-    pub(crate) fn strobe(&self) -> Option<u8>
+    pub fn strobe(&self) -> Option<u8>
         ensures value { result ≡ self.now.port.strobe }
         ensures is { IsStrobe result }
     {
         self.strobe
     }
 
-    /// How many bits a transfer has, and 0 where it is off.
+    /// How many bits a transfer has: 0 exactly where it is off.
     #[inline]
-    pub(crate) fn transfer_width(&self) -> u32
+    pub fn transfer_width(&self) -> u32
         ensures value { result ≡ self.now.port.transfer_width }
         ensures most { result ≤ 32 }
         ensures some { self.now.port.on ≡ true → 0 < result }
@@ -139,8 +142,9 @@ impl Port {
     }
 
     /// Whether it takes each level at the rising edges of the reference clock, and at the falling ones only counts.
-    pub(crate) fn is_plain(&self) -> bool
-        ensures { result ≡ true → IsPlain self.now.port }
+    pub fn is_plain(&self) -> bool
+        ensures plain { result ≡ true → IsPlain self.now.port }
+        ensures all { IsPlain self.now.port → result ≡ true }
     {
         if !self.on || self.output || self.buffered || self.held {
             return false;
@@ -156,7 +160,7 @@ impl Port {
 
     /// Whether its transfer register is full.
     #[inline]
-    pub(crate) fn is_full(&self) -> bool
+    pub fn is_full(&self) -> bool
         ensures { result ≡ is_some self.now.port.transfer }
     {
         self.transfer.is_some()
@@ -182,7 +186,7 @@ impl Port {
 
     /// Whether a transfer came in that can be taken.
     #[inline]
-    pub(crate) fn is_ready(&self) -> bool
+    pub fn is_ready(&self) -> bool
         ensures { result ≡ port_is_ready self.now.port }
     {
         !self.output && self.transfer.is_some()
@@ -198,7 +202,7 @@ impl Port {
 
     /// Whether its direction is not output, or nothing waits to go out.
     #[inline]
-    pub(crate) fn is_idle(&self) -> bool
+    pub fn is_idle(&self) -> bool
         ensures { result ≡ is_idle self.now.port }
     {
         !(self.output && (self.transfer.is_some() || self.shift.bits() > 0))

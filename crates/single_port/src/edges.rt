@@ -1,7 +1,7 @@
 //! What the edges of its clock do at a port. At the falling edge its counter rises, and in direction output a beat goes
 //! out.
 ghost use Rattle.std.specs.Prelude.{◌≡◌, ◌<◌, ◌^◌, Bool, true, false, is_some};
-ghost use Rattle.buffered_ports.specs.Keeps.{ServesAs, KeepsRole, IsPlain};
+ghost use Rattle.single_port.specs.Keeps.{ServesAs, KeepsRole, IsPlain};
 ghost use Rattle.xs_model.specs.Ports.{falls, outputs, next_out, beat_out, drives, shows, is_due, rises, lets_sample, level_of, unchanged};
 
 use crate::port::Port;
@@ -10,18 +10,19 @@ use xs_model::PinChange;
 
 /// What a falling edge did: how the port's pins changed, and whether it may serve threads otherwise than before.
 #[derive(Clone, Copy)]
-pub(crate) struct Fallen {
-    pub(crate) change: Option<PinChange>,
-    pub(crate) differs: bool,
+pub struct Fallen {
+    pub change: Option<PinChange>,
+    pub differs: bool,
 }
 
 impl Port {
     /// The falling edge of its clock, while it is on.
     #[inline]
-    pub(crate) fn falls(&mut self) -> Fallen
+    pub fn falls(&mut self) -> Fallen
         ensures port { self.new ≡ record self.old { port = (falls self.old.width self.old.port).port } }
         ensures change { result.change ≡ (falls self.old.width self.old.port).change }
         ensures role { KeepsRole self.old.port self.new.port }
+        ensures plain { IsPlain self.old.port → IsPlain self.new.port }
         ensures same { result.differs ≡ false → ServesAs self.old.port self.new.port }
     {
         self.counter = self.counter.wrapping_add(1);
@@ -129,11 +130,12 @@ impl Port {
     /// The rising edge of its clock, while it is on: in direction input its pins are sampled, which show this from outside.
     /// The answer tells whether it may serve threads otherwise than before.
     #[inline]
-    pub(crate) fn rises(&mut self, outside: u32, high: bool) -> bool
+    pub fn rises(&mut self, outside: u32, high: bool) -> bool
         requires on { self.old.port.on ≡ true }
         requires fits { outside < 2 ^ self.old.width }
         ensures port { self.new ≡ record self.old { port = rises self.old.width (level_of self.old.port.driven outside) high self.old.port } }
         ensures role { KeepsRole self.old.port self.new.port }
+        ensures plain { IsPlain self.old.port → IsPlain self.new.port }
         ensures same { result ≡ false → ServesAs self.old.port self.new.port }
     {
         if self.output || !self.lets_sample(high) {
@@ -145,7 +147,7 @@ impl Port {
 
     /// The rising edge of the reference clock at a plain port.
     #[inline]
-    pub(crate) fn rises_plainly(&mut self, outside: u32)
+    pub fn rises_plainly(&mut self, outside: u32)
         requires plain { IsPlain self.old.port }
         requires fits { outside < 2 ^ self.old.width }
         ensures port { (high : Bool) → self.new ≡ record self.old { port = rises self.old.width (level_of self.old.port.driven outside) high self.old.port } }
@@ -160,7 +162,7 @@ impl Port {
 
     /// The falling edge of the reference clock at a plain port.
     #[inline]
-    pub(crate) fn falls_plainly(&mut self)
+    pub fn falls_plainly(&mut self)
         requires { IsPlain self.old.port }
         ensures edged { falls self.old.width self.old.port ≡ unchanged self.new.port }
         ensures width { self.new.width ≡ self.old.width }

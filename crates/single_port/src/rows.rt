@@ -3,8 +3,8 @@ ghost use Rattle.std.specs.Prelude.{ℕ, ◌≡◌, ◌<◌, ◌≤◌, true, Op
 ghost use Rattle.xs_base.specs.Numbers.{Word};
 ghost use Rattle.xs_base.specs.Ids.{port_width};
 ghost use Rattle.xs_base.specs.declared.numbers.TheConstants.{PORTS};
-ghost use Rattle.buffered_ports.specs.Asks.{IsAsk, FitsTransfer, acted, answer_of, port_after, wait_of};
-ghost use Rattle.buffered_ports.specs.Keeps.{IsPlaced};
+ghost use Rattle.single_port.specs.Asks.{IsAsk, FitsTransfer, acted, answer_of, port_after, wait_of};
+ghost use Rattle.single_port.specs.Keeps.{IsPlaced};
 ghost use Rattle.xs_model.specs.PortRows.{take_in, put_bits, sync};
 
 use crate::answers::{Answer, Ask};
@@ -13,7 +13,7 @@ use xs_model::Wait;
 
 impl Port {
     /// What is asked of port `p`, 0 to 28, and allowed, whose pins show this from outside.
-    pub(crate) fn act(&mut self, p: u8, ask: Ask, outside: u32) -> Answer
+    pub fn act(&mut self, p: u8, ask: Ask, outside: u32) -> Answer
         requires port { p < PORTS }
         requires ask { IsAsk ask }
         requires placed { IsPlaced p self.old }
@@ -64,7 +64,7 @@ impl Port {
 
     /// For what a thread would have to wait that asks this of port `p`, 0 to 28.
     #[inline]
-    pub(crate) fn pauses(&self, p: u8, ask: Ask) -> Option<Wait>
+    pub fn pauses(&self, p: u8, ask: Ask) -> Option<Wait>
         requires { IsPlaced p self.now }
         ensures { (outside : Word) → result ≡ wait_of (acted ask p outside self.now.port) }
     {

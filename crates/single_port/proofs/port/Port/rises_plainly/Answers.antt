@@ -1,8 +1,8 @@
 use Rattle.std.proofs.Common.{ap, sym, ◌∙◌}
 use Rattle.xs_model.specs.Record.{PortRec}
-use Rattle.buffered_ports.specs.Keeps.{PortOf}
-use Rattle.buffered_ports.proofs.Plain.{plain_level}
-use Rattle.buffered_ports.proofs.port.Port.rises_plainly.Goals as goal
+use Rattle.single_port.specs.Keeps.{PortOf}
+use Rattle.single_port.proofs.Plain.{plain_level}
+use Rattle.single_port.proofs.port.Port.rises_plainly.Goals as goal
 
 pub returns-clause-port : goal.returns-clause-port
 returns-clause-port c high =

@@ -1,9 +1,9 @@
 -- How ports lie in their places.
 use Rattle.xs_model.specs.Record.{PortRec, Condition, Always, Equal, NotEqual}
-use Rattle.buffered_ports.specs.declared.transfer.Compare.{Compare}
-use Rattle.buffered_ports.specs.declared.transfer.Compare.TheVariants as compare
-use Rattle.buffered_ports.specs.declared.port.Port.TheInside as port
-use Rattle.buffered_ports.specs.Keeps.{PortOf}
+use Rattle.single_port.specs.declared.transfer.Compare.{Compare}
+use Rattle.single_port.specs.declared.transfer.Compare.TheVariants as compare
+use Rattle.single_port.specs.declared.port.Port.TheInside as port
+use Rattle.single_port.specs.Keeps.{PortOf}
 
 abbrev pub condition_of : Compare → Condition
 condition_of compare.Always = Always

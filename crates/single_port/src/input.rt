@@ -3,7 +3,7 @@ ghost use Rattle.std.specs.Prelude.{ℕ, ◌≡◌, ◌<◌, ◌≤◌, ◌^◌,
 ghost use Rattle.xs_base.specs.Ids.{port_width};
 ghost use Rattle.xs_model.specs.Record.{TransferRec};
 ghost use Rattle.xs_model.specs.PortRows.{turned_in, wanting, taken, take_transfer, turn_in, take_in, is_part, take_part, cut_short, end_transfer, end_in};
-ghost use Rattle.buffered_ports.specs.Asks.{answer_of, port_after, IsBelow};
+ghost use Rattle.single_port.specs.Asks.{answer_of, port_after, IsBelow};
 
 use crate::answers::Answer;
 use crate::port::Port;

@@ -2,7 +2,7 @@
 ghost use Rattle.std.specs.Prelude.{◌≡◌, ◌<◌, ◌≤◌, true};
 ghost use Rattle.xs_base.specs.Ids.{port_width};
 ghost use Rattle.xs_model.specs.PortRows.{turned_out, filled, fill, put_bits, put_out, put_part, sync};
-ghost use Rattle.buffered_ports.specs.Asks.{answer_of, port_after};
+ghost use Rattle.single_port.specs.Asks.{answer_of, port_after};
 
 use crate::answers::Answer;
 use crate::port::Port;

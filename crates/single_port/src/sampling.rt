@@ -2,7 +2,7 @@
 ghost use Rattle.std.specs.Prelude.{◌≡◌, ◌<◌, ◌^◌, true, false, Option, None, Some};
 ghost use Rattle.xs_model.specs.Record.{TransferRec};
 ghost use Rattle.xs_model.specs.Ports.{sampled, samples, takes_by_time, takes_in_time, takes_if_met, takes_level, emptied, is_met, is_condition, samples_buffered, begins, shifts_in, completes, is_complete, keeps_or_takes};
-ghost use Rattle.buffered_ports.specs.Keeps.{takes_shift, ServesAs, KeepsRole, KeepsShift};
+ghost use Rattle.single_port.specs.Keeps.{takes_shift, ServesAs, KeepsRole, KeepsShift};
 
 use crate::port::Port;
 use crate::transfer::{Compare, Transfer};
