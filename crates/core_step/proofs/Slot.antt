@@ -20,7 +20,7 @@ use Rattle.switch_routes.specs.Rows.{AllCountsOf, CreditedBy, SentBy}
 use Rattle.step_model.specs.Fixed.{Fixed}
 use Rattle.step_model.specs.Effect.{Setting}
 use Rattle.step_model.specs.Step.{Issued, node_step, issued, setting_of, before_issue, ports_step}
-use Rattle.core_units.specs.Units.{and_happened}
+use Rattle.processor.specs.Issue.{and_happened}
 use Rattle.core_step.specs.Core.{CoreValue, StandsAt, SentBefore, IsLinkBefore}
 use Rattle.core_step.specs.Network.{NetworkRec, NetworkStands, Brings}
 

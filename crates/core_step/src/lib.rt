@@ -4,7 +4,7 @@
 mod network;
 mod node_core;
 
-pub use core_units::BadAddress;
+pub use processor::BadAddress;
 pub use node_core::Core;
 pub use sys_plan::NodePlan;
 pub use trace_lines::{Emissions, Event, Happen};

@@ -8,7 +8,7 @@ ghost use Rattle.net_model.specs.Links.{links_after_arrivals};
 ghost use Rattle.switch_routes.specs.Rows.{AllCountsOf, CreditedBy, SentBy, end_gaps};
 ghost use Rattle.core_step.specs.Network.{NetworkStands, Brings, routes_of, counts_with_gap, first_network};
 
-use core_units::{Holders, Units};
+use processor::{Holders, Processor};
 use std::marker::Model;
 use switch_routes::{LinkEnd, Links, Switch};
 use trace_lines::Emissions;
@@ -47,7 +47,7 @@ impl Network {
     /// asked where no input can act.
     pub(crate) fn bring(
         &mut self,
-        units: &mut Units,
+        units: &mut Processor,
         slot: u32,
         arrivals: &Arrivals,
         out: &mut Emissions,

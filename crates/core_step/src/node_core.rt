@@ -10,7 +10,7 @@ ghost use Rattle.step_model.specs.Step.{node_step};
 ghost use Rattle.core_step.specs.Core.{StandsAt, SlotsBefore};
 
 use crate::network::Network;
-use core_units::{BadAddress, Program, Ram, Units};
+use processor::{BadAddress, Processor, Program, Ram};
 use std::alloc::{AllocError, Global};
 use std::marker::Model;
 use sys_plan::NodePlan;
@@ -22,7 +22,7 @@ use xs_model::{Arrivals, PinView, Run};
 #[derive(Drop)]
 pub struct Core {
     program: Program,
-    units: Units,
+    units: Processor,
     network: Network,
     // The strobes that were high at the end of the slot before.
     high: u32,
@@ -53,7 +53,7 @@ impl Core {
         let ram = Ram::new(alloc, plan.image.bytes())?;
         Ok(Core {
             program: Program::new(plan.id, code),
-            units: Units::first(plan.id, plan.image.entry(), plan.image.cp_at(), ram),
+            units: Processor::first(plan.id, plan.image.entry(), plan.image.cp_at(), ram),
             network: Network::new(plan.id, plan.ways, gaps),
             high: 0,
         })

@@ -1,20 +1,7 @@
 -- How the issue of an instruction ends, by what happens.
-use Rattle.std.specs.Prelude.{List, [], ◌∷◌}
-use Rattle.xs_model.specs.declared.event.Happen.{Happen}
-use Rattle.xs_model.specs.declared.thread.Outcome.TheVariants as outcome
-use Rattle.xs_model.specs.declared.thread.Wait.{Wait}
 use Rattle.xs_model.specs.Events.{NamesWhatIsThere}
 use Rattle.core_units.specs.declared.ended.Ended.{Ended}
 use Rattle.core_units.specs.declared.ended.Ended.TheVariants.{Quietly, Done, Pause}
-
--- by at most one happening
-abbrev pub ended_done : List Happen → Ended
-ended_done [] = Quietly outcome.Done
-ended_done (what ∷ more) = Done what
-
-abbrev pub ended_pause : Wait → List Happen → Ended
-ended_pause wait [] = Quietly (outcome.Pause wait)
-ended_pause wait (what ∷ more) = Pause wait what
 
 -- it names a port that is there
 abbrev pub IsEnded : Ended → Type 0

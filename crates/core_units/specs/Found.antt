@@ -1,19 +1,8 @@
--- What getting a resource gives.
-use Rattle.std.specs.Prelude.{ℕ, Option, Some, None}
-use Rattle.xs_base.specs.Numbers.{Slot, ThreadNumber, NodeId, ChanNumber, Kind, Word}
-use Rattle.xs_base.specs.Ids.{chan_id, res_id}
+-- What getting a thread gives.
+use Rattle.std.specs.Prelude.{Option, Some, None}
+use Rattle.xs_base.specs.Numbers.{Slot, ThreadNumber}
 use Rattle.xs_model.specs.Record.{CoreRec}
 use Rattle.step_model.specs.ThreadRows.{with_got_thread}
-
--- the identifier of the channel end that was got, or 0 where none was
-abbrev pub name_of_got : NodeId → Option ChanNumber → Word
-name_of_got id None = 0
-name_of_got id (Some c) = chan_id id c
-
--- the identifier of another resource that was got, or 0 where none was
-abbrev pub name_of : Kind → Option ℕ → Word
-name_of kind None = 0
-name_of kind (Some n) = res_id n kind
 
 -- the core after the thread with this number was got in a slot, if there is one
 abbrev pub with_thread_got : CoreRec → Slot → Option ThreadNumber → CoreRec

@@ -1,13 +1,6 @@
-pub mod Program
 pub mod Ended
 pub mod Units
 pub mod Found
 pub mod Lends
 pub mod Named
-pub mod Targets
-pub mod Changed
-pub mod Changes
 pub mod Here
-pub mod Actions
-pub mod Ports
-pub mod Resources

@@ -1,52 +1,13 @@
 //! How the issue of an instruction ends.
-ghost use Rattle.std.specs.Prelude.{◌≡◌, ◌<◌, Some, [], ◌∷◌};
-ghost use Rattle.xs_base.specs.declared.numbers.TheConstants.{PORTS};
-ghost use Rattle.xs_model.specs.Events.{NamesWhatIsThere};
-ghost use Rattle.xs_model.specs.Ports.{pin_happens};
-ghost use Rattle.core_units.specs.Ended.{ended_done, ended_pause, IsEnded};
-
-use xs_model::{Happen, Outcome, PinChange, Wait};
+use xs_model::{Happen, Outcome, Wait};
 
 /// How the issue of an instruction ends, and what happens by it: only rows on ports tell something.
 #[derive(Clone, Copy)]
-pub(crate) enum Ended {
+pub enum Ended {
+    /// Nothing happens by it.
     Quietly(Outcome),
+    /// It is done, and this happens.
     Done(Happen),
+    /// Its thread has to wait, and this happens.
     Pause(Wait, Happen),
-}
-
-/// Its row at a port, 0 to 28, is done, by which the port's pins change, if they do.
-pub(crate) fn done(port: u8, change: Option<PinChange>) -> Ended
-    requires { port < PORTS }
-    ensures value { result ≡ ended_done (pin_happens port change) }
-    ensures within { IsEnded result }
-{
-    match change {
-        None => Ended::Quietly(Outcome::Done),
-        Some(change) => Ended::Done(happening(port, change)),
-    }
-}
-
-/// Its thread has to wait at a port, by which the port's pins change, if they do.
-pub(crate) fn pause(port: u8, wait: Wait, change: Option<PinChange>) -> Ended
-    requires { port < PORTS }
-    ensures value { result ≡ ended_pause wait (pin_happens port change) }
-    ensures within { IsEnded result }
-{
-    match change {
-        None => Ended::Quietly(Outcome::Pause(wait)),
-        Some(change) => Ended::Pause(wait, happening(port, change)),
-    }
-}
-
-// The change of a port's pins as what happens.
-fn happening(port: u8, change: PinChange) -> Happen
-    requires { port < PORTS }
-    ensures value { pin_happens port (Some change) ≡ result ∷ [] }
-    ensures within { NamesWhatIsThere result }
-{
-    match change {
-        PinChange::Drive(value) => Happen::Drive { port, value },
-        PinChange::Float => Happen::Float { port },
-    }
 }

@@ -13,7 +13,7 @@ use xs_base::{chan_id, port_of};
 use xs_model::{Dest, Resource};
 
 /// What a word names on the node with this id, in use or not: `None` exactly where it names nothing.
-pub(crate) fn resource_named(id: u16, name: u32) -> Option<Resource>
+pub fn resource_named(id: u16, name: u32) -> Option<Resource>
     ensures value { result ≡ resource_named id name }
     ensures within { IfSome result IsWithin }
 {
@@ -42,7 +42,7 @@ fn number_below(count: u8, name: u32) -> Option<u8>
 }
 
 /// The channel end of this node that a word names, 0 to 31: `None` exactly where it names none.
-pub(crate) fn chan_named(id: u16, name: u32) -> Option<u8>
+pub fn chan_named(id: u16, name: u32) -> Option<u8>
     ensures value { result ≡ chan_named id name }
     ensures within { IfSome result (λ c. c < CHAN_ENDS) }
 {

@@ -10,7 +10,8 @@ use xs_model::Outcome;
 use xs_model::traps::ILLEGAL_RESOURCE;
 
 /// The word names nothing that is in use and of the row's kinds, or its resource refuses the row.
-pub(crate) fn illegal(name: u32) -> Outcome
+#[inline]
+pub fn illegal(name: u32) -> Outcome
     ensures { result ≡ Outcome.Trap ILLEGAL_RESOURCE name }
 {
     Outcome::Trap {
@@ -21,7 +22,8 @@ pub(crate) fn illegal(name: u32) -> Outcome
 
 impl Units {
     /// Thread k goes on where its row was done, and else it is refused what the word `name` names.
-    pub(crate) fn end(&mut self, k: u8, name: u32, done: bool) -> Outcome
+    #[inline]
+    pub fn end(&mut self, k: u8, name: u32, done: bool) -> Outcome
         requires { k < THREADS }
         ensures { Ends result self.old self.new (allowed_where done name (goes_on self.old k)) }
     {
@@ -33,7 +35,8 @@ impl Units {
     }
 
     /// Thread k goes on with a word in register d where the resource is in use, and else it is refused it.
-    pub(crate) fn tell(&mut self, k: u8, d: u8, name: u32, used: bool, word: u32) -> Outcome
+    #[inline]
+    pub fn tell(&mut self, k: u8, d: u8, name: u32, used: bool, word: u32) -> Outcome
         requires thread { k < THREADS }
         requires target { d < 12 }
         ensures { Ends result self.old self.new (allowed_where used name (goes_on_with self.old k d word)) }

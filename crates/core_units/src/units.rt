@@ -1,16 +1,15 @@
 //! `Units`, what a core keeps from slot to slot but for its network.
-ghost use Rattle.std.specs.Prelude.{◌≡◌, ◌<◌, ◌↔◌, false, length, IfSome, IsErr};
+ghost use Rattle.std.specs.Prelude.{◌≡◌, ◌<◌, ◌↔◌, false, length, IsErr};
 ghost use Rattle.std.specs.Borrow.{sem};
 ghost use Rattle.std.specs.Result.{result_ok};
 ghost use Rattle.core_units.specs.Lends.{LendsChans};
-ghost use Rattle.xs_base.specs.declared.numbers.TheConstants.{MEMORY_BYTES, CHAN_ENDS, THREADS};
+ghost use Rattle.xs_base.specs.declared.numbers.TheConstants.{MEMORY_BYTES, THREADS};
 ghost use Rattle.xs_model.specs.Record.{first_core, free_thread, thread_of};
 ghost use Rattle.xs_model.specs.Memory.{load_word, is_word_address};
 
 use buffered_ports::Ports;
 use chan_ends::ChanEnds;
 use core_memory::{BadAddress, Ram};
-use core_waits::Able;
 use event_unit::Events;
 use std::marker::Model;
 use sync_locks::Syncs;
@@ -22,17 +21,24 @@ use xs_model::{Entry0, Run, Thread};
 /// and what gives events. Contracts see the core record. See docs/MACHINE.md.
 #[derive(Drop)]
 pub struct Units {
-    pub(crate) threads: [Thread; 8],
-    // The threads that would issue if they were rested, where that is known.
-    pub(crate) able: Option<Able>,
-    pub(crate) slots: Slots,
-    pub(crate) ram: Ram,
-    pub(crate) chans: ChanEnds,
-    pub(crate) timers: Timers,
-    pub(crate) clocks: Clocks,
-    pub(crate) syncs: Syncs,
-    pub(crate) ports: Ports,
-    pub(crate) events: Events,
+    /// The threads, by number.
+    pub threads: [Thread; 8],
+    /// The slots in which they issued last.
+    pub slots: Slots,
+    /// The memory.
+    pub ram: Ram,
+    /// The channel ends.
+    pub chans: ChanEnds,
+    /// The timers.
+    pub timers: Timers,
+    /// The clock blocks.
+    pub clocks: Clocks,
+    /// The synchronisers and the locks.
+    pub syncs: Syncs,
+    /// The ports.
+    pub ports: Ports,
+    /// What is enabled, and for whom.
+    pub events: Events,
 }
 
 impl Model for Units {
@@ -57,7 +63,6 @@ impl Units {
         threads[0] = Thread::first(&Entry0 { pc, cp });
         Units {
             threads,
-            able: None,
             slots: Slots::new(),
             ram,
             chans: ChanEnds::new(id),
@@ -77,16 +82,17 @@ impl Units {
         &self.chans
     }
 
-    /// The channel ends, for the switch of the node, which works with them too.
+    /// The channel ends, lent.
+    #[inline]
     pub fn chans_mut(&mut self) -> &mut ChanEnds
         ensures* writes_back { sem 𝓛 (LendsChans self.entry result) }
         ensures value { result.now ≡ self.old.chans }
     {
-        self.able = None;
         &mut self.chans
     }
 
     /// What a thread, 0 to 7, does.
+    #[inline]
     pub fn run_of(&self, th: u8) -> Run
         requires { th < THREADS }
         ensures value { result ≡ (thread_of self.now th).run }

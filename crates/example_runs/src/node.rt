@@ -7,7 +7,7 @@ ghost use Rattle.step_model.specs.Step.{issued};
 ghost use Rattle.core_units.specs.Here.{IsHere};
 
 use anyhow::{Result, ensure};
-use core_units::{Holders, Program, Ram, Units};
+use processor::{Holders, Processor, Program, Ram};
 use std::alloc::Global;
 use sys_plan::NodePlan;
 use system_text::read_system;
@@ -18,7 +18,7 @@ use xs_model::PinView;
 #[derive(Drop)]
 pub struct Node {
     program: Program,
-    units: Units,
+    units: Processor,
     emissions: Emissions,
 }
 
@@ -37,7 +37,7 @@ impl Node {
         let ram = Ram::new(alloc, plan.image.bytes())?;
         Ok(Node {
             program: Program::new(plan.id, code),
-            units: Units::first(plan.id, plan.image.entry(), plan.image.cp_at(), ram),
+            units: Processor::first(plan.id, plan.image.entry(), plan.image.cp_at(), ram),
             emissions: Emissions::new(),
         })
     }

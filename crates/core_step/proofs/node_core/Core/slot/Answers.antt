@@ -7,7 +7,7 @@ use Rattle.buffered_ports.specs.Keeps.{HighAre}
 use Rattle.switch_routes.specs.Rows.{SentBy}
 use Rattle.step_model.specs.Fixed.{Fixed}
 use Rattle.step_model.specs.Step.{node_step}
-use Rattle.core_units.specs.Units.{and_happened}
+use Rattle.processor.specs.Issue.{and_happened}
 use Rattle.core_step.specs.Core.{CoreValue, StandsAt, SentBefore}
 use Rattle.core_step.specs.Network.{Brings, routes_of}
 use Rattle.core_step.specs.Inside.{value_of}

@@ -1,0 +1,5 @@
+pub mod Able
+pub mod Served
+pub mod Settles
+pub mod Issues
+pub mod Parts

@@ -1,0 +1,40 @@
+-- What an issue makes of a core, by how its instruction ends.
+use Rattle.std.specs.Prelude.{if◌then◌else◌, List, [], ◌∷◌, ◌++◌, map}
+use Rattle.xs_base.specs.Numbers.{Slot}
+use Rattle.xs_model.specs.declared.event.Happen.{Happen}
+use Rattle.xs_model.specs.declared.thread.Thread.{Thread}
+use Rattle.xs_model.specs.declared.thread.Outcome.{Outcome}
+use Rattle.xs_model.specs.declared.thread.Outcome.TheVariants as outcome
+use Rattle.xs_model.specs.Record.{CoreRec}
+use Rattle.xs_model.specs.Entry.{in_event, in_interrupt}
+use Rattle.xs_model.specs.Outside.{Emitted, in_slot}
+use Rattle.step_model.specs.Effect.{Effect, Done, Pause, Trap, Gone, after_it}
+use Rattle.event_unit.specs.declared.answers.Choice.{Choice}
+use Rattle.core_units.specs.declared.ended.Ended.{Ended}
+use Rattle.core_units.specs.declared.ended.Ended.TheVariants as ended
+
+-- a thread after its row on words, which goes on where the row was done
+abbrev pub gone_on : Outcome → Thread → Thread
+gone_on outcome.Done th = after_it th
+gone_on _ th = th
+
+-- the effect of an outcome, when these are the units after it
+abbrev pub effect_of : Outcome → CoreRec → Effect
+effect_of outcome.Done core = Done core []
+effect_of (outcome.Pause wait) core = Pause core wait []
+effect_of (outcome.Trap et ed) core = Trap et ed
+effect_of outcome.Gone core = Gone core []
+
+abbrev pub effect_with : Ended → CoreRec → Effect
+effect_with (ended.Quietly o) core = effect_of o core
+effect_with (ended.Done what) core = Done core (what ∷ [])
+effect_with (ended.Pause wait what) core = Pause core wait (what ∷ [])
+
+-- what a slot gave, and then this happens
+abbrev pub and_happened : Emitted → Slot → List Happen → Emitted
+and_happened out slot happened = record out { events = out.events ++ map (in_slot slot) happened }
+
+-- a thread that takes this, as an event or as an interrupt
+abbrev pub entered_by : Choice → Thread → Thread
+entered_by choice th =
+    if choice.interrupt then in_interrupt th choice.vector choice.env else in_event th choice.vector choice.env

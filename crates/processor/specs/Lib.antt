@@ -1,0 +1,5 @@
+pub mod Program
+pub mod Processor
+pub mod Knows
+pub mod Issue
+pub mod Lends

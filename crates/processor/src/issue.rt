@@ -1,0 +1,312 @@
+//! At most one issue in a slot.
+ghost use Rattle.std.specs.Prelude.{◌≡◌, ◌<◌, ◌≤◌, ◌+◌, Some, None, length};
+ghost use Rattle.xs_base.specs.declared.numbers.TheConstants.{THREADS, EVENT_ROOM, ISSUE_EVENTS};
+ghost use Rattle.xs_model.specs.declared.thread.Run.TheVariants.{Going};
+ghost use Rattle.xs_model.specs.Record.{thread_of, with_thread, with_run, with_last};
+ghost use Rattle.xs_instructions.specs.Instr.{InRange};
+ghost use Rattle.xs_instructions.specs.Code.{code_at};
+ghost use Rattle.step_model.specs.Effect.{Setting};
+ghost use Rattle.step_model.specs.Rows.{effect};
+ghost use Rattle.step_model.specs.Step.{issue_begins, executed, settled, trap, issued, issued_by};
+ghost use Rattle.core_units.specs.Here.{IsHere};
+ghost use Rattle.xs_model.specs.Outside.{LevelsFit};
+ghost use Rattle.core_units.specs.Ended.{IsEnded};
+ghost use Rattle.core_units.specs.Units.{EndsWith};
+ghost use Rattle.processor.specs.Issue.{effect_of, effect_with, and_happened, entered_by};
+ghost use Rattle.processor.specs.Knows.{StaysKnown};
+
+use crate::processor::Processor;
+use crate::program::Program;
+use crate::rows::{kret, local, words};
+use core_units::{Ended, Holders, Units};
+use event_unit::Choice;
+use resource_rows::on_resources;
+use thread_rows::on_threads;
+use trace_lines::Emissions;
+use trap_unit::{enter_event, enter_interrupt, enter_trap, return_address};
+use xs_instructions::{Instr, KernelIns};
+use xs_model::traps::ILLEGAL_PC;
+use xs_model::{Event, Happen, Outcome, PinView, Run, Thread};
+
+impl Processor {
+    /// At most one issue, by the thread that is picked in a slot. What happens is put after the events of `out`.
+    /// See docs/MACHINE.md.
+    #[inline]
+    pub fn issue<H: Holders>(
+        &mut self,
+        program: &Program,
+        slot: u32,
+        pins: &PinView,
+        holders: &H,
+        out: &mut Emissions,
+    )
+        requires room { length out.old.events + ISSUE_EVENTS ≤ EVENT_ROOM }
+        requires levels { LevelsFit pins.now.level }
+        ensures units { (here : Setting) → IsHere program.now.id slot pins.now (H.busy holders.now) here →
+            self.new ≡ (issued program.now.code here self.old).core }
+        ensures events { (here : Setting) → IsHere program.now.id slot pins.now (H.busy holders.now) here →
+            out.new ≡ and_happened out.old slot (issued program.now.code here self.old).happened }
+    {
+        if let Some(k) = self.picked(slot) {
+            self.issue_by(k, program, slot, pins, holders, out);
+        }
+    }
+
+    // Thread k issues. It stands apart, so that slots in which nobody issues are quick.
+    #[inline(never)]
+    fn issue_by<H: Holders>(
+        &mut self,
+        k: u8,
+        program: &Program,
+        slot: u32,
+        pins: &PinView,
+        holders: &H,
+        out: &mut Emissions,
+    )
+        requires thread { k < THREADS }
+        requires room { length out.old.events + ISSUE_EVENTS ≤ EVENT_ROOM }
+        requires levels { LevelsFit pins.now.level }
+        ensures units { (here : Setting) → IsHere program.now.id slot pins.now (H.busy holders.now) here →
+            self.new ≡ (issued_by program.now.code here self.old (Some k)).core }
+        ensures events { (here : Setting) → IsHere program.now.id slot pins.now (H.busy holders.now) here →
+            out.new ≡ and_happened out.old slot (issued_by program.now.code here self.old (Some k)).happened }
+    {
+        self.begin(k, slot);
+        match self.choice(k, slot) {
+            Some(choice) => self.enter(k, choice),
+            None => self.execute_at(k, program, slot, pins, holders, out),
+        }
+    }
+
+    // Thread k takes an event or an interrupt.
+    fn enter(&mut self, k: u8, choice: Choice)
+        requires thread { k < THREADS }
+        requires going { (thread_of self.old k).run ≡ Going }
+        ensures { self.new ≡ with_thread self.old k (entered_by choice (thread_of self.old k)) }
+    {
+        take(&mut self.units, k, choice);
+    }
+
+    // The instruction where thread k is is executed, if one stands there.
+    fn execute_at<H: Holders>(
+        &mut self,
+        k: u8,
+        program: &Program,
+        slot: u32,
+        pins: &PinView,
+        holders: &H,
+        out: &mut Emissions,
+    )
+        requires thread { k < THREADS }
+        requires going { (thread_of self.old k).run ≡ Going }
+        requires room { length out.old.events + ISSUE_EVENTS ≤ EVENT_ROOM }
+        requires levels { LevelsFit pins.now.level }
+        ensures units { (here : Setting) → IsHere program.now.id slot pins.now (H.busy holders.now) here →
+            self.new ≡ (executed program.now.code here self.old k (code_at program.now.code (thread_of self.old k).pc)).core }
+        ensures events { (here : Setting) → IsHere program.now.id slot pins.now (H.busy holders.now) here →
+            out.new ≡ and_happened out.old slot (executed program.now.code here self.old k (code_at program.now.code (thread_of self.old k).pc)).happened }
+    {
+        let pc = self.pc_of(k);
+        match program.at(pc) {
+            None => self.trap(k, program, ILLEGAL_PC, pc, slot, out),
+            Some(ins) => {
+                let ended = self.execute(k, program.id(), slot, pins, holders, ins);
+                self.settle(k, program, ended, slot, out);
+            }
+        }
+    }
+
+    // The slot is thread k's last issue now, and its pause is over.
+    fn begin(&mut self, k: u8, slot: u32)
+        requires thread { k < THREADS }
+        ensures units { self.new ≡ issue_begins self.old slot k }
+        ensures going { (thread_of self.new k).run ≡ Going }
+    {
+        mark(&mut self.units, k, slot);
+        if !matches!(self.run_of(k), Run::Going) {
+            self.set_run(k, Run::Going);
+        }
+    }
+
+    // Where thread k is.
+    fn pc_of(&self, k: u8) -> u32
+        requires { k < THREADS }
+        ensures { result ≡ (thread_of self.now k).pc }
+    {
+        pc_of(&self.units, k)
+    }
+
+    // What thread k does from now on.
+    fn set_run(&mut self, k: u8, run: Run)
+        requires thread { k < THREADS }
+        ensures { self.new ≡ with_run self.old k run }
+    {
+        self.able = None;
+        self.units.set_run(k, run);
+    }
+
+    // What an instruction does when thread k issues it.
+    fn execute<H: Holders>(
+        &mut self,
+        k: u8,
+        id: u16,
+        slot: u32,
+        pins: &PinView,
+        holders: &H,
+        ins: Instr,
+    ) -> Ended
+        requires thread { k < THREADS }
+        requires going { (thread_of self.old k).run ≡ Going }
+        requires range { InRange ins }
+        requires levels { LevelsFit pins.now.level }
+        ensures row { (here : Setting) → IsHere id slot pins.now (H.busy holders.now) here → EndsWith result self.old self.new (effect here self.old k ins) }
+        ensures within { IsEnded result }
+    {
+        match ins {
+            Instr::Words(ins) => Ended::Quietly(words(&mut self.units, k, ins)),
+            Instr::Kernel(KernelIns::Kret) => {
+                kret(&mut self.units, k);
+                Ended::Quietly(Outcome::Done)
+            }
+            Instr::Memory(_) | Instr::Flow(_) | Instr::Kernel(_) => {
+                Ended::Quietly(local(&mut self.units, k, ins))
+            }
+            Instr::Threads(ins) => {
+                self.able = None;
+                Ended::Quietly(on_threads(&mut self.units, id, slot, k, ins))
+            }
+            Instr::Resources(ins) => {
+                self.able = None;
+                on_resources(&mut self.units, id, slot, k, pins, holders, ins)
+            }
+        }
+    }
+
+    // What the end of its instruction makes of thread k, and what happens by it.
+    fn settle(&mut self, k: u8, program: &Program, ended: Ended, slot: u32, out: &mut Emissions)
+        requires thread { k < THREADS }
+        requires within { IsEnded ended }
+        requires room { length out.old.events + ISSUE_EVENTS ≤ EVENT_ROOM }
+        ensures units { self.new ≡ (settled program.now.code self.old k (effect_with ended self.old)).core }
+        ensures events { out.new ≡ and_happened out.old slot (settled program.now.code self.old k (effect_with ended self.old)).happened }
+    {
+        match ended {
+            Ended::Quietly(outcome) => self.settle_quietly(k, program, outcome, slot, out),
+            Ended::Done(what) => out.add_event(Event { slot, what }),
+            Ended::Pause(wait, what) => {
+                self.set_run(k, Run::Paused(wait));
+                out.add_event(Event { slot, what });
+            }
+        }
+    }
+
+    // The same of an outcome by which nothing happens but a trap.
+    fn settle_quietly(
+        &mut self,
+        k: u8,
+        program: &Program,
+        outcome: Outcome,
+        slot: u32,
+        out: &mut Emissions,
+    )
+        requires thread { k < THREADS }
+        requires room { length out.old.events + ISSUE_EVENTS ≤ EVENT_ROOM }
+        ensures units { self.new ≡ (settled program.now.code self.old k (effect_of outcome self.old)).core }
+        ensures events { out.new ≡ and_happened out.old slot (settled program.now.code self.old k (effect_of outcome self.old)).happened }
+    {
+        match outcome {
+            Outcome::Done | Outcome::Gone => {}
+            Outcome::Pause(wait) => self.set_run(k, Run::Paused(wait)),
+            Outcome::Trap { et, ed } => self.trap(k, program, et, ed, slot, out),
+        }
+    }
+
+    // Thread k traps. It halts where no code stands at its handler's address.
+    fn trap(&mut self, k: u8, program: &Program, et: u32, ed: u32, slot: u32, out: &mut Emissions)
+        requires thread { k < THREADS }
+        requires room { length out.old.events + ISSUE_EVENTS ≤ EVENT_ROOM }
+        ensures units { self.new ≡ (trap program.now.code self.old k et ed).core }
+        ensures events { out.new ≡ and_happened out.old slot (trap program.now.code self.old k et ed).happened }
+    {
+        self.able = None;
+        trap(&mut self.units, k, program, et, ed, slot, out);
+    }
+}
+
+// The slot is thread k's last issue now.
+#[inline]
+fn mark(units: &mut Units, k: u8, slot: u32)
+    requires { k < THREADS }
+    ensures value { units.new ≡ with_last units.old k slot }
+    ensures known { StaysKnown units.old units.new }
+{
+    units.slots.mark_issue(k, slot);
+}
+
+// Where a thread is.
+#[inline]
+fn pc_of(units: &Units, k: u8) -> u32
+    requires { k < THREADS }
+    ensures { result ≡ (thread_of units.now k).pc }
+{
+    units.threads[k as usize].pc
+}
+
+// Thread k takes an event or an interrupt.
+#[inline]
+fn take(units: &mut Units, k: u8, choice: Choice)
+    requires thread { k < THREADS }
+    requires going { (thread_of units.old k).run ≡ Going }
+    ensures value { units.new ≡ with_thread units.old k (entered_by choice (thread_of units.old k)) }
+    ensures known { StaysKnown units.old units.new }
+{
+    take_choice(&mut units.threads[k as usize], choice);
+}
+
+// The thread takes an event or an interrupt.
+fn take_choice(thread: &mut Thread, choice: Choice)
+    ensures value { thread.new ≡ entered_by choice thread.old }
+    ensures run { thread.new.run ≡ thread.old.run }
+{
+    if choice.interrupt {
+        enter_interrupt(thread, choice.vector, choice.env);
+    } else {
+        enter_event(thread, choice.vector, choice.env);
+    }
+}
+
+// Thread k traps. It halts where no code stands at its handler's address.
+fn trap(
+    units: &mut Units,
+    k: u8,
+    program: &Program,
+    et: u32,
+    ed: u32,
+    slot: u32,
+    out: &mut Emissions,
+)
+    requires thread { k < THREADS }
+    requires room { length out.old.events + ISSUE_EVENTS ≤ EVENT_ROOM }
+    ensures units { units.new ≡ (trap program.now.code units.old k et ed).core }
+    ensures events { out.new ≡ and_happened out.old slot (trap program.now.code units.old k et ed).happened }
+{
+    let thread = &mut units.threads[k as usize];
+    let next = return_address(thread, et);
+    enter_trap(thread, et, ed, next);
+    out.add_event(Event {
+        slot,
+        what: Happen::Trap {
+            thread: k,
+            et,
+            pc: next,
+            ed,
+        },
+    });
+    if !program.stands_at(thread.pc) {
+        thread.run = Run::Halted;
+        out.add_event(Event {
+            slot,
+            what: Happen::Halt { thread: k },
+        });
+    }
+}

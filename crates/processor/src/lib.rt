@@ -1,0 +1,13 @@
+//! A core's processor: its program, its units, and at most one issue in a slot. See docs/MACHINE.md and docs/INSTRUCTIONS.md.
+#![tactic(auto)]
+
+mod edges;
+mod issue;
+mod picks;
+mod processor;
+mod program;
+mod rows;
+
+pub use core_units::{BadAddress, Holders, Ram};
+pub use processor::Processor;
+pub use program::Program;

@@ -1,0 +1,134 @@
+//! Which thread issues in a slot, and what it takes.
+ghost use Rattle.std.specs.Prelude.{◌≡◌, ℕ, ◌<◌, IfSome};
+ghost use Rattle.xs_base.specs.declared.numbers.TheConstants.{THREADS};
+ghost use Rattle.xs_model.specs.Picks.{is_able, picked};
+ghost use Rattle.xs_model.specs.Masks.{in_mask};
+ghost use Rattle.xs_model.specs.Choices.{choice};
+ghost use Rattle.event_unit.specs.Ready.{choice_of};
+ghost use Rattle.core_waits.specs.Parts.{IsFor, AreAble};
+
+use crate::processor::Processor;
+use core_units::Units;
+use core_waits::{Able, taken};
+use event_unit::Choice;
+
+impl Processor {
+    /// The thread that issues in a slot, 0 to 7: None exactly where nobody may. See docs/MACHINE.md.
+    pub fn picked(&mut self, slot: u32) -> Option<u8>
+        ensures value { result ≡ picked self.old slot }
+        ensures within { IfSome result (λ k. k < THREADS) }
+        ensures unchanged { self.new ≡ self.old }
+    {
+        let able = self.able(slot);
+        pick(&self.units, able, slot)
+    }
+
+    // The threads that may issue in a slot but for the four slots of rest: bit k for thread k.
+    fn able(&mut self, slot: u32) -> u8
+        ensures value { (k : ℕ) → k < THREADS → in_mask result k ≡ is_able self.old k slot }
+        ensures unchanged { self.new ≡ self.old }
+    {
+        if let Some(known) = self.able
+            && known.is_for(slot)
+        {
+            return known.threads;
+        }
+        self.find_able(slot)
+    }
+
+    // The same where it is not known for the slot. It stands apart, so that slots in which it is known are quick.
+    #[inline(never)]
+    fn find_able(&mut self, slot: u32) -> u8
+        ensures value { (k : ℕ) → k < THREADS → in_mask result k ≡ is_able self.old k slot }
+        ensures unchanged { self.new ≡ self.old }
+    {
+        let able = self.able_in(slot);
+        self.able = Some(able);
+        able.threads
+    }
+
+    // Which threads are able in a slot: what was known for another time, where it holds in this slot too, or else what is
+    // found anew.
+    fn able_in(&self, slot: u32) -> Able
+        ensures value { AreAble self.now result }
+        ensures now { IsFor result slot }
+    {
+        match self.still_able(slot) {
+            Some(able) => able,
+            None => found_able(&self.units, slot),
+        }
+    }
+
+    // What was known for another time, where it holds in this slot too.
+    fn still_able(&self, slot: u32) -> Option<Able>
+        ensures value { IfSome result (AreAble self.now) }
+        ensures now { IfSome result (λ able. IsFor able slot) }
+    {
+        match self.able {
+            Some(known) => able_again(&self.units, known, slot),
+            None => None,
+        }
+    }
+
+    /// What thread k takes in a slot: an event, an interrupt or nothing.
+    #[inline]
+    pub(crate) fn choice(&self, k: u8, slot: u32) -> Option<Choice>
+        requires { k < THREADS }
+        ensures { result ≡ choice_of (choice self.now slot k) }
+    {
+        choice_in(&self.units, k, slot)
+    }
+}
+
+// The thread that issues in a slot, where these are able.
+#[inline]
+fn pick(units: &Units, able: u8, slot: u32) -> Option<u8>
+    requires able { (k : ℕ) → k < THREADS → in_mask able k ≡ is_able units.now k slot }
+    ensures value { result ≡ picked units.now slot }
+    ensures within { IfSome result (λ k. k < THREADS) }
+{
+    units.slots.pick(able, slot)
+}
+
+// Which threads are able in a slot.
+fn found_able(units: &Units, slot: u32) -> Able
+    ensures value { AreAble units.now result }
+    ensures now { IsFor result slot }
+{
+    Able::find(
+        &units.threads,
+        &units.chans,
+        &units.timers,
+        &units.syncs,
+        &units.ports,
+        &units.events,
+        slot,
+    )
+}
+
+// What was known for another time, where it holds in this slot too.
+fn able_again(units: &Units, known: Able, slot: u32) -> Option<Able>
+    requires { AreAble units.now known }
+    ensures value { IfSome result (AreAble units.now) }
+    ensures now { IfSome result (λ able. IsFor able slot) }
+{
+    known.again(&units.timers, slot)
+}
+
+// What a thread takes in a slot.
+#[inline]
+fn choice_in(units: &Units, k: u8, slot: u32) -> Option<Choice>
+    requires { k < THREADS }
+    ensures { result ≡ choice_of (choice units.now slot k) }
+{
+    let sr = units.threads[k as usize].sr;
+    taken(
+        k,
+        sr,
+        &units.chans,
+        &units.timers,
+        &units.ports,
+        &units.events,
+        slot,
+    )
+}
