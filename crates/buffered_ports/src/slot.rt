@@ -34,6 +34,16 @@ impl Ports {
         }
     }
 
+    /// Whether a port has a strobe. Where none has, `high` says nothing, and any mask does for it.
+    #[inline]
+    pub fn has_strobe(&self) -> bool
+        ensures none { result ≡ false → (mask : ℕ) (levels : List Word) → HighAre mask self.now levels }
+    {
+        self.strobed != 0
+    }
+
+    // It stands apart, so that slots with no strobe are quick.
+    #[inline(never)]
     fn all_high(&self, levels: &[u32; 29]) -> u32
         ensures { HighAre result self.now (levels_of self.now levels.now) }
     {
@@ -84,6 +94,8 @@ impl Ports {
         self.on == 0 || slot % 2 == 1
     }
 
+    // It stands apart, so that slots with no edge are quick.
+    #[inline(never)]
     fn all_edges(
         &mut self,
         clocks: &Clocks,

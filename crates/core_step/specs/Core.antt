@@ -1,7 +1,8 @@
 -- What contracts see of a core, and the node record that it stands for.
-use Rattle.std.specs.Prelude.{ℕ, ◌≡◌, ◌<◌, List, Option, IfSome}
+use Rattle.std.specs.Prelude.{ℕ, ◌≡◌, ◌<◌, false, List, Option, None, IfSome, slice_index_or}
 use Rattle.std.specs.List.{AllByRecursion}
 use Rattle.xs_base.specs.Numbers.{Slot}
+use Rattle.xs_model.specs.declared.outside.Arrivals.{Arrivals}
 use Rattle.xs_model.specs.Record.{CoreRec, NodeRec, LinkRec, InputRec}
 use Rattle.link_ends.specs.Counts.{EndCounts}
 use Rattle.buffered_ports.specs.Keeps.{HighAre}
@@ -23,6 +24,11 @@ pub record StandsFor (value : CoreValue) (rec : NodeRec) : Type 0 where
   pub high : HighAre value.high rec.core.ports rec.levels
   pub inputs : value.inputs ≡ rec.inputs
   pub links : AllCountsOf value.links rec.links
+
+-- no token and no credit arrives by any link end
+pub record NothingArrives (arrivals : Arrivals) : Type 0 where
+  pub tokens : (end : ℕ) → slice_index_or arrivals.tokens end None ≡ None
+  pub credits : (end : ℕ) → slice_index_or arrivals.credits end false ≡ false
 
 -- every slot that the link end keeps is before this one
 pub record IsLinkBefore (slot : Slot) (link : LinkRec) : Type 0 where

@@ -3,12 +3,11 @@
 
 mod network;
 mod node_core;
+#[cfg(test)]
+mod tests;
 
-pub use processor::BadAddress;
 pub use node_core::Core;
+pub use processor::BadAddress;
 pub use sys_plan::NodePlan;
 pub use trace_lines::{Emissions, Event, Happen};
 pub use xs_model::{Arrivals, Outcome, PinView, Run, Thread, Wait};
-
-#[cfg(test)]
-mod tests;

@@ -1,11 +1,11 @@
 //! `Network`, the link ends and the switch of a node.
 ghost use Rattle.std.specs.Prelude.{ℕ, ◌≡◌, ◌≤◌, ◌+◌, false, List, Option, length, map, slice_index_or, None, IsTrue};
-ghost use Rattle.xs_base.specs.Numbers.{Slot};
 ghost use Rattle.xs_base.specs.declared.numbers.TheConstants.{EVENTS_BEFORE_SWITCH, SWITCH_EVENTS};
 ghost use Rattle.xs_model.specs.AtWork.{AtWork};
 ghost use Rattle.xs_model.specs.Record.{LinkRec};
 ghost use Rattle.net_model.specs.Links.{links_after_arrivals};
 ghost use Rattle.switch_routes.specs.Rows.{AllCountsOf, CreditedBy, SentBy, end_gaps};
+ghost use Rattle.core_step.specs.Core.{NothingArrives};
 ghost use Rattle.core_step.specs.Network.{NetworkStands, Brings, routes_of, counts_with_gap, first_network};
 
 use processor::{Holders, Processor};
@@ -43,15 +43,17 @@ impl Network {
         }
     }
 
-    /// What arrives by the link ends in a slot, and then the switch, which works with the units' channel ends. It is not
-    /// asked where no input can act.
+    /// What arrives by the link ends in a slot, if anything does, and then the switch, which works with the units' channel
+    /// ends. It is not asked where no input can act.
     pub(crate) fn bring(
         &mut self,
         units: &mut Processor,
+        arrives: bool,
         slot: u32,
         arrivals: &Arrivals,
         out: &mut Emissions,
     )
+        requires arrives { arrives ≡ false → NothingArrives arrivals.now }
         requires room { length out.old.events ≤ EVENTS_BEFORE_SWITCH }
 
         ensures brings { (m : AtWork) → NetworkStands slot self.old units.old.chans out.old m → Brings slot arrivals.now (routes_of self.old) self.new units.new.chans out.new m }
@@ -60,7 +62,7 @@ impl Network {
         ensures sent { SentBy slot self.old.links → SentBy slot self.new.links }
         ensures events { length out.new.events ≤ length out.old.events + SWITCH_EVENTS }
     {
-        take_in(&mut self.links, arrivals);
+        take_in(&mut self.links, arrives, arrivals);
         if self.switch.is_at_rest(units.chans(), &self.links) {
             return;
         }
@@ -94,7 +96,8 @@ fn links_with(gaps: &[u32; 8]) -> Links
 }
 
 // What arrives by the link ends, if anything does.
-fn take_in(links: &mut Links, arrivals: &Arrivals)
+fn take_in(links: &mut Links, arrives: bool, arrivals: &Arrivals)
+    requires { arrives ≡ false → NothingArrives arrivals.now }
     ensures stands { (slot : ℕ) (rec : List (Option LinkRec)) → AllCountsOf links.old rec →
         AllCountsOf links.new (links_after_arrivals slot arrivals.now.tokens arrivals.now.credits 0 rec) }
     ensures credited { (slot : ℕ) (rec : List (Option LinkRec)) → CreditedBy slot rec →
@@ -102,14 +105,14 @@ fn take_in(links: &mut Links, arrivals: &Arrivals)
     ensures gaps { end_gaps links.new ≡ end_gaps links.old }
     ensures sent { (slot : ℕ) → SentBy slot links.old → SentBy slot links.new }
 {
-    if !nothing_arrives(arrivals) {
+    if arrives {
         links.arrivals(arrivals);
     }
 }
 
-// Whether no token and no credit arrives by any link end.
-fn nothing_arrives(arrivals: &Arrivals) -> bool
-    ensures { IsTrue result → (slot : Slot) (links : List (Option LinkRec)) → links_after_arrivals slot arrivals.now.tokens arrivals.now.credits 0 links ≡ links }
+/// Whether no token and no credit arrives by any link end.
+pub(crate) fn nothing_arrives(arrivals: &Arrivals) -> bool
+    ensures { IsTrue result → NothingArrives arrivals.now }
 {
     are_none(&arrivals.tokens) && are_false(&arrivals.credits)
 }

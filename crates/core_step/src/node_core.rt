@@ -7,9 +7,11 @@ ghost use Rattle.xs_model.specs.Memory.{load_word, is_word_address};
 ghost use Rattle.xs_model.specs.Outside.{LevelsFit};
 ghost use Rattle.step_model.specs.Start.{fixed_of, node_of, WaysHaveGaps};
 ghost use Rattle.step_model.specs.Step.{node_step};
-ghost use Rattle.core_step.specs.Core.{StandsAt, SlotsBefore};
+ghost use Rattle.xs_model.specs.Ports.{levels_of};
+ghost use Rattle.buffered_ports.specs.Keeps.{HighAre};
+ghost use Rattle.core_step.specs.Core.{StandsAt, SlotsBefore, NothingArrives};
 
-use crate::network::Network;
+use crate::network::{Network, nothing_arrives};
 use processor::{BadAddress, Processor, Program, Ram};
 use std::alloc::{AllocError, Global};
 use std::marker::Model;
@@ -92,12 +94,49 @@ impl Core {
             out.new ≡ (node_step self.old.fixed rec slot arrivals.now pins.now).emitted }
         ensures after { SlotsBefore self.new (slot + 1) }
     {
+        let arrives = !nothing_arrives(arrivals);
+        self.slot_where(arrives, slot, arrivals, pins, out);
+    }
+
+    /// The same, where it is known whether anything arrives: nothing does by any link end if `arrives` is false. It takes less
+    /// than to look.
+    #[inline]
+    pub fn slot_where(
+        &mut self,
+        arrives: bool,
+        slot: u32,
+        arrivals: &Arrivals,
+        pins: &PinView,
+        out: &mut Emissions,
+    )
+        requires before { SlotsBefore self.old slot }
+        requires levels { LevelsFit pins.now.level }
+        requires arrives { arrives ≡ false → NothingArrives arrivals.now }
+
+        ensures fixed { self.new.fixed ≡ self.old.fixed }
+        ensures step { (rec : NodeRec) → StandsAt self.old rec slot →
+            StandsAt self.new (node_step self.old.fixed rec slot arrivals.now pins.now).rec (slot + 1) }
+        ensures emissions { (rec : NodeRec) → StandsAt self.old rec slot →
+            out.new ≡ (node_step self.old.fixed rec slot arrivals.now pins.now).emitted }
+        ensures after { SlotsBefore self.new (slot + 1) }
+    {
         out.clear();
         // What arrives changes no port, so it may come after the edges.
         self.units.edges(slot, pins, self.high, out);
-        self.network.bring(&mut self.units, slot, arrivals, out);
+        self.network
+            .bring(&mut self.units, arrives, slot, arrivals, out);
         self.units
             .issue(&self.program, slot, pins, &self.network, out);
-        self.high = self.units.high(pins);
+        note_high(&mut self.high, &self.units, pins);
+    }
+}
+
+// Notes which strobes are high at the end of a slot. Where no port has one, the mask may stay.
+#[inline]
+fn note_high(high: &mut u32, units: &Processor, pins: &PinView)
+    ensures { HighAre high.new units.now.ports (levels_of units.now.ports pins.now.level) }
+{
+    if units.has_strobe() {
+        *high = units.high(pins);
     }
 }

@@ -1,5 +1,5 @@
 -- What an issue makes of a core, by how its instruction ends.
-use Rattle.std.specs.Prelude.{if◌then◌else◌, List, [], ◌∷◌, ◌++◌, map}
+use Rattle.std.specs.Prelude.{if◌then◌else◌, Bool, true, false, List, [], ◌∷◌, ◌++◌, map}
 use Rattle.xs_base.specs.Numbers.{Slot}
 use Rattle.xs_model.specs.declared.event.Happen.{Happen}
 use Rattle.xs_model.specs.declared.thread.Thread.{Thread}
@@ -8,6 +8,8 @@ use Rattle.xs_model.specs.declared.thread.Outcome.TheVariants as outcome
 use Rattle.xs_model.specs.Record.{CoreRec}
 use Rattle.xs_model.specs.Entry.{in_event, in_interrupt}
 use Rattle.xs_model.specs.Outside.{Emitted, in_slot}
+use Rattle.xs_instructions.specs.declared.instr.Instr.{Instr}
+use Rattle.xs_instructions.specs.declared.instr.Instr.TheVariants.{Resources}
 use Rattle.step_model.specs.Effect.{Effect, Done, Pause, Trap, Gone, after_it}
 use Rattle.event_unit.specs.declared.answers.Choice.{Choice}
 use Rattle.core_units.specs.declared.ended.Ended.{Ended}
@@ -29,6 +31,11 @@ abbrev pub effect_with : Ended → CoreRec → Effect
 effect_with (ended.Quietly o) core = effect_of o core
 effect_with (ended.Done what) core = Done core (what ∷ [])
 effect_with (ended.Pause wait what) core = Pause core wait (what ∷ [])
+
+-- whether an instruction is none on a resource, so that nothing happens by it but a trap
+abbrev pub is_quiet : Instr → Bool
+is_quiet (Resources ins) = false
+is_quiet _ = true
 
 -- what a slot gave, and then this happens
 abbrev pub and_happened : Emitted → Slot → List Happen → Emitted

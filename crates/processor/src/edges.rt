@@ -1,5 +1,5 @@
 //! The edges of the ports' clocks in a slot. See docs/PORTS.md.
-ghost use Rattle.std.specs.Prelude.{◌≡◌, ◌≤◌, ◌+◌, false, List, length};
+ghost use Rattle.std.specs.Prelude.{ℕ, ◌≡◌, ◌≤◌, ◌+◌, false, List, length};
 ghost use Rattle.xs_base.specs.Numbers.{Word};
 ghost use Rattle.xs_base.specs.declared.numbers.TheConstants.{EVENT_ROOM, PORTS};
 ghost use Rattle.xs_model.specs.Outside.{LevelsFit};
@@ -36,6 +36,14 @@ impl Processor {
     {
         high(&self.units, pins)
     }
+
+    /// Whether a port has a strobe. Where none has, `high` says nothing, and any mask does for it.
+    #[inline]
+    pub fn has_strobe(&self) -> bool
+        ensures none { result ≡ false → (mask : ℕ) (levels : List Word) → HighAre mask self.now.ports levels }
+    {
+        has_strobe(&self.units)
+    }
 }
 
 // The edges of a slot, and whether a thread may be able by them that was not, or not able that was.
@@ -59,4 +67,12 @@ fn high(units: &Units, pins: &PinView) -> u32
     ensures { HighAre result units.now.ports (levels_of units.now.ports pins.now.level) }
 {
     units.ports.high(pins)
+}
+
+// Whether a port has a strobe.
+#[inline]
+fn has_strobe(units: &Units) -> bool
+    ensures { result ≡ false → (mask : ℕ) (levels : List Word) → HighAre mask units.now.ports levels }
+{
+    units.ports.has_strobe()
 }

@@ -1,18 +1,19 @@
 //! At most one issue in a slot.
-ghost use Rattle.std.specs.Prelude.{◌≡◌, ◌<◌, ◌≤◌, ◌+◌, Some, None, length};
+ghost use Rattle.std.specs.Prelude.{◌≡◌, ◌<◌, ◌≤◌, ◌+◌, Some, None, length, IsTrue};
 ghost use Rattle.xs_base.specs.declared.numbers.TheConstants.{THREADS, EVENT_ROOM, ISSUE_EVENTS};
 ghost use Rattle.xs_model.specs.declared.thread.Run.TheVariants.{Going};
 ghost use Rattle.xs_model.specs.Record.{thread_of, with_thread, with_run, with_last};
-ghost use Rattle.xs_instructions.specs.Instr.{InRange};
+ghost use Rattle.xs_instructions.specs.Instr.{InRange, ResourcesInRange};
 ghost use Rattle.xs_instructions.specs.Code.{code_at};
 ghost use Rattle.step_model.specs.Effect.{Setting};
 ghost use Rattle.step_model.specs.Rows.{effect};
+ghost use Rattle.step_model.specs.ResourceRows.{resources_row};
 ghost use Rattle.step_model.specs.Step.{issue_begins, executed, settled, trap, issued, issued_by};
 ghost use Rattle.core_units.specs.Here.{IsHere};
 ghost use Rattle.xs_model.specs.Outside.{LevelsFit};
 ghost use Rattle.core_units.specs.Ended.{IsEnded};
-ghost use Rattle.core_units.specs.Units.{EndsWith};
-ghost use Rattle.processor.specs.Issue.{effect_of, effect_with, and_happened, entered_by};
+ghost use Rattle.core_units.specs.Units.{Ends, EndsWith};
+ghost use Rattle.processor.specs.Issue.{effect_of, effect_with, is_quiet, and_happened, entered_by};
 ghost use Rattle.processor.specs.Knows.{StaysKnown};
 
 use crate::processor::Processor;
@@ -24,7 +25,7 @@ use resource_rows::on_resources;
 use thread_rows::on_threads;
 use trace_lines::Emissions;
 use trap_unit::{enter_event, enter_interrupt, enter_trap, return_address};
-use xs_instructions::{Instr, KernelIns};
+use xs_instructions::{Instr, KernelIns, ResIns};
 use xs_model::traps::ILLEGAL_PC;
 use xs_model::{Event, Happen, Outcome, PinView, Run, Thread};
 
@@ -109,9 +110,13 @@ impl Processor {
         let pc = self.pc_of(k);
         match program.at(pc) {
             None => self.trap(k, program, ILLEGAL_PC, pc, slot, out),
-            Some(ins) => {
-                let ended = self.execute(k, program.id(), slot, pins, holders, ins);
+            Some(Instr::Resources(ins)) => {
+                let ended = self.use_resource(k, program.id(), slot, pins, holders, ins);
                 self.settle(k, program, ended, slot, out);
+            }
+            Some(ins) => {
+                let outcome = self.execute(k, program.id(), slot, ins);
+                self.settle_quietly(k, program, outcome, slot, out);
             }
         }
     }
@@ -145,40 +150,47 @@ impl Processor {
         self.units.set_run(k, run);
     }
 
-    // What an instruction does when thread k issues it.
-    fn execute<H: Holders>(
+    // What an instruction on a resource does when thread k issues it.
+    fn use_resource<H: Holders>(
         &mut self,
         k: u8,
         id: u16,
         slot: u32,
         pins: &PinView,
         holders: &H,
-        ins: Instr,
+        ins: ResIns,
     ) -> Ended
+        requires thread { k < THREADS }
+        requires range { ResourcesInRange ins }
+        requires levels { LevelsFit pins.now.level }
+        ensures row { (here : Setting) → IsHere id slot pins.now (H.busy holders.now) here → EndsWith result self.old self.new (resources_row here self.old k ins) }
+        ensures within { IsEnded result }
+    {
+        self.able = None;
+        on_resources(&mut self.units, id, slot, k, pins, holders, ins)
+    }
+
+    // What another instruction does when thread k issues it. It answers by less than an `Ended`, since nothing happens by it
+    // but a trap.
+    fn execute(&mut self, k: u8, id: u16, slot: u32, ins: Instr) -> Outcome
         requires thread { k < THREADS }
         requires going { (thread_of self.old k).run ≡ Going }
         requires range { InRange ins }
-        requires levels { LevelsFit pins.now.level }
-        ensures row { (here : Setting) → IsHere id slot pins.now (H.busy holders.now) here → EndsWith result self.old self.new (effect here self.old k ins) }
-        ensures within { IsEnded result }
+        requires part { IsTrue (is_quiet ins) }
+        ensures row { (here : Setting) → here.id ≡ id → here.slot ≡ slot → Ends result self.old self.new (effect here self.old k ins) }
     {
         match ins {
-            Instr::Words(ins) => Ended::Quietly(words(&mut self.units, k, ins)),
+            Instr::Words(ins) => words(&mut self.units, k, ins),
             Instr::Kernel(KernelIns::Kret) => {
                 kret(&mut self.units, k);
-                Ended::Quietly(Outcome::Done)
+                Outcome::Done
             }
-            Instr::Memory(_) | Instr::Flow(_) | Instr::Kernel(_) => {
-                Ended::Quietly(local(&mut self.units, k, ins))
-            }
+            Instr::Memory(_) | Instr::Flow(_) | Instr::Kernel(_) => local(&mut self.units, k, ins),
             Instr::Threads(ins) => {
                 self.able = None;
-                Ended::Quietly(on_threads(&mut self.units, id, slot, k, ins))
+                on_threads(&mut self.units, id, slot, k, ins)
             }
-            Instr::Resources(ins) => {
-                self.able = None;
-                on_resources(&mut self.units, id, slot, k, pins, holders, ins)
-            }
+            Instr::Resources(_) => unreachable!(),
         }
     }
 

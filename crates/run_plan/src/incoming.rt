@@ -1,8 +1,9 @@
 //! `Incoming`, the directed links that come to a node's link ends, and what arrives by them.
-ghost use Rattle.std.specs.Prelude.{◌≡◌, ◌≤◌, length, drop};
+ghost use Rattle.std.specs.Prelude.{◌≡◌, ◌≤◌, false, length, drop};
 ghost use Rattle.std.specs.List.{AllByRecursion};
 ghost use Rattle.xs_base.specs.declared.numbers.TheConstants.{LINK_ENDS};
 ghost use Rattle.sys_plan.specs.Plan.{directions};
+ghost use Rattle.core_step.specs.Core.{NothingArrives};
 ghost use Rattle.run_plan.specs.Incoming.{arrivals_by, arrived_by, incoming_of, IsBelow, IsNowhere};
 
 use crate::track::{Crossing, Track};
@@ -50,17 +51,22 @@ impl Incoming {
         }
     }
 
-    /// Looks at what arrives. A link end that no link comes to costs nothing, if none after it is reached either.
-    pub(crate) fn look(&mut self, tracks: &[Track])
+    /// Looks at what arrives: whether anything does. A link end that no link comes to costs nothing, if none after it is
+    /// reached either.
+    pub(crate) fn look(&mut self, tracks: &[Track]) -> bool
         requires below { AllByRecursion (IsBelow (length tracks.now)) self.old.links }
         ensures links { self.new.links ≡ self.old.links }
         ensures arrivals { self.new.arrivals ≡ arrivals_by tracks.now self.old.links }
+        ensures nothing { result ≡ false → NothingArrives self.new.arrivals }
     {
+        let mut some = false;
         for end in 0..self.reached {
             let arrived = arrived(tracks, self.links[end]);
             self.arrivals.tokens[end] = arrived.token;
             self.arrivals.credits[end] = arrived.credit;
+            some |= arrived.is_some();
         }
+        some
     }
 
     /// What arrived when it last looked.

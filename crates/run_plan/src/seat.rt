@@ -36,8 +36,9 @@ impl Seat {
         ensures steps { StepsOn slot tracks.now self.old self.new }
     {
         self.pins.look(slot);
-        self.incoming.look(tracks);
-        self.core.slot(
+        let arrives = self.incoming.look(tracks);
+        self.core.slot_where(
+            arrives,
             slot,
             self.incoming.arrivals(),
             self.pins.view(),

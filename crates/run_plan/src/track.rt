@@ -1,5 +1,5 @@
 //! `Track`, one directed link: its history, and what of it arrives. See docs/LINKS.md.
-ghost use Rattle.std.specs.Prelude.{◌≡◌, ◌+◌, ◌-◌, ◌^◌, ◌<◌, ◌≤◌, ◌++◌, slice_get};
+ghost use Rattle.std.specs.Prelude.{◌≡◌, ◌+◌, ◌-◌, ◌^◌, ◌<◌, ◌≤◌, ◌++◌, false, slice_get};
 ghost use Rattle.xs_base.specs.declared.numbers.TheConstants.{LINK_ENDS};
 ghost use Rattle.serial_model.specs.Serial.{sent_by};
 ghost use Rattle.run_plan.specs.Tracks.{due_of, seen_of, no_crossing, entry_count, IsTrack, GoesOn};
@@ -23,6 +23,13 @@ impl Crossing {
             token: None,
             credit: false,
         }
+    }
+
+    /// Whether anything crosses.
+    pub(crate) fn is_some(self) -> bool
+        ensures { result ≡ false → self ≡ no_crossing }
+    {
+        self.token.is_some() || self.credit
     }
 
     // How many entries of the history it is made of.
@@ -78,6 +85,30 @@ impl Track {
         }
     }
 
+    // What arrived in this slot is behind it. That costs little where nothing did.
+    fn pass(&mut self)
+        requires { self.old.first < 2 ^ 63 }
+        ensures passed { self.new ≡ record self.old { first = self.old.first + entry_count self.old.arrived; arrived = no_crossing } }
+        ensures most { self.new.first ≤ self.old.first + 2 }
+    {
+        if self.arrived.is_some() {
+            self.first += self.arrived.count();
+            self.arrived = Crossing::none();
+        }
+    }
+
+    // Notes what arrives in a slot, where nothing was noted yet. That costs little where nothing does.
+    fn see(&mut self, slot: u32)
+        requires first { self.old.first < 2 ^ 63 }
+        requires nothing { self.old.arrived ≡ no_crossing }
+        ensures { self.new ≡ record self.old { arrived = seen_of (due_of slot self.old.delay (slice_get self.old.history.entries self.old.first)) (due_of slot self.old.delay (slice_get self.old.history.entries (self.old.first + 1))) } }
+    {
+        let seen = self.seen(slot);
+        if seen.is_some() {
+            self.arrived = seen;
+        }
+    }
+
     // Puts what the sender's link end sent in a slot after the history.
     fn append(&mut self, slot: u32, sent: &Emissions)
         requires end { self.old.from_end < LINK_ENDS }
@@ -107,8 +138,8 @@ impl Track {
         requires room { 2 ≤ self.old.history.spare }
         ensures next { GoesOn slot (sent_by slot sent.now self.old.from_end) self.old self.new }
     {
-        self.first += self.arrived.count();
+        self.pass();
         self.append(slot, sent);
-        self.arrived = self.seen(slot + 1);
+        self.see(slot + 1);
     }
 }

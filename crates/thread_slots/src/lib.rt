@@ -114,13 +114,13 @@ pub fn with_able(able: u8, th: u8) -> u8
     able | (1 << th)
 }
 
-/// The least turn of the threads in a mask, `u64::MAX` where there is none. Both ways lead to the same: with few threads
-/// in the mask it takes less to go from bit to bit, with many to go over all eight.
+/// The least turn of the threads in a mask, `u64::MAX` where there is none. Both ways lead to the same: where only the first
+/// four threads are in the mask it takes less to go from bit to bit, else to go over all eight.
 #[inline]
 fn least_turn(turns: &[u64; 8], able: u8) -> u64
     ensures { IsLeast (in_mask able) turns.now result }
 {
-    if able.count_ones() < 5 {
+    if able < 16 {
         least_of_few(turns, able)
     } else {
         least_of_many(turns, able)

@@ -5,10 +5,9 @@ use Rattle.core_units.specs.Units.{Ends}
 use Rattle.processor.proofs.processor.Processor.execute.Goals as goal
 
 pub returns-in-Threads : goal.returns-in-Threads
-returns-in-Threads g c = record {
+returns-in-Threads c = record {
   row =
-      λ here at.
+      λ here id slot.
       subst (λ (old : CoreRec). Ends c.on_threads.result old c.on_threads.new.units (effect here old c.args.k c.args.ins)) c.self.view_is
-      (subst (λ ins. Ends c.on_threads.result c.self.inside.units c.on_threads.new.units (effect here c.self.inside.units c.args.k ins)) (sym c.in-Threads.is) (c.on_threads.ensures.row here at.id at.slot));
-  within = tt;
+      (subst (λ ins. Ends c.on_threads.result c.self.inside.units c.on_threads.new.units (effect here c.self.inside.units c.args.k ins)) (sym c.in-Threads.is) (c.on_threads.ensures.row here id slot));
 }
