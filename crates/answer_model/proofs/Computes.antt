@@ -7,7 +7,8 @@ use Rattle.system_model.specs.FrameLines.{node_line, end_name, link_line, number
 use Rattle.system_model.specs.Frame.{frame_from, framed}
 use Rattle.system_model.specs.System.{mask_where, node_plans, system_of}
 use Rattle.pin_scripts.specs.Pins.{port_of, pin_form, pins_from, pins_of}
-use Rattle.answer_model.specs.Top.{form_of_words, answer}
+use Rattle.answer_model.specs.Forms.{form_of_words}
+use Rattle.answer_model.specs.Top.{answer}
 use Rattle.xs_instructions.specs.Words.{register_number, fixed}
 use Rattle.xs_instructions.specs.Find.{find, known}
 use Rattle.source_model.specs.Canonical.{behind_labels, first_name_at}

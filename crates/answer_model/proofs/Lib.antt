@@ -1,1 +1,2 @@
 pub mod Computes
+mod Statuses

@@ -1,8 +1,13 @@
-pub mod Check
+pub mod CheckForm
+pub mod Forms
+pub mod OnSystem
+pub mod Refusals
+pub mod RunForm
+pub mod StatusNumber
+pub mod SystemStatuses
 pub mod Top
 pub mod Worked
 pub mod WorkedEdges
 pub mod WorkedPairs
-pub mod WorkedPrograms
-pub mod StatusNumber
 pub mod WorkedPins
+pub mod WorkedPrograms

@@ -2,7 +2,8 @@
 use Rattle.std.specs.Prelude.{ℕ, ◌≡◌, List, [], ◌∷◌, ◌++◌, codes}
 use Rattle.answer_model.specs.declared.Answer.{Answer}
 use Rattle.answer_model.specs.declared.Status.TheVariants.{Done, Usage, SystemFault, SourceFault}
-use Rattle.answer_model.specs.Top.{answer, usage_text}
+use Rattle.answer_model.specs.Forms.{usage_text}
+use Rattle.answer_model.specs.Top.{answer}
 
 -- node 0 with this source
 abbrev pub lone : List ℕ → List ℕ

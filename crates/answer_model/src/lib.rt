@@ -4,6 +4,7 @@
 
 ghost use Rattle.std.specs.Prelude.{◌≡◌};
 ghost use Rattle.answer_model.specs.StatusNumber.{number_of_status, WorkedStatuses};
+ghost use Rattle.answer_model.specs.SystemStatuses.{SystemStatuses};
 ghost use Rattle.answer_model.specs.Worked.{WorkedAnswers, WorkedChecks};
 ghost use Rattle.answer_model.specs.WorkedEdges.{WorkedFrames, WorkedSources, WorkedRuns};
 ghost use Rattle.answer_model.specs.WorkedPairs.{WorkedPairs};
@@ -57,6 +58,11 @@ pub struct Answer {
     pub text: Text,
     pub status: Status,
 }
+
+/// By which statuses the forms answer that read a system text: exactly by what that text stands for.
+pub fn statuses_of_systems()
+    ensures { SystemStatuses }
+{}
 
 /// The definitions give what was worked out by hand.
 pub fn worked_answers()

@@ -1,17 +1,9 @@
--- The form of words by how many they are.
-use Rattle.std.proofs.Common.{◌≡◌, ◌<◌, ◌≤◌, List, [], ◌∷◌, map, length, None, refl, arith}
+-- No words have no form.
+use Rattle.std.proofs.Common.{◌≡◌, ◌<◌, List, [], ◌∷◌, map, length, None, refl, arith}
 use Rattle.std.specs.Prelude.{String, string_bytes}
-use Rattle.answer_model.specs.Top.{form_of_words}
+use Rattle.answer_model.specs.Forms.{form_of_words}
 
 pub form_of_words-none : {A : Type 0} (words : List (String A)) → length words < 1 → None ≡ form_of_words (map string_bytes words)
 unfolding form_of_words
 form_of_words-none [] h = refl
 form_of_words-none (a ∷ words) h = absurd (omega arith)
-
-pub form_of_words-many : {A : Type 0} (words : List (String A)) → 4 ≤ length words → None ≡ form_of_words (map string_bytes words)
-unfolding form_of_words
-form_of_words-many [] h = absurd (omega arith)
-form_of_words-many (a ∷ []) h = absurd (omega arith)
-form_of_words-many (a ∷ b ∷ []) h = absurd (omega arith)
-form_of_words-many (a ∷ b ∷ c ∷ []) h = absurd (omega arith)
-form_of_words-many (a ∷ b ∷ c ∷ d ∷ words) h = refl

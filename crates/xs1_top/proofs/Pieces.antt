@@ -1,10 +1,15 @@
 -- Texts that are written and inputs that are read in pieces.
-use Rattle.std.proofs.Common.{◌≡◌, ℕ, ◌+◌, ◌≤◌, List, [], ◌++◌, length, take, drop, ◌↔◌, Option, Some, None, IfSome, Result, Ok, Err, OnErr, sym, ap, ◌∙◌, append_assoc, subst}
+use Rattle.std.proofs.Common.{◌≡◌, ℕ, ◌+◌, ◌≤◌, true, min, if◌then◌else◌, List, [], ◌++◌, length, take, drop, ◌↔◌, Option, Some, None, IfSome, Result, Ok, Err, IfOk, OnErr, sym, ap, ◌∙◌, append_assoc, subst, arith, inl, inr}
+use Rattle.std.proofs.lemmas.Bool.{cases_lt}
 use Rattle.std.proofs.lemmas.List.{take_all, take_at, append-nil, take-append-drop}
 use Rattle.std.proofs.KnownBytes.{Appends-trans, Consumes-trans}
 use Rattle.std.proofs.Math.Seq.{take-add}
 use Rattle.std.specs.Io.KnownBytes.{Appends, Consumes}
 use Rattle.xs_edge.specs.Edge.{AppendsPart}
+use Rattle.system_model.specs.System.{longest_input}
+use Rattle.answer_model.specs.declared.Form.{Form}
+use Rattle.answer_model.specs.Forms.{reads_input}
+use Rattle.answer_model.specs.Top.{taken_by}
 
 -- the first done bytes of the text, and then n more
 pub Appends-more : (a b c : Option (List ℕ)) (text : List ℕ) (done n : ℕ) → Appends a b (take done text) → Appends b c (take n (drop done text)) → Appends a c (take (done + n) text)
@@ -45,3 +50,26 @@ taken_whole most None new piece p e h = tt
 pub left_none : (left : Option (List ℕ)) (n : ℕ) → n ≡ 0 → IfSome left (λ bytes. (n ≡ 0) ↔ (bytes ≡ [])) → IfSome left (λ bytes. bytes ≡ [])
 left_none None n e h = tt
 left_none (Some bytes) n e h = h.0 e
+
+-- as many as there are, or at most so many
+take_min : (most : ℕ) (bytes : List ℕ) → take (min (length bytes) most) bytes ≡ take most bytes
+take_min most bytes =
+    elim (cases_lt (length bytes) most) [
+      | inl h ↦ take_all (min (length bytes) most) bytes (omega arith) ∙ sym (take_all most bytes (omega arith))
+      | inr h ↦ let e : min (length bytes) most ≡ most = omega arith in ap (λ n. take n bytes) e
+    ]
+
+taken_known : (form : Form) (left : Option (List ℕ)) (bytes : List ℕ) → reads_input form ≡ true
+    → IfSome left (λ input. bytes ≡ take (longest_input + 1) input) → IfSome left (λ input. bytes ≡ take (taken_by (Some form) input) input)
+taken_known form None bytes asks front = tt
+taken_known form (Some input) bytes asks front =
+    let all : take (taken_by (Some form) input) input ≡ take (min (length input) (longest_input + 1)) input =
+    ap (λ asks. take (if asks then min (length input) (longest_input + 1) else 0) input) asks in
+    front ∙ sym (all ∙ take_min (longest_input + 1) input)
+
+-- a form that asks for the input takes it whole, or one byte past the longest
+pub taken_front : {T E : Type 0} (items : T → List ℕ) (form : Form) (left : Option (List ℕ)) (r : Result T E) → reads_input form ≡ true
+    → IfOk r (λ bytes. IfSome left (λ input. items bytes ≡ take (longest_input + 1) input))
+    → IfOk r (λ bytes. IfSome left (λ input. items bytes ≡ take (taken_by (Some form) input) input))
+taken_front items form left (Ok bytes) asks front = taken_known form left (items bytes) asks front
+taken_front items form left (Err e) asks front = tt

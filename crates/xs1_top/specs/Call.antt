@@ -1,13 +1,13 @@
 -- What the program's one call does to its source and its sink, and the status that it ends with.
-use Rattle.std.specs.Prelude.{ℕ, ◌≡◌, ◌≤◌, Option, Some, None, IsSome, IfSome, List, drop}
+use Rattle.std.specs.Prelude.{ℕ, ◌≡◌, ◌≤◌, Option, Some, None, IfSome, List, drop}
 use Rattle.std.specs.Io.KnownBytes.{Appends}
 use Rattle.xs_edge.specs.Edge.{HasRisen, AppendsPart}
 use Rattle.answer_model.specs.declared.Form.{Form}
 use Rattle.answer_model.specs.declared.Form.TheVariants.{Run, Check}
 use Rattle.answer_model.specs.declared.Status.{Status}
 use Rattle.answer_model.specs.declared.Status.TheVariants.{Done, Memory, Usage, SystemFault, SourceFault, ScriptFault, ReadFault, WriteFault}
-use Rattle.system_model.specs.System.{System, Plan, Frame, Source, Pins, system_of}
-use Rattle.answer_model.specs.Top.{answer, form_of_words, taken, most_slots}
+use Rattle.answer_model.specs.Forms.{most_slots}
+use Rattle.answer_model.specs.Top.{answer, taken}
 
 -- a run of the form has no more slots than a run may have
 abbrev pub HasFewSlots : Form → Type 0
@@ -68,38 +68,13 @@ TookInput words (Some left) (Some after) = after ≡ drop (taken words left) lef
 TookInput words (Some left) None = ⊥
 TookInput words None after = Unit {0}
 
--- the frame of the system text is refused
-abbrev pub IsFrameRefusal : System → Type 0
-IsFrameRefusal (Plan plan) = ⊥
-IsFrameRefusal (Frame line kind) = Unit {0}
-IsFrameRefusal (Source node line kind) = ⊥
-IsFrameRefusal (Pins line kind) = ⊥
+-- where the source tells its input, the answer to the words and the input has this status
+abbrev pub IsAnswerStatus : Status → List (List ℕ) → Option (List ℕ) → Type 0
+IsAnswerStatus wanted words left = IfSome left (λ input. (answer words input).status ≡ wanted)
 
--- the source of a node is refused
-abbrev pub IsSourceRefusal : System → Type 0
-IsSourceRefusal (Plan plan) = ⊥
-IsSourceRefusal (Frame line kind) = ⊥
-IsSourceRefusal (Source node line kind) = Unit {0}
-IsSourceRefusal (Pins line kind) = ⊥
-
--- the pin script is refused
-abbrev pub IsScriptRefusal : System → Type 0
-IsScriptRefusal (Plan plan) = ⊥
-IsScriptRefusal (Frame line kind) = ⊥
-IsScriptRefusal (Source node line kind) = ⊥
-IsScriptRefusal (Pins line kind) = Unit {0}
-
--- nothing is refused
-abbrev pub RefusesNothing : System → Type 0
-RefusesNothing (Plan plan) = Unit {0}
-RefusesNothing (Frame line kind) = ⊥
-RefusesNothing (Source node line kind) = ⊥
-RefusesNothing (Pins line kind) = ⊥
-
--- Where the words are of a form and the source tells an input whose system is of this kind, the status is the wanted one.
-abbrev pub EndsWhere : (System → Type 0) → Status → List (List ℕ) → Option (List ℕ) → Status → Type 0
-EndsWhere IsOfKind wanted words left status =
-    IsSome (form_of_words words) → IfSome left (λ input. IsOfKind (system_of input) → status ≡ wanted)
+-- where the source tells its input and the answer to the words and the input has this status, the call ends with it
+abbrev pub EndsWhere : Status → List (List ℕ) → Option (List ℕ) → Status → Type 0
+EndsWhere wanted words left ended = IfSome left (λ input. (answer words input).status ≡ wanted → ended ≡ wanted)
 
 -- no fault was counted, and none could be: a count that stands at its last value, 2^64 - 1, tells nothing
 abbrev pub IsCalm : ℕ → ℕ → Type 0

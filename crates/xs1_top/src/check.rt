@@ -1,17 +1,32 @@
-//! The sources of a system as the images of its nodes give them.
+//! The form `check`: the sources of a system as the images of its nodes give them.
 ghost use Rattle.std.specs.Prelude.{◌≡◌, ◌++◌, IfOk, OnOk};
 ghost use Rattle.std.specs.List.{flat_map};
-ghost use Rattle.answer_model.specs.Check.{check_text, source_section};
+ghost use Rattle.answer_model.specs.CheckForm.{check_answer, check_text, source_section};
 
+use crate::on_system::{Reading, read};
+use answer_model::{Answer, Status};
 use line_text::append_decimal;
 use std::alloc::{AllocError, Global};
 use sys_plan::{NodePlan, Plan};
 use xs_base::Text;
 use xs_printer::print_image;
 
-/// What `check` writes for a system: a section for each node, by number. The error is want of memory. See
+/// Reads the system of the input, runs nothing, and answers with its sources. The error is want of memory. See
 /// docs/OUTPUT.md.
-pub fn check_text(alloc: Global, plan: &Plan) -> Result<Text, AllocError>
+pub fn answer(alloc: Global, input: &[u8]) -> Result<Answer, AllocError>
+    ensures { IfOk result (λ answer. answer ≡ check_answer input.now) }
+{
+    match read(alloc, input)? {
+        Reading::System(plan) => Ok(Answer {
+            text: check_text(alloc, &plan)?,
+            status: Status::Done,
+        }),
+        Reading::Refused(answer) => Ok(answer),
+    }
+}
+
+// A section for each node, by number.
+fn check_text(alloc: Global, plan: &Plan) -> Result<Text, AllocError>
     ensures text { IfOk result (λ text. text ≡ check_text plan.now) }
 {
     let mut text = Text::new(alloc);

@@ -1,10 +1,14 @@
 //! Reading the input whole, or as much of it as shows that it is too long.
-ghost use Rattle.std.specs.Prelude.{◌≡◌, ◌<◌, ◌≤◌, ◌+◌, length, take, vec_len, IfOk, OnOk, IfSome, IsErrOf};
+ghost use Rattle.std.specs.Prelude.{◌≡◌, ◌<◌, ◌≤◌, ◌+◌, false, Some, length, take, vec_len, IfOk, OnOk, IfSome, IsErrOf};
 ghost use Rattle.std.specs.Io.KnownBytes.{Consumes};
 ghost use Rattle.xs_edge.specs.Edge.{HasRisen};
 ghost use Rattle.system_model.specs.System.{longest_input};
+ghost use Rattle.answer_model.specs.Forms.{reads_input};
+ghost use Rattle.answer_model.specs.Top.{taken_by};
 ghost use Rattle.xs1_top.specs.Reads.{ReadsAtMost};
 
+use crate::words::reads_input;
+use answer_model::Form;
 use std::alloc::{AllocError, Global};
 use xs_edge::{Failed, Source};
 
@@ -45,11 +49,29 @@ impl From<AllocError> for ReadError {
     }
 }
 
-/// Reads until the input ends, a read fails, or 4,194,305 bytes are taken, which is one more than an input may
-/// have. No more than that is ever taken, and no read is made after it. No read has an empty buffer.
-/// `ReadError::Failed` comes only where the source's count of faults has risen, and `ReadError::Memory` where memory
-/// was wanting; the bytes taken till then are lost.
-pub fn read_all<S: Source>(alloc: Global, source: &mut S) -> Result<Vec<u8>, ReadError>
+/// The bytes of the input that a form asks for: none, and then nothing is read, or all up to 4,194,305, which is one more
+/// than an input may have. `ReadError::Failed` comes only where the source's count of faults has risen, and
+/// `ReadError::Memory` where memory was wanting; the bytes taken till then are lost.
+pub fn read_for<S: Source>(alloc: Global, form: Form, source: &mut S) -> Result<Vec<u8>, ReadError>
+    ensures taken { IfOk result (λ bytes. Consumes (S.left source.old) (S.left source.new) bytes.items) }
+    ensures front { IfOk result (λ bytes. IfSome (S.left source.old) (λ left. bytes.items ≡ take (taken_by (Some form) left) left)) }
+    ensures nothing { reads_input form ≡ false → source.new ≡ source.old }
+    ensures calm { OnOk result (S.faults source.new ≡ S.faults source.old) }
+    ensures failed { IsErrOf result ReadError.Failed → HasRisen (S.faults source.old) (S.faults source.new) }
+    ensures memory { IsErrOf result ReadError.Memory → S.faults source.new ≡ S.faults source.old }
+    ensures reads { ReadsAtMost S.read_gives (longest_input + 1) source.old source.new }
+{
+    if !reads_input(form) {
+        return Ok(Vec::new(alloc));
+    }
+    read_all(alloc, source)
+}
+
+// Reads until the input ends, a read fails, or 4,194,305 bytes are taken, which is one more than an input may
+// have. No more than that is ever taken, and no read is made after it. No read has an empty buffer.
+// `ReadError::Failed` comes only where the source's count of faults has risen, and `ReadError::Memory` where memory
+// was wanting; the bytes taken till then are lost.
+fn read_all<S: Source>(alloc: Global, source: &mut S) -> Result<Vec<u8>, ReadError>
     ensures taken { IfOk result (λ bytes. Consumes (S.left source.old) (S.left source.new) bytes.items) }
     ensures front { IfOk result (λ bytes. IfSome (S.left source.old) (λ left. bytes.items ≡ take (longest_input + 1) left)) }
     ensures within { IfOk result (λ bytes. vec_len bytes ≤ longest_input + 1) }

@@ -1,4 +1,4 @@
-//! The program's one call: it reads its words and its input, runs the system, and writes the trace. See
+//! The program's one call: the words choose a form, which answers to the input, and the answer is written. See
 //! docs/OUTPUT.md.
 #![tactic(auto)]
 
@@ -6,8 +6,10 @@ mod call;
 mod check;
 mod counted;
 mod input;
+mod on_system;
 mod output;
 mod refusals;
+mod run;
 #[cfg(test)]
 mod tests;
 mod words;

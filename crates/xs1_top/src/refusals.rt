@@ -1,6 +1,6 @@
-//! The lines that tell why nothing was run.
+//! The lines that refuse a system text.
 ghost use Rattle.std.specs.Prelude.{◌≡◌, ◌++◌, IfOk, OnOk};
-ghost use Rattle.answer_model.specs.Top.{frame_text, pins_text, source_text, text_of_asm_kind, text_of_pin_kind, text_of_sys_kind, usage_text};
+ghost use Rattle.answer_model.specs.Refusals.{frame_text, pins_text, source_text, text_of_asm_kind, text_of_pin_kind, text_of_sys_kind};
 
 use line_text::append_decimal;
 use pin_scripts::PinKind;
@@ -8,13 +8,6 @@ use source_model::AsmKind;
 use std::alloc::{AllocError, Global};
 use system_model::SysKind;
 use xs_base::Text;
-
-/// The usage line. It takes no memory.
-pub fn usage_line() -> &'static [u8]
-    ensures { result.now ≡ usage_text }
-{
-    b"usage: xs1 run SLOTS [serial|free|rounds] | play SLOTS | make NUMBER | check\n"
-}
 
 /// The line of a refused frame: `system line L: KIND TEXT`. The error is want of memory. See docs/OUTPUT.md.
 pub fn frame_line(alloc: Global, line: u32, kind: SysKind) -> Result<Text, AllocError>

@@ -1,9 +1,10 @@
-//! The forms of the program's words.
-ghost use Rattle.std.specs.Prelude.{◌≡◌, ◌≤◌, [], ◌∷◌, map, string_bytes, IfSome};
+//! The forms of the program's words: the table, the usage line beside it, and which forms read the input.
+ghost use Rattle.std.specs.Prelude.{◌≡◌, ◌≤◌, map, string_bytes, IfSome};
 ghost use Rattle.std.specs.List.{list_all};
 ghost use Rattle.std.specs.Char.{is_ascii_digit};
+ghost use Rattle.xs_instructions.specs.Image.{same_name};
 ghost use Rattle.xs_text.specs.Tokens.{is_run};
-ghost use Rattle.answer_model.specs.Top.{decimal_up_to, form_of_words, run_of};
+ghost use Rattle.answer_model.specs.Forms.{decimal_up_to, form_of_words, reads_input, run_of, usage_text};
 ghost use Rattle.xs1_top.specs.Call.{HasFewSlots};
 
 use answer_model::Form;
@@ -19,49 +20,40 @@ const MOST_DIGITS: usize = 10;
 /// The form of the program's words, without the program's name: `run SLOTS`, `run SLOTS serial` or `check`. SLOTS is
 /// one to ten decimal digits with a value of at most 1,000,000. None comes exactly where the words are of no form.
 /// See docs/OUTPUT.md.
+#[tactic(auto, unfolding(answer_model::specs::Forms::form_of_words))]
 pub fn form_of_words(words: &[String]) -> Option<Form>
     ensures value { result ≡ form_of_words (map string_bytes words.now) }
     ensures few { IfSome result HasFewSlots }
 {
     match words {
-        [command] => form_of_one(command),
-        [command, slots] => form_of_two(command, slots),
-        [command, slots, mode] => form_of_three(command, slots, mode),
+        [command] if is(command, b"check") => Some(Form::Check),
+        [command, slots] if is(command, b"run") => run_of(slots),
+        [command, slots, mode] if is(command, b"run") && is(mode, b"serial") => run_of(slots),
         _ => None,
     }
 }
 
-// The form of one word: `check`.
-#[tactic(auto, unfolding(answer_model::specs::Top::form_of_words))]
-fn form_of_one(command: &str) -> Option<Form>
-    ensures value { result ≡ form_of_words (command.now ∷ []) }
-    ensures few { IfSome result HasFewSlots }
+/// The usage line. It takes no memory.
+pub fn usage_line() -> &'static [u8]
+    ensures { result.now ≡ usage_text }
 {
-    same_name(b"check", command.as_bytes()).then_some(Form::Check)
+    b"usage: xs1 run SLOTS [serial|free|rounds] | play SLOTS | make NUMBER | check\n"
 }
 
-// The form of two words: `run SLOTS`.
-#[tactic(auto, unfolding(answer_model::specs::Top::form_of_words))]
-fn form_of_two(command: &str, slots: &str) -> Option<Form>
-    ensures value { result ≡ form_of_words (command.now ∷ slots.now ∷ []) }
-    ensures few { IfSome result HasFewSlots }
+/// Whether a form asks for the input.
+pub fn reads_input(form: Form) -> bool
+    ensures { result ≡ reads_input form }
 {
-    if !same_name(b"run", command.as_bytes()) {
-        return None;
+    match form {
+        Form::Run(_) | Form::Check => true,
     }
-    run_of(slots)
 }
 
-// The form of three words: `run SLOTS serial`.
-#[tactic(auto, unfolding(answer_model::specs::Top::form_of_words))]
-fn form_of_three(command: &str, slots: &str, mode: &str) -> Option<Form>
-    ensures value { result ≡ form_of_words (command.now ∷ slots.now ∷ mode.now ∷ []) }
-    ensures few { IfSome result HasFewSlots }
+// Whether the word is this one.
+fn is(word: &str, wanted: &[u8]) -> bool
+    ensures { result ≡ same_name wanted.now word.now }
 {
-    if !same_name(b"run", command.as_bytes()) || !same_name(b"serial", mode.as_bytes()) {
-        return None;
-    }
-    run_of(slots)
+    same_name(wanted, word.as_bytes())
 }
 
 // The run of so many slots as the word says.

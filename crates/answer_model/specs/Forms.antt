@@ -1,0 +1,38 @@
+-- The forms of the program's words: the table, the usage line beside it, and which forms read the input.
+use Rattle.std.specs.Prelude.{ℕ, nat_le, Bool, true, false, if◌then◌else◌, ◌&&◌, Option, Some, None, option_and_then, List, [], ◌∷◌, length, codes}
+use Rattle.std.specs.Char.{is_ascii_digit}
+use Rattle.xs_instructions.specs.Image.{same_name}
+use Rattle.xs_text.specs.Numbers.{at_most, value_in}
+use Rattle.answer_model.specs.declared.Form.{Form}
+use Rattle.answer_model.specs.declared.Form.TheVariants.{Run, Check}
+
+-- one to ten decimal digits, of a value of at most a limit
+abbrev pub decimal_up_to : ℕ → List ℕ → Option ℕ
+decimal_up_to limit word = if nat_le (length word) 10 then at_most limit (value_in 10 is_ascii_digit word) else None
+
+abbrev pub most_slots : ℕ
+most_slots = 1000000
+
+-- the run of so many slots as the word says
+abbrev pub run_of : List ℕ → Option Form
+run_of word = option_and_then (λ slots. Some (Run slots)) (decimal_up_to most_slots word)
+
+-- the form of the words, if they have one: `check`, `run SLOTS` or `run SLOTS serial`, the last two the same
+unfoldable pub form_of_words : List (List ℕ) → Option Form
+form_of_words (a ∷ []) = if same_name (codes "check") a then Some Check else None
+form_of_words (a ∷ n ∷ []) = if same_name (codes "run") a then run_of n else None
+form_of_words (a ∷ n ∷ mode ∷ []) = if same_name (codes "run") a && same_name (codes "serial") mode then run_of n else None
+form_of_words _ = None
+
+abbrev pub usage_text : List ℕ
+usage_text = codes "usage: xs1 run SLOTS [serial|free|rounds] | play SLOTS | make NUMBER | check\n"
+
+-- whether a form asks for the input
+abbrev pub reads_input : Form → Bool
+reads_input (Run slots) = true
+reads_input Check = true
+
+-- whether words of this form, or of none, ask for the input
+abbrev pub asks_for_input : Option Form → Bool
+asks_for_input None = false
+asks_for_input (Some form) = reads_input form
