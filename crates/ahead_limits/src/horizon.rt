@@ -1,0 +1,138 @@
+//! `Horizon`, how far a node may run.
+ghost use Rattle.std.specs.Prelude.{IfSome, ◌↔◌, ◌≡◌, ◌+◌, ◌<◌, ◌≤◌, Some, None, IsNone, length, drop, slice_index_or, slice_set, true, false};
+ghost use Rattle.std.specs.List.{list_all};
+ghost use Rattle.xs_base.specs.declared.numbers.TheConstants.{LINK_ENDS};
+ghost use Rattle.ahead_limits.specs.Horizon.{no_links, seen_to, may_run, first_stop, lets_run, stops_at, horizon_at, IsBelowAll, NoneStopsBelow, StopsAt};
+
+use std::marker::Model;
+use xs_base::numbers::LINK_ENDS;
+
+/// What was seen of the link that comes to a link end.
+#[derive(Clone, Copy)]
+pub struct Seen {
+    /// The delay of the link, in slots.
+    pub delay: u32,
+    /// The slot before which all its entries were seen.
+    pub seen: u32,
+}
+
+// The horizon of a link: the first slot for which it is not known what arrives by it.
+fn horizon_at(s: Seen) -> u64
+    ensures { result ≡ horizon_at s }
+{
+    u64::from(s.seen) + u64::from(s.delay)
+}
+
+fn lets_run(clock: u32, s: Option<Seen>) -> bool
+    ensures { result ≡ lets_run clock s }
+{
+    match s {
+        None => true,
+        Some(s) => u64::from(clock) < horizon_at(s),
+    }
+}
+
+// What was seen at a link end, if it stops a node at its clock.
+fn stops_at(clock: u32, s: Option<Seen>) -> Option<u32>
+    ensures { result ≡ stops_at clock s }
+{
+    match s {
+        Some(s) if u64::from(clock) == horizon_at(s) => Some(s.seen),
+        _ => None,
+    }
+}
+
+/// How far a node may run: to the limit of the run, and at each link that comes to it as far as is known what arrives, which is to
+/// the slot up to which the link's history was seen, and its delay. Slots count from 0. Contracts see it as a `HorizonRec` of
+/// `Rattle.ahead_limits.specs.Horizon`. No call takes memory. See docs/LOOKAHEAD.md.
+#[derive(Drop)]
+pub struct Horizon {
+    limit: u32,
+    ends: [Option<Seen>; 8],
+}
+
+impl Model for Horizon {
+    ghost use Rattle.ahead_limits.specs.Horizon.{HorizonRec};
+
+    ghost Value = { HorizonRec };
+
+    ghost use Rattle.std.specs.Prelude.{◌≡◌, length};
+    ghost use Rattle.xs_base.specs.declared.numbers.TheConstants.{LINK_ENDS};
+
+    ghost view = { λ h. record { limit = h.limit; ends = h.ends } };
+
+    ghost invariant = { λ h. length h.ends ≡ LINK_ENDS };
+}
+
+impl Horizon {
+    /// The horizon of a node to which no link comes, in a run of so many slots.
+    pub fn new(limit: u32) -> Horizon
+        ensures limit { result.limit ≡ limit }
+        ensures ends { result.ends ≡ no_links }
+    {
+        Horizon {
+            limit,
+            ends: [None; 8],
+        }
+    }
+
+    /// A link with this delay in slots comes to a link end, 0 to 7. Nothing of it was seen yet.
+    pub fn add(&mut self, end: u8, delay: u32)
+        requires end { end < LINK_ENDS }
+        ensures ends { self.new ≡ record self.old { ends = slice_set self.old.ends end (Some (record { delay = delay; seen = 0 })) } }
+    {
+        self.ends[end as usize] = Some(Seen { delay, seen: 0 });
+    }
+
+    /// The history of the link that comes to a link end, 0 to 7, was seen up to a slot.
+    pub fn see(&mut self, end: u8, published: u32)
+        requires end { end < LINK_ENDS }
+        ensures ends { self.new ≡ record self.old { ends = slice_set self.old.ends end (seen_to published (slice_index_or self.old.ends end None)) } }
+    {
+        if let Some(s) = &mut self.ends[end as usize] {
+            s.seen = published;
+        }
+    }
+
+    /// Whether a node may run the slot that its clock shows: exactly where the clock is below the limit, and at each link end that
+    /// a link comes to below what was seen there and the delay together.
+    pub fn may_run(&self, clock: u32) -> bool
+        ensures value { result ≡ may_run self.now clock }
+        ensures exactly { (result ≡ true) ↔ IsBelowAll self.now clock }
+    {
+        self.lets_run(clock)
+    }
+
+    fn lets_run(&self, clock: u32) -> bool
+        ensures { result ≡ may_run self.now clock }
+    {
+        clock < self.limit && self.all_let_run(clock)
+    }
+
+    fn all_let_run(&self, clock: u32) -> bool
+        ensures { result ≡ list_all (lets_run clock) self.now.ends }
+    {
+        self.ends.iter().all(|s| lets_run(clock, *s))
+    }
+
+    /// The least link end at which the clock is what was seen there and the delay together, and what was seen there. `None`
+    /// comes exactly where there is none.
+    pub fn first_block(&self, clock: u32) -> Option<(u8, u32)>
+        ensures value { result ≡ first_stop clock 0 self.now.ends }
+        ensures least { IfSome result (λ stop. StopsAt self.now clock stop.0 stop.1) }
+        ensures none { IsNone result → NoneStopsBelow self.now clock LINK_ENDS }
+    {
+        self.first_stop(clock)
+    }
+
+    fn first_stop(&self, clock: u32) -> Option<(u8, u32)>
+        ensures { result ≡ first_stop clock 0 self.now.ends }
+    {
+        for end in 0..LINK_ENDS {
+            if let Some(seen) = stops_at(clock, self.ends[end as usize]) {
+                return Some((end, seen));
+            }
+        }
+        None
+    }
+}

@@ -1,0 +1,13 @@
+//! Logs of what directed links carry, with an end that writes and an end that reads. A log has the entries of its
+//! link, and no others. See docs/LOOKAHEAD.md.
+#![tactic(auto)]
+
+mod answers;
+mod log;
+mod story;
+#[cfg(test)]
+mod tests;
+
+pub use answers::{Cause, Got};
+pub use log::{Log, ReadEnd, WriteEnd, make_log};
+pub use story::Story;

@@ -1,0 +1,4 @@
+pub mod Entries
+pub mod Serial
+pub mod Nodes
+pub mod Links

@@ -1,0 +1,127 @@
+-- What was sent stays sent, and what is known of a directed link up to a slot tells all that arrives a delay later.
+use Rattle.std.proofs.Common.{◌≡◌, ℕ, suc, ◌+◌, ◌-◌, ◌<◌, ◌≤◌, Bool, true, false, ◌&&◌, eqb, leb, ltb, Option, Some, None, List, [], ◌∷◌, ◌++◌, length, filter, slice_get, slice_index_or, refl, sym, ap, ◌∙◌, subst, arith, length-append}
+use Rattle.std.specs.List.{AllByRecursion}
+use Rattle.std.proofs.lemmas.Bool.{eqb-true, ne_eqb, le-leb, lt-leb, lt-ltb, le-ltb}
+use Rattle.std.proofs.lemmas.List.{append-nil}
+use Rattle.std.proofs.lemmas.List.Elements.{filter-append}
+use Rattle.xs_base.specs.Numbers.{Slot}
+use Rattle.xs_base.specs.declared.token.Token.{Token}
+use Rattle.xs_base.specs.declared.entry.Entry.{Entry}
+use Rattle.step_model.specs.Step.{Stepped}
+use Rattle.sys_plan.specs.Plan.{PlanRec, Direction, directions, delay_of}
+use Rattle.serial_model.specs.Serial.{is_sent_within, arriving, history, serial, steps_of, emitted_by, token_entries, credit_entries}
+use Rattle.locality_laws.specs.Horizon.{HistoriesGrow, HistoriesAreWhole, CarriesFew, SlotsCarryFew, SeenArrives}
+use Rattle.locality_laws.proofs.Entries.{AllFrom, AllBefore, all_weaker, filter_same, filter_through, filter_none}
+use Rattle.locality_laws.proofs.Serial.{upto, sent_before, Grown, grown, added, new_in, new_are_in, goes_on}
+
+-- ---- Slots from one on and before another
+
+within_yes : (from to : Slot) (e : Entry) → from ≤ e.slot → e.slot < to → is_sent_within from to e ≡ true
+within_yes from to e h k = rw (le-leb from e.slot h, lt-ltb e.slot to k) refl
+
+within_early : (from to : Slot) (e : Entry) → e.slot < from → is_sent_within from to e ≡ false
+within_early from to e h = rw (lt-leb from e.slot h) refl
+
+-- where the end is past both, it does not matter
+within_later : (from to other : Slot) (e : Entry) → e.slot < to → e.slot < other → is_sent_within from to e ≡ is_sent_within from other e
+within_later from to other e h k = rw (lt-ltb e.slot to h, lt-ltb e.slot other k) refl
+
+-- what was sent in the second of two stretches is let through alike by the test of both
+later_alike : (from mid to : Slot) → from ≤ mid → (xs : List Entry) → AllFrom mid xs → AllBefore to xs → AllByRecursion (λ (e : Entry). is_sent_within mid to e ≡ is_sent_within from to e) xs
+later_alike from mid to first [] h k = tt
+later_alike from mid to first (e ∷ xs) h k = (within_yes mid to e h.0 k.0 ∙ sym (within_yes from to e (omega (arith, h.0, first)) k.0), later_alike from mid to first xs h.1 k.1)
+
+pub histories_grow : HistoriesGrow
+histories_grow plan l from mid to first later =
+    let old = upto plan l mid in
+    let g = grown plan l mid (to - mid) to (omega (arith, later)) in
+    let sent = sent_before plan l mid in
+    let early = all_weaker (λ (e : Entry). e.slot < mid) (λ (e : Entry). is_sent_within mid to e ≡ false) (λ e h. within_early mid to e h) old sent in
+    let same = all_weaker (λ (e : Entry). e.slot < mid) (λ (e : Entry). is_sent_within from mid e ≡ is_sent_within from to e)
+    (λ e h. within_later from mid to e h (omega (arith, h, later))) old sent in
+    let late = later_alike from mid to first g.more g.from g.before in
+    let second : filter (is_sent_within mid to) (upto plan l to) ≡ filter (is_sent_within from to) g.more =
+    ap (filter (is_sent_within mid to)) g.all
+    ∙ filter-append (is_sent_within mid to) old g.more
+    ∙ ap (λ h. h ++ filter (is_sent_within mid to) g.more) (filter_none (is_sent_within mid to) old early)
+    ∙ filter_same (is_sent_within mid to) (is_sent_within from to) g.more late in
+    ap (λ h. h ++ filter (is_sent_within mid to) (upto plan l to)) (filter_same (is_sent_within from mid) (is_sent_within from to) old same)
+    ∙ ap (λ h. filter (is_sent_within from to) old ++ h) second
+    ∙ sym (ap (filter (is_sent_within from to)) g.all ∙ filter-append (is_sent_within from to) old g.more)
+
+filter_every : (p : Entry → Bool) (xs : List Entry) → AllByRecursion (λ (e : Entry). p e ≡ true) xs → filter p xs ≡ xs
+filter_every p [] h = refl
+filter_every p (e ∷ xs) h = rw h.0 (ap (λ l. e ∷ l) (filter_every p xs h.1))
+
+pub histories_are_whole : HistoriesAreWhole
+histories_are_whole plan l slots =
+    filter_every (is_sent_within 0 slots) (upto plan l slots) (all_weaker (λ (e : Entry). e.slot < slots) (λ (e : Entry). is_sent_within 0 slots e ≡ true) (λ e h. within_yes 0 slots e (omega arith) h) (upto plan l slots) (sent_before plan l slots))
+
+-- ---- What arrives
+
+module _ (plan : PlanRec) (l slot delay : ℕ) where
+  abbrev Arrives : List Entry → List Entry
+  Arrives history = arriving slot delay history
+
+  -- of what was sent too late to arrive in the slot, nothing does
+  late_arrives : (sent : Slot) (xs : List Entry) → slot < sent + delay → AllFrom sent xs → Arrives xs ≡ []
+  late_arrives sent xs late h =
+      filter_none (λ (e : Entry). eqb (e.slot + delay) slot) xs (all_weaker (λ (e : Entry). sent ≤ e.slot) (λ (e : Entry). eqb (e.slot + delay) slot ≡ false)
+      (λ e h. ne_eqb (e.slot + delay) slot (λ same. omega (arith, same, h, late))) xs h)
+
+  -- so a longer history tells no more of it
+  pub longer_arrives : (sent to : Slot) → sent ≤ to → slot < sent + delay → Arrives (upto plan l to) ≡ Arrives (upto plan l sent)
+  longer_arrives sent to on late =
+      let g = grown plan l sent (to - sent) to (omega (arith, on)) in
+      ap Arrives g.all
+      ∙ filter-append (λ (e : Entry). eqb (e.slot + delay) slot) (upto plan l sent) g.more
+      ∙ ap (λ h. Arrives (upto plan l sent) ++ h) (late_arrives sent g.more late g.from)
+      ∙ append-nil (Arrives (upto plan l sent))
+
+pub seen_arrives : SeenArrives
+seen_arrives plan l from seen slot least known ahead =
+    let delay = delay_of plan l in
+    -- all that was sent before this slot has arrived by now, and nothing that was sent later
+    let last = suc slot - delay in
+    filter_through (λ (e : Entry). eqb (e.slot + delay) slot) (is_sent_within from seen)
+    (λ e h. let is = eqb-true (e.slot + delay) slot h in within_yes from seen e (omega (arith, is, known)) (omega (arith, is, ahead)))
+    (upto plan l seen)
+    ∙ longer_arrives plan l slot delay last seen (omega (arith, ahead)) (omega arith)
+    ∙ sym (longer_arrives plan l slot delay last slot (omega (arith, least)) (omega arith))
+
+-- ---- One slot
+
+-- what a directed link carries in a slot is what is put after its history there
+pub carried_in : (plan : PlanRec) (l slot : ℕ) → history plan l slot (suc slot) ≡ new_in plan l slot
+carried_in plan l slot =
+    let test = is_sent_within slot (suc slot) in
+    let early = all_weaker (λ (e : Entry). e.slot < slot) (λ (e : Entry). test e ≡ false) (λ e h. within_early slot (suc slot) e h) (upto plan l slot) (sent_before plan l slot) in
+    let all = all_weaker (λ (e : Entry). e.slot ≡ slot) (λ (e : Entry). test e ≡ true)
+    (λ e h. within_yes slot (suc slot) e (omega (arith, h)) (omega (arith, h))) (new_in plan l slot) (new_are_in plan l slot) in
+    ap (filter test) (goes_on plan l slot)
+    ∙ filter-append test (upto plan l slot) (new_in plan l slot)
+    ∙ ap (λ h. h ++ filter test (new_in plan l slot)) (filter_none test (upto plan l slot) early)
+    ∙ filter_every test (new_in plan l slot) all
+
+token_count : (slot : ℕ) (token : Option Token) → length (token_entries slot token) ≤ 1
+token_count slot None = omega arith
+token_count slot (Some t) = omega arith
+
+credit_count : (slot : ℕ) (credit : Bool) → length (credit_entries slot credit) ≤ 1
+credit_count slot false = omega arith
+credit_count slot true = omega arith
+
+added_count : (slot : ℕ) (steps : List Stepped) (d : Option Direction) → length (added slot steps d) ≤ 2
+added_count slot steps None = omega arith
+added_count slot steps (Some d) =
+    let emitted = emitted_by steps d.from in
+    let token = slice_index_or emitted.tokens d.from_end None in
+    let credit = slice_index_or emitted.credits d.from_end false in
+    omega (arith, length-append (token_entries slot token) (credit_entries slot credit), token_count slot token, credit_count slot credit)
+
+pub slots_carry_few : SlotsCarryFew
+slots_carry_few plan l slot =
+    subst (CarriesFew slot) (sym (carried_in plan l slot)) (record {
+      few = added_count slot (steps_of plan slot (serial plan slot)) (slice_get (directions plan.links) l);
+      in_slot = new_are_in plan l slot;
+    })
