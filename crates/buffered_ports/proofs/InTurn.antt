@@ -226,6 +226,24 @@ next_on slot clocks levels high old now first out rest differs p known below is 
           (λ k from to. off_is_idle slot clocks before k (port_at now k) (get_or levels k 0) (sym (going.on k (omega (arith, to, below)) from) ∙ least k to)) (going.reached before its);
     }
 
+-- ---- Where no port has an edge
+
+-- what is there is what the edges leave, and nothing happens
+pub record NoneEdged (slot : ℕ) (clocks : List ClockRec) (before levels : List ℕ) (ports : List PortRec) (events : List Event) : Type 0 where
+  pub ports_stay : ports ≡ (edges_from slot clocks before 0 ports levels).ports
+  pub nothing : events ≡ events ++ map (in_slot slot) (edges_from slot clocks before 0 ports levels).happened
+
+pub none_edged : (slot : ℕ) (clocks : List ClockRec) (before levels : List ℕ) (ports : List PortRec) (events : List Event) → length ports ≡ 29 → length levels ≡ 29
+    → ((p : ℕ) (outside : ℕ) → p < 29 → edge_in_slot slot clocks before p (port_at ports p) outside ≡ unchanged (port_at ports p)) → NoneEdged slot clocks before levels ports events
+none_edged slot clocks before levels ports events count known idle =
+    let done : Reached slot clocks before levels ports ports events events 29 =
+    reached_to slot clocks before levels ports events ports events 0 29 (omega arith) (omega (arith, count)) (omega (arith, known)) (λ k above below. idle k (get_or levels k 0) below) (reached_none slot clocks before levels ports events)
+    in
+    record {
+      ports_stay = all_ports slot clocks before levels ports events ports events 29 (omega (arith, count)) done;
+      nothing = all_events slot clocks before levels ports events ports events 29 (omega (arith, count)) done;
+    }
+
 -- where the mask is empty, all edges were done
 pub all_reached : (slot : ℕ) (clocks : List ClockRec) (before levels : List ℕ) (high : ℕ) (old now : List PortRec) (first out : Emitted) (rest : ℕ) (differs : Bool) → length levels ≡ 29 → HighAre high old before → rest ≡ 0 → Going slot clocks levels high old now first out rest differs → Reached slot clocks before levels old now first.events out.events 29
 all_reached slot clocks before levels high old now first out rest differs known its none going =

@@ -1,11 +1,11 @@
 //! The edges of all ports in a slot.
 ghost use Rattle.std.specs.Prelude.{ℕ, ◌≡◌, ◌≢◌, ◌+◌, ◌<◌, ◌≤◌, ◌++◌, ◌^◌, ◌==◌, if◌then◌else◌, Bool, false, true, List, length, map, slice_index_or, slice_set};
-ghost use Rattle.xs_base.specs.Numbers.{Word, PortNumber};
+ghost use Rattle.xs_base.specs.Numbers.{Slot, Word, PortNumber};
 ghost use Rattle.xs_base.specs.Ids.{port_width};
 ghost use Rattle.xs_base.specs.declared.numbers.TheConstants.{PORTS, EVENT_ROOM};
 ghost use Rattle.xs_model.specs.declared.clock.Clock.TheVariants.{Reference};
 ghost use Rattle.xs_model.specs.Masks.{in_mask};
-ghost use Rattle.xs_model.specs.Record.{ClockRec};
+ghost use Rattle.xs_model.specs.Record.{ClockRec, PortRec};
 ghost use Rattle.xs_model.specs.Outside.{in_slot, LevelsFit};
 ghost use Rattle.xs_model.specs.Time.{edge_at};
 ghost use Rattle.xs_model.specs.Ports.{level_of, levels_of, is_high, at_edge, rises, falls, unchanged, edge_in_slot, edges_from, pin_happens};
@@ -78,23 +78,23 @@ impl Ports {
         ensures room { length out.new.events ≤ length out.old.events + PORTS }
         ensures count { length self.new ≡ PORTS }
     {
-        if self.has_no_edge(slot) {
+        if self.are_off() {
             return false;
         }
         self.all_edges(clocks, slot, &pins.level, high, out)
     }
 
-    // Whether it is plain that no port has an edge in a slot: none is on, or the slot is odd.
+    // Whether no port is on, so that none has an edge in any slot.
     #[inline]
-    fn has_no_edge(&self, slot: u32) -> bool
-        ensures none { result ≡ true → (clocks : List ClockRec) (before : List Word) (p : PortNumber) (outside : Word) → p < PORTS →
+    fn are_off(&self) -> bool
+        ensures none { result ≡ true → (slot : Slot) (clocks : List ClockRec) (before : List Word) (p : PortNumber) (outside : Word) → p < PORTS →
             edge_in_slot slot clocks before p (port_at self.now p) outside ≡ unchanged (port_at self.now p) }
         ensures count { length self.now ≡ PORTS }
     {
-        self.on == 0 || slot % 2 == 1
+        self.on == 0
     }
 
-    // It stands apart, so that slots with no edge are quick.
+    // It stands apart, so that slots of a node with no port on are quick.
     #[inline(never)]
     fn all_edges(
         &mut self,
@@ -113,10 +113,13 @@ impl Ports {
         ensures room { length out.new.events ≤ length out.old.events + PORTS }
         ensures count { length self.new ≡ PORTS }
     {
-        let reference = clocks.edge(Clock::Reference, slot);
-        let mut differs = false;
         // The ports that are on and had no edge yet.
         let mut rest = self.ports_on();
+        if has_no_edge(slot) {
+            return false;
+        }
+        let reference = clocks.edge(Clock::Reference, slot);
+        let mut differs = false;
         while rest != 0 {
             let p = lowest(rest);
             let changed = self.edge_in_slot(p, clocks, reference, slot, levels, high, out);
@@ -298,6 +301,15 @@ impl Ports {
             Some(strobe) => has_bit(high, strobe),
         }
     }
+}
+
+// Whether a slot is odd, so that no clock has an edge in it.
+#[inline]
+fn has_no_edge(slot: u32) -> bool
+    ensures { result ≡ true → (clocks : List ClockRec) (before : List Word) (p : PortNumber) (port : PortRec) (outside : Word) →
+        edge_in_slot slot clocks before p port outside ≡ unchanged port }
+{
+    slot % 2 == 1
 }
 
 // Whether one or the other.

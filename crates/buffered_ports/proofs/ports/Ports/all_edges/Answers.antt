@@ -5,8 +5,17 @@ use Rattle.xs_model.specs.Time.{edge_at}
 use Rattle.xs_model.specs.Record.{PortRec}
 use Rattle.buffered_ports.specs.Asks.{port_at}
 use Rattle.buffered_ports.specs.Keeps.{HighIs}
-use Rattle.buffered_ports.proofs.InTurn.{Reached, reached_none, all_ports, all_events, one_edge, IsNextOn, next_on, not_passed, mask_left, none_below, all_reached, level_fits, serves_as_itself, still_serve}
+use Rattle.buffered_ports.proofs.InTurn.{none_edged, Reached, reached_none, all_ports, all_events, one_edge, IsNextOn, next_on, not_passed, mask_left, none_below, all_reached, level_fits, serves_as_itself, still_serve}
 use Rattle.buffered_ports.proofs.ports.Ports.all_edges.Goals as goal
+
+pub returns-then-has_no_edge-clause-ports : goal.returns-then-has_no_edge-clause-ports
+returns-then-has_no_edge-clause-ports c before high =
+    (none_edged c.args.slot c.args.clocks.now before c.args.levels.now c.args.self.now c.args.out.now.events c.ports_on-rest.ensures.count (omega (arith, c.told-levels)) (λ p outside within. c.has_no_edge.ensures c.if-has_no_edge.true c.args.clocks.now before p (port_at c.args.self.now p) outside)).ports_stay
+
+pub returns-then-has_no_edge-clause-events : goal.returns-then-has_no_edge-clause-events
+returns-then-has_no_edge-clause-events c before high =
+    ap (λ (events : List Event). let out : Emitted = record c.args.out.now { events = events } in out)
+    (none_edged c.args.slot c.args.clocks.now before c.args.levels.now c.args.self.now c.args.out.now.events c.ports_on-rest.ensures.count (omega (arith, c.told-levels)) (λ p outside within. c.has_no_edge.ensures c.if-has_no_edge.true c.args.clocks.now before p (port_at c.args.self.now p) outside)).nothing
 
 pub loop-rest-init : goal.loop-rest-init
 loop-rest-init c = record {
