@@ -36,12 +36,12 @@ pub no_form : (words : List (List ℕ)) (left : Option (List ℕ)) → None ≡ 
 no_form words None e = ([], tt, answer-of words [] None e)
 no_form words (Some input) e = (input, refl, answer-of words input None e)
 
--- words of a form, and the bytes that it takes
-pub of_form : (words : List (List ℕ)) (left : Option (List ℕ)) (bytes : List ℕ) (form : Form) (a : Answer)
-    → Some form ≡ form_of_words words → IfSome left (λ input. bytes ≡ take (taken_by (Some form) input) input) → a ≡ answer_by form bytes → IsAnswer a words left
-of_form words None bytes form a e front given = (bytes, tt, given ∙ answer-of words bytes (Some form) e)
-of_form words (Some input) bytes form a e front given =
-    (input, refl, given ∙ (ap (answer_by form) front ∙ (answer_by-taken form input ∙ answer-of words input (Some form) e)))
+-- words of a form, and the bytes that it takes, which it answers as they are lent
+pub of_form : (words : List (List ℕ)) (left : Option (List ℕ)) (bytes lent : List ℕ) (form : Form) (a : Answer)
+    → Some form ≡ form_of_words words → IfSome left (λ input. bytes ≡ take (taken_by (Some form) input) input) → a ≡ answer_by form lent → lent ≡ bytes → IsAnswer a words left
+of_form words None bytes lent form a e front given same = (bytes, tt, given ∙ (ap (answer_by form) same ∙ answer-of words bytes (Some form) e))
+of_form words (Some input) bytes lent form a e front given same =
+    (input, refl, given ∙ (ap (answer_by form) (same ∙ front) ∙ (answer_by-taken form input ∙ answer-of words input (Some form) e)))
 
 -- the status of an answer, or the text was not written whole
 abbrev pub Ends : Status → Status → Type 0

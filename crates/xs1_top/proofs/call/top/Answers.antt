@@ -1,6 +1,5 @@
-use Rattle.std.proofs.Common.{◌≡◌, ◌∙◌, ap}
 use Rattle.answer_model.specs.declared.Status.TheVariants as status
-use Rattle.answer_model.specs.Top.{answer_by, usage_answer}
+use Rattle.answer_model.specs.Top.{usage_answer}
 use Rattle.xs1_top.proofs.Calls.{no_form, of_form, Answers-given, AnswersInPart-given, came, comes, comes_written, TookInput-form}
 use Rattle.xs1_top.proofs.call.top.Goals as goal
 
@@ -30,15 +29,11 @@ returns-in_default-clause-done_given g c = λ _ _ calm.
 
 pub returns-in-Ok-answer_by-clause-answered : goal.returns-in-Ok-answer_by-clause-answered
 returns-in-Ok-answer_by-clause-answered g c = λ whole.
-    let given : c.in-Ok-answer_by.answer ≡ answer_by c.in-Some.form c.in-Ok.input.items =
-    c.in-Ok-answer_by.ensures ∙ ap (answer_by c.in-Some.form) c.deref.ensures.value in
-    Answers-given c.in-Ok-answer_by.answer _ _ _ _ _ _ (of_form _ _ c.in-Ok.input.items c.in-Some.form c.in-Ok-answer_by.answer c.in-Some.ensures.value c.in-Ok.ensures.front given) c.bytes.ensures.value c.finish-in-Ok-answer_by.ensures.status (c.finish-in-Ok-answer_by.ensures.whole whole) whole
+    Answers-given c.in-Ok-answer_by.answer _ _ _ _ _ _ (of_form _ _ c.in-Ok.input.items c.deref.result.now c.in-Some.form c.in-Ok-answer_by.answer c.in-Some.ensures.value c.in-Ok.ensures.front c.in-Ok-answer_by.ensures c.deref.ensures.value) c.bytes.ensures.value c.finish-in-Ok-answer_by.ensures.status (c.finish-in-Ok-answer_by.ensures.whole whole) whole
 
 pub returns-in-Ok-answer_by-clause-part : goal.returns-in-Ok-answer_by-clause-part
 returns-in-Ok-answer_by-clause-part g c = λ ended.
-    let given : c.in-Ok-answer_by.answer ≡ answer_by c.in-Some.form c.in-Ok.input.items =
-    c.in-Ok-answer_by.ensures ∙ ap (answer_by c.in-Some.form) c.deref.ensures.value in
-    AnswersInPart-given c.in-Ok-answer_by.answer _ _ _ _ _ (of_form _ _ c.in-Ok.input.items c.in-Some.form c.in-Ok-answer_by.answer c.in-Some.ensures.value c.in-Ok.ensures.front given) c.bytes.ensures.value (c.finish-in-Ok-answer_by.ensures.part ended)
+    AnswersInPart-given c.in-Ok-answer_by.answer _ _ _ _ _ (of_form _ _ c.in-Ok.input.items c.deref.result.now c.in-Some.form c.in-Ok-answer_by.answer c.in-Some.ensures.value c.in-Ok.ensures.front c.in-Ok-answer_by.ensures c.deref.ensures.value) c.bytes.ensures.value (c.finish-in-Ok-answer_by.ensures.part ended)
 
 pub returns-in-Ok-answer_by-clause-left : goal.returns-in-Ok-answer_by-clause-left
 returns-in-Ok-answer_by-clause-left g c = λ _.
@@ -46,48 +41,32 @@ returns-in-Ok-answer_by-clause-left g c = λ _.
 
 pub returns-in-Ok-answer_by-clause-system_fault : goal.returns-in-Ok-answer_by-clause-system_fault
 returns-in-Ok-answer_by-clause-system_fault g c = λ ended.
-    let given : c.in-Ok-answer_by.answer ≡ answer_by c.in-Some.form c.in-Ok.input.items =
-    c.in-Ok-answer_by.ensures ∙ ap (answer_by c.in-Some.form) c.deref.ensures.value in
-    came c.in-Ok-answer_by.answer _ _ _ status.SystemFault (of_form _ _ c.in-Ok.input.items c.in-Some.form c.in-Ok-answer_by.answer c.in-Some.ensures.value c.in-Ok.ensures.front given) c.finish-in-Ok-answer_by.ensures.status tt ended
+    came c.in-Ok-answer_by.answer _ _ _ status.SystemFault (of_form _ _ c.in-Ok.input.items c.deref.result.now c.in-Some.form c.in-Ok-answer_by.answer c.in-Some.ensures.value c.in-Ok.ensures.front c.in-Ok-answer_by.ensures c.deref.ensures.value) c.finish-in-Ok-answer_by.ensures.status tt ended
 
 pub returns-in-Ok-answer_by-clause-system_fault_given : goal.returns-in-Ok-answer_by-clause-system_fault_given
 returns-in-Ok-answer_by-clause-system_fault_given g c = λ whole.
-    let given : c.in-Ok-answer_by.answer ≡ answer_by c.in-Some.form c.in-Ok.input.items =
-    c.in-Ok-answer_by.ensures ∙ ap (answer_by c.in-Some.form) c.deref.ensures.value in
-    comes c.in-Ok-answer_by.answer _ _ _ status.SystemFault (of_form _ _ c.in-Ok.input.items c.in-Some.form c.in-Ok-answer_by.answer c.in-Some.ensures.value c.in-Ok.ensures.front given) c.finish-in-Ok-answer_by.ensures.status whole
+    comes c.in-Ok-answer_by.answer _ _ _ status.SystemFault (of_form _ _ c.in-Ok.input.items c.deref.result.now c.in-Some.form c.in-Ok-answer_by.answer c.in-Some.ensures.value c.in-Ok.ensures.front c.in-Ok-answer_by.ensures c.deref.ensures.value) c.finish-in-Ok-answer_by.ensures.status whole
 
 pub returns-in-Ok-answer_by-clause-source_fault : goal.returns-in-Ok-answer_by-clause-source_fault
 returns-in-Ok-answer_by-clause-source_fault g c = λ ended.
-    let given : c.in-Ok-answer_by.answer ≡ answer_by c.in-Some.form c.in-Ok.input.items =
-    c.in-Ok-answer_by.ensures ∙ ap (answer_by c.in-Some.form) c.deref.ensures.value in
-    came c.in-Ok-answer_by.answer _ _ _ status.SourceFault (of_form _ _ c.in-Ok.input.items c.in-Some.form c.in-Ok-answer_by.answer c.in-Some.ensures.value c.in-Ok.ensures.front given) c.finish-in-Ok-answer_by.ensures.status tt ended
+    came c.in-Ok-answer_by.answer _ _ _ status.SourceFault (of_form _ _ c.in-Ok.input.items c.deref.result.now c.in-Some.form c.in-Ok-answer_by.answer c.in-Some.ensures.value c.in-Ok.ensures.front c.in-Ok-answer_by.ensures c.deref.ensures.value) c.finish-in-Ok-answer_by.ensures.status tt ended
 
 pub returns-in-Ok-answer_by-clause-source_fault_given : goal.returns-in-Ok-answer_by-clause-source_fault_given
 returns-in-Ok-answer_by-clause-source_fault_given g c = λ whole.
-    let given : c.in-Ok-answer_by.answer ≡ answer_by c.in-Some.form c.in-Ok.input.items =
-    c.in-Ok-answer_by.ensures ∙ ap (answer_by c.in-Some.form) c.deref.ensures.value in
-    comes c.in-Ok-answer_by.answer _ _ _ status.SourceFault (of_form _ _ c.in-Ok.input.items c.in-Some.form c.in-Ok-answer_by.answer c.in-Some.ensures.value c.in-Ok.ensures.front given) c.finish-in-Ok-answer_by.ensures.status whole
+    comes c.in-Ok-answer_by.answer _ _ _ status.SourceFault (of_form _ _ c.in-Ok.input.items c.deref.result.now c.in-Some.form c.in-Ok-answer_by.answer c.in-Some.ensures.value c.in-Ok.ensures.front c.in-Ok-answer_by.ensures c.deref.ensures.value) c.finish-in-Ok-answer_by.ensures.status whole
 
 pub returns-in-Ok-answer_by-clause-script_fault : goal.returns-in-Ok-answer_by-clause-script_fault
 returns-in-Ok-answer_by-clause-script_fault g c = λ ended.
-    let given : c.in-Ok-answer_by.answer ≡ answer_by c.in-Some.form c.in-Ok.input.items =
-    c.in-Ok-answer_by.ensures ∙ ap (answer_by c.in-Some.form) c.deref.ensures.value in
-    came c.in-Ok-answer_by.answer _ _ _ status.ScriptFault (of_form _ _ c.in-Ok.input.items c.in-Some.form c.in-Ok-answer_by.answer c.in-Some.ensures.value c.in-Ok.ensures.front given) c.finish-in-Ok-answer_by.ensures.status tt ended
+    came c.in-Ok-answer_by.answer _ _ _ status.ScriptFault (of_form _ _ c.in-Ok.input.items c.deref.result.now c.in-Some.form c.in-Ok-answer_by.answer c.in-Some.ensures.value c.in-Ok.ensures.front c.in-Ok-answer_by.ensures c.deref.ensures.value) c.finish-in-Ok-answer_by.ensures.status tt ended
 
 pub returns-in-Ok-answer_by-clause-script_fault_given : goal.returns-in-Ok-answer_by-clause-script_fault_given
 returns-in-Ok-answer_by-clause-script_fault_given g c = λ whole.
-    let given : c.in-Ok-answer_by.answer ≡ answer_by c.in-Some.form c.in-Ok.input.items =
-    c.in-Ok-answer_by.ensures ∙ ap (answer_by c.in-Some.form) c.deref.ensures.value in
-    comes c.in-Ok-answer_by.answer _ _ _ status.ScriptFault (of_form _ _ c.in-Ok.input.items c.in-Some.form c.in-Ok-answer_by.answer c.in-Some.ensures.value c.in-Ok.ensures.front given) c.finish-in-Ok-answer_by.ensures.status whole
+    comes c.in-Ok-answer_by.answer _ _ _ status.ScriptFault (of_form _ _ c.in-Ok.input.items c.deref.result.now c.in-Some.form c.in-Ok-answer_by.answer c.in-Some.ensures.value c.in-Ok.ensures.front c.in-Ok-answer_by.ensures c.deref.ensures.value) c.finish-in-Ok-answer_by.ensures.status whole
 
 pub returns-in-Ok-answer_by-clause-done : goal.returns-in-Ok-answer_by-clause-done
 returns-in-Ok-answer_by-clause-done g c = λ ended.
-    let given : c.in-Ok-answer_by.answer ≡ answer_by c.in-Some.form c.in-Ok.input.items =
-    c.in-Ok-answer_by.ensures ∙ ap (answer_by c.in-Some.form) c.deref.ensures.value in
-    came c.in-Ok-answer_by.answer _ _ _ status.Done (of_form _ _ c.in-Ok.input.items c.in-Some.form c.in-Ok-answer_by.answer c.in-Some.ensures.value c.in-Ok.ensures.front given) c.finish-in-Ok-answer_by.ensures.status tt ended
+    came c.in-Ok-answer_by.answer _ _ _ status.Done (of_form _ _ c.in-Ok.input.items c.deref.result.now c.in-Some.form c.in-Ok-answer_by.answer c.in-Some.ensures.value c.in-Ok.ensures.front c.in-Ok-answer_by.ensures c.deref.ensures.value) c.finish-in-Ok-answer_by.ensures.status tt ended
 
 pub returns-in-Ok-answer_by-clause-done_given : goal.returns-in-Ok-answer_by-clause-done_given
 returns-in-Ok-answer_by-clause-done_given g c = λ _ _ calm.
-    let given : c.in-Ok-answer_by.answer ≡ answer_by c.in-Some.form c.in-Ok.input.items =
-    c.in-Ok-answer_by.ensures ∙ ap (answer_by c.in-Some.form) c.deref.ensures.value in
-    comes_written c.in-Ok-answer_by.answer _ _ _ status.Done (of_form _ _ c.in-Ok.input.items c.in-Some.form c.in-Ok-answer_by.answer c.in-Some.ensures.value c.in-Ok.ensures.front given) c.finish-in-Ok-answer_by.ensures.status (λ failed. calm (c.finish-in-Ok-answer_by.ensures.fault failed))
+    comes_written c.in-Ok-answer_by.answer _ _ _ status.Done (of_form _ _ c.in-Ok.input.items c.deref.result.now c.in-Some.form c.in-Ok-answer_by.answer c.in-Some.ensures.value c.in-Ok.ensures.front c.in-Ok-answer_by.ensures c.deref.ensures.value) c.finish-in-Ok-answer_by.ensures.status (λ failed. calm (c.finish-in-Ok-answer_by.ensures.fault failed))
