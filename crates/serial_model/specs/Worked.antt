@@ -36,6 +36,7 @@ two_alone = record {
   nodes = plain_node 0 (Words (words.Ldc 3 5) ∷ Threads threads.Freet ∷ []) [] ∷ plain_node 1 [] [] ∷ [];
   links = [];
   script = [];
+  steps = [];
 }
 
 -- the same two with a link, by which nothing is sent
@@ -44,6 +45,7 @@ two_joined = record {
   nodes = two_alone.nodes;
   links = record { a = 1; a_end = 2; b = 0; b_end = 7; delay = 5; gap = 4 } ∷ [];
   script = [];
+  steps = [];
 }
 
 -- Node 0 issues in slots 0 and 4 and is done; node 1 traps in slot 0, and its thread halts where its trap led.
@@ -71,6 +73,7 @@ talking_pair = record {
   nodes = sending_node ∷ receiving_node ∷ [];
   links = record { a = 0; a_end = 0; b = 1; b_end = 0; delay = 5; gap = 4 } ∷ [];
   script = [];
+  steps = [];
 }
 
 abbrev pub token_sent : ℕ → Token → Entry
@@ -148,6 +151,7 @@ line_of_three = record {
   nodes = line_end ∷ line_middle ∷ line_other_end ∷ [];
   links = record { a = 0; a_end = 0; b = 1; b_end = 0; delay = 5; gap = 4 } ∷ record { a = 1; a_end = 1; b = 2; b_end = 0; delay = 5; gap = 4 } ∷ [];
   script = [];
+  steps = [];
 }
 
 -- The node between passes the packet on from slot 27 to slot 39. Its own waits from slot 29 on and goes out from slot 43 to slot
@@ -170,6 +174,7 @@ driven_pair = record {
   nodes = plain_node 3 [] [] ∷ plain_node 7 [] [] ∷ [];
   links = [];
   script = record { slot = 5; node = 7; port = 16; value = 9 } ∷ [];
+  steps = [];
 }
 
 -- Port 16 shows the value from the line's own slot on, at the second node alone.

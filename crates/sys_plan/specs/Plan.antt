@@ -1,4 +1,4 @@
--- The plan of a system: its nodes, the links between them, and the script of its pins.
+-- The plan of a system: its nodes, the links between them, the script of its pins, and the steps of its schedule.
 use Rattle.std.specs.Prelude.{ℕ, ◌≡◌, ◌≢◌, ◌+◌, ◌<◌, ◌≤◌, Bool, ◌&&◌, ◌==◌, if◌then◌else◌, Option, Some, None, IsSome, List, [], ◌∷◌, length, map, slice_index}
 use Rattle.std.specs.List.{AllByRecursion}
 use Rattle.std.specs.Int.{bit_at}
@@ -6,13 +6,16 @@ use Rattle.pin_scripts.specs.declared.line.PinLine.{PinLine}
 use Rattle.pin_scripts.specs.Script.{IsScript, IsOfNodes}
 use Rattle.sys_plan.specs.declared.NodePlan.{NodePlan}
 use Rattle.sys_plan.specs.declared.LinkPlan.{LinkPlan}
+use Rattle.sys_plan.specs.declared.Step.{Step}
+use Rattle.sys_plan.specs.declared.Step.TheVariants.{Take, Run, Send}
 
--- nodes by ascending number, and links and script in the order of their lines; a link names its nodes by position, and the
--- script by number
+-- nodes by ascending number, and links, script and steps in the order of their lines; a link and a step name their nodes by position, and
+-- the script by number
 pub record PlanRec : Type 0 where
   pub nodes : List NodePlan
   pub links : List LinkPlan
   pub script : List PinLine
+  pub steps : List Step
 
 -- one direction of a link: from a link end of a node to one of another, with the delay and the gap in slots
 pub record Direction : Type 0 where
@@ -110,6 +113,12 @@ abbrev pub AllWaysLead : PlanRec → ℕ → List NodePlan → Type 0
 AllWaysLead plan n [] = Unit {0}
 AllWaysLead plan n (node ∷ nodes) = WaysLead plan n node.ways × AllWaysLead plan (n + 1) nodes
 
+-- a step of a schedule names a node that is there, and a link end of it that has a link
+abbrev pub NamesWhatIsThere : PlanRec → Step → Type 0
+NamesWhatIsThere plan (Take node end) = (node < length plan.nodes) × IsSome (incoming plan node end)
+NamesWhatIsThere plan (Run node count) = node < length plan.nodes
+NamesWhatIsThere plan (Send node end) = (node < length plan.nodes) × IsSome (outgoing plan node end)
+
 -- the numbers of the nodes
 abbrev pub node_numbers : PlanRec → List ℕ
 node_numbers plan = map (λ (node : NodePlan). node.number) plan.nodes
@@ -128,3 +137,4 @@ pub record IsPlan (plan : PlanRec) : Type 0 where
   pub script : IsScript plan.script
   -- the script drives pins of nodes that are there
   pub script_nodes : IsOfNodes (node_numbers plan) plan.script
+  pub steps : AllByRecursion (NamesWhatIsThere plan) plan.steps

@@ -13,10 +13,10 @@ second_link_plan = record { a = 0; a_end = 0; b = 2; b_end = 1; delay = 9; gap =
 
 -- links alone matter here
 abbrev pub one_link : PlanRec
-one_link = record { nodes = []; links = first_link_plan ∷ []; script = [] }
+one_link = record { nodes = []; links = first_link_plan ∷ []; script = []; steps = [] }
 
 abbrev pub two_links : PlanRec
-two_links = record { nodes = []; links = first_link_plan ∷ second_link_plan ∷ []; script = [] }
+two_links = record { nodes = []; links = first_link_plan ∷ second_link_plan ∷ []; script = []; steps = [] }
 
 pub record WorkedDirections : Type 0 where
   -- a link's first end is where directed link 0 leaves, and where directed link 1 comes to

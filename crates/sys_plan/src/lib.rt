@@ -1,5 +1,5 @@
-//! The plan of a system: its nodes, the links between them, and the script of its pins. See docs/SYSTEM_TEXT.md and
-//! docs/PINS.md.
+//! The plan of a system: its nodes, the links between them, the script of its pins, and the steps of its schedule. See
+//! docs/SYSTEM_TEXT.md, docs/PINS.md and docs/LOOKAHEAD.md.
 #![tactic(auto)]
 
 mod system_plan;
@@ -32,4 +32,16 @@ pub struct LinkPlan {
     pub b_end: u8,
     pub delay: u32,
     pub gap: u32,
+}
+
+/// A step of a schedule, in which nodes run one at a time and hand on by hand what their links carry. A node is named by position.
+/// See docs/LOOKAHEAD.md.
+#[derive(Clone, Copy)]
+pub enum Step {
+    /// The node reads all that is published of the link that comes to a link end, 0 to 7.
+    Take { node: u8, end: u8 },
+    /// The node runs so many slots, or fewer where its horizon stops it.
+    Run { node: u8, count: u32 },
+    /// The node publishes what it has sent by a link end, 0 to 7, in all slots that it has run.
+    Send { node: u8, end: u8 },
 }

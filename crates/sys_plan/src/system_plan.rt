@@ -2,12 +2,12 @@
 ghost use Rattle.std.specs.Prelude.{◌≡◌, ◌<◌, ◌≤◌, ◌+◌, ◌*◌, ℕ, length, slice_index, None, IfSome, IsSome};
 ghost use Rattle.sys_plan.specs.Plan.{PlanRec, IsPlan, outgoing, incoming, directions, first_link, leaves_by, comes_to, delay_of, gap_of, gap_by, gaps_of};
 
-use crate::{LinkPlan, NodePlan};
+use crate::{LinkPlan, NodePlan, Step};
 use pin_scripts::Script;
 use std::marker::Model;
 
-/// The plan of a system: its nodes by ascending number, its links, and the script of its pins. The record `IsPlan` says what every plan
-/// keeps. See docs/SYSTEM_TEXT.md.
+/// The plan of a system: its nodes by ascending number, its links, the script of its pins, and the steps of its schedule. The record
+/// `IsPlan` says what every plan keeps. See docs/SYSTEM_TEXT.md.
 ///
 /// A directed link is one direction of a link. Number 2k leads from the first to the second end of link k, counted
 /// from 0, and 2k + 1 leads back. See docs/LINKS.md.
@@ -16,6 +16,7 @@ pub struct Plan {
     nodes: Vec<NodePlan>,
     links: Vec<LinkPlan>,
     script: Script,
+    steps: Vec<Step>,
 }
 
 impl Model for Plan {
@@ -23,21 +24,22 @@ impl Model for Plan {
 
     ghost Value = { PlanRec };
 
-    ghost view = { λ p. record { nodes = p.nodes.items; links = p.links.items; script = p.script } };
+    ghost view = { λ p. record { nodes = p.nodes.items; links = p.links.items; script = p.script; steps = p.steps.items } };
 
-    ghost invariant = { λ p. IsPlan (record { nodes = p.nodes.items; links = p.links.items; script = p.script }) };
+    ghost invariant = { λ p. IsPlan (record { nodes = p.nodes.items; links = p.links.items; script = p.script; steps = p.steps.items }) };
 }
 
 impl Plan {
-    /// The plan of these nodes and links and of a script of their pins. It takes no memory.
-    pub fn of(nodes: Vec<NodePlan>, links: Vec<LinkPlan>, script: Script) -> Plan
-        requires parts { IsPlan (record { nodes = nodes.items; links = links.items; script = script }) }
-        ensures value { result ≡ record { nodes = nodes.items; links = links.items; script = script } }
+    /// The plan of these nodes and links, of a script of their pins, and of the steps of a schedule. It takes no memory.
+    pub fn of(nodes: Vec<NodePlan>, links: Vec<LinkPlan>, script: Script, steps: Vec<Step>) -> Plan
+        requires parts { IsPlan (record { nodes = nodes.items; links = links.items; script = script; steps = steps.items }) }
+        ensures value { result ≡ record { nodes = nodes.items; links = links.items; script = script; steps = steps.items } }
     {
         Plan {
             nodes,
             links,
             script,
+            steps,
         }
     }
 
@@ -63,6 +65,14 @@ impl Plan {
         ensures plan { IsPlan self.now }
     {
         &self.script
+    }
+
+    /// The steps of the schedule, in order. They name nodes by position in `nodes`.
+    pub fn steps(&self) -> &[Step]
+        ensures value { result.now ≡ self.now.steps }
+        ensures plan { IsPlan self.now }
+    {
+        self.steps.as_slice()
     }
 
     /// The number of the directed link that leaves by a link end of the node at a position. `None` comes exactly

@@ -41,7 +41,7 @@ fn no_link_end_from_8_on_has_a_link(rt: HostRuntime) -> Result<(), Fail> {
         delay: 5,
         gap: 4,
     })?;
-    let plan = Plan::of(nodes, links, Script::empty());
+    let plan = Plan::of(nodes, links, Script::empty(), Vec::new(rt.alloc()));
     assert_eq!(rt; plan.outgoing(0, 7), Some(0));
     assert_eq!(rt; plan.incoming(1, 0), Some(0));
     for end in 8..=255u8 {

@@ -98,7 +98,7 @@ script_of given = pins_of (map (λ (node : GivenNode). node.number) given.nodes)
 
 -- the plan with a script, or the refusal of the script
 abbrev pub plan_by : List NodePlan → List LinkPlan → PinsRead → System
-plan_by nodes links (pins.Script script) = Plan (record { nodes = nodes; links = links; script = script })
+plan_by nodes links (pins.Script script) = Plan (record { nodes = nodes; links = links; script = script; steps = [] })
 plan_by nodes links (pins.Fault line kind) = Pins line kind
 
 -- a source that is refused comes before the script

@@ -331,6 +331,7 @@ plan_of_3_and_7 = record {
       ∷ [];
   links = record { a = 1; a_end = 0; b = 0; b_end = 0; delay = 5; gap = 4 } ∷ [];
   script = [];
+  steps = [];
 }
 
 -- a line of three nodes whose numbers do not rise with their place in it; node 5 has two ways for bit 1
@@ -352,6 +353,7 @@ plan_of_three = record {
       ∷ record { a = 1; a_end = 4; b = 0; b_end = 0; delay = 6; gap = 5 }
       ∷ [];
   script = [];
+  steps = [];
 }
 
 -- two nodes with eight links between them, all of them for a bit at one and one for each of two bits at the other
@@ -368,6 +370,7 @@ plan_of_eight = record {
   links =
       map (λ end. record { a = 0; a_end = end; b = 1; b_end = end; delay = 5; gap = 4 }) (0 ∷ 1 ∷ 2 ∷ 3 ∷ 4 ∷ 5 ∷ 6 ∷ 7 ∷ []);
   script = [];
+  steps = [];
 }
 
 -- two nodes that no link joins, at the edges of their numbers
@@ -379,6 +382,7 @@ plan_of_0_and_99 = record {
       ∷ [];
   links = [];
   script = [];
+  steps = [];
 }
 
 pub record WorkedPlans : Type 0 where
@@ -388,7 +392,7 @@ pub record WorkedPlans : Type 0 where
   pub three : system_of line_of_three ≡ Plan plan_of_three
   pub eight : system_of eight_between ≡ Plan plan_of_eight
   pub edges : system_of (codes "xs1 1\nnode 99 id 0\nnode 0 id 65535\nsource 99\nend\nsource 0\nend\n") ≡ Plan plan_of_0_and_99
-  pub no_node : system_of (codes "xs1 1") ≡ Plan (record { nodes = []; links = []; script = [] })
+  pub no_node : system_of (codes "xs1 1") ≡ Plan (record { nodes = []; links = []; script = []; steps = [] })
 
 -- the longest input stands for what its lines say, and one byte more is too long, whatever the bytes
 pub record WorkedLength : Type 0 where

@@ -170,7 +170,7 @@ pub record IsScriptOf (nodes : List GivenNode) (script : List PinLine) : Type 0 
   pub named : IsOfNodes (map (λ (node : GivenNode). node.number) nodes) script
 
 kept_plan : (nodes : List GivenNode) (links : List LinkLine) (bits : List BitRec) (plans : List NodePlan) (script : List PinLine) → AreAccepted nodes links bits → PlansOf bits nodes plans →
-    IsScriptOf nodes script → IsPlan (record { nodes = plans; links = map (link_plan nodes) links; script = script })
+    IsScriptOf nodes script → IsPlan (record { nodes = plans; links = map (link_plan nodes) links; script = script; steps = [] })
 kept_plan nodes links bits plans script k p s = record {
   few_nodes = omega (arith, k.few_nodes, as_many bits nodes plans p);
   few_links = omega (arith, k.few_links, as_many_links nodes links);
@@ -181,14 +181,14 @@ kept_plan nodes links bits plans script k p s = record {
   places = places_kept nodes links k.links k.ends;
   script = s.lines;
   script_nodes = subst (λ numbers. IsOfNodes numbers script) (same_numbers bits nodes plans p) s.named;
-  ways = let plan : PlanRec = record { nodes = plans; links = map (link_plan nodes) links; script = script } in
+  ways = let plan : PlanRec = record { nodes = plans; links = map (link_plan nodes) links; script = script; steps = [] } in
       ways_kept plan bits (position_by_number nodes) (ways_lead plan nodes links bits refl k.bits) 0 nodes plans p (stand nodes k.order);
 }
 
 -- the plans of the nodes and the links of a frame that is accepted, and its script
 pub frame_plan : (given : Given) (nodes : List GivenNode) (links : List LinkLine) (plans : List NodePlan) (joined : List LinkPlan) (script : List PinLine) → IsAccepted given →
     nodes ≡ given.nodes → links ≡ given.links → node_plans given.bits given.sections given.nodes ≡ Ok plans → joined ≡ map (link_plan nodes) links → IsScriptOf given.nodes script →
-    IsPlan (record { nodes = plans; links = joined; script = script })
+    IsPlan (record { nodes = plans; links = joined; script = script; steps = [] })
 frame_plan given nodes links plans joined script k n l e j s =
     let same : map (link_plan given.nodes) given.links ≡ joined = sym (j ∙ (ap (λ ns. map (link_plan ns) links) n ∙ ap (map (link_plan given.nodes)) l)) in
-    subst (λ ls. IsPlan (record { nodes = plans; links = ls; script = script })) same (kept_plan given.nodes given.links given.bits plans script k (plans_of given.bits given.sections given.nodes plans e) s)
+    subst (λ ls. IsPlan (record { nodes = plans; links = ls; script = script; steps = [] })) same (kept_plan given.nodes given.links given.bits plans script k (plans_of given.bits given.sections given.nodes plans e) s)

@@ -60,5 +60,5 @@ fn plan_of_frame(alloc: Global, frame: &Frame) -> Result<Plan, SystemError>
     let links = link_plans(alloc, frame.nodes(), frame.links())?;
     let nodes = node_plans(alloc, frame)?;
     let script = script_of(alloc, frame)?;
-    Ok(Plan::of(nodes, links, script))
+    Ok(Plan::of(nodes, links, script, Vec::new(alloc)))
 }

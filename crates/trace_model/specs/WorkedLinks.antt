@@ -25,6 +25,7 @@ three_and_seven = record {
   nodes = plain_node 3 (Words words.Nop ∷ []) (1 ∷ 0 ∷ 0 ∷ 0 ∷ 2 ∷ []) ∷ plain_node 7 [] (3 ∷ []) ∷ [];
   links = record { a = 1; a_end = 2; b = 0; b_end = 6; delay = 5; gap = 4 } ∷ [];
   script = [];
+  steps = [];
 }
 
 -- node 0 sends one byte after the other to channel end 0 of node 1, from which none is taken
@@ -39,6 +40,7 @@ flooded_pair = record {
   nodes = flooding_node ∷ plain_node 1 (Resources (resources.Getr 0 2) ∷ Threads threads.Freet ∷ []) [] ∷ [];
   links = record { a = 0; a_end = 0; b = 1; b_end = 0; delay = 5; gap = 4 } ∷ [];
   script = [];
+  steps = [];
 }
 
 pub record WorkedLinks : Type 0 where
