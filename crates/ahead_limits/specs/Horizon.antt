@@ -1,5 +1,5 @@
 -- How far a node may run by what it has seen of the links that come to it.
-use Rattle.std.specs.Prelude.{◌≡◌, ◌≢◌, ◌+◌, ◌<◌, Bool, true, ◌&&◌, ◌==◌, nat_lt, if◌then◌else◌, Option, Some, None, List, [], ◌∷◌, replicate, slice_get}
+use Rattle.std.specs.Prelude.{◌≡◌, ◌≢◌, ◌+◌, ◌<◌, Bool, true, ◌&&◌, ◌==◌, nat_lt, if◌then◌else◌, Option, Some, None, List, [], ◌∷◌, replicate, slice_get, slice_index_or}
 use Rattle.std.specs.List.{list_all}
 use Rattle.xs_base.specs.Numbers.{Slot, EndNumber}
 use Rattle.xs_base.specs.declared.numbers.TheConstants.{LINK_ENDS}
@@ -12,6 +12,14 @@ pub record HorizonRec : Type 0 where
 
 abbrev pub no_links : List (Option Seen)
 no_links = replicate LINK_ENDS None
+
+-- what was seen at a link end, 0 where no link comes
+abbrev pub seen_by_end : Option Seen → Slot
+seen_by_end None = 0
+seen_by_end (Some s) = s.seen
+
+abbrev pub seen_at : HorizonRec → EndNumber → Slot
+seen_at h end = seen_by_end (slice_index_or h.ends end None)
 
 -- a link of which this much was seen
 abbrev pub seen_to : Slot → Option Seen → Option Seen

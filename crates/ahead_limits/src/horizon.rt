@@ -1,8 +1,8 @@
 //! `Horizon`, how far a node may run.
-ghost use Rattle.std.specs.Prelude.{IfSome, ◌↔◌, ◌≡◌, ◌+◌, ◌<◌, ◌≤◌, Some, None, IsNone, length, drop, slice_index_or, slice_set, true, false};
-ghost use Rattle.std.specs.List.{list_all};
+ghost use Rattle.std.specs.Prelude.{IfSome, ◌↔◌, true, ◌≡◌, ◌+◌, ◌<◌, ◌≤◌, Some, None, IsNone, length, drop, slice_index_or, slice_set};
 ghost use Rattle.xs_base.specs.declared.numbers.TheConstants.{LINK_ENDS};
-ghost use Rattle.ahead_limits.specs.Horizon.{no_links, seen_to, may_run, first_stop, lets_run, stops_at, horizon_at, IsBelowAll, NoneStopsBelow, StopsAt};
+ghost use Rattle.ahead_limits.specs.Horizon.{no_links, seen_to, seen_at, may_run, first_stop, stops_at, horizon_at, IsBelowAll, NoneStopsBelow, StopsAt};
+ghost use Rattle.ahead_limits.specs.Bound.{nearer, least_bound};
 
 use std::marker::Model;
 use xs_base::numbers::LINK_ENDS;
@@ -23,13 +23,22 @@ fn horizon_at(s: Seen) -> u64
     u64::from(s.seen) + u64::from(s.delay)
 }
 
-fn lets_run(clock: u32, s: Option<Seen>) -> bool
-    ensures { result ≡ lets_run clock s }
+// The lesser of a bound and the horizon at a link end.
+fn nearer(bound: u64, s: Option<Seen>) -> u64
+    ensures { result ≡ nearer bound s }
 {
     match s {
-        None => true,
-        Some(s) => u64::from(clock) < horizon_at(s),
+        None => bound,
+        Some(s) => bound.min(horizon_at(s)),
     }
+}
+
+// The least of a limit and of the horizon at each link end.
+fn least_bound(limit: u32, ends: &[Option<Seen>]) -> u64
+    ensures { result ≡ least_bound limit ends.now }
+{
+    ends.iter()
+        .fold(u64::from(limit), |bound, s| nearer(bound, *s))
 }
 
 // What was seen at a link end, if it stops a node at its clock.
@@ -49,6 +58,8 @@ fn stops_at(clock: u32, s: Option<Seen>) -> Option<u32>
 pub struct Horizon {
     limit: u32,
     ends: [Option<Seen>; 8],
+    // The least of the limit and of the horizon at each link end. A node asks in every slot, and what was seen changes once a batch.
+    bound: u64,
 }
 
 impl Model for Horizon {
@@ -58,10 +69,11 @@ impl Model for Horizon {
 
     ghost use Rattle.std.specs.Prelude.{◌≡◌, length};
     ghost use Rattle.xs_base.specs.declared.numbers.TheConstants.{LINK_ENDS};
+    ghost use Rattle.ahead_limits.specs.Bound.{least_bound};
 
     ghost view = { λ h. record { limit = h.limit; ends = h.ends } };
 
-    ghost invariant = { λ h. length h.ends ≡ LINK_ENDS };
+    ghost invariant = { λ h. (length h.ends ≡ LINK_ENDS) × (h.bound ≡ least_bound h.limit h.ends) };
 }
 
 impl Horizon {
@@ -73,6 +85,7 @@ impl Horizon {
         Horizon {
             limit,
             ends: [None; 8],
+            bound: u64::from(limit),
         }
     }
 
@@ -82,6 +95,7 @@ impl Horizon {
         ensures ends { self.new ≡ record self.old { ends = slice_set self.old.ends end (Some (record { delay = delay; seen = 0 })) } }
     {
         self.ends[end as usize] = Some(Seen { delay, seen: 0 });
+        self.bound = least_bound(self.limit, &self.ends);
     }
 
     /// The history of the link that comes to a link end, 0 to 7, was seen up to a slot.
@@ -92,27 +106,34 @@ impl Horizon {
         if let Some(s) = &mut self.ends[end as usize] {
             s.seen = published;
         }
+        self.bound = least_bound(self.limit, &self.ends);
+    }
+
+    /// The limit of the run, in slots.
+    pub fn limit(&self) -> u32
+        ensures value { result ≡ self.now.limit }
+    {
+        self.limit
+    }
+
+    /// The slot up to which the link that comes to a link end was seen, 0 where no link comes.
+    pub fn seen(&self, end: u8) -> u32
+        ensures value { result ≡ seen_at self.now end }
+    {
+        match self.ends.get(end as usize) {
+            Some(Some(s)) => s.seen,
+            _ => 0,
+        }
     }
 
     /// Whether a node may run the slot that its clock shows: exactly where the clock is below the limit, and at each link end that
     /// a link comes to below what was seen there and the delay together.
+    #[inline]
     pub fn may_run(&self, clock: u32) -> bool
         ensures value { result ≡ may_run self.now clock }
         ensures exactly { (result ≡ true) ↔ IsBelowAll self.now clock }
     {
-        self.lets_run(clock)
-    }
-
-    fn lets_run(&self, clock: u32) -> bool
-        ensures { result ≡ may_run self.now clock }
-    {
-        clock < self.limit && self.all_let_run(clock)
-    }
-
-    fn all_let_run(&self, clock: u32) -> bool
-        ensures { result ≡ list_all (lets_run clock) self.now.ends }
-    {
-        self.ends.iter().all(|s| lets_run(clock, *s))
+        u64::from(clock) < self.bound
     }
 
     /// The least link end at which the clock is what was seen there and the delay together, and what was seen there. `None`

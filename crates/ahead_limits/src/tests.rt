@@ -34,4 +34,8 @@ fn a_node_runs_as_far_as_its_links_are_known(rt: HostRuntime) {
     assert!(rt; three.first_block(12) == Some((1, 10)));
     assert!(rt; three.first_block(1000) == Some((3, 0)));
     assert!(rt; three.first_block(50).is_none());
+    assert!(rt; three.limit() == 2000);
+    assert!(rt; three.seen(6) == 7);
+    assert!(rt; three.seen(0) == 0);
+    assert!(rt; three.seen(8) == 0);
 }
