@@ -1,5 +1,5 @@
 -- A schedule in numbers: how far each node has run, and how much of each directed link was seen and published.
-use Rattle.std.specs.Prelude.{ℕ, zero, suc, ◌+◌, if◌then◌else◌, Option, Some, None, option_map, List, [], ◌∷◌, length, map, replicate, slice_index, slice_set}
+use Rattle.std.specs.Prelude.{ℕ, ◌≡◌, zero, suc, ◌+◌, if◌then◌else◌, Option, Some, None, option_map, List, [], ◌∷◌, length, map, replicate, slice_index, slice_set}
 use Rattle.xs_base.specs.Numbers.{Slot, Position, LinkNumber}
 use Rattle.sys_plan.specs.declared.Step.{Step}
 use Rattle.sys_plan.specs.declared.Step.TheVariants.{Take, Run, Send}
@@ -13,6 +13,12 @@ pub record ScheduleRec : Type 0 where
   pub clocks : List Slot
   pub seen : List Slot
   pub published : List Slot
+
+-- the clocks are those of the plan's nodes, and the other numbers those of its directed links
+pub record IsOfPlan (plan : PlanRec) (s : ScheduleRec) : Type 0 where
+  pub clocks : length s.clocks ≡ length plan.nodes
+  pub seen : length s.seen ≡ length (directions plan.links)
+  pub published : length s.published ≡ length (directions plan.links)
 
 -- before the first step
 abbrev pub schedule_at_start : PlanRec → ScheduleRec
@@ -45,12 +51,16 @@ abbrev pub after_send : Option LinkNumber → Slot → ScheduleRec → ScheduleR
 after_send None clock s = s
 after_send (Some link) clock s = record s { published = slice_set s.published link clock }
 
+-- a node runs so many slots, by what is seen of the links that come to it
+abbrev pub after_run : PlanRec → Slot → Position → ℕ → ScheduleRec → ScheduleRec
+after_run plan limit node count s =
+    record s { clocks = slice_set s.clocks node (clock_after (horizon_of plan limit s.seen node) count (slice_index s.clocks node)) }
+
 -- one step: a node takes what is published of the link that comes to a link end, runs so many slots, or publishes what it has sent on
 -- the link that leaves by a link end
 abbrev pub after_step : PlanRec → Slot → ScheduleRec → Step → ScheduleRec
 after_step plan limit s (Take node end) = after_take (incoming plan node end) s
-after_step plan limit s (Run node count) =
-    record s { clocks = slice_set s.clocks node (clock_after (horizon_of plan limit s.seen node) count (slice_index s.clocks node)) }
+after_step plan limit s (Run node count) = after_run plan limit node count s
 after_step plan limit s (Send node end) = after_send (outgoing plan node end) (slice_index s.clocks node) s
 
 -- steps in their order

@@ -1,10 +1,14 @@
 //! `Horizon`, how far a node may run.
-ghost use Rattle.std.specs.Prelude.{IfSome, ◌↔◌, true, ◌≡◌, ◌+◌, ◌<◌, ◌≤◌, Some, None, IsNone, length, drop, slice_index_or, slice_set};
+ghost use Rattle.std.specs.Prelude.{IfSome, ◌↔◌, true, ◌≡◌, ◌+◌, ◌<◌, ◌≤◌, Some, None, IsNone, length, drop, slice_index_or, slice_set, replicate};
+ghost use Rattle.sys_plan.specs.Plan.{directions};
 ghost use Rattle.xs_base.specs.declared.numbers.TheConstants.{LINK_ENDS};
 ghost use Rattle.ahead_limits.specs.Horizon.{no_links, seen_to, seen_at, may_run, first_stop, stops_at, horizon_at, IsBelowAll, NoneStopsBelow, StopsAt};
 ghost use Rattle.ahead_limits.specs.Bound.{nearer, least_bound};
+ghost use Rattle.ahead_limits.specs.Schedule.{horizon_of, clock_after};
 
+use crate::plan_horizon::seen_ends;
 use std::marker::Model;
+use sys_plan::Plan;
 use xs_base::numbers::LINK_ENDS;
 
 /// What was seen of the link that comes to a link end.
@@ -89,6 +93,28 @@ impl Horizon {
         }
     }
 
+    /// The horizon of the node at a position of a plan, in a run of so many slots. Nothing was seen yet.
+    #[tactic(auto, using(crate::proofs::Steps::directions_twice))]
+    pub fn of(plan: &Plan, node: u8, limit: u32) -> Horizon
+        ensures value { result ≡ horizon_of plan.now limit (replicate (length (directions plan.now.links)) 0) node }
+    {
+        let nothing = [0; 96];
+        Horizon::as_seen(plan, node, limit, &nothing[..2 * plan.links().len()])
+    }
+
+    /// The horizon of the node at a position of a plan, by the slot up to which each directed link was seen.
+    pub(crate) fn as_seen(plan: &Plan, node: u8, limit: u32, seen: &[u32]) -> Horizon
+        requires links { length seen.now ≡ length (directions plan.now.links) }
+        ensures value { result ≡ horizon_of plan.now limit seen.now node }
+    {
+        let ends = seen_ends(plan, node, seen);
+        Horizon {
+            limit,
+            bound: least_bound(limit, &ends),
+            ends,
+        }
+    }
+
     /// A link with this delay in slots comes to a link end, 0 to 7. Nothing of it was seen yet.
     pub fn add(&mut self, end: u8, delay: u32)
         requires end { end < LINK_ENDS }
@@ -134,6 +160,16 @@ impl Horizon {
         ensures exactly { (result ≡ true) ↔ IsBelowAll self.now clock }
     {
         u64::from(clock) < self.bound
+    }
+
+    /// The clock of a node that is to run so many slots from this clock on: it runs each where it may, and stops where it may not.
+    pub fn clock_after(&self, clock: u32, count: u32) -> u32
+        ensures value { result ≡ clock_after self.now count clock }
+    {
+        // The bound is at most the limit, so that it fits.
+        let _limit = self.limit;
+        let end = (u64::from(clock) + u64::from(count)).min(self.bound);
+        u64::from(clock).max(end) as u32
     }
 
     /// The least link end at which the clock is what was seen there and the delay together, and what was seen there. `None`
