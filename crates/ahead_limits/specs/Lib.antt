@@ -1,3 +1,4 @@
 pub mod Bound
 pub mod Horizon
+pub mod Kept
 pub mod Schedule

@@ -2,10 +2,12 @@
 #![tactic(auto)]
 
 mod horizon;
+mod laws;
 mod plan_horizon;
 mod schedule;
 #[cfg(test)]
 mod tests;
 
 pub use horizon::{Horizon, Seen};
+pub use laws::schedules_keep_their_bounds;
 pub use schedule::Numbers;
