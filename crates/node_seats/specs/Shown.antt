@@ -1,0 +1,17 @@
+-- What the pins of a node show.
+use Rattle.std.specs.Prelude.{◌≡◌, ◌<◌, ◌≤◌, Option, Some, None}
+use Rattle.xs_base.specs.Numbers.{Slot}
+use Rattle.xs_model.specs.Outside.{LevelsFit}
+use Rattle.pin_scripts.specs.Script.{view_at}
+use Rattle.node_seats.specs.declared.pins.Pins.{Pins}
+
+-- the slot of a change, 2 ^ 32 - 1, which is no slot of a run, where none comes
+abbrev pub slot_or_never : Option Slot → Slot
+slot_or_never None = 4294967295
+slot_or_never (Some slot) = slot
+
+-- before a slot: until the next change the pins show what is kept
+pub record IsShown (slot : Slot) (pins : Pins) : Type 0 where
+  pub steady : (later : Slot) → slot ≤ later → later < pins.next → view_at pins.script pins.number later ≡ pins.view
+  pub next : slot ≤ pins.next
+  pub levels : LevelsFit pins.view.level

@@ -1,0 +1,78 @@
+//! `Pins`, what the pins of a node show. See docs/PINS.md.
+ghost use Rattle.std.specs.Prelude.{◌≡◌, ◌+◌, ◌-◌, ◌^◌, ◌<◌, ◌==◌};
+ghost use Rattle.xs_model.specs.Outside.{LevelsFit};
+ghost use Rattle.pin_scripts.specs.Script.{view_at};
+ghost use Rattle.node_seats.specs.Shown.{IsShown, slot_or_never};
+
+use pin_scripts::Script;
+use xs_model::PinView;
+
+// The slot of a change that never comes: no slot has this number.
+const NEVER: u32 = u32::MAX;
+
+/// What the pins of the node with this number show, where its ports do not drive them, and the slot from which on that may
+/// be something else.
+#[derive(Drop)]
+pub struct Pins {
+    pub script: Script,
+    pub number: u8,
+    pub view: PinView,
+    // `NEVER` where no change comes any more.
+    pub next: u32,
+}
+
+impl Pins {
+    /// The pins of a node before slot 0.
+    pub(crate) fn of(script: Script, number: u8) -> Pins
+        ensures script { result.script ≡ script }
+        ensures number { result.number ≡ number }
+        ensures shown { IsShown 0 result }
+    {
+        let mut view = PinView { level: [0; 29] };
+        script.view(number, 0, &mut view);
+        let next = slot_or_never(script.next_change(number, 0));
+        Pins {
+            script,
+            number,
+            view,
+            next,
+        }
+    }
+
+    /// Looks at what the pins show in a slot. That costs little where it is what they showed before.
+    pub(crate) fn look(&mut self, slot: u32)
+        requires slot { slot < 2 ^ 32 - 1 }
+        requires shown { IsShown slot self.old }
+        ensures script { self.new.script ≡ self.old.script }
+        ensures number { self.new.number ≡ self.old.number }
+        ensures view { self.new.view ≡ view_at self.old.script self.old.number slot }
+        ensures levels { LevelsFit self.new.view.level }
+        ensures shown { IsShown (slot + 1) self.new }
+    {
+        if self.is_due(slot) {
+            self.script.view(self.number, slot, &mut self.view);
+            self.next = slot_or_never(self.script.next_change(self.number, slot));
+        }
+    }
+
+    // Whether the next change comes in a slot.
+    fn is_due(&self, slot: u32) -> bool
+        ensures { result ≡ (self.now.next == slot) }
+    {
+        self.next == slot
+    }
+
+    /// What they showed when it last looked.
+    pub(crate) fn view(&self) -> &PinView
+        ensures { result.now ≡ self.now.view }
+    {
+        &self.view
+    }
+}
+
+// The slot of a change, `NEVER` where none comes.
+fn slot_or_never(change: Option<u32>) -> u32
+    ensures { result ≡ slot_or_never change }
+{
+    change.unwrap_or(NEVER)
+}
