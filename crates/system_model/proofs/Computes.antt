@@ -2,7 +2,7 @@
 use Rattle.xs_text.specs.Words.{without_comment, parted}
 use Rattle.xs_text.specs.Lines.{lines_of}
 use Rattle.xs_text.specs.Tokens.{tokens_after}
-use Rattle.system_model.specs.FrameLines.{node_line, end_name, link_line, numbers_of, bit_line, section_line, frame_line}
+use Rattle.system_model.specs.FrameLines.{node_line, end_name, link_line, numbers_of, bit_line, section_line, frame_line, play_line}
 use Rattle.system_model.specs.Frame.{frame_from, framed}
 use Rattle.system_model.specs.System.{mask_where, node_plans, system_of}
 use Rattle.pin_scripts.specs.Pins.{port_of, pin_form, pins_from, pins_of}
@@ -17,5 +17,5 @@ use Rattle.source_model.specs.Source.{defines_twice, first_fault, code_of_lines,
 
 -- names them all on its own line, so that they unfold where it does
 unfoldable pub computes : Type 0
-unfolding without_comment parted lines_of tokens_after node_line end_name link_line numbers_of bit_line section_line frame_line frame_from framed mask_where node_plans system_of port_of pin_form pins_from pins_of register_number fixed find known all_some operands_after values_from labels_first after_labels place_of define_all after_lines defines_twice first_fault code_of_lines bytes_of_lines
+unfolding without_comment parted lines_of tokens_after node_line end_name link_line numbers_of bit_line section_line frame_line play_line frame_from framed mask_where node_plans system_of port_of pin_form pins_from pins_of register_number fixed find known all_some operands_after values_from labels_first after_labels place_of define_all after_lines defines_twice first_fault code_of_lines bytes_of_lines
 computes = Unit {0}

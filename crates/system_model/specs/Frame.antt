@@ -1,5 +1,5 @@
--- The frame of a system text: all its lines but those of its sections. Each line is tested by what the lines before it
--- have given, and the first line that has a fault refuses the text.
+-- The frame of a system text: all its lines but those of its sources and its pin script. Each line is tested by what the
+-- lines before it have given, and the first line that has a fault refuses the text.
 use Rattle.std.specs.Prelude.{ℕ, ◌+◌, Bool, true, false, not, ◌&&◌, ◌||◌, ◌==◌, nat_le, nat_lt, if◌then◌else◌, Option, Some, None, option_map, option_to_list, List, [], ◌∷◌, ◌++◌, length, map, find}
 use Rattle.std.specs.List.{list_any, list_all}
 use Rattle.xs_text.specs.Bytes.{all_allowed}
@@ -8,32 +8,35 @@ use Rattle.system_model.specs.declared.SysKind.{SysKind}
 use Rattle.system_model.specs.declared.SysKind.TheVariants.{FirstLine, BadLine, GivenTwice, IdTwice, LinkEndTwice, LinkToItself, NumberOutOfRange, NodeWithoutSource, SectionNotEnded, BitTwice, NoSuchNode, TooMany}
 use Rattle.system_model.specs.declared.frame_line.EndName.{EndName}
 use Rattle.system_model.specs.declared.frame_line.FrameLine.{FrameLine}
-use Rattle.system_model.specs.declared.frame_line.FrameLine.TheVariants.{Node, Link, Bit, Section}
+use Rattle.system_model.specs.declared.frame_line.FrameLine.TheVariants.{Node, Link, Bit, Section, Step}
 use Rattle.system_model.specs.declared.frame_line.GivenNode.{GivenNode}
 use Rattle.system_model.specs.declared.frame_line.LinkLine.{LinkLine}
+use Rattle.system_model.specs.declared.frame_line.PlayLine.{PlayLine}
+use Rattle.system_model.specs.declared.frame_line.PlayLine.TheVariants.{Take, Run, Send}
 use Rattle.system_model.specs.declared.frame_line.SectionKind.{SectionKind}
-use Rattle.system_model.specs.declared.frame_line.SectionKind.TheVariants.{Source, Pins}
+use Rattle.system_model.specs.declared.frame_line.SectionKind.TheVariants.{Source, Pins, Play}
 use Rattle.system_model.specs.Bits.{BitRec}
-use Rattle.system_model.specs.FrameLines.{is_header, is_end, frame_line, are_numbers_in_range}
+use Rattle.system_model.specs.FrameLines.{is_header, is_end, frame_line, play_line, are_numbers_in_range}
 
--- a section: what it holds, the line that begins it, and its own lines
+-- a section: what it holds, the line that begins it, and its own lines, of which `play` has none
 pub record SectionText : Type 0 where
   pub kind : SectionKind
   pub line : ℕ
   pub lines : List (List ℕ)
 
--- What the lines so far have given: whether one of them had words; the nodes, by ascending number; the links, the bits
--- and the sections that have ended, in the order of the lines; and the section that has not ended yet.
+-- What the lines so far have given: whether one of them had words; the nodes, by ascending number; the links, the bits,
+-- the steps and the sections that have ended, in the order of the lines; and the section that has not ended yet.
 pub record Given : Type 0 where
   pub begun : Bool
   pub nodes : List GivenNode
   pub links : List LinkLine
   pub bits : List BitRec
+  pub steps : List PlayLine
   pub sections : List SectionText
   pub reading : Option SectionText
 
 abbrev pub nothing_given : Given
-nothing_given = record { begun = false; nodes = []; links = []; bits = []; sections = []; reading = None }
+nothing_given = record { begun = false; nodes = []; links = []; bits = []; steps = []; sections = []; reading = None }
 
 -- What a line says
 
@@ -63,9 +66,20 @@ says_in_frame begun [] = Blank
 says_in_frame false (w ∷ ws) = if is_header (w ∷ ws) then Header else NoHeader
 says_in_frame true (w ∷ ws) = says_form (frame_line (w ∷ ws))
 
+-- in the section `play`, by its words
+abbrev pub says_in_play : List (List ℕ) → FrameSays
+says_in_play [] = Blank
+says_in_play (w ∷ ws) = says_form (option_map Step (play_line (w ∷ ws)))
+
+-- in a section, by what it holds and its words, where it does not end it
+abbrev pub says_in_section : SectionKind → List (List ℕ) → FrameSays
+says_in_section (Source n) words = Own
+says_in_section Pins words = Own
+says_in_section Play words = says_in_play words
+
 abbrev pub says_by : Bool → Option SectionText → List ℕ → FrameSays
 says_by begun None l = says_in_frame begun (words_of_line l)
-says_by begun (Some section) l = if is_end l then End else Own
+says_by begun (Some section) l = if is_end l then End else says_in_section section.kind (words_of_line l)
 
 -- what a line says after what is given
 abbrev pub says : Given → List ℕ → FrameSays
@@ -87,11 +101,17 @@ has_link_end links name = list_any (λ (link : LinkLine). is_same_end link.a nam
 abbrev pub has_link_ends : List LinkLine → ℕ → List ℕ → Bool
 has_link_ends links node ends = list_all (λ end. has_link_end links (record { node = node; end = end })) ends
 
+-- whether a step names a node and link ends that are given
+abbrev pub is_step_of : List GivenNode → List LinkLine → PlayLine → Bool
+is_step_of nodes links (Take name) = has_node nodes name.node && has_link_end links name
+is_step_of nodes links (Run node count) = has_node nodes node
+is_step_of nodes links (Send name) = has_node nodes name.node && has_link_end links name
+
 abbrev pub is_same_kind : SectionKind → SectionKind → Bool
 is_same_kind (Source m) (Source n) = m == n
-is_same_kind (Source m) Pins = false
-is_same_kind Pins (Source n) = false
 is_same_kind Pins Pins = true
+is_same_kind Play Play = true
+is_same_kind _ _ = false
 
 abbrev pub has_section : List SectionText → SectionKind → Bool
 has_section sections kind = list_any (λ (section : SectionText). is_same_kind section.kind kind) sections
@@ -119,9 +139,10 @@ abbrev pub names_none : Given → FrameSays → Bool
 names_none given (Form (Link link)) = not (has_node given.nodes link.a.node && has_node given.nodes link.b.node)
 names_none given (Form (Bit bit)) = not (has_node given.nodes bit.node && has_link_ends given.links bit.node bit.ends)
 names_none given (Form (Section (Source n))) = not (has_node given.nodes n)
+names_none given (Form (Step step)) = not (is_step_of given.nodes given.links step)
 names_none given _ = false
 
--- it gives the number of a node, the source of a node, or the pin script once more
+-- it gives the number of a node, the source of a node, the pin script or the schedule once more
 abbrev pub is_given_twice : Given → FrameSays → Bool
 is_given_twice given (Form (Node node)) = has_node given.nodes node.number
 is_given_twice given (Form (Section kind)) = has_section given.sections kind
@@ -217,6 +238,7 @@ given_with n l (Form (Node node)) given =
     record given { nodes = put_by_number (record { line = n; number = node.number; id = node.id }) given.nodes }
 given_with n l (Form (Link link)) given = record given { links = given.links ++ link ∷ [] }
 given_with n l (Form (Bit bit)) given = record given { bits = given.bits ++ bit ∷ [] }
+given_with n l (Form (Step step)) given = record given { steps = given.steps ++ step ∷ [] }
 given_with n l (Form (Section kind)) given =
     record given { reading = Some (record { kind = kind; line = n; lines = [] }) }
 given_with n l _ given = given

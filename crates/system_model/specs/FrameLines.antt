@@ -1,5 +1,4 @@
--- The forms of the lines of a frame, by their words. Numbers are taken however great they are. The section `play` is not
--- built yet, and its lines have no form.
+-- The forms of the lines of a frame, by their words. Numbers are taken however great they are.
 use Rattle.std.specs.Prelude.{ℕ, ◌+◌, Bool, true, false, not, ◌&&◌, ◌==◌, nat_le, if◌then◌else◌, Option, Some, None, option_map, option_and_then, List, [], ◌∷◌, length, take, drop, codes}
 use Rattle.std.specs.List.{prefix_len, list_all}
 use Rattle.xs_text.specs.Numbers.{number_of}
@@ -7,11 +6,13 @@ use Rattle.xs_text.specs.Words.{words_of_line}
 use Rattle.xs_instructions.specs.Image.{same_name}
 use Rattle.system_model.specs.declared.frame_line.EndName.{EndName}
 use Rattle.system_model.specs.declared.frame_line.FrameLine.{FrameLine}
-use Rattle.system_model.specs.declared.frame_line.FrameLine.TheVariants.{Node, Link, Bit, Section}
+use Rattle.system_model.specs.declared.frame_line.FrameLine.TheVariants.{Node, Link, Bit, Section, Step}
 use Rattle.system_model.specs.declared.frame_line.LinkLine.{LinkLine}
 use Rattle.system_model.specs.declared.frame_line.NodeLine.{NodeLine}
+use Rattle.system_model.specs.declared.frame_line.PlayLine.{PlayLine}
+use Rattle.system_model.specs.declared.frame_line.PlayLine.TheVariants.{Take, Run, Send}
 use Rattle.system_model.specs.declared.frame_line.SectionKind.{SectionKind}
-use Rattle.system_model.specs.declared.frame_line.SectionKind.TheVariants.{Source, Pins}
+use Rattle.system_model.specs.declared.frame_line.SectionKind.TheVariants.{Source, Pins, Play}
 use Rattle.system_model.specs.Bits.{BitRec}
 
 infixl 10 ◌>>=◌
@@ -74,9 +75,9 @@ bit_line (k ∷ n ∷ b ∷ e ∷ more) =
     else None
 bit_line _ = None
 
--- `pins`, and `source N`
+-- `pins` and `play`, and `source N`
 unfoldable pub section_line : List (List ℕ) → Option SectionKind
-section_line (a ∷ []) = if same_name (codes "pins") a then Some Pins else None
+section_line (a ∷ []) = if same_name (codes "pins") a then Some Pins else (if same_name (codes "play") a then Some Play else None)
 section_line (a ∷ n ∷ []) = if same_name (codes "source") a then option_map Source (number_of n) else None
 section_line _ = None
 
@@ -84,11 +85,23 @@ abbrev pub or_line : Option FrameLine → Option FrameLine → Option FrameLine
 or_line (Some l) other = Some l
 or_line None other = other
 
--- a line of the frame by its words
+-- a line of the frame outside of the sections by its words
 unfoldable pub frame_line : List (List ℕ) → Option FrameLine
 frame_line words =
     or_line (option_map Node (node_line words))
     (or_line (option_map Link (link_line words)) (or_line (option_map Bit (bit_line words)) (option_map Section (section_line words))))
+
+-- a run of the node with this number, over so many slots
+abbrev pub run_of : List ℕ → Option ℕ → Option PlayLine
+run_of n slots = number_of n >>= λ node. slots >>= λ count. Some (Run node count)
+
+-- a line of the section `play` by its words: `take N:E`, `send N:E`, `run N`, which is a run over one slot, and `run N COUNT`
+unfoldable pub play_line : List (List ℕ) → Option PlayLine
+play_line (k ∷ x ∷ []) =
+    if same_name (codes "take") k then option_map Take (end_name x)
+    else (if same_name (codes "send") k then option_map Send (end_name x) else (if same_name (codes "run") k then run_of x (Some 1) else None))
+play_line (k ∷ n ∷ count ∷ []) = if same_name (codes "run") k then run_of n (number_of count) else None
+play_line _ = None
 
 abbrev pub is_between : ℕ → ℕ → ℕ → Bool
 is_between least most n = nat_le least n && nat_le n most
@@ -111,3 +124,7 @@ are_numbers_in_range (Link link) =
 are_numbers_in_range (Bit bit) = is_node_number bit.node && (nat_le bit.bit 15 && list_all is_end_number bit.ends)
 are_numbers_in_range (Section (Source n)) = is_node_number n
 are_numbers_in_range (Section Pins) = true
+are_numbers_in_range (Section Play) = true
+are_numbers_in_range (Step (Take name)) = is_end_in_range name
+are_numbers_in_range (Step (Run node count)) = is_node_number node && is_between 1 1000000 count
+are_numbers_in_range (Step (Send name)) = is_end_in_range name

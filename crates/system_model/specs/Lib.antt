@@ -5,3 +5,4 @@ pub mod FirstFault
 pub mod System
 pub mod WorkedPlans
 pub mod WorkedPins
+pub mod WorkedPlay

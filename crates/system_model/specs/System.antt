@@ -11,10 +11,14 @@ use Rattle.pin_scripts.specs.Pins as pins
 use Rattle.sys_plan.specs.Plan.{PlanRec}
 use Rattle.sys_plan.specs.declared.LinkPlan.{LinkPlan}
 use Rattle.sys_plan.specs.declared.NodePlan.{NodePlan}
+use Rattle.sys_plan.specs.declared.Step.{Step}
+use Rattle.sys_plan.specs.declared.Step.TheVariants as step
 use Rattle.system_model.specs.declared.SysKind.{SysKind}
 use Rattle.system_model.specs.declared.SysKind.TheVariants.{TooLong}
 use Rattle.system_model.specs.declared.frame_line.GivenNode.{GivenNode}
 use Rattle.system_model.specs.declared.frame_line.LinkLine.{LinkLine}
+use Rattle.system_model.specs.declared.frame_line.PlayLine.{PlayLine}
+use Rattle.system_model.specs.declared.frame_line.PlayLine.TheVariants.{Take, Run, Send}
 use Rattle.system_model.specs.declared.frame_line.SectionKind.{SectionKind}
 use Rattle.system_model.specs.declared.frame_line.SectionKind.TheVariants as section
 use Rattle.system_model.specs.Bits.{BitRec}
@@ -92,24 +96,31 @@ link_plan nodes link = record {
   gap = link.gap;
 }
 
+-- a step with its node by position
+abbrev pub step_plan : List GivenNode → PlayLine → Step
+step_plan nodes (Take name) = step.Take (position_by_number nodes name.node) name.end
+step_plan nodes (Run node count) = step.Run (position_by_number nodes node) count
+step_plan nodes (Send name) = step.Send (position_by_number nodes name.node) name.end
+
 -- what the pin script stands for, over the numbers of all nodes; where there is none it has no line
 abbrev pub script_of : Given → PinsRead
 script_of given = pins_of (map (λ (node : GivenNode). node.number) given.nodes) (section_lines given.sections section.Pins)
 
 -- the plan with a script, or the refusal of the script
-abbrev pub plan_by : List NodePlan → List LinkPlan → PinsRead → System
-plan_by nodes links (pins.Script script) = Plan (record { nodes = nodes; links = links; script = script; steps = [] })
-plan_by nodes links (pins.Fault line kind) = Pins line kind
+abbrev pub plan_by : List NodePlan → List LinkPlan → List Step → PinsRead → System
+plan_by nodes links steps (pins.Script script) = Plan (record { nodes = nodes; links = links; script = script; steps = steps })
+plan_by nodes links steps (pins.Fault line kind) = Pins line kind
 
 -- a source that is refused comes before the script
-abbrev pub plan_with : List LinkPlan → PinsRead → Result (List NodePlan) SourceFault → System
-plan_with links script (Err fault) = Source fault.node fault.line fault.kind
-plan_with links script (Ok plans) = plan_by plans links script
+abbrev pub plan_with : List LinkPlan → List Step → PinsRead → Result (List NodePlan) SourceFault → System
+plan_with links steps script (Err fault) = Source fault.node fault.line fault.kind
+plan_with links steps script (Ok plans) = plan_by plans links steps script
 
 -- the plan of a frame
 abbrev pub plan_of_frame : Given → System
 plan_of_frame given =
-    plan_with (map (link_plan given.nodes) given.links) (script_of given) (node_plans given.bits given.sections given.nodes)
+    plan_with (map (link_plan given.nodes) given.links) (map (step_plan given.nodes) given.steps) (script_of given)
+    (node_plans given.bits given.sections given.nodes)
 
 abbrev pub plan_of : Framed → System
 plan_of (Refused line kind) = Frame line kind

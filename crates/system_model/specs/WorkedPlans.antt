@@ -62,7 +62,6 @@ bad_lines =
     ∷ (codes "xs1 1\n\n# " ++ (127 ∷ codes "\n"), 3, BadLine)
     ∷ (codes "xs1 1\nxs1 1\n", 2, BadLine)
     ∷ (codes "xs1 1\nend\n", 2, BadLine)
-    ∷ (codes "xs1 1\nplay\nfoo\nend\n", 2, BadLine)
     ∷ (codes "xs1 1\nnode\n", 2, BadLine)
     ∷ (codes "xs1 1\nnode 0 id\n", 2, BadLine)
     ∷ (codes "xs1 1\nnode 0 id 0 0\n", 2, BadLine)
@@ -194,7 +193,6 @@ of_pins =
     -- the line that ends it, and those after it
     ∷ (codes "xs1 1\npins\nfoo\nend # " ++ (1 ∷ codes "\n"), 4, BadLine)
     ∷ (codes "xs1 1\npins\nend\nend\n", 4, BadLine)
-    ∷ (codes "xs1 1\npins\nend\nplay\nend\n", 4, BadLine)
     -- the second one, at its first line, whatever the lines of the first one and of its own are
     ∷ (codes "xs1 1\npins\nend\npins\nend\n", 4, GivenTwice)
     ∷ (codes "xs1 1\npins\nfoo\n" ++ (1 ∷ codes "\nend # x\n  pins//\n"), 6, GivenTwice)
@@ -307,6 +305,7 @@ mixed_frame = Whole (record {
       ∷ record { node = 7; bit = 0; ends = 7 ∷ 0 ∷ [] }
       ∷ record { node = 3; bit = 15; ends = 0 ∷ [] }
       ∷ [];
+  steps = [];
   sections =
       record { kind = section.Source 7; line = 5; lines = codes "end:" ∷ codes " pins" ∷ codes "xs1 1" ∷ [] }
       ∷ record { kind = section.Source 3; line = 13; lines = [] }

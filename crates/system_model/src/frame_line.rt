@@ -48,6 +48,19 @@ pub enum SectionKind {
     Source(u8),
     /// The pin script.
     Pins,
+    /// The steps of the schedule. Their lines are the frame's own.
+    Play,
+}
+
+/// A line of the section `play`: a step of the schedule, with its node by number, 0 to 99. See docs/SYSTEM_TEXT.md.
+#[derive(Clone, Copy)]
+pub enum PlayLine {
+    /// `take N:E`.
+    Take(EndName),
+    /// `run N COUNT`, of 1 to 1,000,000 slots, and `run N`, of 1.
+    Run { node: u8, count: u32 },
+    /// `send N:E`.
+    Send(EndName),
 }
 
 /// A line of the frame of a system text, but for the first. See docs/SYSTEM_TEXT.md.
@@ -59,8 +72,10 @@ pub enum FrameLine {
     Link(LinkLine),
     /// `bit N B E`, with up to seven more link ends.
     Bit(BitLine),
-    /// `source N` or `pins`: it begins a section.
+    /// `source N`, `pins` or `play`: it begins a section.
     Section(SectionKind),
+    /// A step, in the section `play`.
+    Step(PlayLine),
 }
 
 /// A node as a system text gives it: the number of its line, counted from 1, and what that line says.

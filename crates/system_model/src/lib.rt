@@ -3,13 +3,16 @@
 #![tactic(auto)]
 
 ghost use Rattle.system_model.specs.WorkedPins.{WorkedPlansWithPins, WorkedPinRefusals};
+ghost use Rattle.system_model.specs.WorkedPlay.{WorkedSchedules, WorkedPlayRefusals};
 ghost use Rattle.system_model.specs.WorkedPlans.{WorkedRefusals, WorkedPlans, WorkedLength};
 
 mod first_fault;
 mod frame_line;
 
 pub use first_fault::least_faulty_line_decides;
-pub use frame_line::{BitLine, EndName, FrameLine, GivenNode, LinkLine, NodeLine, SectionKind};
+pub use frame_line::{
+    BitLine, EndName, FrameLine, GivenNode, LinkLine, NodeLine, PlayLine, SectionKind,
+};
 
 /// Why the frame of a system text is refused. See docs/SYSTEM_TEXT.md.
 #[derive(Clone, Copy, PartialEq, Eq, Debug)]
@@ -18,7 +21,7 @@ pub enum SysKind {
     FirstLine,
     /// S2: a line that has no known form, or a byte that is not allowed.
     BadLine,
-    /// S3: a node's number, a node's source or `pins` is given twice.
+    /// S3: a node's number, a node's source, `pins` or `play` is given twice.
     GivenTwice,
     /// S4: two nodes have one id.
     IdTwice,
@@ -54,4 +57,10 @@ pub fn worked_systems_read()
 pub fn worked_pins_read()
     ensures systems { WorkedPlansWithPins }
     ensures refusals { WorkedPinRefusals }
+{}
+
+/// The same of systems with a schedule.
+pub fn worked_play_read()
+    ensures systems { WorkedSchedules }
+    ensures refusals { WorkedPlayRefusals }
 {}

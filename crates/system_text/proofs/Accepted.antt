@@ -9,12 +9,14 @@ use Rattle.system_model.specs.declared.SysKind.{SysKind}
 use Rattle.system_model.specs.declared.SysKind.TheVariants.{FirstLine, BadLine, GivenTwice, IdTwice, LinkEndTwice, LinkToItself, NumberOutOfRange, BitTwice, NoSuchNode, TooMany}
 use Rattle.system_model.specs.declared.frame_line.EndName.{EndName}
 use Rattle.system_model.specs.declared.frame_line.FrameLine.{FrameLine}
-use Rattle.system_model.specs.declared.frame_line.FrameLine.TheVariants.{Node, Link, Bit, Section}
+use Rattle.system_model.specs.declared.frame_line.FrameLine.TheVariants.{Node, Link, Bit, Section, Step}
 use Rattle.system_model.specs.declared.frame_line.GivenNode.{GivenNode}
 use Rattle.system_model.specs.declared.frame_line.LinkLine.{LinkLine}
+use Rattle.system_model.specs.declared.frame_line.PlayLine.{PlayLine}
+use Rattle.system_model.specs.declared.frame_line.PlayLine.TheVariants.{Take, Run, Send}
 use Rattle.system_model.specs.Bits.{BitRec}
 use Rattle.system_model.specs.FrameLines.{are_numbers_in_range, is_node_number, is_end_number, is_end_in_range, is_between}
-use Rattle.system_model.specs.Frame.{SectionText, Given, FrameSays, Own, End, Blank, Header, NoHeader, NoForm, Form, says, names_none, is_given_twice, is_id_twice, is_link_to_itself, is_link_end_twice, is_bit_twice, is_too_many, fault_of, first_that_holds, given_with, given_after, put_by_number, has_node, has_link_end, has_link_ends, is_same_end, unless_faulty, at_the_end, whole_but_for, without_source, Framed, Whole, Refused, frame_from, framed, nothing_given, have_no_words}
+use Rattle.system_model.specs.Frame.{SectionText, Given, FrameSays, Own, End, Blank, Header, NoHeader, NoForm, Form, says, names_none, is_given_twice, is_id_twice, is_link_to_itself, is_link_end_twice, is_bit_twice, is_too_many, fault_of, first_that_holds, given_with, given_after, put_by_number, has_node, has_link_end, has_link_ends, is_step_of, is_same_end, unless_faulty, at_the_end, whole_but_for, without_source, Framed, Whole, Refused, frame_from, framed, nothing_given, have_no_words}
 use Rattle.system_text.specs.Accepted.{IsLinkOf, ends_of, AreAccepted, IsAccepted}
 use Rattle.system_text.proofs.Judged.{fault_by}
 use Rattle.system_text.proofs.Walk.{from-cons, from-end, framed_is}
@@ -226,10 +228,26 @@ more_nodes : (node : GivenNode) (nodes : List GivenNode) (links : List LinkLine)
 more_nodes node nodes [] k = tt
 more_nodes node nodes (link ∷ links) k = (still_link node nodes link k.0, more_nodes node nodes links k.1)
 
-with_node : (nodes : List GivenNode) (node : GivenNode) (links : List LinkLine) (bits : List BitRec) → nat_le 16 (length nodes) ≡ false → node.number ≤ 99
-    → has_node nodes node.number ≡ false → list_any (λ (other : GivenNode). other.id == node.id) nodes ≡ false → AreAccepted nodes links bits
-    → AreAccepted (put_by_number node nodes) links bits
-with_node nodes node links bits few h new new_id k = record {
+-- a step names what is given still
+both_more : (a b c d : Bool) → (a && b) ≡ true → (a ≡ true → c ≡ true) → (b ≡ true → d ≡ true) → (c && d) ≡ true
+both_more a b c d e f g = let is = both a b e in rw (f is.0, g is.1) refl
+
+step_with_node : (node : GivenNode) (nodes : List GivenNode) (links : List LinkLine) (step : PlayLine) → is_step_of nodes links step ≡ true
+    → is_step_of (put_by_number node nodes) links step ≡ true
+step_with_node node nodes links (Take name) e = both_more _ _ _ _ e (λ h. put_has node nodes name.node h) (λ h. h)
+step_with_node node nodes links (Run n count) e = put_has node nodes n e
+step_with_node node nodes links (Send name) e = both_more _ _ _ _ e (λ h. put_has node nodes name.node h) (λ h. h)
+
+steps_with_node : (node : GivenNode) (nodes : List GivenNode) (links : List LinkLine) (steps : List PlayLine)
+    → AllByRecursion (λ (step : PlayLine). is_step_of nodes links step ≡ true) steps
+    → AllByRecursion (λ (step : PlayLine). is_step_of (put_by_number node nodes) links step ≡ true) steps
+steps_with_node node nodes links [] k = tt
+steps_with_node node nodes links (step ∷ steps) k = (step_with_node node nodes links step k.0, steps_with_node node nodes links steps k.1)
+
+with_node : (nodes : List GivenNode) (node : GivenNode) (links : List LinkLine) (bits : List BitRec) (steps : List PlayLine) → nat_le 16 (length nodes) ≡ false → node.number ≤ 99
+    → has_node nodes node.number ≡ false → list_any (λ (other : GivenNode). other.id == node.id) nodes ≡ false → AreAccepted nodes links bits steps
+    → AreAccepted (put_by_number node nodes) links bits steps
+with_node nodes node links bits steps few h new new_id k = record {
   few_nodes = let more = put_length node nodes in let room : length nodes < 16 = grind (arith, nat_tests) in omega arith;
   few_links = k.few_links;
   numbers = put_all (λ (n : GivenNode). n.number ≤ 99) node nodes k.numbers h;
@@ -238,6 +256,7 @@ with_node nodes node links bits few h new new_id k = record {
   links = more_nodes node nodes links k.links;
   ends = k.ends;
   bits = k.bits;
+  steps = steps_with_node node nodes links steps k.steps;
 }
 
 -- One more link
@@ -307,10 +326,22 @@ more_links links link (bit ∷ bits) k = (
   more_links links link bits k.1,
 )
 
-with_link : (nodes : List GivenNode) (links : List LinkLine) (link : LinkLine) (bits : List BitRec) → nat_le 48 (length links) ≡ false → IsLinkOf nodes link
-    → (is_same_end link.a link.b || (has_link_end links link.a || has_link_end links link.b)) ≡ false → AreAccepted nodes links bits
-    → AreAccepted nodes (links ++ link ∷ []) bits
-with_link nodes links link bits few h new k =
+step_with_link : (nodes : List GivenNode) (links : List LinkLine) (link : LinkLine) (step : PlayLine) → is_step_of nodes links step ≡ true
+    → is_step_of nodes (links ++ link ∷ []) step ≡ true
+step_with_link nodes links link (Take name) e = both_more _ _ _ _ e (λ h. h) (λ h. still_in links link name h)
+step_with_link nodes links link (Run n count) e = e
+step_with_link nodes links link (Send name) e = both_more _ _ _ _ e (λ h. h) (λ h. still_in links link name h)
+
+steps_with_link : (nodes : List GivenNode) (links : List LinkLine) (link : LinkLine) (steps : List PlayLine)
+    → AllByRecursion (λ (step : PlayLine). is_step_of nodes links step ≡ true) steps
+    → AllByRecursion (λ (step : PlayLine). is_step_of nodes (links ++ link ∷ []) step ≡ true) steps
+steps_with_link nodes links link [] k = tt
+steps_with_link nodes links link (step ∷ steps) k = (step_with_link nodes links link step k.0, steps_with_link nodes links link steps k.1)
+
+with_link : (nodes : List GivenNode) (links : List LinkLine) (link : LinkLine) (bits : List BitRec) (steps : List PlayLine) → nat_le 48 (length links) ≡ false → IsLinkOf nodes link
+    → (is_same_end link.a link.b || (has_link_end links link.a || has_link_end links link.b)) ≡ false → AreAccepted nodes links bits steps
+    → AreAccepted nodes (links ++ link ∷ []) bits steps
+with_link nodes links link bits steps few h new k =
     let ends = neither (is_same_end link.a link.b) (has_link_end links link.a || has_link_end links link.b) new in
     let each = neither (has_link_end links link.a) (has_link_end links link.b) ends.1 in
     record {
@@ -322,13 +353,14 @@ with_link nodes links link bits few h new k =
       links = one_more (IsLinkOf nodes) links link k.links h;
       ends = distinct_ends links link (ends_differ link.a link.b ends.0) each.0 each.1 k.ends;
       bits = more_links links link bits k.bits;
+      steps = steps_with_link nodes links link steps k.steps;
     }
 
 -- One more bit
 
-with_bit : (nodes : List GivenNode) (links : List LinkLine) (bits : List BitRec) (bit : BitRec)
-    → not (has_node nodes bit.node && has_link_ends links bit.node bit.ends) ≡ false → AreAccepted nodes links bits → AreAccepted nodes links (bits ++ bit ∷ [])
-with_bit nodes links bits bit known k = record {
+with_bit : (nodes : List GivenNode) (links : List LinkLine) (bits : List BitRec) (steps : List PlayLine) (bit : BitRec)
+    → not (has_node nodes bit.node && has_link_ends links bit.node bit.ends) ≡ false → AreAccepted nodes links bits steps → AreAccepted nodes links (bits ++ bit ∷ []) steps
+with_bit nodes links bits steps bit known k = record {
   few_nodes = k.few_nodes;
   few_links = k.few_links;
   numbers = k.numbers;
@@ -337,16 +369,34 @@ with_bit nodes links bits bit known k = record {
   links = k.links;
   ends = k.ends;
   bits = one_more (λ (b : BitRec). has_link_ends links b.node b.ends ≡ true) bits bit k.bits (both (has_node nodes bit.node) (has_link_ends links bit.node bit.ends) (not_false _ known)).1;
+  steps = k.steps;
+}
+
+-- One more step
+
+with_step : (nodes : List GivenNode) (links : List LinkLine) (bits : List BitRec) (steps : List PlayLine) (step : PlayLine)
+    → not (is_step_of nodes links step) ≡ false → AreAccepted nodes links bits steps → AreAccepted nodes links bits (steps ++ step ∷ [])
+with_step nodes links bits steps step known k = record {
+  few_nodes = k.few_nodes;
+  few_links = k.few_links;
+  numbers = k.numbers;
+  order = k.order;
+  ids = k.ids;
+  links = k.links;
+  ends = k.ends;
+  bits = k.bits;
+  steps = one_more (λ (s : PlayLine). is_step_of nodes links s ≡ true) steps step k.steps (not_false _ known);
 }
 
 -- A line without a fault keeps it all.
 
 form_keeps : (n : ℕ) (l : List ℕ) (form : FrameLine) (given : Given) → Passes given form → IsAccepted given → IsAccepted (given_with n l (Form form) given)
 form_keeps n l (Node node) given p k =
-    with_node given.nodes (record { line = n; number = node.number; id = node.id }) given.links given.bits p.few
+    with_node given.nodes (record { line = n; number = node.number; id = node.id }) given.links given.bits given.steps p.few
     (at_most node.number 99 (both (is_node_number node.number) (nat_le node.id 65535) p.ranged).0) p.new p.new_id k
-form_keeps n l (Link link) given p k = with_link given.nodes given.links link given.bits p.few (link_of given.nodes link p.ranged p.known p.apart) p.new_ends k
-form_keeps n l (Bit bit) given p k = with_bit given.nodes given.links given.bits bit p.known k
+form_keeps n l (Link link) given p k = with_link given.nodes given.links link given.bits given.steps p.few (link_of given.nodes link p.ranged p.known p.apart) p.new_ends k
+form_keeps n l (Bit bit) given p k = with_bit given.nodes given.links given.bits given.steps bit p.known k
+form_keeps n l (Step step) given p k = with_step given.nodes given.links given.bits given.steps step p.known k
 form_keeps n l (Section kind) given p k = k
 
 line_keeps : (n : ℕ) (l : List ℕ) (what : FrameSays) (given : Given) (allowed : Bool) → fault_by given allowed what ≡ None → IsAccepted given → IsAccepted (given_with n l what given)
@@ -379,7 +429,7 @@ from_keeps (l ∷ ls) n given whole e k =
     from_keeps ls (n + 1) (given_after n l given) whole good.1 (line_keeps n l (says given l) given (all_allowed l) good.0 k)
 
 nothing_kept : IsAccepted nothing_given
-nothing_kept = record { few_nodes = omega arith; few_links = omega arith; numbers = tt; order = tt; ids = tt; links = tt; ends = tt; bits = tt }
+nothing_kept = record { few_nodes = omega arith; few_links = omega arith; numbers = tt; order = tt; ids = tt; links = tt; ends = tt; bits = tt; steps = tt }
 
 framed_by : (wordless : Bool) (ls : List (List ℕ)) (whole : Given) → cond wordless (Refused 1 FirstLine) (frame_from 1 nothing_given ls) ≡ Whole whole → IsAccepted whole
 framed_by true ls whole e = absurd cc

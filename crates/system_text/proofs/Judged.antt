@@ -1,21 +1,26 @@
 -- What is found of a line of the frame.
-use Rattle.std.proofs.Common.{◌≡◌, ℕ, suc, ◌+◌, ◌≤◌, Bool, true, false, not, List, [], ◌∷◌, length, map, drop, Option, Some, None, Ok, Err, refl, sym, ap, ◌∙◌, nat_lt, cond, arith}
+use Rattle.std.proofs.Common.{◌≡◌, ℕ, suc, ◌+◌, ◌≤◌, Bool, true, false, not, List, [], ◌∷◌, length, map, drop, Option, Some, None, Result, Ok, Err, option_map, refl, sym, ap, ◌∙◌, nat_lt, cond, arith}
 use Rattle.std.specs.Prelude.{insert, if◌then◌else◌}
 use Rattle.std.specs.List.{prefix_len}
+use Rattle.std.proofs.lemmas.Bool.{cond-true, cond-false}
 use Rattle.xs_text.specs.Bytes.{all_allowed}
 use Rattle.xs_text.specs.Lines.{lines_of}
 use Rattle.xs_text.specs.Words.{words_of_line}
 use Rattle.system_model.specs.declared.SysKind.{SysKind}
 use Rattle.system_model.specs.declared.SysKind.TheVariants.{FirstLine, BadLine, NumberOutOfRange}
 use Rattle.system_model.specs.declared.frame_line.FrameLine.{FrameLine}
-use Rattle.system_model.specs.declared.frame_line.FrameLine.TheVariants.{Node, Link, Bit, Section}
+use Rattle.system_model.specs.declared.frame_line.FrameLine.TheVariants.{Node, Link, Bit, Section, Step}
 use Rattle.system_model.specs.declared.frame_line.GivenNode.{GivenNode}
+use Rattle.system_model.specs.declared.frame_line.PlayLine.{PlayLine}
 use Rattle.system_model.specs.declared.frame_line.SectionKind.{SectionKind}
-use Rattle.system_model.specs.FrameLines.{is_header, frame_line, are_numbers_in_range}
-use Rattle.system_model.specs.Frame.{SectionText, Given, FrameSays, Blank, Header, NoHeader, Form, says_in_frame, says_by, says_form, says, is_empty, fault_of, first_that_holds, tests, put_by_number}
+use Rattle.system_model.specs.FrameLines.{is_header, is_end, frame_line, play_line, are_numbers_in_range}
+use Rattle.system_model.specs.Frame.{SectionText, Given, FrameSays, End, Blank, Header, NoHeader, Form, says_in_frame, says_in_play, says_by, says_form, says, is_empty, fault_of, first_that_holds, tests, put_by_number}
 use Rattle.system_model.specs.System.{section_lines}
 use Rattle.system_text.specs.Forms.{ranged, formed}
-use Rattle.system_text.specs.Judged.{later_fault}
+use Rattle.system_text.specs.Judged.{later_fault, said_by, IsFormless, IsFormOf, IsPlaying}
+use Rattle.system_text.specs.Steps.{stepped}
+use Rattle.system_text.specs.declared.frame.Said.{Said}
+use Rattle.system_text.specs.declared.frame.Said.TheVariants as said
 use Rattle.system_text.proofs.Lists.{none_left}
 
 abbrev lesser : ℕ → GivenNode → Bool
@@ -53,11 +58,52 @@ blank_by : (begun : Bool) (words : List (List ℕ)) → is_empty words ≡ true 
 blank_by begun [] e = refl
 blank_by begun (w ∷ ws) e = cc
 
-pub blank_allowed : (given : Given) (l : List ℕ) → given.reading ≡ None → is_empty (words_of_line l) ≡ true → all_allowed l ≡ true → (fault_of given l ≡ None) × (says given l ≡ Blank)
-blank_allowed given l r e a = let is = says_outside given l r ∙ blank_by given.begun (words_of_line l) e in (fault_is given l true Blank a is, is)
+pub blank_outside : (given : Given) (l : List ℕ) → given.reading ≡ None → is_empty (words_of_line l) ≡ true → says given l ≡ Blank
+blank_outside given l r e = says_outside given l r ∙ blank_by given.begun (words_of_line l) e
 
-pub blank_refused : (given : Given) (l : List ℕ) → given.reading ≡ None → is_empty (words_of_line l) ≡ true → all_allowed l ≡ false → fault_of given l ≡ Some BadLine
-blank_refused given l r e a = fault_is given l false Blank a (says_outside given l r ∙ blank_by given.begun (words_of_line l) e)
+-- in the section `play`
+
+says_playing : (given : Given) (l : List ℕ) → IsPlaying given → says given l ≡ (if is_end l then End else says_in_play (words_of_line l))
+says_playing given l p = ap (λ r. says_by given.begun r l) p.1
+
+pub end_playing : (given : Given) (l : List ℕ) → IsPlaying given → is_end l ≡ true → says given l ≡ End
+end_playing given l p e = says_playing given l p ∙ cond-true _ _ _ e
+
+play_blank : (words : List (List ℕ)) → is_empty words ≡ true → says_in_play words ≡ Blank
+play_blank [] e = refl
+play_blank (w ∷ ws) e = cc
+
+pub blank_playing : (given : Given) (l : List ℕ) → IsPlaying given → is_end l ≡ false → is_empty (words_of_line l) ≡ true → says given l ≡ Blank
+blank_playing given l p e b = says_playing given l p ∙ (cond-false _ _ _ e ∙ play_blank (words_of_line l) b)
+
+play_form : (words : List (List ℕ)) → is_empty words ≡ false → says_in_play words ≡ says_form (option_map (λ (x : PlayLine). Step x) (play_line words))
+play_form [] e = cc
+play_form (w ∷ ws) e = refl
+
+pub form_playing : (given : Given) (l : List ℕ) (read : Result FrameLine SysKind) → IsPlaying given → is_end l ≡ false → is_empty (words_of_line l) ≡ false
+    → read ≡ stepped (play_line (words_of_line l)) → IsFormOf given l read
+form_playing given l read p e b h = record {
+  form = option_map (λ (x : PlayLine). Step x) (play_line (words_of_line l));
+  taken = h;
+  said = says_playing given l p ∙ (cond-false _ _ _ e ∙ play_form (words_of_line l) b);
+}
+
+-- a line that has no fault but by its bytes
+formless : (given : Given) (allowed : Bool) (what : Said) → IsFormless what → fault_by given allowed (said_by what) ≡ cond allowed None (Some BadLine)
+formless given true said.End k = refl
+formless given false said.End k = refl
+formless given true said.Blank k = refl
+formless given false said.Blank k = refl
+formless given true said.Header k = refl
+formless given false said.Header k = refl
+formless given allowed (said.Form form) k = absurd k
+
+pub bytes_allowed : (given : Given) (l : List ℕ) (what : Said) → IsFormless what → says given l ≡ said_by what → all_allowed l ≡ true
+    → (fault_of given l ≡ None) × (says given l ≡ said_by what)
+bytes_allowed given l what k s a = (fault_is given l true (said_by what) a s ∙ formless given true what k, s)
+
+pub bytes_refused : (given : Given) (l : List ℕ) (what : Said) → IsFormless what → says given l ≡ said_by what → all_allowed l ≡ false → fault_of given l ≡ Some BadLine
+bytes_refused given l what k s a = fault_is given l false (said_by what) a s ∙ formless given false what k
 
 first_by : (words : List (List ℕ)) (header : Bool) → is_empty words ≡ false → is_header words ≡ header → says_in_frame false words ≡ (if header then Header else NoHeader)
 first_by [] header e h = cc
@@ -94,9 +140,14 @@ bad_form given (Some (Node node)) = refl
 bad_form given (Some (Link link)) = refl
 bad_form given (Some (Bit bit)) = refl
 bad_form given (Some (Section kind)) = refl
+bad_form given (Some (Step step)) = refl
 
-pub form_not_allowed : (given : Given) (l : List ℕ) → given.begun ≡ true → given.reading ≡ None → is_empty (words_of_line l) ≡ false → all_allowed l ≡ false → fault_of given l ≡ Some BadLine
-form_not_allowed given l b r e a = fault_is given l false _ a (form_said given l b r e) ∙ bad_form given (frame_line (words_of_line l))
+pub form_outside : (given : Given) (l : List ℕ) (read : Result FrameLine SysKind) → given.begun ≡ true → given.reading ≡ None → is_empty (words_of_line l) ≡ false
+    → read ≡ formed (frame_line (words_of_line l)) → IsFormOf given l read
+form_outside given l read b r e h = record { form = frame_line (words_of_line l); taken = h; said = form_said given l b r e }
+
+pub form_not_allowed : (given : Given) (l : List ℕ) (read : Result FrameLine SysKind) → IsFormOf given l read → all_allowed l ≡ false → fault_of given l ≡ Some BadLine
+form_not_allowed given l read f a = fault_is given l false _ a f.said ∙ bad_form given f.form
 
 -- the test on numbers, before the others
 abbrev checked : Bool → Option SysKind → Option SysKind
@@ -125,23 +176,21 @@ good given (Some f) form e =
     let both = checked_good (are_numbers_in_range f) f form (later_fault given f) e in
     record { fault = both.0 ∙ ap (λ x. later_fault given x) both.1; said = ap (λ x. Form x) both.1 }
 
-pub form_refused : (given : Given) (l : List ℕ) (kind : SysKind) → given.begun ≡ true → given.reading ≡ None → is_empty (words_of_line l) ≡ false
-    → all_allowed l ≡ true → Err kind ≡ formed (frame_line (words_of_line l)) → fault_of given l ≡ Some kind
-form_refused given l kind b r e a f = fault_is given l true _ a (form_said given l b r e) ∙ refused_by given (frame_line (words_of_line l)) kind f
-
-pub form_faulty : (given : Given) (l : List ℕ) (form : FrameLine) (kind : SysKind) → given.begun ≡ true → given.reading ≡ None
-    → is_empty (words_of_line l) ≡ false → all_allowed l ≡ true → Ok form ≡ formed (frame_line (words_of_line l)) → Some kind ≡ later_fault given form
+pub form_refused : (given : Given) (l : List ℕ) (read : Result FrameLine SysKind) (kind : SysKind) → IsFormOf given l read → all_allowed l ≡ true → read ≡ Err kind
     → fault_of given l ≡ Some kind
-form_faulty given l form kind b r e a f k =
-    let is = good given (frame_line (words_of_line l)) form f in
-    fault_is given l true _ a (form_said given l b r e) ∙ (is.fault ∙ sym k)
+form_refused given l read kind f a e = fault_is given l true _ a f.said ∙ refused_by given f.form kind (sym e ∙ f.taken)
 
-pub form_good : (given : Given) (l : List ℕ) (form : FrameLine) → given.begun ≡ true → given.reading ≡ None → is_empty (words_of_line l) ≡ false
-    → all_allowed l ≡ true → Ok form ≡ formed (frame_line (words_of_line l)) → None ≡ later_fault given form
-    → (fault_of given l ≡ None) × (says given l ≡ Form form)
-form_good given l form b r e a f k =
-    let is = good given (frame_line (words_of_line l)) form f in
-    (fault_is given l true _ a (form_said given l b r e) ∙ (is.fault ∙ sym k), form_said given l b r e ∙ is.said)
+pub form_faulty : (given : Given) (l : List ℕ) (read : Result FrameLine SysKind) (form : FrameLine) (kind : SysKind) → IsFormOf given l read → all_allowed l ≡ true
+    → read ≡ Ok form → Some kind ≡ later_fault given form → fault_of given l ≡ Some kind
+form_faulty given l read form kind f a e k =
+    let is = good given f.form form (sym e ∙ f.taken) in
+    fault_is given l true _ a f.said ∙ (is.fault ∙ sym k)
+
+pub form_good : (given : Given) (l : List ℕ) (read : Result FrameLine SysKind) (form : FrameLine) → IsFormOf given l read → all_allowed l ≡ true → read ≡ Ok form
+    → None ≡ later_fault given form → (fault_of given l ≡ None) × (says given l ≡ Form form)
+form_good given l read form f a e k =
+    let is = good given f.form form (sym e ∙ f.taken) in
+    (fault_is given l true _ a f.said ∙ (is.fault ∙ sym k), f.said ∙ is.said)
 
 lines_of-none : lines_of [] ≡ []
 unfolding lines_of

@@ -7,8 +7,10 @@ use Rattle.xs_text.specs.Words.{words_of_line}
 use Rattle.system_model.specs.declared.SysKind.{SysKind}
 use Rattle.system_model.specs.declared.SysKind.TheVariants.{BadLine, SectionNotEnded, FirstLine}
 use Rattle.system_model.specs.declared.frame_line.FrameLine.TheVariants as form
+use Rattle.system_model.specs.declared.frame_line.SectionKind.{SectionKind}
+use Rattle.system_model.specs.declared.frame_line.SectionKind.TheVariants.{Source, Pins, Play}
 use Rattle.system_model.specs.FrameLines.{is_end}
-use Rattle.system_model.specs.Frame.{SectionText, Given, FrameSays, Own, End, says, fault_of, given_with, given_after, with_own_line, unless_faulty, at_the_end, Framed, Refused, frame_from, framed, nothing_given, have_no_words, is_empty}
+use Rattle.system_model.specs.Frame.{SectionText, Given, FrameSays, Own, End, says, says_in_section, fault_of, given_with, given_after, with_own_line, unless_faulty, at_the_end, Framed, Refused, frame_from, framed, nothing_given, have_no_words, is_empty}
 use Rattle.system_text.specs.declared.frame.Said.{Said}
 use Rattle.system_text.specs.declared.frame.Said.TheVariants as said
 use Rattle.system_text.specs.declared.system_error.SystemError.{SystemError}
@@ -16,7 +18,7 @@ use Rattle.system_text.specs.declared.system_error.SystemError.TheVariants as er
 use Rattle.system_text.specs.declared.system_error.SystemError.TheVariants.{Frame, Memory}
 use Rattle.system_text.specs.Judged.{said_by, with_section}
 use Rattle.system_text.specs.Reads.{ReadsFrame, ReadsLine}
-use Rattle.system_text.specs.Sections.{Section, section_of, with_line}
+use Rattle.system_text.specs.Sections.{IsTextKind, Section, section_of, with_line}
 use Rattle.system_text.proofs.Judged.{fault_is}
 use Rattle.system_text.proofs.Sections.{section_of-cons, section_of-none}
 
@@ -44,25 +46,31 @@ line_taken n given l ls what e s =
 abbrev pub reading : SectionText → Given → Given
 reading begun given = record given { reading = Some begun }
 
-says_inside : (given : Given) (begun : SectionText) (l : List ℕ) (end : Bool) → is_end l ≡ end → says (reading begun given) l ≡ cond end End Own
-says_inside given begun l end e = ap (λ b. cond b End Own) e
+own : (kind : SectionKind) (words : List (List ℕ)) → IsTextKind kind → says_in_section kind words ≡ Own
+own (Source n) words k = refl
+own Pins words k = refl
+own Play words k = absurd k
 
-own_line : (n : ℕ) (given : Given) (begun : SectionText) (l : List ℕ) (ls : List (List ℕ)) → is_end l ≡ false
+says_inside : (given : Given) (begun : SectionText) (l : List ℕ) (end : Bool) → IsTextKind begun.kind → is_end l ≡ end → says (reading begun given) l ≡ cond end End Own
+says_inside given begun l end k e =
+    ap (λ b. cond b End (says_in_section begun.kind (words_of_line l))) e ∙ ap (λ s. cond end End s) (own begun.kind (words_of_line l) k)
+
+own_line : (n : ℕ) (given : Given) (begun : SectionText) (l : List ℕ) (ls : List (List ℕ)) → IsTextKind begun.kind → is_end l ≡ false
     → frame_from n (reading begun given) (l ∷ ls) ≡ frame_from (n + 1) (reading (with_own_line l begun) given) ls
-own_line n given begun l ls e =
-    let is = says_inside given begun l false e in
+own_line n given begun l ls k e =
+    let is = says_inside given begun l false k e in
     line_taken n (reading begun given) l ls Own (fault_is (reading begun given) l (all_allowed l) Own refl is) is
 
-end_allowed : (n : ℕ) (given : Given) (begun : SectionText) (l : List ℕ) (ls : List (List ℕ)) → is_end l ≡ true → all_allowed l ≡ true
+end_allowed : (n : ℕ) (given : Given) (begun : SectionText) (l : List ℕ) (ls : List (List ℕ)) → IsTextKind begun.kind → is_end l ≡ true → all_allowed l ≡ true
     → frame_from n (reading begun given) (l ∷ ls) ≡ frame_from (n + 1) (with_section begun given) ls
-end_allowed n given begun l ls e a =
-    let is = says_inside given begun l true e in
+end_allowed n given begun l ls k e a =
+    let is = says_inside given begun l true k e in
     line_taken n (reading begun given) l ls End (fault_is (reading begun given) l true End a is) is
 
-end_refused : (n : ℕ) (given : Given) (begun : SectionText) (l : List ℕ) (ls : List (List ℕ)) → is_end l ≡ true → all_allowed l ≡ false
+end_refused : (n : ℕ) (given : Given) (begun : SectionText) (l : List ℕ) (ls : List (List ℕ)) → IsTextKind begun.kind → is_end l ≡ true → all_allowed l ≡ false
     → frame_from n (reading begun given) (l ∷ ls) ≡ Refused n BadLine
-end_refused n given begun l ls e a =
-    let is = says_inside given begun l true e in
+end_refused n given begun l ls k e a =
+    let is = says_inside given begun l true k e in
     line_refused n (reading begun given) l ls BadLine (fault_is (reading begun given) l false End a is)
 
 -- with so many lines more
@@ -78,14 +86,14 @@ abbrev by_section : ℕ → Given → SectionText → Option Section → Framed
 by_section n given begun None = Refused begun.line SectionNotEnded
 by_section n given begun (Some section) = after_section n given begun section
 
-end_by : (n : ℕ) (given : Given) (begun : SectionText) (l : List ℕ) (ls : List (List ℕ)) (a : Bool) → is_end l ≡ true → all_allowed l ≡ a
+end_by : (n : ℕ) (given : Given) (begun : SectionText) (l : List ℕ) (ls : List (List ℕ)) (a : Bool) → IsTextKind begun.kind → is_end l ≡ true → all_allowed l ≡ a
     → frame_from n (reading begun given) (l ∷ ls) ≡ cond a (frame_from (n + 0 + 1) (with_section (longer [] begun) given) ls) (Refused (n + 0) BadLine)
-end_by n given begun l ls true e h =
+end_by n given begun l ls true k e h =
     let zero_more : n + 0 ≡ n = omega arith in
-    rw (zero_more, append-nil begun.lines) (end_allowed n given begun l ls e h)
-end_by n given begun l ls false e h =
+    rw (zero_more, append-nil begun.lines) (end_allowed n given begun l ls k e h)
+end_by n given begun l ls false k e h =
     let zero_more : n + 0 ≡ n = omega arith in
-    rw zero_more (end_refused n given begun l ls e h)
+    rw zero_more (end_refused n given begun l ls k e h)
 
 one_longer : (n : ℕ) (given : Given) (begun : SectionText) (l : List ℕ) (o : Option Section)
     → by_section (n + 1) given (with_own_line l begun) o ≡ by_section n given begun (option_map (with_line l) o)
@@ -94,45 +102,47 @@ one_longer n given begun l (Some section) =
     let count : n + 1 + length section.lines ≡ n + length (l ∷ section.lines) = omega arith in
     rw (count, append_assoc begun.lines (l ∷ []) section.lines) refl
 
-walk_by : (n : ℕ) (given : Given) (begun : SectionText) (l : List ℕ) (ls : List (List ℕ)) (end : Bool) → is_end l ≡ end
-    → ((s : SectionText) → frame_from (n + 1) (reading s given) ls ≡ by_section (n + 1) given s (section_of ls))
+walk_by : (n : ℕ) (given : Given) (begun : SectionText) (l : List ℕ) (ls : List (List ℕ)) (end : Bool) → IsTextKind begun.kind → is_end l ≡ end
+    → ((s : SectionText) → IsTextKind s.kind → frame_from (n + 1) (reading s given) ls ≡ by_section (n + 1) given s (section_of ls))
     → frame_from n (reading begun given) (l ∷ ls) ≡ by_section n given begun
     (cond end (Some (record { lines = []; end = l; rest = ls })) (option_map (with_line l) (section_of ls)))
-walk_by n given begun l ls true e h = end_by n given begun l ls (all_allowed l) e refl
-walk_by n given begun l ls false e h = own_line n given begun l ls e ∙ (h (with_own_line l begun) ∙ one_longer n given begun l (section_of ls))
+walk_by n given begun l ls true k e h = end_by n given begun l ls (all_allowed l) k e refl
+walk_by n given begun l ls false k e h = own_line n given begun l ls k e ∙ (h (with_own_line l begun) k ∙ one_longer n given begun l (section_of ls))
 
 -- a section that is being read
-walk : (ls : List (List ℕ)) (n : ℕ) (given : Given) (begun : SectionText) → frame_from n (reading begun given) ls ≡ by_section n given begun (section_of ls)
-walk [] n given begun = rw section_of-none (from-end n (reading begun given))
-walk (l ∷ ls) n given begun = rw (section_of-cons l ls) (walk_by n given begun l ls (is_end l) refl (λ s. walk ls (n + 1) given s))
+walk : (ls : List (List ℕ)) (n : ℕ) (given : Given) (begun : SectionText) → IsTextKind begun.kind → frame_from n (reading begun given) ls ≡ by_section n given begun (section_of ls)
+walk [] n given begun k = rw section_of-none (from-end n (reading begun given))
+walk (l ∷ ls) n given begun k = rw (section_of-cons l ls) (walk_by n given begun l ls (is_end l) k refl (λ s j. walk ls (n + 1) given s j))
 
 -- no line ends it
-pub section_unended : (ls : List (List ℕ)) (n : ℕ) (given : Given) (begun : SectionText) → None ≡ section_of ls → frame_from n (reading begun given) ls ≡ Refused begun.line SectionNotEnded
-section_unended ls n given begun e = walk ls n given begun ∙ ap (by_section n given begun) (sym e)
+pub section_unended : (ls : List (List ℕ)) (n : ℕ) (given : Given) (begun : SectionText) → IsTextKind begun.kind → None ≡ section_of ls → frame_from n (reading begun given) ls ≡ Refused begun.line SectionNotEnded
+section_unended ls n given begun t e = walk ls n given begun t ∙ ap (by_section n given begun) (sym e)
 
 -- the line that ends it has a byte that is not allowed
-pub section_refused : (ls : List (List ℕ)) (n at : ℕ) (given : Given) (begun : SectionText) (section : Section) → Some section ≡ section_of ls
+pub section_refused : (ls : List (List ℕ)) (n at : ℕ) (given : Given) (begun : SectionText) (section : Section) → IsTextKind begun.kind → Some section ≡ section_of ls
     → all_allowed section.end ≡ false → n + length section.lines ≡ at → frame_from n (reading begun given) ls ≡ Refused at BadLine
-section_refused ls n at given begun section e a k =
-    walk ls n given begun ∙ (ap (by_section n given begun) (sym e) ∙ (cond-false _ _ _ a ∙ ap (λ (m : ℕ). Refused m BadLine) k))
+section_refused ls n at given begun section t e a k =
+    walk ls n given begun t ∙ (ap (by_section n given begun) (sym e) ∙ (cond-false _ _ _ a ∙ ap (λ (m : ℕ). Refused m BadLine) k))
 
 -- it has ended
-pub section_taken : (ls : List (List ℕ)) (n at : ℕ) (given new : Given) (begun : SectionText) (section : Section) → Some section ≡ section_of ls
+pub section_taken : (ls : List (List ℕ)) (n at : ℕ) (given new : Given) (begun : SectionText) (section : Section) → IsTextKind begun.kind → Some section ≡ section_of ls
     → all_allowed section.end ≡ true → n + length section.lines ≡ at → new ≡ with_section (longer section.lines begun) given
     → frame_from n (reading begun given) ls ≡ frame_from (at + 1) new section.rest
-section_taken ls n at given new begun section e a k is =
-    walk ls n given begun ∙ (ap (by_section n given begun) (sym e) ∙ (cond-true _ _ _ a
+section_taken ls n at given new begun section t e a k is =
+    walk ls n given begun t ∙ (ap (by_section n given begun) (sym e) ∙ (cond-true _ _ _ a
     ∙ (ap (λ (m : ℕ). frame_from (m + 1) (with_section (longer section.lines begun) given) section.rest) k ∙ ap (λ (g : Given). frame_from (at + 1) g section.rest) (sym is))))
 
 -- A line as the reader takes it
 
 given_without_line : (n : ℕ) (l : List ℕ) (what : Said) (given : Given) → given_with n l (said_by what) given ≡ given_with n [] (said_by what) given
+given_without_line n l said.End given = refl
 given_without_line n l said.Blank given = refl
 given_without_line n l said.Header given = refl
 given_without_line n l (said.Form (form.Node node)) given = refl
 given_without_line n l (said.Form (form.Link link)) given = refl
 given_without_line n l (said.Form (form.Bit bit)) given = refl
 given_without_line n l (said.Form (form.Section kind)) given = refl
+given_without_line n l (said.Form (form.Step step)) given = refl
 
 pub line_read : (n at : ℕ) (given : Given) (l : List ℕ) (ls : List (List ℕ)) (what : Said) → fault_of given l ≡ None → says given l ≡ said_by what → at ≡ n
     → frame_from n given (l ∷ ls) ≡ frame_from (at + 1) (given_with n [] (said_by what) given) ls

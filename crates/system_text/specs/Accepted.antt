@@ -5,8 +5,9 @@ use Rattle.sys_plan.specs.Plan.{AreAscending, AreDistinct}
 use Rattle.system_model.specs.declared.frame_line.EndName.{EndName}
 use Rattle.system_model.specs.declared.frame_line.GivenNode.{GivenNode}
 use Rattle.system_model.specs.declared.frame_line.LinkLine.{LinkLine}
+use Rattle.system_model.specs.declared.frame_line.PlayLine.{PlayLine}
 use Rattle.system_model.specs.Bits.{BitRec}
-use Rattle.system_model.specs.Frame.{Given, has_node, has_link_ends}
+use Rattle.system_model.specs.Frame.{Given, has_node, has_link_ends, is_step_of}
 
 -- a link joins link ends of two of the nodes, and its delay and gap are within their ranges
 pub record IsLinkOf (nodes : List GivenNode) (link : LinkLine) : Type 0 where
@@ -25,8 +26,8 @@ abbrev pub ends_of : List LinkLine → List EndName
 ends_of [] = []
 ends_of (link ∷ links) = link.a ∷ (link.b ∷ ends_of links)
 
--- the nodes, the links and the bits of a frame
-pub record AreAccepted (ns : List GivenNode) (ls : List LinkLine) (bs : List BitRec) : Type 0 where
+-- the nodes, the links, the bits and the steps of a frame
+pub record AreAccepted (ns : List GivenNode) (ls : List LinkLine) (bs : List BitRec) (ps : List PlayLine) : Type 0 where
   pub few_nodes : length ns ≤ 16
   pub few_links : length ls ≤ 48
   pub numbers : AllByRecursion (λ (node : GivenNode). node.number ≤ 99) ns
@@ -37,6 +38,8 @@ pub record AreAccepted (ns : List GivenNode) (ls : List LinkLine) (bs : List Bit
   pub ends : AreDistinct (ends_of ls)
   -- the link ends of a bit are in links
   pub bits : AllByRecursion (λ (bit : BitRec). has_link_ends ls bit.node bit.ends ≡ true) bs
+  -- the nodes and link ends of a step are given
+  pub steps : AllByRecursion (λ (step : PlayLine). is_step_of ns ls step ≡ true) ps
 
 abbrev pub IsAccepted : Given → Type 0
-IsAccepted given = AreAccepted given.nodes given.links given.bits
+IsAccepted given = AreAccepted given.nodes given.links given.bits given.steps

@@ -1,6 +1,7 @@
 -- A section's part of the text.
 use Rattle.std.specs.Prelude.{ℕ, if◌then◌else◌, Option, Some, None, option_map, List, [], ◌∷◌}
 use Rattle.system_model.specs.declared.frame_line.SectionKind.{SectionKind}
+use Rattle.system_model.specs.declared.frame_line.SectionKind.TheVariants.{Source, Pins, Play}
 use Rattle.system_model.specs.FrameLines.{is_end}
 use Rattle.system_model.specs.Frame.{Given}
 
@@ -17,6 +18,12 @@ with_line l section = record section { lines = l ∷ section.lines }
 unfoldable pub section_of : List (List ℕ) → Option Section
 section_of [] = None
 section_of (l ∷ ls) = if is_end l then Some (record { lines = []; end = l; rest = ls }) else option_map (with_line l) (section_of ls)
+
+-- the lines of such a section are its own: the frame passes them by
+abbrev pub IsTextKind : SectionKind → Type 0
+IsTextKind (Source n) = Unit {0}
+IsTextKind Pins = Unit {0}
+IsTextKind Play = ⊥
 
 -- after the line that begins a section
 abbrev pub with_reading : SectionKind → ℕ → Given → Given

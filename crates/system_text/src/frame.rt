@@ -2,18 +2,19 @@ ghost use Rattle.std.specs.Prelude.{◌≡◌, ◌≤◌, ℕ, true, false, ◌=
 ghost use Rattle.std.specs.List.{list_any, prefix_len};
 ghost use Rattle.xs_text.specs.Lines.{lines_of};
 ghost use Rattle.xs_text.specs.Words.{words_of_line};
-ghost use Rattle.system_model.specs.Frame.{Given, Form, nothing_given, is_empty, has_node, has_link_end, has_link_ends, is_same_end, is_same_kind, has_section, given_with, without_source};
+ghost use Rattle.system_model.specs.Frame.{Given, Form, End, says, nothing_given, is_empty, has_node, has_link_end, has_link_ends, is_same_end, is_same_kind, has_section, given_with, without_source};
 ghost use Rattle.system_model.specs.System.{section_lines};
-ghost use Rattle.system_text.specs.Judged.{Judges, said_by, later_fault, with_section};
+ghost use Rattle.system_text.specs.Judged.{Judges, IsFormless, IsFormOf, IsPlaying, NamesNoNode, said_by, later_fault, with_section};
 ghost use Rattle.system_text.specs.Ranges.{IsShortSource};
 
 use crate::end_numbers::stands_twice;
 use crate::frame_lines::frame_line;
-use crate::words::{is_empty, is_header};
+use crate::step_lines::step_line;
+use crate::words::{is_empty, is_end, is_header};
 use std::alloc::{AllocError, Global};
 use std::marker::Model;
 use system_model::{
-    BitLine, EndName, FrameLine, GivenNode, LinkLine, NodeLine, SectionKind, SysKind,
+    BitLine, EndName, FrameLine, GivenNode, LinkLine, NodeLine, PlayLine, SectionKind, SysKind,
 };
 use xs_text::all_allowed;
 
@@ -25,6 +26,8 @@ const MOST_LINKS: usize = 48;
 // What a line of the frame without a fault says.
 #[derive(Drop)]
 pub enum Said {
+    // It ends the section `play`.
+    End,
     // It has no words.
     Blank,
     // It is `xs1 1`, the first line with words.
@@ -40,19 +43,21 @@ pub struct SectionText<'a> {
     pub text: &'a [u8],
 }
 
-// What the lines so far have given: the nodes by ascending number, and the rest in the order of the lines. No
-// section is being read.
+// What the lines so far have given: the nodes by ascending number, and the rest in the order of the lines; and the
+// number of the line that begins the section `play`, where it has begun and not ended. No other section is being read.
 #[derive(Drop)]
 pub struct Frame<'a> {
     begun: bool,
     nodes: Vec<GivenNode>,
     links: Vec<LinkLine>,
     bits: Vec<BitLine>,
+    steps: Vec<PlayLine>,
     sections: Vec<SectionText<'a>>,
+    playing: Option<u32>,
 }
 
 impl<'a> Model for Frame<'a> {
-    ghost use Rattle.std.specs.Prelude.{map, None};
+    ghost use Rattle.std.specs.Prelude.{map, option_map, []};
     ghost use Rattle.std.specs.List.{AllByRecursion};
     ghost use Rattle.xs_text.specs.Lines.{lines_of};
     ghost use Rattle.system_model.specs.Frame.{Given};
@@ -60,7 +65,7 @@ impl<'a> Model for Frame<'a> {
 
     ghost Value = { Given };
 
-    ghost view = { λ f. record { begun = f.begun; nodes = f.nodes.items; links = f.links.items; bits = f.bits.items; sections = map (λ s. record { kind = s.kind; line = s.line; lines = lines_of s.text.now }) f.sections.items; reading = None } };
+    ghost view = { λ f. record { begun = f.begun; nodes = f.nodes.items; links = f.links.items; bits = f.bits.items; steps = f.steps.items; sections = map (λ s. record { kind = s.kind; line = s.line; lines = lines_of s.text.now }) f.sections.items; reading = option_map (λ line. record { kind = SectionKind.Play; line = line; lines = [] }) f.playing } };
 
     ghost invariant = { λ f. AllByRecursion (λ s. IsShortSource s.text.now) f.sections.items };
 }
@@ -75,7 +80,9 @@ impl<'a> Frame<'a> {
             nodes: Vec::new(alloc),
             links: Vec::new(alloc),
             bits: Vec::new(alloc),
+            steps: Vec::new(alloc),
             sections: Vec::new(alloc),
+            playing: None,
         }
     }
 
@@ -83,27 +90,54 @@ impl<'a> Frame<'a> {
     pub fn judge(&self, line: &[u8]) -> Result<Said, SysKind>
         ensures { Judges self.now line.now result }
     {
+        match self.playing {
+            Some(_first) => self.judge_in_play(line),
+            None => self.judge_outside(line),
+        }
+    }
+
+    // The same outside of the section `play`.
+    fn judge_outside(&self, line: &[u8]) -> Result<Said, SysKind>
+        requires { self.now.reading ≡ None }
+        ensures { Judges self.now line.now result }
+    {
         let begun = self.begun;
         if is_empty(line) {
-            judge_blank(line)
+            judge_bytes(line, Said::Blank)
         } else if begun {
-            self.judge_form(line)
+            self.judge_form(line, frame_line(line))
         } else {
             judge_first(line)
         }
     }
 
-    // The same of a line with words after the first such line.
-    fn judge_form(&self, line: &[u8]) -> Result<Said, SysKind>
-        requires begun { self.now.begun ≡ true }
-        requires outside { self.now.reading ≡ None }
-        requires words { is_empty (words_of_line line.now) ≡ false }
+    // The same in that section.
+    fn judge_in_play(&self, line: &[u8]) -> Result<Said, SysKind>
+        requires { IsPlaying self.now }
+        ensures { Judges self.now line.now result }
+    {
+        if is_end(line) {
+            judge_bytes(line, Said::End)
+        } else if is_empty(line) {
+            judge_bytes(line, Said::Blank)
+        } else {
+            self.judge_form(line, step_line(line))
+        }
+    }
+
+    // The same of a line with words after the first such line, by its form.
+    fn judge_form(
+        &self,
+        line: &[u8],
+        form: Result<FrameLine, SysKind>,
+    ) -> Result<Said, SysKind>
+        requires { IsFormOf self.now line.now form }
         ensures { Judges self.now line.now result }
     {
         if !all_allowed(line) {
             return Err(SysKind::BadLine);
         }
-        match frame_line(line) {
+        match form {
             Ok(form) => match self.fault(&form) {
                 Some(kind) => Err(kind),
                 None => Ok(Said::Form(form)),
@@ -121,7 +155,9 @@ impl<'a> Frame<'a> {
             FrameLine::Link(link) => self.link_fault(*link),
             FrameLine::Bit(bit) => self.bit_fault(bit),
             FrameLine::Section(SectionKind::Source(number)) => self.source_fault(*number),
-            FrameLine::Section(SectionKind::Pins) => self.pins_fault(),
+            FrameLine::Section(SectionKind::Pins) => self.twice_fault(SectionKind::Pins),
+            FrameLine::Section(SectionKind::Play) => self.twice_fault(SectionKind::Play),
+            FrameLine::Step(step) => self.step_fault(*step),
         }
     }
 
@@ -181,13 +217,30 @@ impl<'a> Frame<'a> {
         }
     }
 
-    fn pins_fault(&self) -> Option<SysKind>
-        ensures { result ≡ later_fault self.now (FrameLine.Section SectionKind.Pins) }
+    // Of the sections that name no node.
+    fn twice_fault(&self, kind: SectionKind) -> Option<SysKind>
+        requires { NamesNoNode kind }
+        ensures { result ≡ later_fault self.now (FrameLine.Section kind) }
     {
-        if self.has_section(SectionKind::Pins) {
+        if self.has_section(kind) {
             Some(SysKind::GivenTwice)
         } else {
             None
+        }
+    }
+
+    fn step_fault(&self, step: PlayLine) -> Option<SysKind>
+        ensures { result ≡ later_fault self.now (FrameLine.Step step) }
+    {
+        let known = match step {
+            PlayLine::Take(name) => self.has_node(name.node) && self.has_link_end(name),
+            PlayLine::Run { node, .. } => self.has_node(node),
+            PlayLine::Send(name) => self.has_node(name.node) && self.has_link_end(name),
+        };
+        if known {
+            None
+        } else {
+            Some(SysKind::NoSuchNode)
         }
     }
 
@@ -232,13 +285,16 @@ impl<'a> Frame<'a> {
         holds(&self.sections, kind)
     }
 
-    // What a line without a fault gives, but for one that begins a section.
+    // What a line without a fault gives, but for one that begins a source or a script.
     pub fn add(&mut self, line: u32, said: Said) -> Result<(), AllocError>
-        requires { (kind : SectionKind) → said_by said ≡ Form (FrameLine.Section kind) → ⊥ }
+        requires { (kind : SectionKind) → said_by said ≡ Form (FrameLine.Section kind) → kind ≡ SectionKind.Play }
         ensures { OnOk result (self.new ≡ given_with line [] (said_by said) self.old) }
     {
         match said {
             Said::Header => self.begun = true,
+            Said::End => self.end_play()?,
+            Said::Form(FrameLine::Section(SectionKind::Play)) => self.playing = Some(line),
+            Said::Form(FrameLine::Step(step)) => self.steps.push(step)?,
             Said::Form(FrameLine::Node(node)) => self.add_node(line, node)?,
             Said::Form(FrameLine::Link(link)) => self.links.push(link)?,
             Said::Form(FrameLine::Bit(bit)) => self.bits.push(bit)?,
@@ -263,19 +319,41 @@ impl<'a> Frame<'a> {
         Ok(())
     }
 
+    // The end of the section `play`. It keeps no lines: its steps are given already.
+    fn end_play(&mut self) -> Result<(), AllocError>
+        ensures { OnOk result (self.new ≡ given_with 0 [] End self.old) }
+    {
+        if let Some(line) = self.playing {
+            self.sections.push(SectionText {
+                kind: SectionKind::Play,
+                line,
+                text: b"",
+            })?;
+        }
+        self.playing = None;
+        Ok(())
+    }
+
     // One more section, which has ended.
     pub fn add_section(&mut self, section: SectionText<'a>) -> Result<(), AllocError>
         requires { IsShortSource section.text.now }
         ensures { OnOk result (self.new ≡ with_section (record { kind = section.entry.kind; line = section.entry.line; lines = lines_of section.entry.text.now }) self.old) }
     {
         self.sections.push(section)?;
+        self.playing = None;
         Ok(())
+    }
+
+    // The number of the line that begins a section that has not ended.
+    pub fn unended(&self) -> Option<u32>
+        ensures { result ≡ option_map (λ section. section.line) self.now.reading }
+    {
+        self.playing
     }
 
     // The number of the line of the first node that has no source.
     pub fn without_source(&self) -> Option<u32>
-        ensures line { result ≡ option_map (λ node. node.line) (without_source self.now) }
-        ensures outside { self.now.reading ≡ None }
+        ensures { result ≡ option_map (λ node. node.line) (without_source self.now) }
     {
         let node = self
             .nodes
@@ -300,6 +378,12 @@ impl<'a> Frame<'a> {
         ensures { result.now ≡ self.now.bits }
     {
         &self.bits
+    }
+
+    pub fn steps(&self) -> &[PlayLine]
+        ensures { result.now ≡ self.now.steps }
+    {
+        &self.steps
     }
 
     // The text of the section that holds this, no bytes where there is no such section.
@@ -330,6 +414,7 @@ fn is_same_kind(a: SectionKind, b: SectionKind) -> bool
     match (a, b) {
         (SectionKind::Source(m), SectionKind::Source(n)) => m == n,
         (SectionKind::Pins, SectionKind::Pins) => true,
+        (SectionKind::Play, SectionKind::Play) => true,
         _ => false,
     }
 }
@@ -351,13 +436,13 @@ fn count_lesser(nodes: &[GivenNode], number: u8) -> usize
     nodes.iter().take_while(|node| node.number < number).count()
 }
 
-// What a line without words says, or its fault.
-fn judge_blank(line: &[u8]) -> Result<Said, SysKind>
-    requires { is_empty (words_of_line line.now) ≡ true }
-    ensures { (given : Given) → given.reading ≡ None → Judges given line.now result }
+// What a line says that can have no fault but a byte that is not allowed, or that fault.
+fn judge_bytes(line: &[u8], said: Said) -> Result<Said, SysKind>
+    requires { IsFormless said }
+    ensures { (given : Given) → says given line.now ≡ said_by said → Judges given line.now result }
 {
     if all_allowed(line) {
-        Ok(Said::Blank)
+        Ok(said)
     } else {
         Err(SysKind::BadLine)
     }

@@ -14,12 +14,12 @@ use xs_text::{is_plain_number, number};
 
 // A link end as its name has it, before the ranges of its numbers are looked at.
 #[derive(Clone, Copy)]
-struct NamedEnd {
+pub struct NamedEnd {
     node: u32,
     end: u32,
 }
 
-// A line of the frame. The error is that it has no form, or else that a number is out of range.
+// A line of the frame outside of the sections. The error is that it has no form, or else that a number is out of range.
 pub fn frame_line(line: &[u8]) -> Result<FrameLine, SysKind>
     ensures { result ≡ formed (frame_line (words_of_line line.now)) }
 {
@@ -47,6 +47,8 @@ fn form_of(words: &[Word]) -> Result<FrameLine, SysKind>
         source_line(rest)
     } else if same_name(b"pins", name.bytes) {
         pins_line(rest)
+    } else if same_name(b"play", name.bytes) {
+        play_line(rest)
     } else {
         Err(SysKind::BadLine)
     }
@@ -140,9 +142,20 @@ fn pins_line(words: &[Word]) -> Result<FrameLine, SysKind>
     }
 }
 
+// No word after `play`.
+fn play_line(words: &[Word]) -> Result<FrameLine, SysKind>
+    ensures { result ≡ formed (option_map FrameLine.Section (section_line (codes "play" ∷ bytes_of words.now))) }
+{
+    if words.is_empty() {
+        Ok(FrameLine::Section(SectionKind::Play))
+    } else {
+        Err(SysKind::BadLine)
+    }
+}
+
 // The number that a word is, or the greatest number of 32 bits where it is greater than that. A word that is no
 // number makes a bad line.
-fn any_number(word: &[u8]) -> Result<u32, SysKind>
+pub fn any_number(word: &[u8]) -> Result<u32, SysKind>
     ensures { result ≡ or_bad (option_map capped (number_of word.now)) }
 {
     if !is_plain_number(word) {
@@ -152,7 +165,7 @@ fn any_number(word: &[u8]) -> Result<u32, SysKind>
 }
 
 // A number that is at most a limit, or else it is out of range.
-fn up_to(value: u32, most: u32) -> Result<u32, SysKind>
+pub fn up_to(value: u32, most: u32) -> Result<u32, SysKind>
     ensures value { result ≡ ranged (nat_le value most) value }
     ensures most { IfOk result (λ n. n ≤ most) }
 {
@@ -164,7 +177,7 @@ fn up_to(value: u32, most: u32) -> Result<u32, SysKind>
 }
 
 // A number from one limit to another, or else it is out of range.
-fn between(value: u32, least: u32, most: u32) -> Result<u32, SysKind>
+pub fn between(value: u32, least: u32, most: u32) -> Result<u32, SysKind>
     ensures { result ≡ ranged (is_between least most value) value }
 {
     if least <= value && value <= most {
@@ -175,7 +188,7 @@ fn between(value: u32, least: u32, most: u32) -> Result<u32, SysKind>
 }
 
 // `N:E`: link end E of the node with the number N.
-fn end_name(word: &[u8]) -> Result<NamedEnd, SysKind>
+pub fn end_name(word: &[u8]) -> Result<NamedEnd, SysKind>
     ensures { result ≡ or_bad (option_map capped_end (end_name word.now)) }
 {
     let colon = before_colon(word);
@@ -197,7 +210,7 @@ fn before_colon(word: &[u8]) -> usize
 }
 
 // A link end whose numbers are within their ranges.
-fn end_in_range(name: NamedEnd) -> Result<EndName, SysKind>
+pub fn end_in_range(name: NamedEnd) -> Result<EndName, SysKind>
     ensures { result ≡ ranged (is_in_range name) (end_of name) }
 {
     Ok(EndName {

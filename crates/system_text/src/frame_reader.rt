@@ -4,7 +4,7 @@ ghost use Rattle.system_model.specs.Frame.{framed, frame_from, nothing_given, ha
 ghost use Rattle.system_text.specs.Judged.{said_by};
 ghost use Rattle.system_text.specs.Ranges.{IsShortSource};
 ghost use Rattle.system_text.specs.Reads.{ReadsFrame, ReadsLine, frame_of_rest};
-ghost use Rattle.system_text.specs.Sections.{with_reading};
+ghost use Rattle.system_text.specs.Sections.{IsTextKind, with_reading};
 
 use crate::frame::{Frame, Said, SectionText};
 use crate::section::read_section;
@@ -56,7 +56,7 @@ fn read_lines<'a>(alloc: Global, text: &'a [u8]) -> Result<Frame<'a>, SystemErro
     whole(frame)
 }
 
-// Adds what a line gives, with the section that it may begin.
+// Adds what a line gives, with the source or the script that it may begin.
 fn read_line<'a>(
     text: &'a [u8],
     line: Line,
@@ -93,7 +93,12 @@ fn read_said<'a>(
     ensures onward { lines.old.at ≤ lines.new.at }
 {
     match said {
-        Said::Form(FrameLine::Section(kind)) => add_section(text, kind, number, lines, frame),
+        Said::Form(FrameLine::Section(SectionKind::Source(node))) => {
+            add_section(text, SectionKind::Source(node), number, lines, frame)
+        }
+        Said::Form(FrameLine::Section(SectionKind::Pins)) => {
+            add_section(text, SectionKind::Pins, number, lines, frame)
+        }
         _ => {
             frame.add(number, said)?;
             Ok(())
@@ -101,7 +106,7 @@ fn read_said<'a>(
     }
 }
 
-// Adds the section that the line with a number begins.
+// Adds the source or the script that the line with a number begins.
 fn add_section<'a>(
     text: &'a [u8],
     kind: SectionKind,
@@ -111,6 +116,7 @@ fn add_section<'a>(
 ) -> Result<(), SystemError>
     requires same_text { lines.old.text ≡ text.now }
     requires short { IsShortSource text.now }
+    requires text { IsTextKind kind }
     ensures read { ReadsLine (frame_of_rest lines.old (with_reading kind first frame.old)) (frame_of_rest lines.new frame.new) result }
     ensures same_text { lines.new.text ≡ lines.old.text }
     ensures onward { lines.old.at ≤ lines.new.at }
@@ -129,10 +135,13 @@ fn add_section<'a>(
     Ok(())
 }
 
-// The frame at the end of the text, if each node has a source.
+// The frame at the end of the text, if the section `play` has ended and each node has a source.
 fn whole(frame: Frame) -> Result<Frame, SystemError>
     ensures { ReadsFrame (at_the_end frame.entry frame.entry.reading) result }
 {
+    if let Some(line) = frame.unended() {
+        return Err(refusal(line, SysKind::SectionNotEnded));
+    }
     match frame.without_source() {
         Some(line) => Err(refusal(line, SysKind::NodeWithoutSource)),
         None => Ok(frame),

@@ -1,4 +1,5 @@
-//! Reads a system text: the frame of a system, the sources of its nodes, and its pin script. See docs/SYSTEM_TEXT.md.
+//! Reads a system text: the frame of a system with its schedule, the sources of its nodes, and its pin script. See
+//! docs/SYSTEM_TEXT.md.
 #![tactic(auto)]
 
 mod end_numbers;
@@ -9,6 +10,8 @@ mod link_plans;
 mod node_plans;
 mod script;
 mod section;
+mod step_lines;
+mod step_plans;
 mod system_error;
 mod system_reader;
 #[cfg(test)]

@@ -29,7 +29,7 @@ pub fn link_plans(
 }
 
 // Where a node stands by ascending number: the count of the nodes of lesser numbers.
-fn position_by_number(nodes: &[GivenNode], number: u8) -> u8
+pub fn position_by_number(nodes: &[GivenNode], number: u8) -> u8
     requires few { length nodes.now ≤ 16 }
     ensures { result ≡ position_by_number nodes.now number }
 {

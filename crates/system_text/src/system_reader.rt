@@ -16,6 +16,7 @@ use crate::frame_reader::read_frame;
 use crate::link_plans::link_plans;
 use crate::node_plans::node_plans;
 use crate::script::script_of;
+use crate::step_plans::step_plans;
 use crate::system_error::{SystemError, refusal};
 use std::alloc::Global;
 use sys_plan::Plan;
@@ -58,7 +59,8 @@ fn plan_of_frame(alloc: Global, frame: &Frame) -> Result<Plan, SystemError>
     ensures { ReadsSystem (plan_of_frame frame.now) result }
 {
     let links = link_plans(alloc, frame.nodes(), frame.links())?;
+    let steps = step_plans(alloc, frame.nodes(), frame.steps())?;
     let nodes = node_plans(alloc, frame)?;
     let script = script_of(alloc, frame)?;
-    Ok(Plan::of(nodes, links, script, Vec::new(alloc)))
+    Ok(Plan::of(nodes, links, script, steps))
 }
