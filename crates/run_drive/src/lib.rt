@@ -1,0 +1,8 @@
+//! How a plan is run or played to its end. See docs/LOOKAHEAD.md and docs/OUTPUT.md.
+#![tactic(auto)]
+
+mod error;
+mod played;
+
+pub use error::DriveError;
+pub use played::{PlayLine, Played};
