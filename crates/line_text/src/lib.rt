@@ -1,10 +1,13 @@
-//! The lines of the trace that tell of events, and the numbers of its other lines. See docs/OUTPUT.md.
+//! The lines of the trace that tell of events, and what its other lines and those of a play are put together from. See
+//! docs/OUTPUT.md.
 #![tactic(auto)]
 
 mod lines;
 mod numerals;
 #[cfg(test)]
 mod tests;
+mod traffic;
 
 pub use lines::line_of;
 pub use numerals::{append_decimal, append_hex_word};
+pub use traffic::{append_link_end, append_token};

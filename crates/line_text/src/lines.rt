@@ -1,9 +1,10 @@
 //! The lines of events.
 ghost use Rattle.std.specs.Prelude.{◌≡◌, ◌<◌, ◌++◌, OnOk, OnErr};
 ghost use Rattle.xs_model.specs.Events.{IsWithinCounts, NamesWhatIsThere};
-ghost use Rattle.trace_model.specs.EventLines.{event_line, happening_text, token_text, port_name, drive_text, float_text, chan_text, lost_text, trap_text, halt_text};
+ghost use Rattle.trace_model.specs.EventLines.{event_line, happening_text, port_name, drive_text, float_text, chan_text, lost_text, trap_text, halt_text};
 
 use crate::numerals::{append_decimal, append_hex_word};
+use crate::traffic::append_token;
 use std::alloc::{AllocError, Global};
 use xs_base::{Text, Token};
 use xs_model::{Event, Happen};
@@ -72,21 +73,6 @@ fn append_chan(line: &mut Text, chan: u8, token: Token) -> Result<(), AllocError
     append_decimal(line, u64::from(chan))?;
     line.append(b" ")?;
     append_token(line, token)
-}
-
-fn append_token(line: &mut Text, token: Token) -> Result<(), AllocError>
-    ensures { OnOk result (line.new ≡ line.old ++ token_text token) }
-{
-    match token {
-        Token::Byte(b) => {
-            line.append(b"dt ")?;
-            append_decimal(line, u64::from(b))
-        }
-        Token::Ctrl(c) => {
-            line.append(b"ct ")?;
-            append_decimal(line, u64::from(c))
-        }
-    }
 }
 
 fn append_lost(line: &mut Text, id: u32) -> Result<(), AllocError>

@@ -1,8 +1,8 @@
 //! The line of a directed link: how many tokens and credits were sent on it.
 ghost use Rattle.std.specs.Prelude.{◌≡◌, ◌++◌, OnOk};
-ghost use Rattle.trace_model.specs.Trace.{tokens_sent, credits_sent, link_end_text, counts_text, traffic_line};
+ghost use Rattle.trace_model.specs.Trace.{tokens_sent, credits_sent, counts_text, traffic_line};
 
-use line_text::append_decimal;
+use line_text::{append_decimal, append_link_end};
 use std::alloc::AllocError;
 use xs_base::{Entry, Text, What};
 
@@ -27,15 +27,6 @@ fn count_sent(history: &[Entry]) -> Totals
         }
     }
     Totals { tokens, credits }
-}
-
-// `N:E`, a link end of the node with this number.
-fn append_link_end(out: &mut Text, node: u8, end: u8) -> Result<(), AllocError>
-    ensures { OnOk result (out.new ≡ out.old ++ link_end_text node end) }
-{
-    append_decimal(out, u64::from(node))?;
-    out.append(b":")?;
-    append_decimal(out, u64::from(end))
 }
 
 // ` tokens A credits B`, what the history has of each, and the line's end.
