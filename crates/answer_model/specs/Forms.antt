@@ -4,7 +4,7 @@ use Rattle.std.specs.Char.{is_ascii_digit}
 use Rattle.xs_instructions.specs.Image.{same_name}
 use Rattle.xs_text.specs.Numbers.{at_most, value_in}
 use Rattle.answer_model.specs.declared.Form.{Form}
-use Rattle.answer_model.specs.declared.Form.TheVariants.{Run, Check}
+use Rattle.answer_model.specs.declared.Form.TheVariants.{Run, Play, Check}
 
 -- one to ten decimal digits, of a value of at most a limit
 abbrev pub decimal_up_to : ℕ → List ℕ → Option ℕ
@@ -13,14 +13,23 @@ decimal_up_to limit word = if nat_le (length word) 10 then at_most limit (value_
 abbrev pub most_slots : ℕ
 most_slots = 1000000
 
--- the run of so many slots as the word says
+-- the run of so many slots as the word says, and the play in such a run
 abbrev pub run_of : List ℕ → Option Form
 run_of word = option_and_then (λ slots. Some (Run slots)) (decimal_up_to most_slots word)
 
--- the form of the words, if they have one: `check`, `run SLOTS` or `run SLOTS serial`, the last two the same
+abbrev pub play_of : List ℕ → Option Form
+play_of word = option_and_then (λ slots. Some (Play slots)) (decimal_up_to most_slots word)
+
+-- the form of two words
+abbrev pub form_of_two : List ℕ → List ℕ → Option Form
+form_of_two command slots =
+    if same_name (codes "run") command then run_of slots
+    else (if same_name (codes "play") command then play_of slots else None)
+
+-- the form of the words, if they have one: `check`, `play SLOTS`, `run SLOTS` or `run SLOTS serial`, the last two the same
 unfoldable pub form_of_words : List (List ℕ) → Option Form
 form_of_words (a ∷ []) = if same_name (codes "check") a then Some Check else None
-form_of_words (a ∷ n ∷ []) = if same_name (codes "run") a then run_of n else None
+form_of_words (a ∷ n ∷ []) = form_of_two a n
 form_of_words (a ∷ n ∷ mode ∷ []) = if same_name (codes "run") a && same_name (codes "serial") mode then run_of n else None
 form_of_words _ = None
 
@@ -30,6 +39,7 @@ usage_text = codes "usage: xs1 run SLOTS [serial|free|rounds] | play SLOTS | mak
 -- whether a form asks for the input
 abbrev pub reads_input : Form → Bool
 reads_input (Run slots) = true
+reads_input (Play slots) = true
 reads_input Check = true
 
 -- whether words of this form, or of none, ask for the input

@@ -1,6 +1,7 @@
 pub mod CheckForm
 pub mod Forms
 pub mod OnSystem
+pub mod PlayForm
 pub mod Refusals
 pub mod RunForm
 pub mod StatusNumber
@@ -10,4 +11,5 @@ pub mod Worked
 pub mod WorkedEdges
 pub mod WorkedPairs
 pub mod WorkedPins
+pub mod WorkedPlays
 pub mod WorkedPrograms

@@ -9,6 +9,7 @@ ghost use Rattle.answer_model.specs.Worked.{WorkedAnswers, WorkedChecks};
 ghost use Rattle.answer_model.specs.WorkedEdges.{WorkedFrames, WorkedSources, WorkedRuns};
 ghost use Rattle.answer_model.specs.WorkedPairs.{WorkedPairs};
 ghost use Rattle.answer_model.specs.WorkedPins.{WorkedPins};
+ghost use Rattle.answer_model.specs.WorkedPlays.{WorkedPlays};
 ghost use Rattle.answer_model.specs.WorkedPrograms.{WorkedPrograms, WorkedCalls};
 
 use xs_base::Text;
@@ -18,6 +19,8 @@ use xs_base::Text;
 pub enum Form {
     /// `run SLOTS`, and `run SLOTS serial` likewise: a run of so many slots.
     Run(u32),
+    /// `play SLOTS`: the steps of the system's schedule one by one, in a run of so many slots.
+    Play(u32),
     /// `check`: the source of each node as its image gives it.
     Check,
 }
@@ -97,6 +100,11 @@ pub fn worked_runs()
 /// The same at runs of two and of three nodes.
 pub fn worked_pairs()
     ensures { WorkedPairs }
+{}
+
+/// The same of `play`.
+pub fn worked_plays()
+    ensures { WorkedPlays }
 {}
 
 /// The same at programs of one thread.
