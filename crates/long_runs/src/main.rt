@@ -1,10 +1,11 @@
-//! Runs and texts that are long: many slots, many events and large sources, which the program makes by rule, and so what is to
-//! be written. Each is given to the program's call, and the answer compared. What the rules make was worked out by hand, from
-//! docs/MACHINE.md, docs/LINKS.md, docs/ASSEMBLY.md and docs/OUTPUT.md.
+//! Runs and texts that are long: many slots, many events, many steps and large sources, which the program makes by rule, and so what
+//! is to be written. Each is given to the program's call, and the answer compared. What the rules make was worked out by hand,
+//! from docs/MACHINE.md, docs/LINKS.md, docs/LOOKAHEAD.md, docs/ASSEMBLY.md and docs/OUTPUT.md.
 #![tactic(auto)]
 
 mod big_source;
 mod counter;
+mod schedule;
 mod stream;
 mod trial;
 
@@ -15,6 +16,7 @@ use trial::Trial;
 fn main(rt: HostRuntime) -> Result<()> {
     let alloc = rt.alloc();
     tell(&rt, "two nodes over 100,000 slots", stream::trial(alloc))?;
+    tell(&rt, "a schedule of 12,000 steps", schedule::trial(alloc))?;
     tell(&rt, "one node over 1,000,000 slots", counter::trial(alloc))?;
     tell(&rt, "check of a big source", big_source::check(alloc))?;
     tell(&rt, "run of a big source", big_source::run(alloc))?;

@@ -6,7 +6,8 @@ use crate::trial::Trial;
 use std::alloc::{AllocError, Global};
 use xs1_top::Status;
 
-const SYSTEM: &str = "xs1 1
+/// The system text.
+pub const SYSTEM: &str = "xs1 1
 node 0 id 0
 node 1 id 1
 link 0:0 1:0 delay 5 gap 4
