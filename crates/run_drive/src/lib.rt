@@ -3,6 +3,8 @@
 
 mod error;
 mod played;
+mod serial;
 
 pub use error::DriveError;
 pub use played::{PlayLine, Played};
+pub use serial::drive_serial;

@@ -1,6 +1,7 @@
 //! The text that a run of a system writes. See docs/OUTPUT.md.
 #![tactic(auto)]
 
+mod by_node;
 mod node_lines;
 mod traffic_lines;
 mod whole_trace;
