@@ -19,14 +19,14 @@ same-lines nodes nodes' events events' out after same_nodes same_events added =
 pub returns : goal.returns
 returns c =
     let plan = c.args.plan.now in
-    let machine = c.args.machine in
+    let finished = c.args.finished in
     let out = c.args.out.now in
-    let in_order : c.list.result.now ≡ events_in_order (serial plan machine.now) =
+    let in_order : c.list.result.now ≡ events_in_order (serial plan finished.limit) =
     c.list.ensures.value
     ∙ (c.in_ok-merged.ensures.order
     ∙ (ap (λ (nodes : List KeptEvents). merged (events_of nodes)) c.deref.ensures.value
-    ∙ (ap merged (kept-first c.in_ok-events.events.items (serial machine.plan machine.now).events c.in_ok-events.ensures.keeps)
-    ∙ ap (λ (p : PlanRec). events_in_order (serial p machine.now)) c.requires.plan))) in
+    ∙ (ap merged (kept-first c.in_ok-events.events.items (serial finished.plan finished.limit).events c.in_ok-events.ensures.keeps)
+    ∙ ap (λ (p : PlanRec). events_in_order (serial p finished.limit)) c.requires.plan))) in
     on_ok_weaker c.append_event_lines.result
-    (same-lines c.nodes-nodes.result.now plan.nodes c.list.result.now (events_in_order (serial plan machine.now)) out c.append_event_lines.new.out c.nodes-nodes.ensures.value in_order)
+    (same-lines c.nodes-nodes.result.now plan.nodes c.list.result.now (events_in_order (serial plan finished.limit)) out c.append_event_lines.new.out c.nodes-nodes.ensures.value in_order)
     c.append_event_lines.ensures

@@ -10,19 +10,19 @@ use Rattle.trace_text.proofs.whole_trace.append_links.Goals as goal
 pub append_traffic_at-requires-clause-number : goal.append_traffic_at-requires-clause-number
 append_traffic_at-requires-clause-number c =
     let links = c.links-links.result.now in
-    let count : length (directions c.args.machine.now.plan.links) ≡ 2 * length links =
+    let count : length (directions c.args.finished.now.plan.links) ≡ 2 * length links =
     directions-length _ ∙ ap (λ (ls : List LinkPlan). 2 * length ls) (ap (λ (p : PlanRec). p.links) c.requires.plan ∙ sym c.links-links.ensures.value) in
     omega (arith, count)
 
 pub loop-k-preserved : goal.loop-k-preserved
 loop-k-preserved c =
-    let machine = c.args.machine.now in
-    link_more (traffic_at c.nodes-nodes.result.now (serial machine.plan machine.now)) c.loop-k.k c.links-links.result.now _ _ _ _ _ (omega arith) refl c.in_ok-append_traffic_at.ensures c.loop-k.invariant
+    let finished = c.args.finished.now in
+    link_more (traffic_at c.nodes-nodes.result.now (serial finished.plan finished.limit)) c.loop-k.k c.links-links.result.now _ _ _ _ _ (omega arith) refl c.in_ok-append_traffic_at.ensures c.loop-k.invariant
 
 pub returns : goal.returns
 returns c =
-    let machine = c.args.machine.now in
-    let system = serial machine.plan machine.now in
+    let finished = c.args.finished.now in
+    let system = serial finished.plan finished.limit in
     let out = c.args.out.now in
     let links = c.links-links.result.now in
     link_done (traffic_at c.nodes-nodes.result.now system) c.loop-k.k links _ _ (omega arith) c.loop-k.invariant

@@ -6,5 +6,5 @@ use Rattle.trace_text.proofs.whole_trace.append_links.Given as goal
 
 abbrev pub invariant-loop-k : goal.invariant-loop-k
 invariant-loop-k l =
-    l.out ++ by_position (traffic_at l.nodes (serial l.machine.plan l.machine.now)) (2 * l.k) (directions (drop l.k l.links))
-    ≡ l.initial.out ++ by_position (traffic_at l.nodes (serial l.machine.plan l.machine.now)) 0 (directions l.links)
+    l.out ++ by_position (traffic_at l.nodes (serial l.finished.plan l.finished.limit)) (2 * l.k) (directions (drop l.k l.links))
+    ≡ l.initial.out ++ by_position (traffic_at l.nodes (serial l.finished.plan l.finished.limit)) 0 (directions l.links)
