@@ -60,11 +60,12 @@ bit_other k (n ∷ []) e = refl
 bit_other k (n ∷ b ∷ []) e = refl
 bit_other k (n ∷ b ∷ x ∷ ws) e = rw e refl
 
-section_other : (k : List ℕ) (ws : List (List ℕ)) → same_name (codes "source") k ≡ false → same_name (codes "pins") k ≡ false → section_line (k ∷ ws) ≡ None
+section_other : (k : List ℕ) (ws : List (List ℕ)) → same_name (codes "source") k ≡ false → same_name (codes "pins") k ≡ false
+    → same_name (codes "play") k ≡ false → section_line (k ∷ ws) ≡ None
 unfolding section_line
-section_other k [] e f = rw f refl
-section_other k (n ∷ []) e f = rw e refl
-section_other k (n ∷ a ∷ ws) e f = refl
+section_other k [] e f g = rw (f, g) refl
+section_other k (n ∷ []) e f g = rw e refl
+section_other k (n ∷ a ∷ ws) e f g = refl
 
 by_forms : (words : List (List ℕ)) (n : Option NodeLine) (l : Option LinkLine) (b : Option BitRec) (s : Option SectionKind) → node_line words ≡ n → link_line words ≡ l
     → bit_line words ≡ b → section_line words ≡ s → frame_line words ≡ or_line (option_map (λ (x : NodeLine). Node x) n)
@@ -80,19 +81,19 @@ is_node : (k : List ℕ) (ws : List (List ℕ)) → same_name (codes "node") k �
 is_node k ws e =
     rw (sym (same_name_is (codes "node") k e))
     (by_forms (codes "node" ∷ ws) (node_line (codes "node" ∷ ws)) None None None refl (link_other (codes "node") ws refl) (bit_other (codes "node") ws refl)
-    (section_other (codes "node") ws refl refl) ∙ or_none (option_map (λ (l : NodeLine). Node l) (node_line (codes "node" ∷ ws))))
+    (section_other (codes "node") ws refl refl refl) ∙ or_none (option_map (λ (l : NodeLine). Node l) (node_line (codes "node" ∷ ws))))
 
 is_link : (k : List ℕ) (ws : List (List ℕ)) → same_name (codes "link") k ≡ true → frame_line (k ∷ ws) ≡ option_map (λ (l : LinkLine). Link l) (link_line (codes "link" ∷ ws))
 is_link k ws e =
     rw (sym (same_name_is (codes "link") k e))
     (by_forms (codes "link" ∷ ws) None (link_line (codes "link" ∷ ws)) None None (node_other (codes "link") ws refl) refl (bit_other (codes "link") ws refl)
-    (section_other (codes "link") ws refl refl) ∙ or_none (option_map (λ (l : LinkLine). Link l) (link_line (codes "link" ∷ ws))))
+    (section_other (codes "link") ws refl refl refl) ∙ or_none (option_map (λ (l : LinkLine). Link l) (link_line (codes "link" ∷ ws))))
 
 is_bit : (k : List ℕ) (ws : List (List ℕ)) → same_name (codes "bit") k ≡ true → frame_line (k ∷ ws) ≡ option_map (λ (l : BitRec). Bit l) (bit_line (codes "bit" ∷ ws))
 is_bit k ws e =
     rw (sym (same_name_is (codes "bit") k e))
     (by_forms (codes "bit" ∷ ws) None None (bit_line (codes "bit" ∷ ws)) None (node_other (codes "bit") ws refl) (link_other (codes "bit") ws refl) refl
-    (section_other (codes "bit") ws refl refl) ∙ or_none (option_map (λ (l : BitRec). Bit l) (bit_line (codes "bit" ∷ ws))))
+    (section_other (codes "bit") ws refl refl refl) ∙ or_none (option_map (λ (l : BitRec). Bit l) (bit_line (codes "bit" ∷ ws))))
 
 -- of a name that no other form has
 is_section : (name k : List ℕ) (ws : List (List ℕ)) → same_name (codes "node") name ≡ false → same_name (codes "link") name ≡ false
@@ -102,8 +103,8 @@ is_section name k ws n l b e =
     (by_forms (name ∷ ws) None None None (section_line (name ∷ ws)) (node_other name ws n) (link_other name ws l) (bit_other name ws b) refl)
 
 is_none : (k : List ℕ) (ws : List (List ℕ)) → same_name (codes "node") k ≡ false → same_name (codes "link") k ≡ false → same_name (codes "bit") k ≡ false
-    → same_name (codes "source") k ≡ false → same_name (codes "pins") k ≡ false → frame_line (k ∷ ws) ≡ None
-is_none k ws e f g h i = by_forms (k ∷ ws) None None None None (node_other k ws e) (link_other k ws f) (bit_other k ws g) (section_other k ws h i)
+    → same_name (codes "source") k ≡ false → same_name (codes "pins") k ≡ false → same_name (codes "play") k ≡ false → frame_line (k ∷ ws) ≡ None
+is_none k ws e f g h i j = by_forms (k ∷ ws) None None None None (node_other k ws e) (link_other k ws f) (bit_other k ws g) (section_other k ws h i j)
 
 -- the first word and the others
 parts : (words : List Word) → 1 ≤ length words → bytes_of words ≡ word_at words 0 ∷ bytes_of (drop 1 words)
@@ -138,10 +139,15 @@ pub pins_named : (words rest : List Word) (r : Result FrameLine SysKind) → res
     → same_name (codes "pins") (word_at words 0) ≡ true → r ≡ section_formed (section_line (codes "pins" ∷ bytes_of rest)) → r ≡ formed (frame_line (bytes_of words))
 pins_named words rest r d h e i = section_named (codes "pins") words rest r refl refl refl d h e i
 
+pub play_named : (words rest : List Word) (r : Result FrameLine SysKind) → rest ≡ drop 1 words → 1 ≤ length words
+    → same_name (codes "play") (word_at words 0) ≡ true → r ≡ section_formed (section_line (codes "play" ∷ bytes_of rest)) → r ≡ formed (frame_line (bytes_of words))
+play_named words rest r d h e i = section_named (codes "play") words rest r refl refl refl d h e i
+
 pub other_named : (words : List Word) → 1 ≤ length words → same_name (codes "node") (word_at words 0) ≡ false
     → same_name (codes "link") (word_at words 0) ≡ false → same_name (codes "bit") (word_at words 0) ≡ false
-    → same_name (codes "source") (word_at words 0) ≡ false → same_name (codes "pins") (word_at words 0) ≡ false → Err BadLine ≡ formed (frame_line (bytes_of words))
-other_named words h e f g i j = ap formed (sym (ap frame_line (parts words h) ∙ is_none (word_at words 0) (bytes_of (drop 1 words)) e f g i j))
+    → same_name (codes "source") (word_at words 0) ≡ false → same_name (codes "pins") (word_at words 0) ≡ false
+    → same_name (codes "play") (word_at words 0) ≡ false → Err BadLine ≡ formed (frame_line (bytes_of words))
+other_named words h e f g i j k = ap formed (sym (ap frame_line (parts words h) ∙ is_none (word_at words 0) (bytes_of (drop 1 words)) e f g i j k))
 
 frame_line-none : frame_line [] ≡ None
 unfolding frame_line node_line link_line bit_line section_line

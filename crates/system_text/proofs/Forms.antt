@@ -12,7 +12,7 @@ use Rattle.system_model.specs.declared.frame_line.FrameLine.TheVariants.{Node, L
 use Rattle.system_model.specs.declared.frame_line.LinkLine.{LinkLine}
 use Rattle.system_model.specs.declared.frame_line.NodeLine.{NodeLine}
 use Rattle.system_model.specs.declared.frame_line.SectionKind.{SectionKind}
-use Rattle.system_model.specs.declared.frame_line.SectionKind.TheVariants.{Source, Pins}
+use Rattle.system_model.specs.declared.frame_line.SectionKind.TheVariants.{Source, Pins, Play}
 use Rattle.system_model.specs.FrameLines.{◌>>=◌, node_line, link_line, section_line, end_name, before_colon, is_between, is_end_in_range}
 use Rattle.system_text.specs.declared.frame_lines.NamedEnd.{NamedEnd}
 use Rattle.system_text.specs.declared.words.Word.{Word}
@@ -142,6 +142,17 @@ pins_other [] h = absurd (h refl)
 pins_other (a ∷ []) h = refl
 pins_other (a ∷ b ∷ words) h = refl
 
+pub play_is : (words : List Word) → length words ≡ 0 → Ok (Section Play) ≡ section_formed (section_line (codes "play" ∷ bytes_of words))
+unfolding section_line
+play_is [] e = refl
+play_is (a ∷ words) e = absurd (omega (arith, e))
+
+pub play_other : (words : List Word) → (length words ≡ 0 → ⊥) → Err BadLine ≡ section_formed (section_line (codes "play" ∷ bytes_of words))
+unfolding section_line
+play_other [] h = absurd (h refl)
+play_other (a ∷ []) h = refl
+play_other (a ∷ b ∷ words) h = refl
+
 -- The names of link ends
 
 name_steps : (p q : Option ℕ) → or_bad (option_map capped_end (p >>= λ node. q >>= λ end. Some (record { node = node; end = end }))) ≡ chain (read p)
@@ -173,7 +184,7 @@ end_by true true m n k l f g = rw (f refl, g refl) refl
 end_by true false m n k l f g = refl
 end_by false c m n k l f g = refl
 
-end_capped : (name : EndName) → ranged (is_in_range (capped_end name)) (end_of (capped_end name)) ≡ ranged (is_end_in_range name) name
+pub end_capped : (name : EndName) → ranged (is_in_range (capped_end name)) (end_of (capped_end name)) ≡ ranged (is_end_in_range name) name
 end_capped name =
     let node : nat_le (capped name.node) 99 ≡ nat_le name.node 99 = grind (arith, nat_tests) in
     let end : nat_le (capped name.end) 7 ≡ nat_le name.end 7 = grind (arith, nat_tests) in
@@ -185,13 +196,13 @@ past_by true false m n = refl
 past_by false true m n = refl
 past_by false false m n = refl
 
-between_by : (least most n : ℕ) (b : Bool) → most ≤ 65535 → nat_le n most ≡ b → ranged (is_between least most (capped n)) (capped n) ≡ ranged (is_between least most n) n
+between_by : (least most n : ℕ) (b : Bool) → most ≤ 4294967294 → nat_le n most ≡ b → ranged (is_between least most (capped n)) (capped n) ≡ ranged (is_between least most n) n
 between_by least most n true h e = let same : capped n ≡ n = grind (arith, nat_tests) in rw same refl
 between_by least most n false h e =
     let past : nat_le (capped n) most ≡ false = grind (arith, nat_tests) in
     rw (past, e) (past_by (nat_le least (capped n)) (nat_le least n) (capped n) n)
 
-between_capped : (least most n : ℕ) → most ≤ 65535 → ranged (is_between least most (capped n)) (capped n) ≡ ranged (is_between least most n) n
+pub between_capped : (least most n : ℕ) → most ≤ 4294967294 → ranged (is_between least most (capped n)) (capped n) ≡ ranged (is_between least most n) n
 between_capped least most n h = between_by least most n (nat_le n most) h refl
 
 abbrev link_of : Option EndName → Option EndName → Option ℕ → Option ℕ → Option LinkLine

@@ -1,6 +1,6 @@
 -- What is found of a line of the frame.
-use Rattle.std.proofs.Common.{◌≡◌, ℕ, suc, ◌+◌, ◌≤◌, Bool, true, false, not, List, [], ◌∷◌, length, map, drop, Option, Some, None, Result, Ok, Err, option_map, refl, sym, ap, ◌∙◌, nat_lt, cond, arith}
-use Rattle.std.specs.Prelude.{insert, if◌then◌else◌}
+use Rattle.std.proofs.Common.{◌≡◌, ℕ, suc, ◌+◌, ◌≤◌, Bool, true, false, not, List, [], ◌∷◌, length, map, drop, Option, Some, None, Result, Ok, Err, option_map, refl, sym, ap, ◌∙◌, nat_lt, cond, append-nil, arith}
+use Rattle.std.specs.Prelude.{insert, if◌then◌else◌, ◌++◌, option_to_list}
 use Rattle.std.specs.List.{prefix_len}
 use Rattle.std.proofs.lemmas.Bool.{cond-true, cond-false}
 use Rattle.xs_text.specs.Bytes.{all_allowed}
@@ -13,11 +13,13 @@ use Rattle.system_model.specs.declared.frame_line.FrameLine.TheVariants.{Node, L
 use Rattle.system_model.specs.declared.frame_line.GivenNode.{GivenNode}
 use Rattle.system_model.specs.declared.frame_line.PlayLine.{PlayLine}
 use Rattle.system_model.specs.declared.frame_line.SectionKind.{SectionKind}
+use Rattle.system_model.specs.declared.frame_line.SectionKind.TheVariants.{Play}
 use Rattle.system_model.specs.FrameLines.{is_header, is_end, frame_line, play_line, are_numbers_in_range}
 use Rattle.system_model.specs.Frame.{SectionText, Given, FrameSays, End, Blank, Header, NoHeader, Form, says_in_frame, says_in_play, says_by, says_form, says, is_empty, fault_of, first_that_holds, tests, put_by_number}
 use Rattle.system_model.specs.System.{section_lines}
 use Rattle.system_text.specs.Forms.{ranged, formed}
 use Rattle.system_text.specs.Judged.{later_fault, said_by, IsFormless, IsFormOf, IsPlaying}
+use Rattle.system_text.specs.Sections.{play_from}
 use Rattle.system_text.specs.Steps.{stepped}
 use Rattle.system_text.specs.declared.frame.Said.{Said}
 use Rattle.system_text.specs.declared.frame.Said.TheVariants as said
@@ -199,3 +201,31 @@ lines_of-none = refl
 -- no section is left to be looked at
 pub no_section_left : {X : Type 0} (f : X → SectionText) (xs : List X) (i : ℕ) (kind : SectionKind) → length xs ≤ i → lines_of [] ≡ section_lines (map f (drop i xs)) kind
 no_section_left f xs i kind h = lines_of-none ∙ sym (ap (λ ys. section_lines (map f ys) kind) (none_left xs i h))
+
+-- The end of the section `play`
+
+pub play_ended : (given now : Given) (line : ℕ) (sections : List SectionText) → given ≡ now → given.reading ≡ Some (play_from line)
+    → sections ≡ given.sections ++ play_from line ∷ []
+    → record given { sections = sections; reading = None } ≡ record now { sections = now.sections ++ option_to_list now.reading; reading = None }
+play_ended given now line sections e r s =
+    ap (λ ss. record given { sections = ss; reading = None }) (s ∙ ap (λ (o : Option SectionText). given.sections ++ option_to_list o) (sym r))
+    ∙ ap (λ (g : Given). record g { sections = g.sections ++ option_to_list g.reading; reading = None }) e
+
+pub none_ended : (given now : Given) → given ≡ now → given.reading ≡ None
+    → given ≡ record now { sections = now.sections ++ option_to_list now.reading; reading = None }
+none_ended given now e r =
+    let ended : (o : Option SectionText) → o ≡ None → record given { reading = o } ≡ record given { sections = given.sections ++ option_to_list o; reading = None } =
+    λ o i. rw (i, append-nil given.sections) refl in
+    ended given.reading r ∙ ap (λ (g : Given). record g { sections = g.sections ++ option_to_list g.reading; reading = None }) e
+
+-- one more section, whose text is empty
+pub section_added : {X : Type 0} (f : X → SectionText) (xs ys : List X) (x : X) (line : ℕ) → ys ≡ xs ++ x ∷ [] → f x ≡ record { kind = Play; line = line; lines = lines_of [] }
+    → map f ys ≡ map f xs ++ play_from line ∷ []
+section_added f xs ys x line e k = ap (map f) e ∙ by xs
+  where
+    last : f x ≡ play_from line
+    last = k ∙ ap (λ ls. record { kind = Play; line = line; lines = ls }) lines_of-none
+
+    by : (zs : List _) → map f (zs ++ x ∷ []) ≡ map f zs ++ play_from line ∷ []
+    by [] = ap (λ s. s ∷ []) last
+    by (z ∷ zs) = ap (λ ss. f z ∷ ss) (by zs)

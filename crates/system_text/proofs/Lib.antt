@@ -2,6 +2,7 @@ pub mod Lists
 pub mod Forms
 pub mod BitForms
 pub mod FormNames
+pub mod Steps
 pub mod Judged
 pub mod Sections
 pub mod Walk

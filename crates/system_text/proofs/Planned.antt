@@ -1,24 +1,27 @@
 -- The plan of a frame that is accepted keeps what every plan keeps.
 use Rattle.std.proofs.Common.{◌≡◌, ℕ, suc, ◌+◌, ◌<◌, ◌≤◌, true, List, [], ◌∷◌, length, map, Result, Ok, Err, refl, ap, sym, ◌∙◌, subst, arith}
-use Rattle.std.specs.Prelude.{◌≢◌}
+use Rattle.std.specs.Prelude.{◌≢◌, Bool, ◌&&◌, false}
 use Rattle.std.specs.List.{AllByRecursion}
 use Rattle.source_model.specs.Source.{Assembled, Image, Fault, assembled_lines}
 use Rattle.pin_scripts.specs.declared.line.PinLine.{PinLine}
 use Rattle.pin_scripts.specs.Script.{IsScript, IsOfNodes}
-use Rattle.sys_plan.specs.Plan.{PlanRec, IsPlan, IsLink, AllWaysLead, WaysLead, AreDistinct, AreAscending, places_of}
+use Rattle.sys_plan.specs.Plan.{PlanRec, IsPlan, IsLink, NamesWhatIsThere, AllWaysLead, WaysLead, AreDistinct, AreAscending, places_of}
 use Rattle.sys_plan.specs.declared.LinkPlan.{LinkPlan}
 use Rattle.sys_plan.specs.declared.NodePlan.{NodePlan}
+use Rattle.sys_plan.specs.declared.Step.{Step}
 use Rattle.system_model.specs.declared.frame_line.EndName.{EndName}
 use Rattle.system_model.specs.declared.frame_line.GivenNode.{GivenNode}
 use Rattle.system_model.specs.declared.frame_line.LinkLine.{LinkLine}
+use Rattle.system_model.specs.declared.frame_line.PlayLine.{PlayLine}
+use Rattle.system_model.specs.declared.frame_line.PlayLine.TheVariants.{Take, Run, Send}
 use Rattle.system_model.specs.declared.frame_line.SectionKind.TheVariants as section
 use Rattle.system_model.specs.Bits.{BitRec}
-use Rattle.system_model.specs.Frame.{SectionText, Given, has_node}
-use Rattle.system_model.specs.System.{SourceFault, planned, plan_before, section_lines, node_plans, link_plan, position_by_number, ways_of}
+use Rattle.system_model.specs.Frame.{SectionText, Given, has_node, has_link_end, is_step_of}
+use Rattle.system_model.specs.System.{SourceFault, planned, plan_before, section_lines, node_plans, link_plan, step_plan, position_by_number, ways_of}
 use Rattle.system_text.specs.Accepted.{IsLinkOf, AreAccepted, IsAccepted, ends_of}
 use Rattle.system_text.proofs.Places.{Stand, stand, within, same_number}
 use Rattle.system_text.proofs.Plans.{node_plans-cons, node_plans-none}
-use Rattle.system_text.proofs.Ways.{ways_lead}
+use Rattle.system_text.proofs.Ways.{ways_lead, leaves, comes}
 
 -- The plans of nodes, one for each
 
@@ -162,6 +165,30 @@ places_kept : (nodes : List GivenNode) (links : List LinkLine) → AllByRecursio
 places_kept nodes links k h =
     subst (λ ps. AreDistinct ps) (places_are nodes links) (still_distinct (place nodes) (IsKnown nodes) (same_place nodes) (ends_of links) (all_known nodes links k) h)
 
+-- What the steps keep
+
+both : (a b : Bool) → (a && b) ≡ true → (a ≡ true) × (b ≡ true)
+both true b e = (refl, e)
+both false b e = cc
+
+module _ (plan : PlanRec) (nodes : List GivenNode) (links : List LinkLine) (many : length nodes ≡ length plan.nodes) (is : plan.links ≡ map (link_plan nodes) links) where
+  stands_at : (number : ℕ) → has_node nodes number ≡ true → position_by_number nodes number < length plan.nodes
+  stands_at number e = omega (arith, within nodes number e, many)
+
+  step_kept : (line : PlayLine) → is_step_of nodes links line ≡ true → NamesWhatIsThere plan (step_plan nodes line)
+  step_kept (Take name) e =
+      let there = both (has_node nodes name.node) (has_link_end links name) e in
+      (stands_at name.node there.0, rw is (comes nodes name.node name.end links 0 there.1))
+  step_kept (Run node count) e = stands_at node e
+  step_kept (Send name) e =
+      let there = both (has_node nodes name.node) (has_link_end links name) e in
+      (stands_at name.node there.0, rw is (leaves nodes name.node name.end links 0 there.1))
+
+  steps_kept : (lines : List PlayLine) → AllByRecursion (λ (line : PlayLine). is_step_of nodes links line ≡ true) lines →
+      AllByRecursion (NamesWhatIsThere plan) (map (step_plan nodes) lines)
+  steps_kept [] k = tt
+  steps_kept (line ∷ lines) k = (step_kept line k.0, steps_kept lines k.1)
+
 -- The whole plan
 
 -- a script that the reader made of the nodes' numbers
@@ -169,9 +196,10 @@ pub record IsScriptOf (nodes : List GivenNode) (script : List PinLine) : Type 0 
   pub lines : IsScript script
   pub named : IsOfNodes (map (λ (node : GivenNode). node.number) nodes) script
 
-kept_plan : (nodes : List GivenNode) (links : List LinkLine) (bits : List BitRec) (plans : List NodePlan) (script : List PinLine) → AreAccepted nodes links bits → PlansOf bits nodes plans →
-    IsScriptOf nodes script → IsPlan (record { nodes = plans; links = map (link_plan nodes) links; script = script; steps = [] })
-kept_plan nodes links bits plans script k p s = record {
+kept_plan : (nodes : List GivenNode) (links : List LinkLine) (bits : List BitRec) (lines : List PlayLine) (plans : List NodePlan) (script : List PinLine) →
+    AreAccepted nodes links bits lines → PlansOf bits nodes plans → IsScriptOf nodes script →
+    IsPlan (record { nodes = plans; links = map (link_plan nodes) links; script = script; steps = map (step_plan nodes) lines })
+kept_plan nodes links bits lines plans script k p s = record {
   few_nodes = omega (arith, k.few_nodes, as_many bits nodes plans p);
   few_links = omega (arith, k.few_links, as_many_links nodes links);
   numbers = numbers_kept bits nodes plans p k.numbers;
@@ -181,14 +209,20 @@ kept_plan nodes links bits plans script k p s = record {
   places = places_kept nodes links k.links k.ends;
   script = s.lines;
   script_nodes = subst (λ numbers. IsOfNodes numbers script) (same_numbers bits nodes plans p) s.named;
-  ways = let plan : PlanRec = record { nodes = plans; links = map (link_plan nodes) links; script = script; steps = [] } in
+  ways = let plan : PlanRec = record { nodes = plans; links = map (link_plan nodes) links; script = script; steps = map (step_plan nodes) lines } in
       ways_kept plan bits (position_by_number nodes) (ways_lead plan nodes links bits refl k.bits) 0 nodes plans p (stand nodes k.order);
+  steps = let plan : PlanRec = record { nodes = plans; links = map (link_plan nodes) links; script = script; steps = map (step_plan nodes) lines } in
+      steps_kept plan nodes links (as_many bits nodes plans p) refl lines k.steps;
 }
 
--- the plans of the nodes and the links of a frame that is accepted, and its script
-pub frame_plan : (given : Given) (nodes : List GivenNode) (links : List LinkLine) (plans : List NodePlan) (joined : List LinkPlan) (script : List PinLine) → IsAccepted given →
-    nodes ≡ given.nodes → links ≡ given.links → node_plans given.bits given.sections given.nodes ≡ Ok plans → joined ≡ map (link_plan nodes) links → IsScriptOf given.nodes script →
-    IsPlan (record { nodes = plans; links = joined; script = script; steps = [] })
-frame_plan given nodes links plans joined script k n l e j s =
+-- the plans of the nodes, the links and the steps of a frame that is accepted, and its script
+pub frame_plan : (given : Given) (nodes : List GivenNode) (links : List LinkLine) (lines : List PlayLine) (plans : List NodePlan) (joined : List LinkPlan) (script : List PinLine)
+    (steps : List Step) → IsAccepted given → nodes ≡ given.nodes → links ≡ given.links → lines ≡ given.steps → node_plans given.bits given.sections given.nodes ≡ Ok plans →
+    joined ≡ map (link_plan nodes) links → steps ≡ map (step_plan nodes) lines → IsScriptOf given.nodes script →
+    IsPlan (record { nodes = plans; links = joined; script = script; steps = steps })
+frame_plan given nodes links lines plans joined script steps k n l p e j t s =
     let same : map (link_plan given.nodes) given.links ≡ joined = sym (j ∙ (ap (λ ns. map (link_plan ns) links) n ∙ ap (map (link_plan given.nodes)) l)) in
-    subst (λ ls. IsPlan (record { nodes = plans; links = ls; script = script; steps = [] })) same (kept_plan given.nodes given.links given.bits plans script k (plans_of given.bits given.sections given.nodes plans e) s)
+    let as_steps : map (step_plan given.nodes) given.steps ≡ steps = sym (t ∙ (ap (λ ns. map (step_plan ns) lines) n ∙ ap (map (step_plan given.nodes)) p)) in
+    let scheduled : List LinkPlan → List Step → Type 0 = λ ls ss. IsPlan (record { nodes = plans; links = ls; script = script; steps = ss }) in
+    subst (scheduled joined) as_steps (subst (λ ls. scheduled ls (map (step_plan given.nodes) given.steps)) same
+    (kept_plan given.nodes given.links given.bits given.steps plans script k (plans_of given.bits given.sections given.nodes plans e) s))

@@ -5,7 +5,7 @@ use Rattle.std.specs.List.{AllByRecursion, list_any}
 use Rattle.std.specs.Int.{bit_at}
 use Rattle.std.proofs.lemmas.Bool.Decides.{nat_tests}
 use Rattle.std.proofs.lemmas.Nat.Bits.{bit_at-zero}
-use Rattle.sys_plan.specs.Plan.{PlanRec, WaysLead, outgoing, directions, first_link, leaves_by}
+use Rattle.sys_plan.specs.Plan.{PlanRec, WaysLead, outgoing, directions, first_link, leaves_by, comes_to}
 use Rattle.system_model.specs.declared.frame_line.EndName.{EndName}
 use Rattle.system_model.specs.declared.frame_line.GivenNode.{GivenNode}
 use Rattle.system_model.specs.declared.frame_line.LinkLine.{LinkLine}
@@ -27,7 +27,7 @@ leaving false false rest false false first second later e f g h = h e
 at_place : (place : ℕ → ℕ) (x y e d : ℕ) → ((x == y) && (e == d)) ≡ true → ((place x == place y) && (e == d)) ≡ true
 at_place place x y e d h = grind (arith, nat_tests)
 
-leaves : (nodes : List GivenNode) (number end : ℕ) (links : List LinkLine) (n : ℕ) → has_link_end links (record { node = number; end = end }) ≡ true →
+pub leaves : (nodes : List GivenNode) (number end : ℕ) (links : List LinkLine) (n : ℕ) → has_link_end links (record { node = number; end = end }) ≡ true →
     IsSome (first_link (leaves_by (position_by_number nodes number) end) n (directions (map (link_plan nodes) links)))
 leaves nodes number end [] n e = absurd cc
 leaves nodes number end (link ∷ links) n e =
@@ -35,6 +35,25 @@ leaves nodes number end (link ∷ links) n e =
     let place : ℕ → ℕ = position_by_number nodes in
     leaving (is_same_end link.a name) (is_same_end link.b name) (has_link_end links name) _ _ n (n + 1) _ e
     (at_place place link.a.node number link.a.end end) (at_place place link.b.node number link.b.end end) (leaves nodes number end links (n + 1 + 1))
+
+-- It has a way in too.
+
+coming : (a b rest p q : Bool) (first second : ℕ) (later : Option ℕ) → (a || b || rest) ≡ true → (a ≡ true → q ≡ true) → (b ≡ true → p ≡ true) →
+    (rest ≡ true → IsSome later) → IsSome (if p then Some first else (if q then Some second else later))
+coming a b rest true q first second later e f g h = refl
+coming a b rest false true first second later e f g h = refl
+coming true b rest false false first second later e f g h = cc (f refl)
+coming false true rest false false first second later e f g h = cc (g refl)
+coming false false rest false false first second later e f g h = h e
+
+pub comes : (nodes : List GivenNode) (number end : ℕ) (links : List LinkLine) (n : ℕ) → has_link_end links (record { node = number; end = end }) ≡ true →
+    IsSome (first_link (comes_to (position_by_number nodes number) end) n (directions (map (link_plan nodes) links)))
+comes nodes number end [] n e = absurd cc
+comes nodes number end (link ∷ links) n e =
+    let name : EndName = record { node = number; end = end } in
+    let place : ℕ → ℕ = position_by_number nodes in
+    coming (is_same_end link.a name) (is_same_end link.b name) (has_link_end links name) _ _ n (n + 1) _ e
+    (at_place place link.a.node number link.a.end end) (at_place place link.b.node number link.b.end end) (comes nodes number end links (n + 1 + 1))
 
 -- The link ends of a bit are in links.
 

@@ -7,6 +7,7 @@ use Rattle.system_model.specs.declared.frame_line.SectionKind.{SectionKind}
 use Rattle.system_model.specs.declared.frame_line.SectionKind.TheVariants.{Source, Pins, Play}
 use Rattle.system_model.specs.Frame.{SectionText, Given, FrameSays, End, Blank, Header, Form, says, says_form, fault_of, first_that_holds, names_none, is_given_twice, is_id_twice, is_link_to_itself, is_link_end_twice, is_bit_twice, is_too_many}
 use Rattle.system_text.specs.Forms.{formed}
+use Rattle.system_text.specs.Sections.{play_from}
 use Rattle.system_text.specs.declared.frame.Said.{Said}
 use Rattle.system_text.specs.declared.frame.Said.TheVariants as said
 
@@ -47,7 +48,7 @@ pub record IsFormOf (given : Given) (l : List ℕ) (read : Result FrameLine SysK
 
 -- the section `play` is being read
 abbrev pub IsPlaying : Given → Type 0
-IsPlaying given = (line : ℕ) × (given.reading ≡ Some (record { kind = Play; line = line; lines = [] }))
+IsPlaying given = (line : ℕ) × (given.reading ≡ Some (play_from line))
 
 -- a section of which there is one
 abbrev pub NamesNoNode : SectionKind → Type 0

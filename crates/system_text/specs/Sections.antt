@@ -3,7 +3,7 @@ use Rattle.std.specs.Prelude.{ℕ, if◌then◌else◌, Option, Some, None, opti
 use Rattle.system_model.specs.declared.frame_line.SectionKind.{SectionKind}
 use Rattle.system_model.specs.declared.frame_line.SectionKind.TheVariants.{Source, Pins, Play}
 use Rattle.system_model.specs.FrameLines.{is_end}
-use Rattle.system_model.specs.Frame.{Given}
+use Rattle.system_model.specs.Frame.{SectionText, Given}
 
 -- the lines of a section, the line that ends it, and the lines after that
 pub record Section : Type 0 where
@@ -24,6 +24,10 @@ abbrev pub IsTextKind : SectionKind → Type 0
 IsTextKind (Source n) = Unit {0}
 IsTextKind Pins = Unit {0}
 IsTextKind Play = ⊥
+
+-- the section `play` that begins with this line: its lines are not kept
+abbrev pub play_from : ℕ → SectionText
+play_from line = record { kind = Play; line = line; lines = [] }
 
 -- after the line that begins a section
 abbrev pub with_reading : SectionKind → ℕ → Given → Given

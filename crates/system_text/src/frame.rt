@@ -57,15 +57,16 @@ pub struct Frame<'a> {
 }
 
 impl<'a> Model for Frame<'a> {
-    ghost use Rattle.std.specs.Prelude.{map, option_map, []};
+    ghost use Rattle.std.specs.Prelude.{map, option_map};
     ghost use Rattle.std.specs.List.{AllByRecursion};
     ghost use Rattle.xs_text.specs.Lines.{lines_of};
     ghost use Rattle.system_model.specs.Frame.{Given};
     ghost use Rattle.system_text.specs.Ranges.{IsShortSource};
+    ghost use Rattle.system_text.specs.Sections.{play_from};
 
     ghost Value = { Given };
 
-    ghost view = { λ f. record { begun = f.begun; nodes = f.nodes.items; links = f.links.items; bits = f.bits.items; steps = f.steps.items; sections = map (λ s. record { kind = s.kind; line = s.line; lines = lines_of s.text.now }) f.sections.items; reading = option_map (λ line. record { kind = SectionKind.Play; line = line; lines = [] }) f.playing } };
+    ghost view = { λ f. record { begun = f.begun; nodes = f.nodes.items; links = f.links.items; bits = f.bits.items; steps = f.steps.items; sections = map (λ s. record { kind = s.kind; line = s.line; lines = lines_of s.text.now }) f.sections.items; reading = option_map play_from f.playing } };
 
     ghost invariant = { λ f. AllByRecursion (λ s. IsShortSource s.text.now) f.sections.items };
 }
@@ -126,11 +127,7 @@ impl<'a> Frame<'a> {
     }
 
     // The same of a line with words after the first such line, by its form.
-    fn judge_form(
-        &self,
-        line: &[u8],
-        form: Result<FrameLine, SysKind>,
-    ) -> Result<Said, SysKind>
+    fn judge_form(&self, line: &[u8], form: Result<FrameLine, SysKind>) -> Result<Said, SysKind>
         requires { IsFormOf self.now line.now form }
         ensures { Judges self.now line.now result }
     {
@@ -323,13 +320,14 @@ impl<'a> Frame<'a> {
     fn end_play(&mut self) -> Result<(), AllocError>
         ensures { OnOk result (self.new ≡ given_with 0 [] End self.old) }
     {
-        if let Some(line) = self.playing {
-            self.sections.push(SectionText {
-                kind: SectionKind::Play,
-                line,
-                text: b"",
-            })?;
-        }
+        let Some(line) = self.playing else {
+            return Ok(());
+        };
+        self.sections.push(SectionText {
+            kind: SectionKind::Play,
+            line,
+            text: b"",
+        })?;
         self.playing = None;
         Ok(())
     }

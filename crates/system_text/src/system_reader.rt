@@ -58,8 +58,9 @@ fn plan_of_frame(alloc: Global, frame: &Frame) -> Result<Plan, SystemError>
     requires { IsAccepted frame.now }
     ensures { ReadsSystem (plan_of_frame frame.now) result }
 {
-    let links = link_plans(alloc, frame.nodes(), frame.links())?;
-    let steps = step_plans(alloc, frame.nodes(), frame.steps())?;
+    let given = frame.nodes();
+    let links = link_plans(alloc, given, frame.links())?;
+    let steps = step_plans(alloc, given, frame.steps())?;
     let nodes = node_plans(alloc, frame)?;
     let script = script_of(alloc, frame)?;
     Ok(Plan::of(nodes, links, script, steps))

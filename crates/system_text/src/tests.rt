@@ -4,6 +4,7 @@ use crate::{PinKind, SysKind, SystemError, read_system};
 use std::alloc::Global;
 use std::process::Abort;
 use std::test::Fail;
+use sys_plan::Step;
 
 #[test]
 fn pair(rt: HostRuntime) -> Result<(), Fail> {
@@ -71,6 +72,20 @@ fn pin_script_before_its_nodes(rt: HostRuntime) -> Result<(), Fail> {
 }
 
 #[test]
+fn schedule_between_the_sources(rt: HostRuntime) -> Result<(), Fail> {
+    let text =
+        b"xs1 1\nnode 7 id 1\nnode 3 id 0\nlink 7:2 3:5 delay 5 gap 4\nsource 7\nend\nplay # it\nrun 007 0x10\n\n# nothing\nsend 7:0x2 // now\nrun 3\ntake\t3:5\n end # of it\nsource 3\nend";
+    let plan = read_system(rt.alloc(), text)?;
+    let steps = plan.steps();
+    assert_eq!(rt; steps.len(), 4);
+    assert!(rt; matches!(&steps[0], Step::Run { node: 1, count: 16 }));
+    assert!(rt; matches!(&steps[1], Step::Send { node: 1, end: 2 }));
+    assert!(rt; matches!(&steps[2], Step::Run { node: 0, count: 1 }));
+    assert!(rt; matches!(&steps[3], Step::Take { node: 0, end: 5 }));
+    Ok(())
+}
+
+#[test]
 fn pin_script_refusals(rt: HostRuntime) {
     let cases: [(&[u8], u32, PinKind); 3] = [
         (
@@ -98,7 +113,7 @@ fn pin_script_refusals(rt: HostRuntime) {
 
 #[test]
 fn refusals(rt: HostRuntime) {
-    let cases: [(&[u8], u32, SysKind); 10] = [
+    let cases: [(&[u8], u32, SysKind); 14] = [
         (b"xs1 1\npins\nfoo\nend\npins\n", 5, SysKind::GivenTwice),
         (
             b"xs1 1\nnode 0 id 0\npins\nend:\n",
@@ -128,6 +143,22 @@ fn refusals(rt: HostRuntime) {
         ),
         (b"xs1 1\nlink 0:8 1:x delay 5 gap 4", 2, SysKind::BadLine),
         (b"xs1 1\nbit 0 0 0 1 2 3 4 5 6 7 7", 2, SysKind::BadLine),
+        (
+            b"xs1 1\nnode 0 id 0\nplay\nrun 0 1000001\nend",
+            4,
+            SysKind::NumberOutOfRange,
+        ),
+        (
+            b"xs1 1\nnode 0 id 0\nplay\nrun 0\ntake 0:0\nend",
+            5,
+            SysKind::NoSuchNode,
+        ),
+        (
+            b"xs1 1\nnode 0 id 0\nplay\nrun 0 1\n",
+            3,
+            SysKind::SectionNotEnded,
+        ),
+        (b"xs1 1\nplay\nend\nplay\nfoo", 4, SysKind::GivenTwice),
         (
             b"xs1 1\n\
               node 0 id 0\nnode 1 id 1\nnode 2 id 2\nnode 3 id 3\nnode 4 id 4\n\
