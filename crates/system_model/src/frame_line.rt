@@ -48,7 +48,7 @@ pub enum SectionKind {
     Source(u8),
     /// The pin script.
     Pins,
-    /// The steps of the schedule. Their lines are the frame's own.
+    /// The schedule. Its lines are the frame's, which reads them as it goes.
     Play,
 }
 

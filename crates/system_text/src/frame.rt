@@ -35,7 +35,8 @@ pub enum Said {
     Form(FrameLine),
 }
 
-// A section that has ended: what it holds, the number of the line that begins it, and its part of the text.
+// A section that has ended: what it holds, the number of the line that begins it, and its part of the text, which is empty
+// where the frame has read its lines.
 #[derive(Clone, Copy)]
 pub struct SectionText<'a> {
     pub kind: SectionKind,
@@ -332,7 +333,7 @@ impl<'a> Frame<'a> {
         Ok(())
     }
 
-    // One more section, which has ended.
+    // One more section, which has ended. None is being read after it.
     pub fn add_section(&mut self, section: SectionText<'a>) -> Result<(), AllocError>
         requires { IsShortSource section.text.now }
         ensures { OnOk result (self.new ≡ with_section (record { kind = section.entry.kind; line = section.entry.line; lines = lines_of section.entry.text.now }) self.old) }
