@@ -6,9 +6,9 @@ use Rattle.std.specs.List.{AllByRecursion}
 use Rattle.std.proofs.lemmas.List.{get_or_default}
 use Rattle.xs_base.specs.declared.token.Token.{Token}
 use Rattle.core_step.specs.Core.{NothingArrives}
-use Rattle.run_plan.specs.declared.track.Crossing.{Crossing}
+use Rattle.crossings.specs.declared.crossing.Crossing.{Crossing}
 use Rattle.run_plan.specs.declared.track.Track.{Track}
-use Rattle.run_plan.specs.Tracks.{no_crossing}
+use Rattle.crossings.specs.Crossings.{no_crossing}
 use Rattle.run_plan.specs.Incoming.{IsNowhere, NothingElse, Gathers, arrived_by, arrivals_by}
 
 module _ (tracks : List Track) where

@@ -1,6 +1,6 @@
-pub mod Shown
-pub mod Due
+pub mod Tracks
 pub mod Through
 pub mod Systems
 pub mod Starts
 pub mod Arrivals
+pub mod Stories

@@ -1,36 +1,44 @@
 -- A run as it starts.
-use Rattle.std.proofs.Common.{◌≡◌, ℕ, zero, suc, ◌+◌, ◌<◌, List, [], ◌∷◌, ◌++◌, length, map, take, get_or, refl, sym, ap, ◌∙◌, subst, arith}
+use Rattle.std.proofs.Common.{◌≡◌, ℕ, zero, suc, ◌+◌, ◌<◌, Some, List, [], ◌∷◌, ◌++◌, length, map, take, get_or, refl, sym, ap, ◌∙◌, subst, arith}
+use Rattle.std.specs.Prelude.{slice_get}
 use Rattle.std.specs.List.{AllByRecursion}
 use Rattle.std.proofs.lemmas.List.{take_more}
 use Rattle.sys_plan.specs.declared.NodePlan.{NodePlan}
 use Rattle.sys_plan.specs.declared.LinkPlan.{LinkPlan}
-use Rattle.sys_plan.specs.Plan.{PlanRec, Direction, IsPlan, IsLink, WaysLead, AllWaysLead, directions}
+use Rattle.sys_plan.specs.Plan.{PlanRec, Direction, IsPlan, IsLink, directions}
 use Rattle.serial_model.specs.Serial.{system_at_start, nodes_at_start, serial}
 use Rattle.run_plan.specs.declared.track.Track.{Track}
-use Rattle.run_plan.specs.declared.seat.Seat.{Seat}
-use Rattle.run_plan.specs.Incoming.{IsBelow}
-use Rattle.run_plan.specs.Seats.{IsSeat}
+use Rattle.run_plan.specs.declared.station.Station.{Station}
+use Rattle.run_plan.specs.Stations.{IsStation}
 use Rattle.run_plan.specs.Passes.{IsReadyTrack}
-use Rattle.run_plan.specs.Run.{AllPlay, AllCarry, IsSystem, AreReady}
-use Rattle.run_plan.specs.Starts.{StartsAs, AllStart, track_at_start, tracks_at_start}
+use Rattle.run_plan.specs.Run.{AllServe, AllCarry, IsSystem, AreReady}
+use Rattle.run_plan.specs.Starts.{StartsHere, AllStart, track_at_start, tracks_at_start}
 use Rattle.run_plan.proofs.Systems.{play-length, carry-length}
 
 serial-start : (plan : PlanRec) → serial plan 0 ≡ system_at_start plan
 unfolding serial
 serial-start plan = refl
 
--- the ways of the node at a place lead on
-pub ways-at : (plan : PlanRec) (n : ℕ) (nodes : List NodePlan) (k m : ℕ) (d : NodePlan) → AllWaysLead plan n nodes → k < length nodes → m ≡ n + k → WaysLead plan m (get_or nodes k d).ways
-ways-at plan n [] k m d all h e = absurd (omega arith)
-ways-at plan n (node ∷ nodes) zero m d all h e = let same : n ≡ m = omega arith in subst (λ (j : ℕ). WaysLead plan j node.ways) same all.0
-ways-at plan n (node ∷ nodes) (suc k) m d all h e = ways-at plan (n + 1) nodes k m d all.1 (omega arith) (omega arith)
+-- the first nodes and the next one
+pub record Next (nodes : List NodePlan) (n : ℕ) : Type 0 where
+  pub node : NodePlan
+  pub here : slice_get nodes n ≡ Some node
+  pub more : take (n + 1) nodes ≡ take n nodes ++ node ∷ []
+
+pub next-node : (nodes : List NodePlan) (n : ℕ) → n < length nodes → Next nodes n
+next-node [] n h = absurd (omega arith)
+next-node (node ∷ nodes) zero h = record { node = node; here = refl; more = refl }
+next-node (node ∷ nodes) (suc n) h =
+    let rest = next-node nodes n (omega arith) in
+    let p : suc n + 1 ≡ suc (n + 1) = omega arith in
+    record { node = rest.node; here = rest.here; more = rw p (λ i. node ∷ rest.more i) }
 
 -- one more node
-pub start-more : (plan : PlanRec) (n : ℕ) (nodes : List NodePlan) (seats : List Seat) (m : ℕ) (node : NodePlan) (seat : Seat) → AllStart plan n nodes seats → m ≡ n + length nodes → StartsAs plan m node seat → AllStart plan n (nodes ++ node ∷ []) (seats ++ seat ∷ [])
-start-more plan n [] [] m node seat all e s = let same : m ≡ n = omega arith in (subst (λ (j : ℕ). StartsAs plan j node seat) same s, tt)
-start-more plan n [] (x ∷ xs) m node seat all e s = absurd all
-start-more plan n (y ∷ ys) [] m node seat all e s = absurd all
-start-more plan n (y ∷ ys) (x ∷ xs) m node seat all e s = (all.0, start-more plan (n + 1) ys xs m node seat all.1 (omega arith) s)
+pub start-more : (plan : PlanRec) (n : ℕ) (nodes : List NodePlan) (stations : List Station) (m : ℕ) (node : NodePlan) (station : Station) → AllStart plan n nodes stations → m ≡ n + length nodes → StartsHere plan m node station → AllStart plan n (nodes ++ node ∷ []) (stations ++ station ∷ [])
+start-more plan n [] [] m node station all e s = let same : m ≡ n = omega arith in (subst (λ (j : ℕ). StartsHere plan j node station) same s, tt)
+start-more plan n [] (x ∷ xs) m node station all e s = absurd all
+start-more plan n (y ∷ ys) [] m node station all e s = absurd all
+start-more plan n (y ∷ ys) (x ∷ xs) m node station all e s = (all.0, start-more plan (n + 1) ys xs m node station all.1 (omega arith) s)
 
 -- one more link
 tracks-append : (links : List LinkPlan) (link : LinkPlan) → tracks_at_start (directions (links ++ link ∷ [])) ≡ (tracks_at_start (directions links) ++ track_at_start link.a link.a_end link.delay ∷ []) ++ track_at_start link.b link.b_end link.delay ∷ []
@@ -42,29 +50,21 @@ tracks-more links i d link h e =
     ap (λ (ls : List LinkPlan). tracks_at_start (directions ls)) (take_more links i d h ∙ ap (λ (l : LinkPlan). take i links ++ l ∷ []) e)
     ∙ tracks-append (take i links) link
 
-start-play : (plan : PlanRec) (n : ℕ) (nodes : List NodePlan) (seats : List Seat) → AllStart plan n nodes seats → AllPlay plan 0 n nodes seats (nodes_at_start plan n nodes) (map (λ (node : NodePlan). []) nodes)
+start-play : (plan : PlanRec) (n : ℕ) (nodes : List NodePlan) (stations : List Station) → AllStart plan n nodes stations → AllServe plan 0 n nodes stations (nodes_at_start plan n nodes) (map (λ (node : NodePlan). []) nodes)
 start-play plan n [] [] all = tt
 start-play plan n [] (x ∷ xs) all = absurd all
 start-play plan n (y ∷ ys) [] all = absurd all
-start-play plan n (y ∷ ys) (x ∷ xs) all = (record { fixed = all.0.fixed; incoming = all.0.incoming; script = all.0.script; number = all.0.number; stands = all.0.stands; keeps = all.0.keeps }, start-play plan (n + 1) ys xs all.1)
+start-play plan n (y ∷ ys) (x ∷ xs) all = (all.0.serves, start-play plan (n + 1) ys xs all.1)
 
 start-carry : (ds : List Direction) → AllCarry ds (tracks_at_start ds) (map (λ (d : Direction). []) ds)
 start-carry [] = tt
 start-carry (d ∷ ds) = (record { from = refl; from_end = refl; delay = refl; entries = refl }, start-carry ds)
 
-start-seats : (plan : PlanRec) (n links : ℕ) (nodes : List NodePlan) (seats : List Seat) → length (directions plan.links) ≡ links → AllStart plan n nodes seats → AllByRecursion (IsSeat 0 links) seats
-start-seats plan n links [] [] e all = tt
-start-seats plan n links [] (x ∷ xs) e all = absurd all
-start-seats plan n links (y ∷ ys) [] e all = absurd all
-start-seats plan n links (y ∷ ys) (x ∷ xs) e all = (
-  record {
-    before = all.0.before;
-    incoming = subst (λ (m : ℕ). AllByRecursion (IsBelow m) x.incoming.links) e all.0.below;
-    more = omega (arith, all.0.keeps.rest);
-    shown = all.0.shown;
-  },
-  start-seats plan (n + 1) links ys xs e all.1,
-)
+start-stations : (plan : PlanRec) (n links : ℕ) (nodes : List NodePlan) (stations : List Station) → length (directions plan.links) ≡ links → AllStart plan n nodes stations → AllByRecursion (IsStation 0 links) stations
+start-stations plan n links [] [] e all = tt
+start-stations plan n links [] (x ∷ xs) e all = absurd all
+start-stations plan n links (y ∷ ys) [] e all = absurd all
+start-stations plan n links (y ∷ ys) (x ∷ xs) e all = (subst (λ (m : ℕ). IsStation 0 m x) e all.0.ready, start-stations plan (n + 1) links ys xs e all.1)
 
 start-tracks : (count : ℕ) (links : List LinkPlan) → AllByRecursion (IsLink count) links → AllByRecursion (IsReadyTrack 0 count) (tracks_at_start (directions links))
 start-tracks count [] all = tt
@@ -76,14 +76,14 @@ start-tracks count (l ∷ links) all = (
   ),
 )
 
-pub run-start : (plan : PlanRec) (seats : List Seat) (tracks : List Track) → IsPlan plan → AllStart plan 0 plan.nodes seats → tracks ≡ tracks_at_start (directions plan.links) → AreReady plan 0 seats tracks
-run-start plan seats tracks is all e =
+pub run-start : (plan : PlanRec) (stations : List Station) (tracks : List Track) → IsPlan plan → AllStart plan 0 plan.nodes stations → tracks ≡ tracks_at_start (directions plan.links) → AreReady plan 0 stations tracks
+run-start plan stations tracks is all e =
     let ds = directions plan.links in
-    let play = start-play plan 0 plan.nodes seats all in
-    let count = play-length plan 0 0 plan.nodes seats (nodes_at_start plan 0 plan.nodes) (map (λ (node : NodePlan). []) plan.nodes) play in
+    let play = start-play plan 0 plan.nodes stations all in
+    let count = play-length plan 0 0 plan.nodes stations (nodes_at_start plan 0 plan.nodes) (map (λ (node : NodePlan). []) plan.nodes) play in
     let links = carry-length ds (tracks_at_start ds) (map (λ (d : Direction). []) ds) (start-carry ds) in
-    subst (AreReady plan 0 seats) (sym e) (record {
-      system = subst (IsSystem plan 0 seats (tracks_at_start ds)) (sym (serial-start plan)) (record { play = play; carry = start-carry ds });
-      seats = start-seats plan 0 (length (tracks_at_start ds)) plan.nodes seats (sym links) all;
+    subst (AreReady plan 0 stations) (sym e) (record {
+      system = subst (IsSystem plan 0 stations (tracks_at_start ds)) (sym (serial-start plan)) (record { serve = play; carry = start-carry ds });
+      stations = start-stations plan 0 (length (tracks_at_start ds)) plan.nodes stations (sym links) all;
       tracks = subst (λ (m : ℕ). AllByRecursion (IsReadyTrack 0 m) (tracks_at_start ds)) (sym count) (start-tracks (length plan.nodes) plan.links is.links);
     })

@@ -14,14 +14,16 @@ use Rattle.trace_lines.specs.Kept.{KeptEvents, Keeps}
 use Rattle.core_step.specs.Core.{StandsAt}
 use Rattle.pin_scripts.specs.Script.{view_at}
 use Rattle.serial_model.specs.Serial.{arriving, arriving_by, token_among, credit_among, arrivals_at, pins_at, steps_from, steps_of, sent_by, longer_histories, longer_events, system_step, serial}
-use Rattle.run_plan.specs.declared.track.Crossing.{Crossing}
+use Rattle.crossings.specs.declared.crossing.Crossing.{Crossing}
 use Rattle.run_plan.specs.declared.track.Track.{Track}
-use Rattle.run_plan.specs.declared.seat.Seat.{Seat}
-use Rattle.run_plan.specs.Tracks.{crossing_of, no_crossing}
-use Rattle.run_plan.specs.Incoming.{IsBelow, incoming_of, arrived_of, arrived_by, arrivals_by}
-use Rattle.run_plan.specs.Seats.{IsSeat, StepsOn, step_of}
-use Rattle.run_plan.specs.Passes.{IsReadyTrack, Advances, SameSeat, SameTrack}
-use Rattle.run_plan.specs.Run.{Plays, AllPlay, Carries, AllCarry, IsSystem, AreReady}
+use Rattle.run_plan.specs.declared.station.Station.{Station}
+use Rattle.crossings.specs.Crossings.{crossing_of, no_crossing}
+use Rattle.run_plan.specs.Incoming.{IncomingRec, IsBelow, incoming_of, arrived_of, arrived_by, arrivals_by}
+use Rattle.node_seats.specs.Seats.{Plays}
+use Rattle.node_seats.proofs.Seats.{own_step, given-is, plays-next, plays-same, ready-same as seat-ready-same}
+use Rattle.run_plan.specs.Stations.{IsStation, StationSteps}
+use Rattle.run_plan.specs.Passes.{IsReadyTrack, Advances, SameStation, SameTrack}
+use Rattle.run_plan.specs.Run.{Serves, AllServe, Carries, AllCarry, IsSystem, AreReady}
 use Rattle.run_plan.proofs.Through.{all-at, all-zip, zip-length}
 
 map-same : {X Y : Type 0} (f g : X → Y) → ((x : X) → f x ≡ g x) → (xs : List X) → map f xs ≡ map g xs
@@ -50,55 +52,59 @@ module _ (plan : PlanRec) (slot nodes_count : ℕ) where
         λ i. record { tokens = tokens i; credits = credits i }
 
     -- the step of a node that plays its part is the serial machine's
-    step-same : (n : ℕ) (node : NodePlan) (seat : Seat) (rec : NodeRec) (events : List Event) → Plays plan slot n node seat rec events
-        → step_of slot tracks seat rec ≡ node_step (fixed_of node (gaps_of plan n)) rec slot (arrivals_at plan histories slot n) (pins_at plan n slot)
-    step-same n node seat rec events p =
-        let arrivals = ap (arrivals_by tracks) p.incoming ∙ arrivals-same n in
-        λ i. node_step (p.fixed i) rec slot (arrivals i) (view_at (p.script i) (p.number i) slot)
+    abbrev serial_step : ℕ → NodePlan → NodeRec → Stepped
+    serial_step n node rec = node_step (fixed_of node (gaps_of plan n)) rec slot (arrivals_at plan histories slot n) (pins_at plan n slot)
 
-    plays-next : (n : ℕ) (node : NodePlan) (before after : Seat) (rec : NodeRec) (events : List Event) → Plays plan slot n node before rec events → StepsOn slot tracks before after
-        → (step : Stepped) → step_of slot tracks before rec ≡ step → Plays plan (slot + 1) n node after step.rec (events ++ step.emitted.events)
-    plays-next n node before after rec events p s step same = record {
-      fixed = s.fixed ∙ p.fixed;
-      incoming = s.incoming ∙ p.incoming;
-      script = s.script ∙ p.script;
-      number = s.number ∙ p.number;
-      stands = subst (λ (st : Stepped). StandsAt after.core st.rec (slot + 1)) same (s.stands rec p.stands);
-      keeps =
-          subst (λ (es : List Event). Keeps after.events (events ++ es))
-          (ap (λ (g : Emitted). g.events) (s.given rec p.stands ∙ ap (λ (st : Stepped). st.emitted) same))
-          (s.keeps events p.keeps);
+    step-same : (n : ℕ) (node : NodePlan) (station : Station) (rec : NodeRec) (events : List Event) → (is : Serves plan slot n node station rec events)
+        → own_step plan slot n node station.seat rec events is.plays (arrivals_by tracks station.incoming.links) ≡ serial_step n node rec
+    step-same n node station rec events is =
+        let arrivals = ap (arrivals_by tracks) is.incoming ∙ arrivals-same n in
+        λ i. node_step (fixed_of node (gaps_of plan n)) rec slot (arrivals i) (pins_at plan n slot)
+
+    serves-next : (n : ℕ) (node : NodePlan) (before after : Station) (rec : NodeRec) (events : List Event) → Serves plan slot n node before rec events → StationSteps slot tracks before after
+        → Serves plan (slot + 1) n node after (serial_step n node rec).rec (events ++ (serial_step n node rec).emitted.events)
+    serves-next n node before after rec events is s = record {
+      plays =
+          subst (λ (st : Stepped). Plays plan (slot + 1) n node after.seat st.rec (events ++ st.emitted.events)) (step-same n node before rec events is)
+          (plays-next plan slot n node before.seat rec events is.plays (arrivals_by tracks before.incoming.links) after.seat s.steps);
+      incoming = s.incoming ∙ is.incoming;
     }
 
-    all-play : (n : ℕ) (nodes : List NodePlan) (seats : List Seat) (recs : List NodeRec) (events : List (List Event)) (after : List Seat) → AllPlay plan slot n nodes seats recs events → AllZip (StepsOn slot tracks) seats after
-        → AllPlay plan (slot + 1) n nodes after (map (λ (s : Stepped). s.rec) (steps_from plan histories slot n nodes recs)) (longer_events (steps_from plan histories slot n nodes recs) events)
+    gave : (n : ℕ) (node : NodePlan) (before after : Station) (rec : NodeRec) (events : List Event) → Serves plan slot n node before rec events → StationSteps slot tracks before after
+        → after.seat.given ≡ (serial_step n node rec).emitted
+    gave n node before after rec events is s =
+        given-is plan slot n node before.seat rec events is.plays (arrivals_by tracks before.incoming.links) after.seat s.steps
+        ∙ ap (λ (st : Stepped). st.emitted) (step-same n node before rec events is)
+
+    all-play : (n : ℕ) (nodes : List NodePlan) (stations : List Station) (recs : List NodeRec) (events : List (List Event)) (after : List Station) → AllServe plan slot n nodes stations recs events → AllZip (StationSteps slot tracks) stations after
+        → AllServe plan (slot + 1) n nodes after (map (λ (s : Stepped). s.rec) (steps_from plan histories slot n nodes recs)) (longer_events (steps_from plan histories slot n nodes recs) events)
     all-play n [] [] [] [] [] play zip = tt
     all-play n [] [] [] [] (a ∷ afters) play zip = absurd zip
-    all-play n (node ∷ nodes) (seat ∷ seats) (rec ∷ recs) (es ∷ all_events) [] play zip = absurd zip
-    all-play n (node ∷ nodes) (seat ∷ seats) (rec ∷ recs) (es ∷ all_events) (a ∷ afters) play zip = (
-      plays-next n node seat a rec es play.0 zip.0 _ (step-same n node seat rec es play.0),
-      all-play (n + 1) nodes seats recs all_events afters play.1 zip.1,
+    all-play n (node ∷ nodes) (station ∷ stations) (rec ∷ recs) (es ∷ all_events) [] play zip = absurd zip
+    all-play n (node ∷ nodes) (station ∷ stations) (rec ∷ recs) (es ∷ all_events) (a ∷ afters) play zip = (
+      serves-next n node station a rec es play.0 zip.0,
+      all-play (n + 1) nodes stations recs all_events afters play.1 zip.1,
     )
     all-play n _ _ _ _ _ play zip = absurd play
 
-    all-given : (n : ℕ) (nodes : List NodePlan) (seats : List Seat) (recs : List NodeRec) (events : List (List Event)) (after : List Seat) → AllPlay plan slot n nodes seats recs events → AllZip (StepsOn slot tracks) seats after
-        → map (λ (s : Seat). s.given) after ≡ map (λ (s : Stepped). s.emitted) (steps_from plan histories slot n nodes recs)
+    all-given : (n : ℕ) (nodes : List NodePlan) (stations : List Station) (recs : List NodeRec) (events : List (List Event)) (after : List Station) → AllServe plan slot n nodes stations recs events → AllZip (StationSteps slot tracks) stations after
+        → map (λ (s : Station). s.seat.given) after ≡ map (λ (s : Stepped). s.emitted) (steps_from plan histories slot n nodes recs)
     all-given n [] [] [] [] [] play zip = refl
     all-given n [] [] [] [] (a ∷ afters) play zip = absurd zip
-    all-given n (node ∷ nodes) (seat ∷ seats) (rec ∷ recs) (es ∷ all_events) [] play zip = absurd zip
-    all-given n (node ∷ nodes) (seat ∷ seats) (rec ∷ recs) (es ∷ all_events) (a ∷ afters) play zip =
-        let here = zip.0.given rec play.0.stands ∙ ap (λ (st : Stepped). st.emitted) (step-same n node seat rec es play.0) in
-        let rest = all-given (n + 1) nodes seats recs all_events afters play.1 zip.1 in
+    all-given n (node ∷ nodes) (station ∷ stations) (rec ∷ recs) (es ∷ all_events) [] play zip = absurd zip
+    all-given n (node ∷ nodes) (station ∷ stations) (rec ∷ recs) (es ∷ all_events) (a ∷ afters) play zip =
+        let here = gave n node station a rec es play.0 zip.0 in
+        let rest = all-given (n + 1) nodes stations recs all_events afters play.1 zip.1 in
         λ i. here i ∷ rest i
     all-given n _ _ _ _ _ play zip = absurd play
 
-  all-carry : (steps : List Stepped) (after_seats : List Seat) → map (λ (s : Seat). s.given) after_seats ≡ map (λ (s : Stepped). s.emitted) steps
-      → (ds : List Direction) (tracks : List Track) (histories : List (List Entry)) (after : List Track) → AllCarry ds tracks histories → AllZip (Advances slot after_seats) tracks after
+  all-carry : (steps : List Stepped) (after_stations : List Station) → map (λ (s : Station). s.seat.given) after_stations ≡ map (λ (s : Stepped). s.emitted) steps
+      → (ds : List Direction) (tracks : List Track) (histories : List (List Entry)) (after : List Track) → AllCarry ds tracks histories → AllZip (Advances slot after_stations) tracks after
       → AllCarry ds after (longer_histories slot steps ds histories)
-  all-carry steps seats given [] [] [] [] carry zip = tt
-  all-carry steps seats given [] [] [] (a ∷ afters) carry zip = absurd zip
-  all-carry steps seats given (d ∷ ds) (t ∷ ts) (h ∷ hs) [] carry zip = absurd zip
-  all-carry steps seats given (d ∷ ds) (t ∷ ts) (h ∷ hs) (a ∷ afters) carry zip =
+  all-carry steps stations given [] [] [] [] carry zip = tt
+  all-carry steps stations given [] [] [] (a ∷ afters) carry zip = absurd zip
+  all-carry steps stations given (d ∷ ds) (t ∷ ts) (h ∷ hs) [] carry zip = absurd zip
+  all-carry steps stations given (d ∷ ds) (t ∷ ts) (h ∷ hs) (a ∷ afters) carry zip =
       let c = carry.0 in
       let z = zip.0 in (
         record {
@@ -107,63 +113,53 @@ module _ (plan : PlanRec) (slot nodes_count : ℕ) where
           delay = z.delay ∙ c.delay;
           entries = z.entries ∙ (λ i. c.entries i ++ sent_by slot (get_or (given i) (c.from i) (emitted_events [])) (c.from_end i));
         },
-        all-carry steps seats given ds ts hs afters carry.1 zip.1,
+        all-carry steps stations given ds ts hs afters carry.1 zip.1,
       )
-  all-carry steps seats given _ _ _ _ carry zip = absurd carry
+  all-carry steps stations given _ _ _ _ carry zip = absurd carry
 
 serial-next : (plan : PlanRec) (slot : ℕ) → serial plan (slot + 1) ≡ system_step plan slot (serial plan slot)
 unfolding serial
 serial-next plan slot = rw add-one refl
 
 -- the nodes and directed links after a slot are the serial machine's
-pub system-next : (plan : PlanRec) (slot count : ℕ) (seats after : List Seat) (tracks tracks_after : List Track) → IsSystem plan slot seats tracks (serial plan slot) → AllByRecursion (IsReadyTrack slot count) tracks
-    → AllZip (StepsOn slot tracks) seats after → AllZip (Advances slot after) tracks tracks_after → IsSystem plan (slot + 1) after tracks_after (serial plan (slot + 1))
-system-next plan slot count seats after tracks tracks_after is ready steps advances =
+pub system-next : (plan : PlanRec) (slot count : ℕ) (stations after : List Station) (tracks tracks_after : List Track) → IsSystem plan slot stations tracks (serial plan slot) → AllByRecursion (IsReadyTrack slot count) tracks
+    → AllZip (StationSteps slot tracks) stations after → AllZip (Advances slot after) tracks tracks_after → IsSystem plan (slot + 1) after tracks_after (serial plan (slot + 1))
+system-next plan slot count stations after tracks tracks_after is ready steps advances =
     let system = serial plan slot in
-    let given = all-given plan slot count tracks system.histories is.carry ready 0 plan.nodes seats system.nodes system.events after is.play steps in
+    let given = all-given plan slot count tracks system.histories is.carry ready 0 plan.nodes stations system.nodes system.events after is.serve steps in
     subst (IsSystem plan (slot + 1) after tracks_after) (sym (serial-next plan slot)) (record {
-      play = all-play plan slot count tracks system.histories is.carry ready 0 plan.nodes seats system.nodes system.events after is.play steps;
+      serve = all-play plan slot count tracks system.histories is.carry ready 0 plan.nodes stations system.nodes system.events after is.serve steps;
       carry = all-carry plan slot count (steps_of plan slot system) after given (directions plan.links) tracks system.histories tracks_after is.carry advances;
     })
 
 -- each node and each directed link is ready for the next slot
-seats-next : (slot count : ℕ) (tracks : List Track) (seats after : List Seat) → AllZip (StepsOn slot tracks) seats after → AllByRecursion (IsSeat slot count) seats → AllByRecursion (IsSeat (slot + 1) count) after
-seats-next slot count tracks seats after = all-zip (StepsOn slot tracks) (IsSeat slot count) (IsSeat (slot + 1) count) (λ x y s h. record {
-  before = s.before_next;
+stations-next : (slot count : ℕ) (tracks : List Track) (stations after : List Station) → AllZip (StationSteps slot tracks) stations after → AllByRecursion (IsStation slot count) stations → AllByRecursion (IsStation (slot + 1) count) after
+stations-next slot count tracks stations after = all-zip (StationSteps slot tracks) (IsStation slot count) (IsStation (slot + 1) count) (λ x y s h. record {
+  here = s.steps.next;
   incoming = subst (AllByRecursion (IsBelow count)) (sym s.incoming) h.incoming;
-  more = omega (arith, s.more, h.more);
-  shown = s.shown_next;
-}) seats after
+}) stations after
 
-tracks-next : (slot count : ℕ) (seats : List Seat) (tracks after : List Track) → AllZip (Advances slot seats) tracks after → AllByRecursion (IsReadyTrack slot count) tracks → AllByRecursion (IsReadyTrack (slot + 1) count) after
-tracks-next slot count seats tracks after = all-zip (Advances slot seats) (IsReadyTrack slot count) (IsReadyTrack (slot + 1) count) (λ x y a h. record {
+tracks-next : (slot count : ℕ) (stations : List Station) (tracks after : List Track) → AllZip (Advances slot stations) tracks after → AllByRecursion (IsReadyTrack slot count) tracks → AllByRecursion (IsReadyTrack (slot + 1) count) after
+tracks-next slot count stations tracks after = all-zip (Advances slot stations) (IsReadyTrack slot count) (IsReadyTrack (slot + 1) count) (λ x y a h. record {
   from = omega (arith, a.from, h.from);
   here = a.next;
 }) tracks after
 
 -- room that is made changes none of this
-pub same-seat : (seat : Seat) (events : KeptEvents) → events.events ≡ seat.events.events → events.more ≡ seat.events.more → SameSeat seat (record seat { events = events })
-same-seat seat events e m = λ i. record seat { events = record { events = e i; more = m i; spare = seat.events.spare } }
+pub same-itself : (station : Station) → SameStation station station
+same-itself station = record { seat = refl; incoming = refl }
 
 pub same-track : (track : Track) (history : BatchRec) → history.entries ≡ track.history.entries → SameTrack track (record track { history = history })
 same-track track history e = λ i. record track { history = record { entries = e i; spare = track.history.spare } }
 
-play-same : (plan : PlanRec) (slot n : ℕ) (nodes : List NodePlan) (seats : List Seat) (recs : List NodeRec) (events : List (List Event)) (after : List Seat) → AllPlay plan slot n nodes seats recs events → AllZip SameSeat seats after → AllPlay plan slot n nodes after recs events
+play-same : (plan : PlanRec) (slot n : ℕ) (nodes : List NodePlan) (stations : List Station) (recs : List NodeRec) (events : List (List Event)) (after : List Station) → AllServe plan slot n nodes stations recs events → AllZip SameStation stations after → AllServe plan slot n nodes after recs events
 play-same plan slot n [] [] [] [] [] play zip = tt
 play-same plan slot n [] [] [] [] (a ∷ afters) play zip = absurd zip
-play-same plan slot n (node ∷ nodes) (seat ∷ seats) (rec ∷ recs) (es ∷ all_events) [] play zip = absurd zip
-play-same plan slot n (node ∷ nodes) (seat ∷ seats) (rec ∷ recs) (es ∷ all_events) (a ∷ afters) play zip =
-    let p = subst (λ (s : Seat). Plays plan slot n node s rec es) (sym zip.0) play.0 in (
-      record {
-        fixed = p.fixed;
-        incoming = p.incoming;
-        script = p.script;
-        number = p.number;
-        stands = p.stands;
-        keeps = record { first = p.keeps.first; rest = p.keeps.rest };
-      },
-      play-same plan slot (n + 1) nodes seats recs all_events afters play.1 zip.1,
-    )
+play-same plan slot n (node ∷ nodes) (station ∷ stations) (rec ∷ recs) (es ∷ all_events) [] play zip = absurd zip
+play-same plan slot n (node ∷ nodes) (station ∷ stations) (rec ∷ recs) (es ∷ all_events) (a ∷ afters) play zip = (
+  record { plays = plays-same plan slot n node station.seat a.seat rec es play.0.plays zip.0.seat; incoming = ap (λ (i : IncomingRec). i.links) zip.0.incoming ∙ play.0.incoming },
+  play-same plan slot (n + 1) nodes stations recs all_events afters play.1 zip.1,
+)
 play-same plan slot n _ _ _ _ _ play zip = absurd play
 
 carry-same : (ds : List Direction) (tracks : List Track) (histories : List (List Entry)) (after : List Track) → AllCarry ds tracks histories → AllZip SameTrack tracks after → AllCarry ds after histories
@@ -175,15 +171,13 @@ carry-same (d ∷ ds) (t ∷ ts) (h ∷ hs) (a ∷ afters) carry zip =
     (record { from = c.from; from_end = c.from_end; delay = c.delay; entries = c.entries }, carry-same ds ts hs afters carry.1 zip.1)
 carry-same _ _ _ _ carry zip = absurd carry
 
-pub seats-same : (slot count : ℕ) (seats after : List Seat) → AllZip SameSeat seats after → AllByRecursion (IsSeat slot count) seats → AllByRecursion (IsSeat slot count) after
-seats-same slot count seats after =
-    all-zip SameSeat (IsSeat slot count) (IsSeat slot count)
-    (λ x y s h. let k = subst (IsSeat slot count) (sym s) h in record {
-      before = k.before;
-      incoming = k.incoming;
-      more = k.more;
-      shown = record { steady = k.shown.steady; next = k.shown.next; levels = k.shown.levels };
-    }) seats after
+pub stations-same : (slot count : ℕ) (stations after : List Station) → AllZip SameStation stations after → AllByRecursion (IsStation slot count) stations → AllByRecursion (IsStation slot count) after
+stations-same slot count stations after =
+    all-zip SameStation (IsStation slot count) (IsStation slot count)
+    (λ x y s h. record {
+      here = seat-ready-same slot x.seat y.seat h.here s.seat;
+      incoming = subst (λ (i : IncomingRec). AllByRecursion (IsBelow count) i.links) (sym s.incoming) h.incoming;
+    }) stations after
 
 pub tracks-same : (slot count : ℕ) (tracks after : List Track) → AllZip SameTrack tracks after → AllByRecursion (IsReadyTrack slot count) tracks → AllByRecursion (IsReadyTrack slot count) after
 tracks-same slot count tracks after =
@@ -195,22 +189,22 @@ tracks-same slot count tracks after =
     tracks after
 
 -- the node and the directed link at a place
-pub play-at : (plan : PlanRec) (slot n : ℕ) (nodes : List NodePlan) (seats : List Seat) (recs : List NodeRec) (events : List (List Event)) (k : ℕ) (s : Seat) (r : NodeRec) → AllPlay plan slot n nodes seats recs events → k < length nodes
-    → StandsAt (get_or seats k s).core (get_or recs k r) slot × Keeps (get_or seats k s).events (get_or events k [])
+pub play-at : (plan : PlanRec) (slot n : ℕ) (nodes : List NodePlan) (stations : List Station) (recs : List NodeRec) (events : List (List Event)) (k : ℕ) (s : Station) (r : NodeRec) → AllServe plan slot n nodes stations recs events → k < length nodes
+    → StandsAt (get_or stations k s).seat.core (get_or recs k r) slot × Keeps (get_or stations k s).seat.events (get_or events k [])
 play-at plan slot n [] [] [] [] k s r play h = absurd (omega arith)
-play-at plan slot n (node ∷ nodes) (seat ∷ seats) (rec ∷ recs) (es ∷ events) zero s r play h = (play.0.stands, play.0.keeps)
-play-at plan slot n (node ∷ nodes) (seat ∷ seats) (rec ∷ recs) (es ∷ events) (suc k) s r play h = play-at plan slot (n + 1) nodes seats recs events k s r play.1 (omega arith)
+play-at plan slot n (node ∷ nodes) (station ∷ stations) (rec ∷ recs) (es ∷ events) zero s r play h = (play.0.plays.stands, play.0.plays.keeps)
+play-at plan slot n (node ∷ nodes) (station ∷ stations) (rec ∷ recs) (es ∷ events) (suc k) s r play h = play-at plan slot (n + 1) nodes stations recs events k s r play.1 (omega arith)
 play-at plan slot n _ _ _ _ k s r play h = absurd play
 
 -- what is kept of the events of each node
-pub play-keeps : (plan : PlanRec) (slot n : ℕ) (nodes : List NodePlan) (seats : List Seat) (recs : List NodeRec) (events : List (List Event)) → AllPlay plan slot n nodes seats recs events → AllZip Keeps (map (λ (s : Seat). s.events) seats) events
+pub play-keeps : (plan : PlanRec) (slot n : ℕ) (nodes : List NodePlan) (stations : List Station) (recs : List NodeRec) (events : List (List Event)) → AllServe plan slot n nodes stations recs events → AllZip Keeps (map (λ (s : Station). s.seat.events) stations) events
 play-keeps plan slot n [] [] [] [] play = tt
-play-keeps plan slot n (node ∷ nodes) (seat ∷ seats) (rec ∷ recs) (es ∷ events) play = (play.0.keeps, play-keeps plan slot (n + 1) nodes seats recs events play.1)
+play-keeps plan slot n (node ∷ nodes) (station ∷ stations) (rec ∷ recs) (es ∷ events) play = (play.0.plays.keeps, play-keeps plan slot (n + 1) nodes stations recs events play.1)
 play-keeps plan slot n _ _ _ _ play = absurd play
 
-pub play-length : (plan : PlanRec) (slot n : ℕ) (nodes : List NodePlan) (seats : List Seat) (recs : List NodeRec) (events : List (List Event)) → AllPlay plan slot n nodes seats recs events → length seats ≡ length nodes
+pub play-length : (plan : PlanRec) (slot n : ℕ) (nodes : List NodePlan) (stations : List Station) (recs : List NodeRec) (events : List (List Event)) → AllServe plan slot n nodes stations recs events → length stations ≡ length nodes
 play-length plan slot n [] [] [] [] play = refl
-play-length plan slot n (node ∷ nodes) (seat ∷ seats) (rec ∷ recs) (es ∷ events) play = omega (arith, play-length plan slot (n + 1) nodes seats recs events play.1)
+play-length plan slot n (node ∷ nodes) (station ∷ stations) (rec ∷ recs) (es ∷ events) play = omega (arith, play-length plan slot (n + 1) nodes stations recs events play.1)
 play-length plan slot n _ _ _ _ play = absurd play
 
 pub carry-at : (ds : List Direction) (tracks : List Track) (histories : List (List Entry)) (k : ℕ) (t : Track) → AllCarry ds tracks histories → k < length ds → (get_or tracks k t).history.entries ≡ get_or histories k []
@@ -225,7 +219,7 @@ carry-length (d ∷ ds) (x ∷ xs) (h ∷ hs) carry = omega (arith, carry-length
 carry-length _ _ _ carry = absurd carry
 
 -- what a node gave
-pub given-at : (seats : List Seat) (k : ℕ) (d : Emitted) (s : Seat) → k < length seats → get_or (map (λ (x : Seat). x.given) seats) k d ≡ (get_or seats k s).given
+pub given-at : (stations : List Station) (k : ℕ) (d : Emitted) (s : Station) → k < length stations → get_or (map (λ (x : Station). x.seat.given) stations) k d ≡ (get_or stations k s).seat.given
 given-at [] k d s h = absurd (omega arith)
 given-at (x ∷ xs) zero d s h = refl
 given-at (x ∷ xs) (suc k) d s h = given-at xs k d s (omega arith)
@@ -235,19 +229,19 @@ pub ready-at : (slot count : ℕ) (tracks : List Track) (i : ℕ) (d t : Track) 
 ready-at slot count tracks i d t all inside is = subst (IsReadyTrack slot count) is (all-at (IsReadyTrack slot count) tracks i d all inside)
 
 -- nodes and directed links stay ready where room is made, and are ready for the next slot after one
-pub ready-same : (plan : PlanRec) (slot : ℕ) (seats after : List Seat) (tracks tracks_after : List Track) → AreReady plan slot seats tracks → AllZip SameSeat seats after → AllZip SameTrack tracks tracks_after → AreReady plan slot after tracks_after
-ready-same plan slot seats after tracks tracks_after ready s t = record {
+pub ready-same : (plan : PlanRec) (slot : ℕ) (stations after : List Station) (tracks tracks_after : List Track) → AreReady plan slot stations tracks → AllZip SameStation stations after → AllZip SameTrack tracks tracks_after → AreReady plan slot after tracks_after
+ready-same plan slot stations after tracks tracks_after ready s t = record {
   system = record {
-    play = play-same plan slot 0 plan.nodes seats (serial plan slot).nodes (serial plan slot).events after ready.system.play s;
+    serve = play-same plan slot 0 plan.nodes stations (serial plan slot).nodes (serial plan slot).events after ready.system.serve s;
     carry = carry-same (directions plan.links) tracks (serial plan slot).histories tracks_after ready.system.carry t;
   };
-  seats = subst (λ (n : ℕ). AllByRecursion (IsSeat slot n) after) (sym (zip-length SameTrack tracks tracks_after t)) (seats-same slot (length tracks) seats after s ready.seats);
-  tracks = subst (λ (n : ℕ). AllByRecursion (IsReadyTrack slot n) tracks_after) (sym (zip-length SameSeat seats after s)) (tracks-same slot (length seats) tracks tracks_after t ready.tracks);
+  stations = subst (λ (n : ℕ). AllByRecursion (IsStation slot n) after) (sym (zip-length SameTrack tracks tracks_after t)) (stations-same slot (length tracks) stations after s ready.stations);
+  tracks = subst (λ (n : ℕ). AllByRecursion (IsReadyTrack slot n) tracks_after) (sym (zip-length SameStation stations after s)) (tracks-same slot (length stations) tracks tracks_after t ready.tracks);
 }
 
-pub ready-next : (plan : PlanRec) (slot : ℕ) (seats after : List Seat) (tracks tracks_after : List Track) → AreReady plan slot seats tracks → AllZip (StepsOn slot tracks) seats after → AllZip (Advances slot after) tracks tracks_after → AreReady plan (slot + 1) after tracks_after
-ready-next plan slot seats after tracks tracks_after ready s t = record {
-  system = system-next plan slot (length seats) seats after tracks tracks_after ready.system ready.tracks s t;
-  seats = subst (λ (n : ℕ). AllByRecursion (IsSeat (slot + 1) n) after) (sym (zip-length (Advances slot after) tracks tracks_after t)) (seats-next slot (length tracks) tracks seats after s ready.seats);
-  tracks = subst (λ (n : ℕ). AllByRecursion (IsReadyTrack (slot + 1) n) tracks_after) (sym (zip-length (StepsOn slot tracks) seats after s)) (tracks-next slot (length seats) after tracks tracks_after t ready.tracks);
+pub ready-next : (plan : PlanRec) (slot : ℕ) (stations after : List Station) (tracks tracks_after : List Track) → AreReady plan slot stations tracks → AllZip (StationSteps slot tracks) stations after → AllZip (Advances slot after) tracks tracks_after → AreReady plan (slot + 1) after tracks_after
+ready-next plan slot stations after tracks tracks_after ready s t = record {
+  system = system-next plan slot (length stations) stations after tracks tracks_after ready.system ready.tracks s t;
+  stations = subst (λ (n : ℕ). AllByRecursion (IsStation (slot + 1) n) after) (sym (zip-length (Advances slot after) tracks tracks_after t)) (stations-next slot (length tracks) tracks stations after s ready.stations);
+  tracks = subst (λ (n : ℕ). AllByRecursion (IsReadyTrack (slot + 1) n) tracks_after) (sym (zip-length (StationSteps slot tracks) stations after s)) (tracks-next slot (length stations) after tracks tracks_after t ready.tracks);
 }

@@ -6,9 +6,9 @@ use Rattle.xs_base.specs.declared.numbers.TheConstants.{LINK_ENDS}
 use Rattle.xs_base.specs.declared.token.Token.{Token}
 use Rattle.xs_model.specs.declared.outside.Arrivals.{Arrivals}
 use Rattle.sys_plan.specs.Plan.{PlanRec, incoming, link_ends}
-use Rattle.run_plan.specs.declared.track.Crossing.{Crossing}
+use Rattle.crossings.specs.declared.crossing.Crossing.{Crossing}
 use Rattle.run_plan.specs.declared.track.Track.{Track}
-use Rattle.run_plan.specs.Tracks.{no_crossing}
+use Rattle.crossings.specs.Crossings.{no_crossing}
 
 -- the directed links that come to the link ends of the node at a position
 abbrev pub incoming_of : PlanRec → Position → List (Option LinkNumber)

@@ -1,9 +1,9 @@
-pub mod Shown
 pub mod Tracks
 pub mod Incoming
-pub mod Seats
+pub mod Stations
 pub mod Passes
 pub mod Run
 pub mod Starts
 pub mod Machine
 pub mod Inside
+pub mod Stories

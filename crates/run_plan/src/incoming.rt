@@ -6,7 +6,8 @@ ghost use Rattle.sys_plan.specs.Plan.{directions};
 ghost use Rattle.core_step.specs.Core.{NothingArrives};
 ghost use Rattle.run_plan.specs.Incoming.{arrivals_by, arrived_by, incoming_of, IsBelow, IsNowhere};
 
-use crate::track::{Crossing, Track};
+use crate::track::Track;
+use crossings::Crossing;
 use std::marker::Model;
 use sys_plan::Plan;
 use xs_base::numbers::LINK_ENDS;

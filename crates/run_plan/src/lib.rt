@@ -4,10 +4,11 @@
 mod incoming;
 mod machine;
 mod passes;
-mod pins;
-mod seat;
+mod station;
+mod story;
 mod track;
 mod wiring;
 
 pub use machine::SerialMachine;
+pub use story::PlanStory;
 pub use xs_base::Entry;

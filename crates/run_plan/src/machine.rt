@@ -8,9 +8,9 @@ ghost use Rattle.core_step.specs.Core.{StandsAt};
 ghost use Rattle.xs_model.specs.Record.{first_node};
 
 use crate::passes::pass_slot;
-use crate::seat::Seat;
+use crate::station::Station;
 use crate::track::Track;
-use crate::wiring::{seats_of, tracks_of};
+use crate::wiring::{stations_of, tracks_of};
 use core_step::Core;
 use known_value::Known;
 use std::alloc::{AllocError, Global};
@@ -25,7 +25,7 @@ use xs_base::Entry;
 pub struct SerialMachine {
     plan: Known<Plan>,
     clock: u32,
-    seats: Vec<Seat>,
+    stations: Vec<Station>,
     tracks: Vec<Track>,
 }
 
@@ -47,12 +47,12 @@ impl SerialMachine {
         ensures plan { IfOk result (λ m. m.plan ≡ plan.now) }
         ensures now { IfOk result (λ m. m.now ≡ 0) }
     {
-        let seats = seats_of(alloc, plan)?;
+        let stations = stations_of(alloc, plan)?;
         let tracks = tracks_of(alloc, plan)?;
         Ok(SerialMachine {
             plan: Known::of(plan),
             clock: 0,
-            seats,
+            stations,
             tracks,
         })
     }
@@ -64,7 +64,7 @@ impl SerialMachine {
         ensures passed { OnOk result (self.new.now ≡ self.old.now + 1) }
         ensures err { OnErr result (self.new ≡ self.old) }
     {
-        pass_slot(&mut self.seats, &mut self.tracks, self.clock)?;
+        pass_slot(&mut self.stations, &mut self.tracks, self.clock)?;
         self.clock += 1;
         Ok(())
     }
@@ -97,8 +97,8 @@ impl SerialMachine {
         requires node { node < length self.now.plan.nodes }
         ensures stands { StandsAt result.now (slice_index_or (serial self.now.plan self.now.now).nodes node (first_node 0 0 [])) self.now.now }
     {
-        let seat = &self.seats[node as usize];
-        &seat.core
+        let station = &self.stations[node as usize];
+        &station.seat.core
     }
 
     /// The history of the directed link with a number: what was sent on it so far, in order.
@@ -115,8 +115,8 @@ impl SerialMachine {
         requires node { node < length self.now.plan.nodes }
         ensures keeps { Keeps result.now (slice_index_or (serial self.now.plan self.now.now).events node []) }
     {
-        let seat = &self.seats[node as usize];
-        &seat.events
+        let station = &self.stations[node as usize];
+        &station.seat.events
     }
 
     /// What is kept of the events of each node, by position. Nothing else is left of the machine. The error is want of
@@ -126,7 +126,8 @@ impl SerialMachine {
         ensures nodes { IfOk result (λ v. length v.items ≡ length self.plan.nodes) }
     {
         let mut all = Vec::new(alloc);
-        for seat in self.seats {
+        for station in self.stations {
+            let seat = station.seat;
             all.push(seat.events)?;
         }
         Ok(all)

@@ -1,45 +1,13 @@
 //! `Track`, one directed link: its history, and what of it arrives. See docs/LINKS.md.
-ghost use Rattle.std.specs.Prelude.{◌≡◌, ◌+◌, ◌-◌, ◌^◌, ◌<◌, ◌≤◌, ◌++◌, false, slice_get};
+ghost use Rattle.std.specs.Prelude.{◌≡◌, ◌+◌, ◌-◌, ◌^◌, ◌<◌, ◌≤◌, ◌++◌, slice_get};
 ghost use Rattle.xs_base.specs.declared.numbers.TheConstants.{LINK_ENDS};
 ghost use Rattle.serial_model.specs.Serial.{sent_by};
-ghost use Rattle.run_plan.specs.Tracks.{due_of, seen_of, no_crossing, entry_count, IsTrack, GoesOn};
+ghost use Rattle.crossings.specs.Crossings.{due_of, seen_of, no_crossing, entry_count};
+ghost use Rattle.run_plan.specs.Tracks.{IsTrack, GoesOn};
 
+use crossings::{Crossing, due};
 use trace_lines::Emissions;
-use xs_base::{Batch, Entry, Token, What};
-
-/// What a directed link carries in one slot.
-#[derive(Clone, Copy)]
-pub(crate) struct Crossing {
-    pub(crate) token: Option<Token>,
-    pub(crate) credit: bool,
-}
-
-impl Crossing {
-    /// Nothing crosses.
-    pub(crate) fn none() -> Crossing
-        ensures { result ≡ no_crossing }
-    {
-        Crossing {
-            token: None,
-            credit: false,
-        }
-    }
-
-    /// Whether anything crosses.
-    pub(crate) fn is_some(self) -> bool
-        ensures { result ≡ false → self ≡ no_crossing }
-    {
-        self.token.is_some() || self.credit
-    }
-
-    // How many entries of the history it is made of.
-    fn count(self) -> usize
-        ensures value { result ≡ entry_count self }
-        ensures most { result ≤ 2 }
-    {
-        usize::from(self.token.is_some()) + usize::from(self.credit)
-    }
-}
+use xs_base::Batch;
 
 /// A directed link: it leads from a link end of the node at a position, with a delay in slots.
 #[derive(Drop)]
@@ -55,33 +23,20 @@ pub(crate) struct Track {
 }
 
 impl Track {
-    // What stands at a place of the history, if it arrives in a slot.
-    fn due_at(&self, at: usize, slot: u32) -> Option<What>
-        ensures { result ≡ due_of slot self.now.delay (slice_get self.now.history.entries at) }
-    {
-        let e = self.history.entries().get(at).copied()?;
-        if u64::from(e.slot) + u64::from(self.delay) == u64::from(slot) {
-            Some(e.what)
-        } else {
-            None
-        }
-    }
-
-    // What arrives in a slot, of the first two entries that may.
+    // What arrives in a slot, of the first two entries that may. That costs little where there is none.
     fn seen(&self, slot: u32) -> Crossing
         requires { self.now.first < 2 ^ 63 }
         ensures { result ≡ seen_of (due_of slot self.now.delay (slice_get self.now.history.entries self.now.first)) (due_of slot self.now.delay (slice_get self.now.history.entries (self.now.first + 1))) }
     {
-        match self.due_at(self.first, slot) {
+        let entries = self.history.entries();
+        match entries.get(self.first).copied() {
             None => Crossing::none(),
-            Some(What::Token(t)) => Crossing {
-                token: Some(t),
-                credit: self.due_at(self.first + 1, slot).is_some(),
-            },
-            Some(What::Credit) => Crossing {
-                token: None,
-                credit: true,
-            },
+            first => due(
+                slot,
+                self.delay,
+                first,
+                entries.get(self.first + 1).copied(),
+            ),
         }
     }
 
@@ -116,18 +71,7 @@ impl Track {
         ensures entries { self.new.history.entries ≡ self.old.history.entries ++ sent_by slot sent.now self.old.from_end }
         ensures rest { self.new ≡ record self.old { history = self.new.history } }
     {
-        if let Some(t) = sent.token(self.from_end) {
-            self.history.add(Entry {
-                slot,
-                what: What::Token(t),
-            });
-        }
-        if sent.credit(self.from_end) {
-            self.history.add(Entry {
-                slot,
-                what: What::Credit,
-            });
-        }
+        Crossing::sent(sent, self.from_end).put(slot, &mut self.history);
     }
 
     /// Goes on to the next slot: what arrived in this one is behind it, and what the sender's link end sent stands

@@ -1,44 +1,38 @@
 //! The nodes and the directed links of a plan as they start.
-ghost use Rattle.std.specs.Prelude.{◌≡◌, slice_index, IfOk};
-ghost use Rattle.sys_plan.specs.Plan.{directions, node_numbers, IsPlan, WaysLead};
+ghost use Rattle.std.specs.Prelude.{◌≡◌, ◌<◌, length, IfOk};
+ghost use Rattle.sys_plan.specs.Plan.{directions, IsPlan};
 ghost use Rattle.run_plan.specs.Starts.{StartsAs, AllStart, track_at_start, tracks_at_start};
 
 use crate::incoming::Incoming;
-use crate::pins::Pins;
-use crate::seat::Seat;
-use crate::track::{Crossing, Track};
-use core_step::Core;
+use crate::station::Station;
+use crate::track::Track;
+use crossings::Crossing;
+use node_seats::Seat;
 use std::alloc::{AllocError, Global};
-use sys_plan::{NodePlan, Plan};
-use trace_lines::{Emissions, NodeEvents};
+use sys_plan::Plan;
 use xs_base::Batch;
 
 /// The nodes of a plan as they start. The error is want of memory.
-pub(crate) fn seats_of(alloc: Global, plan: &Plan) -> Result<Vec<Seat>, AllocError>
+pub(crate) fn stations_of(alloc: Global, plan: &Plan) -> Result<Vec<Station>, AllocError>
     ensures start { IfOk result (λ v. AllStart plan.now 0 plan.now.nodes v.items) }
 {
-    let mut seats = Vec::new(alloc);
-    for (n, node) in plan.nodes().iter().enumerate() {
-        let seat = seat_of(alloc, plan, n as u8, node)?;
-        seats.push(seat)?;
+    let mut stations = Vec::new(alloc);
+    for n in 0..plan.nodes().len() {
+        let station = station_of(alloc, plan, n as u8)?;
+        stations.push(station)?;
     }
-    Ok(seats)
+    Ok(stations)
 }
 
 // The node at a position as it starts.
-fn seat_of(alloc: Global, plan: &Plan, n: u8, node: &NodePlan) -> Result<Seat, AllocError>
-    requires node { WaysLead plan.now n node.now.ways }
-    requires number { node.now.number ≡ slice_index (node_numbers plan.now) n }
-    ensures start { IfOk result (λ seat. StartsAs plan.now n node.now seat) }
+fn station_of(alloc: Global, plan: &Plan, n: u8) -> Result<Station, AllocError>
+    requires node { n < length plan.now.nodes }
+    ensures start { IfOk result (λ station. StartsAs plan.now n station) }
 {
-    let core = Core::boot(alloc, node, &plan.gaps(n))?;
-    let script = plan.script().clone()?;
-    Ok(Seat {
-        core,
-        events: NodeEvents::new(alloc),
-        given: Emissions::new(),
+    let seat = Seat::of(alloc, plan, n)?;
+    Ok(Station {
+        seat,
         incoming: Incoming::of(plan, n),
-        pins: Pins::of(script, node.number),
     })
 }
 

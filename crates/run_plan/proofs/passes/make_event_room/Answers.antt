@@ -1,32 +1,32 @@
 use Rattle.std.proofs.Common.{◌+◌, refl, arith}
 use Rattle.std.specs.Prelude.{slice_index_or}
-use Rattle.run_plan.specs.Passes.{MakesEventRoom, SameSeat, HasEventRoom}
+use Rattle.run_plan.specs.Passes.{MakesEventRoom, SameStation, HasRoomForEvents}
 use Rattle.run_plan.proofs.Through.{through-to, through-more, through-all, through-weaker, zip-second}
-use Rattle.run_plan.proofs.Systems.{same-seat}
+use Rattle.run_plan.proofs.Systems.{same-itself}
 use Rattle.run_plan.proofs.passes.make_event_room.Goals as goal
 
 pub returns-in_err-reserve-clause-same : goal.returns-in_err-reserve-clause-same
 returns-in_err-reserve-clause-same c =
-    let i = c.loop-seat.seat-index in
-    let before = slice_index_or c.loop-seat.seats i c.seat-item.result in
-    let so_far = through-to MakesEventRoom SameSeat (λ x y r. r.same) i c.args.seats.now c.loop-seat.seats c.loop-seat.invariant.through in
-    let after = through-more SameSeat i c.args.seats.now c.loop-seat.seats c.seat-item.result _ so_far (omega arith) (same-seat before c.reserve.new.self c.reserve.ensures.events c.reserve.ensures.more) in
-    through-weaker SameSeat SameSeat (λ x y r. r) (λ x. refl) (i + 1) c.args.seats.now _ after
+    let i = c.loop-station.station-index in
+    let before = slice_index_or c.loop-station.stations i c.station-item.result in
+    let so_far = through-to MakesEventRoom SameStation (λ x y r. r.same) i c.args.stations.now c.loop-station.stations c.loop-station.invariant.through in
+    let after = through-more SameStation i c.args.stations.now c.loop-station.stations c.station-item.result _ so_far (omega arith) (record { seat = c.reserve.ensures.same; incoming = refl }) in
+    through-weaker SameStation SameStation (λ x y r. r) same-itself (i + 1) c.args.stations.now _ after
 
-pub loop-seat-preserved : goal.loop-seat-preserved
-loop-seat-preserved c =
-    let before = slice_index_or c.loop-seat.seats c.loop-seat.seat-index c.seat-item.result in
+pub loop-station-preserved : goal.loop-station-preserved
+loop-station-preserved c =
+    let before = slice_index_or c.loop-station.stations c.loop-station.station-index c.station-item.result in
     record {
       through =
-          through-more MakesEventRoom c.loop-seat.seat-index c.args.seats.now c.loop-seat.seats c.seat-item.result _ c.loop-seat.invariant.through (omega arith)
-          (record { same = same-seat before c.reserve.new.self c.reserve.ensures.events c.reserve.ensures.more; room = λ few. c.in_ok-reserve.ensures.room });
+          through-more MakesEventRoom c.loop-station.station-index c.args.stations.now c.loop-station.stations c.station-item.result _ c.loop-station.invariant.through (omega arith)
+          (record { same = record { seat = c.reserve.ensures.same; incoming = refl }; room = c.in_ok-reserve.ensures.room });
     }
 
 pub returns-clause-same : goal.returns-clause-same
 returns-clause-same c =
-    through-weaker MakesEventRoom SameSeat (λ x y r. r.same) (λ x. refl) c.loop-seat.seat-index c.args.seats.now c.loop-seat.seats c.loop-seat.invariant.through
+    through-weaker MakesEventRoom SameStation (λ x y r. r.same) same-itself c.loop-station.station-index c.args.stations.now c.loop-station.stations c.loop-station.invariant.through
 
 pub returns-clause-room : goal.returns-clause-room
 returns-clause-room c =
-    zip-second MakesEventRoom HasEventRoom (λ x y r. r.room) c.args.seats.now c.loop-seat.seats
-    (through-all MakesEventRoom c.loop-seat.seat-index c.args.seats.now c.loop-seat.seats c.loop-seat.invariant.through (omega arith))
+    zip-second MakesEventRoom HasRoomForEvents (λ x y r. r.room) c.args.stations.now c.loop-station.stations
+    (through-all MakesEventRoom c.loop-station.station-index c.args.stations.now c.loop-station.stations c.loop-station.invariant.through (omega arith))

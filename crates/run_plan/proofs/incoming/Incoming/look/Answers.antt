@@ -31,7 +31,7 @@ loop-end-preserved c =
       reached = so_far.reached;
       all_ends = so_far.all_ends;
       rest = so_far.rest;
-      nothing = λ none. nothing-next c.args.tracks.now c.loop-end.end links None c.arrived-arrived.result (so_far.nothing (or_parts c.loop-end.some _ none).0) within c.arrived-arrived.ensures (c.is_some-some.ensures (or_parts c.loop-end.some _ none).1);
+      nothing = λ none. nothing-next c.args.tracks.now c.loop-end.end links None c.arrived-arrived.result (so_far.nothing (or_parts c.loop-end.some _ none).0) within c.arrived-arrived.ensures (c.is_some-some.ensures.nothing (or_parts c.loop-end.some _ none).1);
       gathers = gathers-next c.args.tracks.now c.loop-end.end links _ _ None c.arrived-arrived.result so_far.gathers within c.arrived-arrived.ensures;
     }
 

@@ -1,6 +1,6 @@
 use Rattle.std.proofs.Common.{◌≡◌, map}
-use Rattle.run_plan.specs.declared.seat.Seat.{Seat}
+use Rattle.run_plan.specs.declared.station.Station.{Station}
 use Rattle.run_plan.proofs.machine.SerialMachine.into_events.Given as goal
 
-abbrev pub invariant-loop-seat : goal.invariant-loop-seat
-invariant-loop-seat l = l.all.items ≡ map (λ (s : Seat). s.events) l.yielded
+abbrev pub invariant-loop-station : goal.invariant-loop-station
+invariant-loop-station l = l.all.items ≡ map (λ (s : Station). s.seat.events) l.yielded

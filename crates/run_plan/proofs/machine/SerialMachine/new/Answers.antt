@@ -6,5 +6,5 @@ use Rattle.run_plan.proofs.machine.SerialMachine.new.Goals as goal
 
 pub invariant_of-result : goal.invariant_of-result
 invariant_of-result c =
-    subst (λ (p : PlanRec). AreReady p 0 c.in_ok-seats.seats.items c.in_ok-tracks.tracks.items) (sym c.of.ensures)
-    (run-start c.args.plan.now c.in_ok-seats.seats.items c.in_ok-tracks.tracks.items c.tracks_of.ensures.plan c.in_ok-seats.ensures.start c.in_ok-tracks.ensures.start)
+    subst (λ (p : PlanRec). AreReady p 0 c.in_ok-stations.stations.items c.in_ok-tracks.tracks.items) (sym c.of.ensures)
+    (run-start c.args.plan.now c.in_ok-stations.stations.items c.in_ok-tracks.tracks.items c.tracks_of.ensures.plan c.in_ok-stations.ensures.start c.in_ok-tracks.ensures.start)

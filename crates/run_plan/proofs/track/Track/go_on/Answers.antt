@@ -2,8 +2,8 @@ use Rattle.std.proofs.Common.{◌+◌, ◌++◌, ap, ◌∙◌, arith, None, fal
 use Rattle.std.specs.Prelude.{slice_get, slice_index_or}
 use Rattle.serial_model.specs.Serial.{sent_by}
 use Rattle.run_plan.specs.declared.track.Track.{Track}
-use Rattle.run_plan.specs.Tracks.{due_of, seen_of}
-use Rattle.run_plan.proofs.Due.{goes-on}
+use Rattle.crossings.specs.Crossings.{due_of, seen_of}
+use Rattle.run_plan.proofs.Tracks.{goes-on}
 use Rattle.run_plan.proofs.track.Track.go_on.Goals as goal
 
 pub see-requires-clause-first : goal.see-requires-clause-first

@@ -1,0 +1,56 @@
+//! `PlanStory`, what names a directed link of the run of a plan. See docs/LOOKAHEAD.md.
+ghost use Rattle.std.specs.Prelude.{◌≡◌};
+ghost use Rattle.run_plan.specs.Stories.{carried_at};
+ghost use Rattle.locality_laws.proofs.Links.{slots_carry_few};
+
+use known_value::Known;
+use link_logs::Story;
+use std::marker::Model;
+use sys_plan::Plan;
+
+/// A directed link of the run of a plan: what it carries in each slot is what it carries in the serial machine. It takes no
+/// memory. Contracts see a `StoryRec` of `Rattle.run_plan.specs.Stories`.
+#[derive(Drop)]
+pub struct PlanStory {
+    plan: Known<Plan>,
+    link: u32,
+}
+
+impl Model for PlanStory {
+    ghost use Rattle.run_plan.specs.Stories.{StoryRec};
+
+    ghost Value = { StoryRec };
+
+    ghost view = { λ s. record { plan = s.plan.value; link = s.link } };
+}
+
+impl PlanStory {
+    /// The directed link of a plan with a number.
+    pub fn new(plan: &Plan, link: u32) -> PlanStory
+        ensures plan { result.plan ≡ plan.now }
+        ensures link { result.link ≡ link }
+    {
+        PlanStory {
+            plan: Known::of(plan),
+            link,
+        }
+    }
+}
+
+impl Story for PlanStory {
+    ghost use Rattle.run_plan.specs.Stories.{StoryRec};
+
+    type Run = Plan;
+
+    ghost run = { λ (s : StoryRec). s.plan };
+
+    ghost number = { λ (s : StoryRec). s.link };
+
+    ghost entries_at = { carried_at };
+
+    fn link(&self) -> u32 {
+        self.link
+    }
+
+    ghost at_most_two = { λ plan link slot. (slots_carry_few plan link slot).few };
+}
