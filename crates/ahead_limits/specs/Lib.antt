@@ -2,3 +2,4 @@ pub mod Bound
 pub mod Horizon
 pub mod Kept
 pub mod Schedule
+pub mod Worked

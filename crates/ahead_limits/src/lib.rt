@@ -9,5 +9,5 @@ mod schedule;
 mod tests;
 
 pub use horizon::{Horizon, Seen};
-pub use laws::schedules_keep_their_bounds;
+pub use laws::{schedules_keep_their_bounds, worked_schedules};
 pub use schedule::Numbers;
