@@ -6,6 +6,8 @@ mod laws;
 mod plan_horizon;
 mod schedule;
 #[cfg(test)]
+mod schedule_tests;
+#[cfg(test)]
 mod tests;
 
 pub use horizon::{Horizon, Seen};

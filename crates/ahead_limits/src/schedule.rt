@@ -30,6 +30,7 @@ impl Numbers {
     /// error is want of memory.
     pub fn of(alloc: Global, plan: &Plan, limit: u32) -> Result<Numbers, AllocError>
         ensures value { IfOk result (λ n. n ≡ numbers plan.now limit) }
+        ensures lengths { IfOk result (λ n. IsOfPlan plan.now n) }
     {
         let mut numbers = Numbers::at_start(alloc, plan)?;
         for step in plan.steps() {

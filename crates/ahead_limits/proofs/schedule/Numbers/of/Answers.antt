@@ -21,4 +21,5 @@ returns c = record {
       no_more c.args.plan.now c.args.limit c.loop-step.numbers
       (after_steps c.args.plan.now c.args.limit (schedule_at_start c.args.plan.now) c.args.plan.now.steps)
       c.args.plan.now.steps c.loop-step.step-index past c.loop-step.invariant.rest;
+  lengths = c.loop-step.invariant.lengths;
 }
