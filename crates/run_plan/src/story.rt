@@ -1,18 +1,19 @@
 //! `PlanStory`, what names a directed link of the run of a plan. See docs/LOOKAHEAD.md.
-ghost use Rattle.std.specs.Prelude.{◌≡◌};
+ghost use Rattle.std.specs.Prelude.{◌≡◌, IfOk};
 ghost use Rattle.run_plan.specs.Stories.{carried_at};
 ghost use Rattle.locality_laws.proofs.Links.{slots_carry_few};
 
-use known_value::Known;
 use link_logs::Story;
+use std::alloc::{AllocError, Global};
 use std::marker::Model;
+use std::sync::Arc;
 use sys_plan::Plan;
 
-/// A directed link of the run of a plan: what it carries in each slot is what it carries in the serial machine. It takes no
-/// memory. Contracts see a `StoryRec` of `Rattle.run_plan.specs.Stories`.
+/// A directed link of the run of a plan: what it carries in each slot is what it carries in the serial machine. It is one more owner of
+/// the plan. Contracts see a `StoryRec` of `Rattle.run_plan.specs.Stories`.
 #[derive(Drop)]
 pub struct PlanStory {
-    plan: Known<Plan>,
+    plan: Arc<Plan, Global>,
     link: u32,
 }
 
@@ -25,15 +26,12 @@ impl Model for PlanStory {
 }
 
 impl PlanStory {
-    /// The directed link of a plan with a number.
-    pub fn new(plan: &Plan, link: u32) -> PlanStory
-        ensures plan { result.plan ≡ plan.now }
-        ensures link { result.link ≡ link }
+    /// The directed link of a plan with a number. It takes no memory; the error is that the plan has 2^63 - 1 owners already.
+    pub fn new(plan: &Arc<Plan, Global>, link: u32) -> Result<PlanStory, AllocError>
+        ensures story { IfOk result (λ s. s ≡ record { plan = plan.now.value; link = link }) }
     {
-        PlanStory {
-            plan: Known::of(plan),
-            link,
-        }
+        let plan = Arc::try_clone(plan)?;
+        Ok(PlanStory { plan, link })
     }
 }
 
