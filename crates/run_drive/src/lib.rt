@@ -2,9 +2,15 @@
 #![tactic(auto)]
 
 mod error;
+mod lane;
+mod play;
 mod played;
 mod serial;
+mod stage;
+#[cfg(test)]
+mod tests;
 
 pub use error::DriveError;
+pub use play::drive_play;
 pub use played::{PlayLine, Played};
 pub use serial::drive_serial;

@@ -1,0 +1,7 @@
+pub mod Places
+pub mod Routes
+pub mod Between
+pub mod Slots
+pub mod Steps
+pub mod Starts
+pub mod Lines

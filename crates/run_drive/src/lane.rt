@@ -1,0 +1,30 @@
+//! `Lane`, a directed link of a play: its log, and both ends of it.
+ghost use Rattle.std.specs.Prelude.{◌<◌, IfOk, length};
+ghost use Rattle.sys_plan.specs.Plan.{directions};
+ghost use Rattle.run_drive.specs.Stages.{IsNewLane};
+
+use link_logs::{Log, ReadEnd, WriteEnd, make_log};
+use run_plan::PlanStory;
+use std::alloc::{AllocError, Global};
+use std::sync::Arc;
+use sys_plan::Plan;
+
+/// The log of a directed link, with both of its ends.
+#[derive(Drop)]
+pub(crate) struct Lane {
+    pub(crate) log: Log<PlanStory>,
+    pub(crate) w: WriteEnd<PlanStory>,
+    pub(crate) r: ReadEnd<PlanStory>,
+}
+
+impl Lane {
+    /// The lane of the directed link with a number. The error is want of memory.
+    pub(crate) fn new(alloc: Global, plan: &Arc<Plan>, link: u32) -> Result<Lane, AllocError>
+        requires link { link < length (directions plan.now.value.links) }
+        ensures lane { IfOk result (λ lane. IsNewLane plan.now.value link lane) }
+    {
+        let story = PlanStory::new(alloc, plan, link)?;
+        let (log, w, r) = make_log(alloc, story)?;
+        Ok(Lane { log, w, r })
+    }
+}
