@@ -52,12 +52,7 @@ fn append_round(alloc: Global, text: &mut String, round: u32) -> Result<(), Allo
 }
 
 // The lines of the tokens that node 0 sends in these slots.
-fn append_tokens(
-    alloc: Global,
-    text: &mut String,
-    from: u32,
-    to: u32,
-) -> Result<(), AllocError> {
+fn append_tokens(alloc: Global, text: &mut String, from: u32, to: u32) -> Result<(), AllocError> {
     for slot in from..to {
         if let Some(token) = sent_in(slot) {
             text.push_str(&format!(in alloc; "entry 0:0 {slot} {token}\n")?)?;
@@ -67,12 +62,7 @@ fn append_tokens(
 }
 
 // The lines of the credits that node 1 sends in these slots: one for each token, in the slot in which it arrives.
-fn append_credits(
-    alloc: Global,
-    text: &mut String,
-    from: u32,
-    to: u32,
-) -> Result<(), AllocError> {
+fn append_credits(alloc: Global, text: &mut String, from: u32, to: u32) -> Result<(), AllocError> {
     for slot in from..to {
         if slot >= 5 && sent_in(slot - 5).is_some() {
             text.push_str(&format!(in alloc; "entry 1:0 {slot} credit\n")?)?;

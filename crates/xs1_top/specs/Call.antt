@@ -3,15 +3,16 @@ use Rattle.std.specs.Prelude.{ℕ, ◌≡◌, ◌≤◌, Option, Some, None, IfS
 use Rattle.std.specs.Io.KnownBytes.{Appends}
 use Rattle.xs_edge.specs.Edge.{HasRisen, AppendsPart}
 use Rattle.answer_model.specs.declared.Form.{Form}
-use Rattle.answer_model.specs.declared.Form.TheVariants.{Run, Check}
+use Rattle.answer_model.specs.declared.Form.TheVariants.{Run, Play, Check}
 use Rattle.answer_model.specs.declared.Status.{Status}
 use Rattle.answer_model.specs.declared.Status.TheVariants.{Done, Memory, Usage, SystemFault, SourceFault, ScriptFault, ReadFault, WriteFault}
 use Rattle.answer_model.specs.Forms.{most_slots}
 use Rattle.answer_model.specs.Top.{answer, taken}
 
--- a run of the form has no more slots than a run may have
+-- a run of the form, and that in which it plays, has no more slots than a run may have
 abbrev pub HasFewSlots : Form → Type 0
 HasFewSlots (Run slots) = slots ≤ most_slots
+HasFewSlots (Play slots) = slots ≤ most_slots
 HasFewSlots Check = Unit {0}
 
 -- Memory was there, the input was read and the text was written: a status of the definition's answers.

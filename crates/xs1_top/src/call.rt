@@ -11,7 +11,7 @@ ghost use Rattle.xs1_top.specs.Reads.{ReadsAtMost};
 use crate::input::{ReadError, read_for};
 use crate::output::write_all;
 use crate::words::{form_of_words, usage_line};
-use crate::{check, run};
+use crate::{check, play, run};
 pub use answer_model::Status;
 use answer_model::{Answer, Form};
 use std::alloc::{AllocError, Global};
@@ -19,8 +19,9 @@ use xs_edge::{Gate, Sink, Source};
 
 /// The whole program: its words choose a form, the input is read to its end if the form asks for it, and what the form
 /// answers to it is written. `run SLOTS` and `run SLOTS serial` run the system that the input stands for and answer with
-/// the trace; `check` runs nothing and answers with each node's source as its image gives it. `words` are the program's,
-/// without its name. Nothing is written before all is done, and writing takes no memory. Nothing waits at `gate` yet. See
+/// the trace; `play SLOTS` takes the steps of its schedule one by one, in a run of so many slots, and answers with what each
+/// leaves and publishes; `check` runs nothing and answers with each node's source as its image gives it. `words` are the
+/// program's, without its name. Nothing is written before all is done, and writing takes no memory. Nothing waits at `gate` yet. See
 /// docs/OUTPUT.md.
 ///
 /// With words of no form, or of one that asks for no input, nothing is read. Of an input no more than 4,194,305 bytes are
@@ -29,7 +30,7 @@ use xs_edge::{Gate, Sink, Source};
 /// The statuses, of which `Status::number` gives the number; the definition of each form says which of `Done`,
 /// `SystemFault`, `SourceFault` and `ScriptFault` it answers, and `statuses_of_systems` of answer_model where:
 ///
-/// - `Done`: the text of the answer was written, as the trace, or the text of `check`.
+/// - `Done`: the text of the answer was written, as the trace, or the text of `play` or of `check`.
 /// - `Memory`: memory was wanting. Nothing was written.
 /// - `Usage`: the words are of no form. The usage line was written.
 /// - `SystemFault`, `SourceFault`, `ScriptFault`: the frame, a node's source, or the pin script is refused, each where
@@ -91,6 +92,7 @@ fn answer_by(alloc: Global, form: Form, input: &[u8]) -> Result<Answer, AllocErr
 {
     match form {
         Form::Run(slots) => run::answer(alloc, slots, input),
+        Form::Play(slots) => play::answer(alloc, slots, input),
         Form::Check => check::answer(alloc, input),
     }
 }

@@ -8,6 +8,7 @@ mod counted;
 mod input;
 mod on_system;
 mod output;
+mod play;
 mod refusals;
 mod run;
 #[cfg(test)]
