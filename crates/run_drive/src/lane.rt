@@ -23,7 +23,7 @@ impl Lane {
         requires link { link < length (directions plan.now.value.links) }
         ensures lane { IfOk result (λ lane. IsNewLane plan.now.value link lane) }
     {
-        let story = PlanStory::new(alloc, plan, link)?;
+        let story = PlanStory::new(plan, link)?;
         let (log, w, r) = make_log(alloc, story)?;
         Ok(Lane { log, w, r })
     }
