@@ -16,8 +16,6 @@ pub(crate) struct Station {
 
 impl Station {
     /// One slot of the node, with what arrives by its links. Its events are kept, in room that was made for them.
-    // Inlined: it only hands on, and a call more would stand in every slot of every node.
-    #[inline]
     pub(crate) fn step(&mut self, tracks: &[Track], slot: u32)
         requires slot { slot < 2 ^ 32 - 1 }
         requires station { IsStation slot (length tracks.now) self.old }
