@@ -7,7 +7,8 @@ use Rattle.std.proofs.lemmas.Option.{none-some, same_Some}
 use Rattle.xs_base.specs.Numbers.{Slot, Position, EndNumber, LinkNumber}
 use Rattle.sys_plan.specs.declared.Step.{Step}
 use Rattle.sys_plan.specs.declared.Step.TheVariants.{Take, Run, Send}
-use Rattle.sys_plan.specs.Plan.{PlanRec, Direction, directions, first_link, leaves_by, incoming, outgoing, delay_of, link_ends}
+use Rattle.sys_plan.specs.Plan.{PlanRec, Direction, directions, incoming, outgoing, delay_of, link_ends}
+use Rattle.sys_plan.proofs.Routes.{leads-from}
 use Rattle.ahead_limits.specs.declared.horizon.Seen.{Seen}
 use Rattle.ahead_limits.specs.Horizon.{HorizonRec, may_run, lets_run, horizon_at}
 use Rattle.ahead_limits.specs.Schedule.{ScheduleRec, IsOfPlan, schedule_at_start, seen_of_link, horizon_of, clock_after, after_take, after_run, after_send, after_step, after_steps}
@@ -93,22 +94,6 @@ pub link_at_end : (plan : PlanRec) (limit : Slot) (seen : List Slot) (n : Positi
 link_at_end plan limit seen n end link less at =
     at_end (λ e. option_map (seen_of_link plan seen) (incoming plan n e)) end less ∙ ap (λ (o : Option ℕ). Some (option_map (seen_of_link plan seen) o)) at
 
--- ---- The link that leaves by a link end
-
-leaves_in : (n end k l : ℕ) (ds : List Direction) → first_link (leaves_by n end) k ds ≡ Some l → (m : ℕ) × (d : Direction) × (l ≡ k + m) × (slice_get ds m ≡ Some d) × (d.from ≡ n)
-leaves_in n end k l [] h = absurd (none-some l h)
-leaves_in n end k l (d ∷ ds) h = by_test (λ e. leaves_in n end (k + 1) l ds e) (cases_Bool (leaves_by n end d))
-  where
-    by_test : (first_link (leaves_by n end) (k + 1) ds ≡ Some l → (m : ℕ) × (d : Direction) × (l ≡ k + 1 + m) × (slice_get ds m ≡ Some d) × (d.from ≡ n))
-        → (leaves_by n end d ≡ true) ⊎ (leaves_by n end d ≡ false)
-        → (m : ℕ) × (e : Direction) × (l ≡ k + m) × (slice_get (d ∷ ds) m ≡ Some e) × (e.from ≡ n)
-    by_test rest (inl hit) =
-        let first = same_Some k l (ap (λ b. cond b (Some k) (first_link (leaves_by n end) (k + 1) ds)) (sym hit) ∙ h) in
-        (0, d, omega (arith, first), refl, eqb-true d.from n (and_parts (eqb d.from n) (eqb d.from_end end) hit).0)
-    by_test rest (inr miss) =
-        let more = rest (ap (λ b. cond b (Some k) (first_link (leaves_by n end) (k + 1) ds)) (sym miss) ∙ h) in
-        (suc more.0, more.1, omega (arith, more.2), more.3, more.4)
-
 -- ---- A step
 
 module _ (plan : PlanRec) (limit : Slot) where
@@ -176,8 +161,8 @@ module _ (plan : PlanRec) (limit : Slot) where
 
       leaves : (end link : ℕ) → outgoing plan node end ≡ Some link → Leaves link
       leaves end link at =
-          let found = leaves_in node end 0 link (directions plan.links) at in
-          (found.1, subst (λ m. slice_get (directions plan.links) m ≡ Some found.1) (omega (arith, found.2)) found.3, found.4)
+          let l = leads-from plan node end link at in
+          (l.direction, l.here, l.from)
 
       published_before : (link : ℕ) → Leaves link → get_or s.published link 0 ≤ get_or s.clocks node 0
       published_before link l = subst (λ n. get_or s.published link 0 ≤ get_or s.clocks n 0) l.2 (k.behind link l.0 l.1)

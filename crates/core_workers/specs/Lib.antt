@@ -1,6 +1,1 @@
-pub mod Queue
-pub mod Sent
-pub mod Runner
-pub mod Inside
-pub mod Starts
 pub mod Finished

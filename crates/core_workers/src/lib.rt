@@ -1,15 +1,10 @@
-//! Nodes that run ahead of one another, as far as what they have seen of their links lets them, and what the run of a system has become in
-//! the end. See docs/LOOKAHEAD.md.
+//! What the run of a system has become in the end, whatever the way in which its nodes were run. See docs/LOOKAHEAD.md.
 #![tactic(auto)]
 
 mod finished;
-mod inlet;
-mod outlet;
-mod runner;
 mod sent;
-mod starts;
 mod way;
 
 pub use finished::Finished;
-pub use runner::{NodeRunner, Ran};
+pub use node_runners::{NodeRunner, Ran};
 pub use way::Way;

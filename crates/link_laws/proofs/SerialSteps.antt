@@ -16,7 +16,7 @@ use Rattle.step_model.specs.Step.{Stepped, node_step}
 use Rattle.serial_model.specs.Serial.{nodes_at_start, arriving, arriving_by, token_among, credit_among, arrivals_at, pins_at, steps_from, sent_by, emitted_by, longer_histories}
 use Rattle.link_laws.specs.LinkSlot.{LinkSlot, LinkSlotAt, arrived_at, SlotAtLinkEnd}
 use Rattle.link_laws.proofs.TravelEnds.{arrived}
-use Rattle.link_laws.proofs.SerialPlan.{at-link-end, incoming-is, delay-is}
+use Rattle.sys_plan.proofs.Routes.{at-link-end, incoming-is, delay-is}
 
 -- what stands at a place within a list
 pub found : {X : Type 0} (xs : List X) (k : ℕ) → k < length xs → (x : X) × (slice_get xs k ≡ Some x)

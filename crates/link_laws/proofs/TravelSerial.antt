@@ -16,7 +16,8 @@ use Rattle.link_laws.specs.Travel.{Travel, travel_of, link_end, opposite, OfEnds
 use Rattle.link_laws.proofs.TravelLists.{tokens-arrive, credits-arrive}
 use Rattle.link_laws.proofs.TravelEnds.{token-buffer, credit-credited, counted, counted-length}
 use Rattle.link_laws.proofs.TravelKept.{Kept, kept-at-start, sent-parts, token-fits, credit-is-due, arrive-keeps, leave-keeps}
-use Rattle.link_laws.proofs.SerialPlan.{turned, opposite-at, IsDirected, directed, gap-at}
+use Rattle.sys_plan.proofs.Routes.{IsDirected, directed, gap-at}
+use Rattle.link_laws.proofs.SerialPlan.{turned, opposite-at}
 use Rattle.link_laws.proofs.SerialSteps.{found, map-at, node-at-start, link-at-start, step_at, steps-at, end-slot, emitted-at, history-at, IsHistory, token-at, credit-at}
 
 -- directed link l of a system before a slot: its nodes, its link ends, and its histories

@@ -49,6 +49,14 @@ histories_grow plan l from mid to first later =
     ∙ ap (λ h. filter (is_sent_within from to) old ++ h) second
     ∙ sym (ap (filter (is_sent_within from to)) g.all ∙ filter-append (is_sent_within from to) old g.more)
 
+-- over no slots a link carries nothing
+pub none_carried : (plan : PlanRec) (link : ℕ) (slot : Slot) → history plan link slot slot ≡ []
+none_carried plan link slot = cancel (history plan link slot slot) (histories_grow plan link slot slot slot (omega arith) (omega arith))
+  where
+    cancel : (xs : List Entry) → xs ++ xs ≡ xs → xs ≡ []
+    cancel [] same = refl
+    cancel (x ∷ xs) same = absurd (omega (arith, length-append (x ∷ xs) (x ∷ xs), ap (length {A = Entry}) same))
+
 filter_every : (p : Entry → Bool) (xs : List Entry) → AllByRecursion (λ (e : Entry). p e ≡ true) xs → filter p xs ≡ xs
 filter_every p [] h = refl
 filter_every p (e ∷ xs) h = rw h.0 (ap (λ l. e ∷ l) (filter_every p xs h.1))

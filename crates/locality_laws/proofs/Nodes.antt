@@ -13,6 +13,7 @@ use Rattle.xs_model.specs.Outside.{Emitted}
 use Rattle.sys_plan.specs.declared.NodePlan.{NodePlan}
 use Rattle.sys_plan.specs.declared.LinkPlan.{LinkPlan}
 use Rattle.sys_plan.specs.Plan.{PlanRec, Direction, IsPlan, IsLink, directions, first_link, leaves_by, comes_to, incoming, delay_of, link_ends}
+use Rattle.sys_plan.proofs.Routes.{leads-from, incoming-delay}
 use Rattle.step_model.specs.Step.{Stepped, node_step}
 use Rattle.step_model.specs.Start.{fixed_of}
 use Rattle.sys_plan.specs.Plan.{gaps_of}
@@ -80,55 +81,10 @@ step_needs_arrivals plan n node slot heard here alike = is_step plan n node here
 
 -- ---- The link that leaves by a link end
 
-module _ (n end : ℕ) where
-  leaves_in : (k l : ℕ) (ds : List Direction) → first_link (leaves_by n end) k ds ≡ Some l
-      → (m : ℕ) × (d : Direction) × (l ≡ k + m) × (slice_get ds m ≡ Some d) × (d.from ≡ n) × (d.from_end ≡ end)
-  leaves_in k l [] h = absurd (none-some l h)
-  leaves_in k l (d ∷ ds) h = by_test (λ e. leaves_in (k + 1) l ds e) (cases_Bool (leaves_by n end d))
-    where
-      by_test : (first_link (leaves_by n end) (k + 1) ds ≡ Some l → (m : ℕ) × (d : Direction) × (l ≡ k + 1 + m) × (slice_get ds m ≡ Some d) × (d.from ≡ n) × (d.from_end ≡ end))
-          → (leaves_by n end d ≡ true) ⊎ (leaves_by n end d ≡ false)
-          → (m : ℕ) × (e : Direction) × (l ≡ k + m) × (slice_get (d ∷ ds) m ≡ Some e) × (e.from ≡ n) × (e.from_end ≡ end)
-      by_test rest (inl hit) =
-          let both = and_parts (eqb d.from n) (eqb d.from_end end) hit in
-          (0, d, omega (arith, same_Some k l (ap (λ b. cond b (Some k) (first_link (leaves_by n end) (k + 1) ds)) (sym hit) ∙ h)), refl, eqb-true d.from n both.0, eqb-true d.from_end end both.1)
-      by_test rest (inr miss) =
-          let more = rest (ap (λ b. cond b (Some k) (first_link (leaves_by n end) (k + 1) ds)) (sym miss) ∙ h) in
-          (suc more.0, more.1, omega (arith, more.2), more.3, more.4, more.5)
-
 pub outgoing_leaves : OutgoingLeaves
 outgoing_leaves plan n end link h =
-    let l = leaves_in n end 0 link (directions plan.links) h in
-    record {
-      direction = l.1;
-      here = subst (λ m. slice_get (directions plan.links) m ≡ Some l.1) (omega (arith, l.2)) l.3;
-      from = l.4;
-      from_end = l.5;
-    }
-
--- ---- Delays
-
-all_delayed : (nodes : ℕ) (links : List LinkPlan) → AllByRecursion (IsLink nodes) links → AllByRecursion (λ (d : Direction). 1 ≤ d.delay) (directions links)
-all_delayed nodes [] h = tt
-all_delayed nodes (link ∷ links) h = (h.0.least_delay, (h.0.least_delay, all_delayed nodes links h.1))
-
--- what is found among directed links with a delay has one
-module _ (test : Direction → Bool) where
-  found_delay : (n : ℕ) (ds : List Direction) (k : ℕ) → AllByRecursion (λ (d : Direction). 1 ≤ d.delay) ds → first_link test n ds ≡ Some k
-      → (m : ℕ) × (k ≡ n + m) × (1 ≤ get_or (map (λ (d : Direction). d.delay) ds) m 0)
-  found_delay n [] k all h = absurd (none-some k h)
-  found_delay n (d ∷ ds) k all h = by_test (λ e. found_delay (n + 1) ds k all.1 e) (cases_Bool (test d))
-    where
-      by_test : (first_link test (n + 1) ds ≡ Some k → (m : ℕ) × (k ≡ n + 1 + m) × (1 ≤ get_or (map (λ (d : Direction). d.delay) ds) m 0)) → (test d ≡ true) ⊎ (test d ≡ false) → (m : ℕ) × (k ≡ n + m) × (1 ≤ get_or (map (λ (d : Direction). d.delay) (d ∷ ds)) m 0)
-      by_test rest (inl hit) = (0, omega (arith, same_Some n k (ap (λ b. cond b (Some n) (first_link test (n + 1) ds)) (sym hit) ∙ h)), all.0)
-      by_test rest (inr miss) =
-          let more = rest (ap (λ b. cond b (Some n) (first_link test (n + 1) ds)) (sym miss) ∙ h) in
-          (suc more.0, omega (arith, more.1), more.2)
-
-incoming_delay : (plan : PlanRec) → IsPlan plan → (n end link : ℕ) → incoming plan n end ≡ Some link → 1 ≤ delay_of plan link
-incoming_delay plan is n end link h =
-    let f = found_delay (comes_to n end) 0 (directions plan.links) link (all_delayed (length plan.nodes) plan.links is.links) h in
-    subst (λ m. 1 ≤ get_or (map (λ (d : Direction). d.delay) (directions plan.links)) m 0) (omega (arith, f.1)) f.2
+    let l = leads-from plan n end link h in
+    record { direction = l.direction; here = l.here; from = l.from; from_end = l.from_end }
 
 -- ---- What arrives before a slot tells what arrives in the one before it
 
@@ -172,13 +128,13 @@ module _ (plan : PlanRec) (is : IsPlan plan) (n : ℕ) (slot : Slot) (heard : Li
   in_slot : ArriveAlike plan n slot heard (serial plan slot).histories
   in_slot end link h =
       let delay = delay_of plan link in
-      let later = sent_later slot delay (new_in plan link slot) (incoming_delay plan is n end link h) (new_are_in plan link slot) in
+      let later = sent_later slot delay (new_in plan link slot) (incoming-delay plan is n end link h) (new_are_in plan link slot) in
       same_of slot delay (in_it slot delay) (in_up_to slot delay) (history_in heard link) (upto plan link (suc slot)) (upto plan link slot) (new_in plan link slot) (alike end link h) (goes_on plan link slot) later.0
 
   before_slot : ArriveAlikeBefore plan n slot heard (serial plan slot).histories
   before_slot end link h =
       let delay = delay_of plan link in
-      let later = sent_later slot delay (new_in plan link slot) (incoming_delay plan is n end link h) (new_are_in plan link slot) in
+      let later = sent_later slot delay (new_in plan link slot) (incoming-delay plan is n end link h) (new_are_in plan link slot) in
       same_of slot delay (before_it slot delay) (before_up_to slot delay) (history_in heard link) (upto plan link (suc slot)) (upto plan link slot) (new_in plan link slot) (alike end link h) (goes_on plan link slot) later.1
 
 -- ---- All slots

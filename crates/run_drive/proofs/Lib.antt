@@ -1,6 +1,5 @@
 pub mod Places
 pub mod Routes
-pub mod Between
 pub mod Slots
 pub mod Steps
 pub mod Starts

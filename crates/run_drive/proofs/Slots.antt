@@ -6,7 +6,7 @@ use Rattle.xs_base.specs.Numbers.{Slot}
 use Rattle.ahead_limits.specs.Horizon.{HorizonRec, may_run, IsBelowAll, StopsAt}
 use Rattle.ahead_limits.specs.Schedule.{clock_after}
 use Rattle.ahead_limits.proofs.Ends.{may_run_exactly}
-use Rattle.core_workers.specs.Runner.{RunnerRec}
+use Rattle.node_runners.specs.Runner.{RunnerRec}
 
 no_run : (h : HorizonRec) (clock : Slot) → (IsBelowAll h clock → ⊥) → may_run h clock ≡ false
 no_run h clock not = by_case (cases_Bool (may_run h clock))

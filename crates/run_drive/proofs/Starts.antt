@@ -4,7 +4,7 @@ use Rattle.xs_base.specs.Numbers.{Slot}
 use Rattle.sys_plan.specs.Plan.{PlanRec, directions, outgoing, link_ends}
 use Rattle.ahead_limits.specs.Schedule.{schedule_at_start, horizon_of}
 use Rattle.play_model.specs.Play.{number_by}
-use Rattle.core_workers.specs.Runner.{RunnerRec, new_runner}
+use Rattle.node_runners.specs.Runner.{RunnerRec, new_runner}
 use Rattle.run_drive.specs.declared.lane.Lane.{Lane}
 use Rattle.run_drive.specs.Stages.{AllAt, published_at, IsRunner, IsNewLane, clocks_of, seen_of, published_of, numbers_of, AreAt}
 use Rattle.run_drive.proofs.Places.{map_none}

@@ -13,11 +13,12 @@ use Rattle.ahead_limits.specs.declared.horizon.Seen.{Seen}
 use Rattle.ahead_limits.specs.Horizon.{HorizonRec, seen_to, seen_at, seen_by_end}
 use Rattle.ahead_limits.specs.Schedule.{ScheduleRec, seen_of_link, horizon_of, clock_after, after_take, after_send, after_step}
 use Rattle.play_model.specs.Play.{PlayedStep, number_by, sent_between, played_step}
-use Rattle.core_workers.specs.Runner.{RunnerRec}
+use Rattle.node_runners.specs.Runner.{RunnerRec}
 use Rattle.run_drive.specs.declared.lane.Lane.{Lane}
 use Rattle.run_drive.specs.Stages.{AllAt, published_at, IsRunner, IsLane, clocks_of, seen_of, published_of, numbers_of, AreAt}
 use Rattle.run_drive.proofs.Places.{all_at_set}
-use Rattle.run_drive.proofs.Routes.{noted_at, elsewhere, at_node, leaves_one, comes_one}
+use Rattle.sys_plan.proofs.Routes.{at-link-end, leaves-once, comes-once}
+use Rattle.run_drive.proofs.Routes.{elsewhere, at_node}
 
 -- a link is not another one
 not_some : (k link : ℕ) → Some k ≢ Some link → k ≢ link
@@ -35,10 +36,10 @@ module _ (plan : PlanRec) (limit : Slot) (seen : List Slot) (node end link to : 
   pub horizon_elsewhere : (m : ℕ) → m ≢ node → horizon_of plan limit (set seen link to) m ≡ horizon_of plan limit seen m
   horizon_elsewhere m apart =
       let f : List (Option Seen) → HorizonRec = λ ends. record { limit = limit; ends = ends } in
-      ap f (elsewhere comes_to comes_one (directions plan.links) node end link here (option_map (seen_of_link plan seen)) (option_map (seen_of_link plan (set seen link to))) seen_apart m apart)
+      ap f (elsewhere (incoming plan) (λ n m e f l. comes-once plan l n m e f) node end link here (option_map (seen_of_link plan seen)) (option_map (seen_of_link plan (set seen link to))) seen_apart m apart)
 
   noted : end < 8 → get_or (horizon_of plan limit seen node).ends end None ≡ Some (seen_of_link plan seen link)
-  noted inside = noted_at (λ e. option_map (seen_of_link plan seen) (incoming plan node e)) end None inside ∙ ap (option_map (seen_of_link plan seen)) here
+  noted inside = at-link-end (λ e. option_map (seen_of_link plan seen) (incoming plan node e)) None end inside ∙ ap (option_map (seen_of_link plan seen)) here
 
   pub seen_here : end < 8 → seen_at (horizon_of plan limit seen node) end ≡ get_or seen link 0
   seen_here inside = ap seen_by_end (noted inside)
@@ -52,7 +53,7 @@ module _ (plan : PlanRec) (limit : Slot) (seen : List Slot) (node end link to : 
       ≡ record (horizon_of plan limit seen node) { ends = set (horizon_of plan limit seen node).ends end (seen_to to (get_or (horizon_of plan limit seen node).ends end None)) }
   horizon_here inside =
       let f : List (Option Seen) → HorizonRec = λ ends. record { limit = limit; ends = ends } in
-      ap f (at_node comes_to comes_one (directions plan.links) node end link here (option_map (seen_of_link plan seen)) (option_map (seen_of_link plan (set seen link to))) seen_apart inside
+      ap f (at_node (incoming plan) (λ n m e f l. comes-once plan l n m e f) node end link here (option_map (seen_of_link plan seen)) (option_map (seen_of_link plan (set seen link to))) seen_apart inside
       ∙ ap (λ (s : Option Seen). set (horizon_of plan limit seen node).ends end s) (seen_now inside))
 
 module _ (plan : PlanRec) (published : List Slot) (node end link to : ℕ) (here : outgoing plan node end ≡ Some link) (counted : link < length published) where
@@ -62,14 +63,14 @@ module _ (plan : PlanRec) (published : List Slot) (node end link to : ℕ) (here
 
   pub published_elsewhere : (m : ℕ) → m ≢ node → published_at plan (set published link to) m ≡ published_at plan published m
   published_elsewhere m apart =
-      elsewhere leaves_by leaves_one (directions plan.links) node end link here (number_by published) (number_by (set published link to)) published_apart m apart
+      elsewhere (outgoing plan) (λ n m e f l. leaves-once plan l n m e f) node end link here (number_by published) (number_by (set published link to)) published_apart m apart
 
   pub published_then : end < 8 → get_or (published_at plan published node) end 0 ≡ get_or published link 0
-  published_then inside = noted_at (λ e. number_by published (outgoing plan node e)) end 0 inside ∙ ap (number_by published) here
+  published_then inside = at-link-end (λ e. number_by published (outgoing plan node e)) 0 end inside ∙ ap (number_by published) here
 
   pub published_here : end < 8 → published_at plan (set published link to) node ≡ set (published_at plan published node) end to
   published_here inside =
-      at_node leaves_by leaves_one (directions plan.links) node end link here (number_by published) (number_by (set published link to)) published_apart inside
+      at_node (outgoing plan) (λ n m e f l. leaves-once plan l n m e f) node end link here (number_by published) (number_by (set published link to)) published_apart inside
       ∙ ap (λ (s : Slot). set (published_at plan published node) end s) (get_or-set_same published link to 0 counted)
 
 -- ---- The numbers of a list in which one place changed

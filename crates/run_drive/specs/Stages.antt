@@ -6,7 +6,7 @@ use Rattle.sys_plan.specs.Plan.{PlanRec, directions, outgoing, link_ends}
 use Rattle.link_logs.specs.Logs.{Writes, Reads}
 use Rattle.ahead_limits.specs.Schedule.{ScheduleRec, horizon_of, after_step}
 use Rattle.play_model.specs.Play.{number_by, played_step}
-use Rattle.core_workers.specs.Runner.{RunnerRec}
+use Rattle.node_runners.specs.Runner.{RunnerRec}
 use Rattle.run_drive.specs.declared.lane.Lane.{Lane}
 use Rattle.run_drive.specs.declared.stage.Stage.{Stage}
 use Rattle.run_drive.specs.declared.played.PlayLine.{PlayLine}

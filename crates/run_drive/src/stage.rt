@@ -6,7 +6,7 @@ ghost use Rattle.sys_plan.specs.Plan.{directions, incoming, NamesWhatIsThere};
 ghost use Rattle.serial_model.specs.Serial.{history};
 ghost use Rattle.ahead_limits.specs.Horizon.{may_run, seen_at, seen_to};
 ghost use Rattle.ahead_limits.specs.Schedule.{schedule_at_start, clock_after};
-ghost use Rattle.core_workers.specs.Runner.{new_runner};
+ghost use Rattle.node_runners.specs.Runner.{new_runner};
 ghost use Rattle.run_drive.specs.Played.{line_of};
 ghost use Rattle.run_drive.specs.Stages.{AllAt, IsNewLane, IsAt, Plays, schedule_of};
 

@@ -1,24 +1,16 @@
 -- What a directed link carries over some slots is what it carries in each of them, in turn.
-use Rattle.std.proofs.Common.{◌≡◌, ℕ, zero, suc, ◌+◌, ◌-◌, ◌<◌, ◌≤◌, List, [], ◌∷◌, ◌++◌, length, refl, sym, ap, ◌∙◌, arith, length-append}
+use Rattle.std.proofs.Common.{◌≡◌, ℕ, zero, suc, ◌+◌, ◌-◌, ◌≤◌, List, ◌++◌, sym, ap, ◌∙◌, arith}
 use Rattle.xs_base.specs.Numbers.{Slot, LinkNumber}
 use Rattle.xs_base.specs.declared.entry.Entry.{Entry}
 use Rattle.sys_plan.specs.Plan.{PlanRec}
 use Rattle.serial_model.specs.Serial.{history}
 use Rattle.link_logs.specs.Entries.{entries_over, between}
-use Rattle.locality_laws.proofs.Links.{histories_grow}
+use Rattle.locality_laws.proofs.Links.{histories_grow, none_carried}
 use Rattle.run_plan.specs.Stories.{carried_at}
 
 module _ (plan : PlanRec) (link : LinkNumber) where
-  -- over no slots nothing is carried
-  none_carried : (slot : Slot) → history plan link slot slot ≡ []
-  none_carried slot = cancel (history plan link slot slot) (histories_grow plan link slot slot slot (omega arith) (omega arith))
-    where
-      cancel : (xs : List Entry) → xs ++ xs ≡ xs → xs ≡ []
-      cancel [] same = refl
-      cancel (x ∷ xs) same = absurd (omega (arith, length-append (x ∷ xs) (x ∷ xs), ap length same))
-
   over_is_history : (from : Slot) (slots : ℕ) → entries_over (carried_at plan link) from slots ≡ history plan link from (from + slots)
-  over_is_history from zero = sym (none_carried from) ∙ ap (history plan link from) (omega arith)
+  over_is_history from zero = sym (none_carried plan link from) ∙ ap (history plan link from) (omega arith)
   over_is_history from (suc slots) =
       let next : suc (from + slots) ≡ from + suc slots = omega arith in
       ap (λ (es : List Entry). es ++ carried_at plan link (from + slots)) (over_is_history from slots)

@@ -1,2 +1,3 @@
-mod Directions
+pub mod Directions
 mod Past
+pub mod Routes

@@ -1,7 +1,7 @@
 use Rattle.std.proofs.Common.{◌≡◌, List, length, ap, ◌∙◌, arith}
 use Rattle.sys_plan.specs.declared.LinkPlan.{LinkPlan}
 use Rattle.sys_plan.specs.Plan.{PlanRec}
-use Rattle.run_drive.proofs.Routes.{directions_length}
+use Rattle.sys_plan.proofs.Directions.{directions_length}
 use Rattle.run_drive.proofs.stage.lanes_of.Goals as goal
 
 pub new-requires : goal.new-requires

@@ -1,6 +1,6 @@
 use Rattle.std.proofs.Common.{◌≡◌, ℕ, ◌+◌, List, [], ◌∷◌, ◌++◌, length, sym, ap, ◌∙◌, subst, arith}
 use Rattle.std.proofs.lemmas.List.{length_push}
-use Rattle.core_workers.specs.Runner.{RunnerRec, new_runner}
+use Rattle.node_runners.specs.Runner.{RunnerRec, new_runner}
 use Rattle.run_drive.specs.Stages.{AllAt}
 use Rattle.run_drive.proofs.Places.{all_at_push}
 use Rattle.run_drive.proofs.stage.runners_of.Goals as goal

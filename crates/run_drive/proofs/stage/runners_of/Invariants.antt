@@ -1,5 +1,5 @@
 use Rattle.std.proofs.Common.{◌≡◌, length}
-use Rattle.core_workers.specs.Runner.{new_runner}
+use Rattle.node_runners.specs.Runner.{new_runner}
 use Rattle.run_drive.specs.Stages.{AllAt}
 use Rattle.run_drive.proofs.stage.runners_of.Given as goal
 

@@ -1,9 +1,9 @@
 use Rattle.std.proofs.Common.{◌≡◌, ℕ, ◌+◌, Bool, false, cond, sym, ap, ◌∙◌, subst, inl, inr}
 use mathlib.Core.Logic.{◌⊎◌}
 use Rattle.ahead_limits.specs.Horizon.{may_run}
-use Rattle.core_workers.specs.declared.runner.Ran.{Ran}
-use Rattle.core_workers.specs.declared.runner.Ran.TheVariants.{Blocked, AtLimit}
-use Rattle.core_workers.specs.Runner.{RunnerRec, Runs}
+use Rattle.node_runners.specs.declared.runner.Ran.{Ran}
+use Rattle.node_runners.specs.declared.runner.Ran.TheVariants.{Blocked, AtLimit}
+use Rattle.node_runners.specs.Runner.{RunnerRec, Runs}
 use Rattle.run_drive.proofs.Slots.{none_where_stopped, none_at_limit}
 use Rattle.run_drive.proofs.stage.runs_on.Goals as goal
 

@@ -7,9 +7,9 @@ use Rattle.sys_plan.specs.declared.Step.TheVariants.{Send}
 use Rattle.sys_plan.specs.Plan.{PlanRec, outgoing}
 use Rattle.serial_model.specs.Serial.{history}
 use Rattle.play_model.specs.Play.{PlayedStep}
-use Rattle.core_workers.specs.Runner.{RunnerRec}
+use Rattle.node_runners.specs.Runner.{RunnerRec}
 use Rattle.run_drive.specs.declared.lane.Lane.{Lane}
-use Rattle.run_drive.proofs.Between.{between_is_history}
+use Rattle.run_plan.proofs.Stories.{between_is_history}
 use Rattle.run_drive.proofs.Steps.{Goes, own_runner, own_lane, sent_then, send_goes}
 use Rattle.run_drive.proofs.stage.Stage.send.Goals as goal
 

@@ -11,10 +11,10 @@ use Rattle.link_logs.specs.declared.answers.Got.{Got}
 use Rattle.link_logs.specs.Logs.{Finds, looked}
 use Rattle.link_logs.specs.Entries.{between}
 use Rattle.ahead_limits.specs.Horizon.{HorizonRec, seen_at}
-use Rattle.core_workers.specs.Runner.{RunnerRec}
+use Rattle.node_runners.specs.Runner.{RunnerRec}
 use Rattle.run_drive.specs.declared.lane.Lane.{Lane}
 use Rattle.run_drive.specs.Stages.{seen_of}
-use Rattle.run_drive.proofs.Between.{between_is_history}
+use Rattle.run_plan.proofs.Stories.{between_is_history}
 use Rattle.run_drive.proofs.Steps.{Goes, own_runner, own_lane, own_seen, seen_here, seen_below, take_nothing, take_entries}
 use Rattle.run_drive.proofs.stage.Stage.take.Goals as goal
 

@@ -1,5 +1,0 @@
-use Rattle.core_workers.proofs.Batches.{PutBelow, SameFrom}
-use Rattle.core_workers.proofs.outlet.put_all.Given as goal
-
-abbrev pub invariant-loop-end : goal.invariant-loop-end
-invariant-loop-end l = record { puts : PutBelow l.slot l.given l.end l.batches l.initial.batches; rest : SameFrom l.end l.batches l.initial.batches }

@@ -1,8 +1,0 @@
-use Rattle.std.proofs.Common.{refl}
-use Rattle.core_workers.proofs.Stops.{is_at_limit}
-use Rattle.core_workers.proofs.runner.stopped.Goals as goal
-
-pub returns-in-None : goal.returns-in-None
-returns-in-None c = record {
-  stops = is_at_limit c.args.horizon.now c.args.clock c.requires.stopped c.requires.ends c.requires.ahead (c.in-None.ensures.none refl) c.requires.within;
-}

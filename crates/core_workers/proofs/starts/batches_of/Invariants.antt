@@ -1,9 +1,0 @@
-use Rattle.std.proofs.Common.{ℕ, ◌≡◌, [], length}
-use Rattle.core_workers.specs.Sent.{batch_at}
-use Rattle.core_workers.proofs.starts.batches_of.Given as goal
-
-abbrev pub invariant-loop : goal.invariant-loop
-invariant-loop l = record {
-  count : length l.batches.items ≡ l.counter;
-  empty : (end : ℕ) → (batch_at l.batches.items end).entries ≡ [];
-}

@@ -1,0 +1,9 @@
+pub mod Queue
+pub mod Gathers
+pub mod Batches
+pub mod Whole
+pub mod Slots
+pub mod Takes
+pub mod Stops
+pub mod Begins
+pub mod Sends

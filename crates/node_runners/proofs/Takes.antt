@@ -1,0 +1,89 @@
+-- A node that has seen more of a link that comes to it.
+use Rattle.std.proofs.Common.{◌≡◌, ℕ, ◌+◌, ◌-◌, ◌<◌, ◌≤◌, false, true, Option, Some, None, List, ◌++◌, length, get_or, slice_index_or, refl, sym, ap, ◌∙◌, subst, arith, inl, inr}
+use Rattle.std.specs.Prelude.{slice_set, IsSome, is_some}
+use Rattle.std.proofs.lemmas.Bool.{cases_eq}
+use Rattle.std.proofs.lemmas.List.{length-set, get_or-set_same, get_or-set_other}
+use Rattle.xs_base.specs.Numbers.{Slot, Position, LinkNumber, EndNumber}
+use Rattle.xs_base.specs.Batch.{BatchRec}
+use Rattle.xs_base.specs.declared.entry.Entry.{Entry}
+use Rattle.sys_plan.specs.Plan.{PlanRec, IsPlan, incoming, delay_of}
+use Rattle.serial_model.specs.Serial.{history}
+use Rattle.locality_laws.proofs.Links.{histories_grow}
+use Rattle.ahead_limits.specs.declared.horizon.Seen.{Seen}
+use Rattle.ahead_limits.specs.Horizon.{HorizonRec, seen_at, seen_by_end, seen_to, horizon_at}
+use Rattle.node_seats.specs.declared.seat.Seat.{Seat}
+use Rattle.node_runners.specs.Queue.{InletRec, no_inlet, inlet_at}
+use Rattle.node_runners.specs.Inside.{HearsLink, Hears, HasLinks, IsRunner}
+
+none_is_not : false ≡ true → ⊥
+none_is_not h = cc
+
+abbrev pub longer : InletRec → List Entry → InletRec
+longer i entries = record i { queue = i.queue ++ entries }
+
+module _ (plan : PlanRec) (clock to : Slot) (entries : List Entry) where
+  more-here : (l : Option LinkNumber) (s : Option Seen) (i : InletRec) → Hears plan clock l s i → is_some l ≡ true → seen_by_end s ≤ to
+      → ((link : LinkNumber) → l ≡ Some link → entries ≡ history plan link (seen_by_end s) to) → Hears plan clock l (seen_to to s) (longer i entries)
+  more-here None s i h some on own = absurd (none_is_not some)
+  more-here (Some link) None i h some on own = absurd h
+  more-here (Some link) (Some s) i h some on own = record {
+    delay = h.delay;
+    inlet_delay = h.inlet_delay;
+    queue = (λ k. h.queue k ++ own link refl k) ∙ histories_grow plan link (clock - delay_of plan link) s.seen to (omega (arith, h.ahead, h.delay)) on;
+    ahead = omega (arith, h.ahead, on);
+  }
+
+  module _ (n : Position) (end : EndNumber) (horizon : HorizonRec) (inlets : List InletRec) (batches : List BatchRec) (published : List Slot) (is : HasLinks plan n clock horizon inlets batches published)
+      (some : IsSome (incoming plan n end)) (on : seen_at horizon end ≤ to)
+      (own : (link : LinkNumber) → incoming plan n end ≡ Some link → entries ≡ history plan link (seen_at horizon end) to) where
+    inside_by : (l : Option LinkNumber) → incoming plan n end ≡ l → is_some l ≡ true → end < length inlets
+    inside_by None at there = absurd (none_is_not there)
+    inside_by (Some link) at there = is.reached end link at
+
+    pub inside : end < length inlets
+    inside = inside_by (incoming plan n end) refl some
+
+    abbrev sees : List (Option Seen)
+    sees = slice_set horizon.ends end (seen_to to (slice_index_or horizon.ends end None))
+
+    abbrev pub inlets_after : List InletRec
+    inlets_after = slice_set inlets end (longer (inlet_at inlets end) entries)
+
+    here : Hears plan clock (incoming plan n end) (get_or sees end None) (inlet_at inlets_after end)
+    here =
+        let eight : end < length horizon.ends = omega (arith, is.all_ends, is.few_inlets, inside) in
+        subst (λ (s : Option Seen). Hears plan clock (incoming plan n end) s (inlet_at inlets_after end)) (sym (get_or-set_same horizon.ends end (seen_to to (slice_index_or horizon.ends end None)) None eight))
+        (subst (Hears plan clock (incoming plan n end) (seen_to to (slice_index_or horizon.ends end None))) (sym (get_or-set_same inlets end (longer (inlet_at inlets end) entries) no_inlet inside))
+        (more-here (incoming plan n end) (slice_index_or horizon.ends end None) (inlet_at inlets end) (is.hears end) some on own))
+
+    there : (k : EndNumber) → (k ≡ end → ⊥) → Hears plan clock (incoming plan n k) (get_or sees k None) (inlet_at inlets_after k)
+    there k ne =
+        subst (λ (s : Option Seen). Hears plan clock (incoming plan n k) s (inlet_at inlets_after k)) (sym (get_or-set_other horizon.ends end k (seen_to to (slice_index_or horizon.ends end None)) None ne))
+        (subst (Hears plan clock (incoming plan n k) (get_or horizon.ends k None)) (sym (get_or-set_other inlets end k (longer (inlet_at inlets end) entries) no_inlet ne)) (is.hears k))
+
+    links-taken : HasLinks plan n clock (record horizon { ends = sees }) inlets_after batches published
+    links-taken = record {
+      all_ends = length-set horizon.ends end (seen_to to (slice_index_or horizon.ends end None)) ∙ is.all_ends;
+      few_inlets = omega (arith, length-set inlets end (longer (inlet_at inlets end) entries), is.few_inlets);
+      few_batches = is.few_batches;
+      all_published = is.all_published;
+      hears = λ k. elim (cases_eq k end) [
+        | inl same ↦ subst (λ j. Hears plan clock (incoming plan n j) (get_or sees j None) (inlet_at inlets_after j)) (sym same) here
+        | inr ne ↦ there k ne
+      ];
+      reached = λ k link at. let r = is.reached k link at in omega (arith, r, length-set inlets end (longer (inlet_at inlets end) entries));
+      tells = is.tells;
+      behind = is.behind;
+    }
+
+    pub runner-taken : (seat : Seat) (later : HorizonRec) (inlet : InletRec) → IsRunner plan n clock horizon seat inlets batches published → later ≡ record horizon { ends = sees }
+        → inlet ≡ longer (inlet_at inlets end) entries → IsRunner plan n clock later seat (slice_set inlets end inlet) batches published
+    runner-taken seat later inlet r is_later is_inlet =
+        subst (λ (h : HorizonRec). IsRunner plan n clock h seat (slice_set inlets end inlet) batches published) (sym is_later)
+        (subst (λ (i : InletRec). IsRunner plan n clock (record horizon { ends = sees }) seat (slice_set inlets end i) batches published) (sym is_inlet) (record {
+          plan_is = r.plan_is;
+          within = r.within;
+          small = r.small;
+          seat_is = r.seat_is;
+          links = links-taken;
+        }))

@@ -1,0 +1,62 @@
+use Rattle.std.proofs.Common.{◌≡◌, ◌+◌, true, List, ◌++◌, length, take, drop, map, sym, ap, ◌∙◌, subst, arith, rules}
+use Rattle.xs_base.specs.Batch.{BatchRec}
+use Rattle.node_runners.specs.Queue.{InletRec, AreWaiting, inlet_at, after_slot, arrivals_by}
+use Rattle.serial_model.specs.Serial.{sent_by}
+use Rattle.node_runners.specs.Sent.{batch_at}
+use Rattle.node_runners.specs.Inside.{IsRunner}
+use Rattle.node_runners.proofs.Slots.{waits, runner-same, runner-next}
+use Rattle.node_runners.proofs.Whole.{given-back}
+use Rattle.node_runners.proofs.runner.NodeRunner.run_slot.Goals as goal
+
+pub invariant_of-self-in_err-make_room : goal.invariant_of-self-in_err-make_room
+invariant_of-self-in_err-make_room c =
+    let i = c.self.inside in
+    let items = i.batches.items in
+    let later = c.make_room.new.batches in
+    let lent = c.deref_mut.ensures.value in
+    let count : length later ≡ length items = omega (arith, ap length lent) in
+    let len : i.batches.len ≡ length items = omega (arith, ap length lent) in
+    subst (λ (bs : List BatchRec). IsRunner i.plan.value i.node i.clock i.horizon c.reserve.new.self i.inlets.items bs i.published) (sym (given-back i.batches.len later items count len))
+    (runner-same i.plan.value i.node i.clock i.horizon i.seat c.reserve.new.self i.inlets.items items later i.published c.self.invariant c.reserve.ensures.same
+    (λ end. c.make_room.ensures.same end ∙ ap (λ (bs : List BatchRec). (batch_at bs end).entries) lent) count)
+
+pub arrive_all-arrived-requires-clause-waits : goal.arrive_all-arrived-requires-clause-waits
+arrive_all-arrived-requires-clause-waits c = λ end within.
+    let i = c.self.inside in
+    subst (λ (xs : List InletRec). AreWaiting i.clock (inlet_at xs end).delay (inlet_at xs end).queue) (sym c.deref_mut-2.ensures.value)
+    (waits i.plan.value c.self.invariant.plan_is i.node i.clock i.horizon i.inlets.items i.batches.items i.published c.self.invariant.links end)
+
+pub invariant_of-self-2 : goal.invariant_of-self-2
+invariant_of-self-2 c =
+    let i = c.self.inside in
+    -- room was made
+    let items = i.batches.items in
+    let roomy = c.make_room.new.batches in
+    let lent = c.deref_mut.ensures.value in
+    let count : length roomy ≡ length items = omega (arith, ap length lent) in
+    let len : i.batches.len ≡ length items = omega (arith, ap length lent) in
+    let back = given-back i.batches.len roomy items count len in
+    let start = runner-same i.plan.value i.node i.clock i.horizon i.seat c.reserve.new.self i.inlets.items items roomy i.published c.self.invariant c.reserve.ensures.same
+    (λ end. c.make_room.ensures.same end ∙ ap (λ (bs : List BatchRec). (batch_at bs end).entries) lent) count in
+    -- what arrives has left the queues
+    let arrived = c.arrive_all-arrived.new.inlets in
+    let lent_inlets = c.deref_mut-2.ensures.value in
+    let inlet_count : length arrived ≡ length i.inlets.items = omega (arith, ap length lent_inlets) in
+    let inlet_len : i.inlets.len ≡ length i.inlets.items = omega (arith, ap length lent_inlets) in
+    let inlets_back = given-back i.inlets.len arrived i.inlets.items inlet_count inlet_len in
+    -- what was sent stands in the batches
+    let sent = c.put_all.new.batches in
+    let lent_batches = c.deref_mut-3.ensures.value ∙ back in
+    let sent_count : length sent ≡ length roomy = omega (arith, ap length lent_batches) in
+    let sent_back = given-back i.batches.len sent (take i.batches.len (roomy ++ drop (length roomy) items)) (omega (arith, sent_count, ap length back)) (omega (arith, len, count, ap length back)) in
+    let runs : c.may_run.result ≡ true = first_of (cc, search rules, grind (arith)) in
+    let next = runner-next i.plan.value i.node i.clock i.horizon c.reserve.new.self c.step.new.self i.inlets.items arrived roomy sent i.published c.arrive_all-arrived.result.arrivals start
+    (c.may_run.ensures.exactly.0 runs)
+    (c.arrive_all-arrived.ensures.arrivals ∙ ap (arrivals_by i.clock) lent_inlets)
+    (c.arrive_all-arrived.ensures.left ∙ ap (map (after_slot i.clock)) lent_inlets)
+    inlet_count c.step.ensures.steps sent_count
+    (λ end within.
+    c.put_all.ensures.puts end (omega (arith, within, ap length lent_batches))
+    ∙ ap (λ (bs : List BatchRec). (batch_at bs end).entries ++ sent_by i.clock c.step.new.self.given end) lent_batches) in
+    subst (λ (xs : List InletRec). IsRunner i.plan.value i.node (i.clock + 1) i.horizon c.step.new.self xs (take i.batches.len (sent ++ drop (length sent) (take i.batches.len (roomy ++ drop (length roomy) items)))) i.published) (sym inlets_back)
+    (subst (λ (bs : List BatchRec). IsRunner i.plan.value i.node (i.clock + 1) i.horizon c.step.new.self arrived bs i.published) (sym sent_back) next)

@@ -1,0 +1,5 @@
+pub mod Queue
+pub mod Sent
+pub mod Runner
+pub mod Inside
+pub mod Starts

@@ -1,0 +1,193 @@
+//! `NodeRunner`, one node that runs ahead of the others.
+ghost use Rattle.std.specs.Prelude.{ℕ, ◌≡◌, ◌+◌, ◌<◌, ◌≤◌, Some, None, IsSome, false, [], length, slice_index, slice_index_or, slice_set, IfOk, IfErr, OnOk, OnErr};
+ghost use Rattle.xs_base.specs.Numbers.{LinkNumber};
+ghost use Rattle.sys_plan.specs.Plan.{outgoing, incoming};
+ghost use Rattle.serial_model.specs.Serial.{serial, history};
+ghost use Rattle.locality_laws.specs.Locality.{node_in, events_in};
+ghost use Rattle.trace_lines.specs.Kept.{Keeps};
+ghost use Rattle.core_step.specs.Core.{StandsAt};
+ghost use Rattle.ahead_limits.specs.declared.horizon.Seen.{Seen};
+ghost use Rattle.ahead_limits.specs.Horizon.{seen_at, seen_to, Sees, horizon_at, may_run};
+ghost use Rattle.node_runners.specs.Runner.{new_runner, Runs, Stops};
+
+use crate::inlet::{Inlet, arrive_all};
+use crate::outlet::{make_room, put_all};
+use crate::starts::{batches_of, inlets_of};
+use ahead_limits::Horizon;
+use core_step::Core;
+use known_value::Known;
+use node_seats::Seat;
+use std::alloc::{AllocError, Global};
+use std::marker::Model;
+use std::mem;
+use sys_plan::Plan;
+use trace_lines::NodeEvents;
+use xs_base::Batch;
+
+/// What came of a call to run a slot.
+#[derive(Clone, Copy, PartialEq, Eq, Debug)]
+pub enum Ran {
+    /// The node has run the slot of its clock.
+    Slot,
+    /// The link that comes to a link end, 0 to 7, stops it: this much of it was seen, in slots. The node is as it was.
+    Blocked { end: u8, seen: u32 },
+    /// It has run all slots of the run.
+    AtLimit,
+}
+
+/// One node of a plan that is stepped alone, as far ahead of the others as what it has seen of its links lets it: it is then what it is in
+/// the serial machine. Its clock is the number of slots that it has run. Contracts see it as a `RunnerRec` of
+/// `Rattle.node_runners.specs.Runner`. See docs/LOOKAHEAD.md.
+#[derive(Drop)]
+pub struct NodeRunner {
+    plan: Known<Plan>,
+    node: u8,
+    clock: u32,
+    alloc: Global,
+    horizon: Horizon,
+    seat: Seat,
+    // By link end, as far as the last to which a link comes.
+    inlets: Vec<Inlet>,
+    // What was sent and not published, by link end, as far as the last by which a link leaves.
+    batches: Vec<Batch>,
+    published: [u32; 8],
+}
+
+impl Model for NodeRunner {
+    ghost use Rattle.node_runners.specs.Runner.{RunnerRec};
+
+    ghost Value = { RunnerRec };
+
+    ghost use Rattle.node_runners.specs.Inside.{IsRunner};
+
+    ghost view = { λ r. record { plan = r.plan.value; node = r.node; clock = r.clock; horizon = r.horizon; published = r.published } };
+
+    ghost invariant = { λ r. IsRunner r.plan.value r.node r.clock r.horizon r.seat r.inlets.items r.batches.items r.published };
+}
+
+impl NodeRunner {
+    /// The node of a plan at a position before its first slot, in a run of so many slots. Nothing of its links was seen. The error is want
+    /// of memory.
+    pub fn new(alloc: Global, plan: &Plan, node: u8, limit: u32) -> Result<NodeRunner, AllocError>
+        requires node { node < length plan.now.nodes }
+        ensures new { IfOk result (λ r. r ≡ new_runner plan.now limit node) }
+    {
+        let horizon = Horizon::of(plan, node, limit);
+        let seat = Seat::of(alloc, plan, node)?;
+        let inlets = inlets_of(alloc, plan, node)?;
+        let batches = batches_of(alloc, plan, node)?;
+        Ok(NodeRunner {
+            plan: Known::of(plan),
+            node,
+            clock: 0,
+            alloc,
+            horizon,
+            seat,
+            inlets,
+            batches,
+            published: [0; 8],
+        })
+    }
+
+    /// The link that comes to a link end, 0 to 7, was seen up to a slot, `to`, which is not before the one up to which it was seen: `batch` has
+    /// its entries from there on. The error is want of memory: it changes nothing, and has the batch.
+    pub fn take(&mut self, end: u8, batch: Batch, to: u32) -> Result<(), Batch>
+        requires there { IsSome (incoming self.old.plan self.old.node end) }
+        requires on { seen_at self.old.horizon end ≤ to }
+        requires own { (link : LinkNumber) → incoming self.old.plan self.old.node end ≡ Some link → batch.entries ≡ history self.old.plan link (seen_at self.old.horizon end) to }
+        ensures taken { OnOk result (self.new ≡ record self.old { horizon = record self.old.horizon { ends = slice_set self.old.horizon.ends end (seen_to to (slice_index_or self.old.horizon.ends end None)) } }) }
+        ensures err { OnErr result (self.new ≡ self.old) }
+        ensures batch { IfErr result (λ b. b.entries ≡ batch.entries) }
+    {
+        let inlet = &mut self.inlets[end as usize];
+        if inlet.append(batch.entries()).is_err() {
+            return Err(batch);
+        }
+        self.horizon.see(end, to);
+        Ok(())
+    }
+
+    /// Runs the slot of its clock, where its horizon lets it: exactly then the answer is `Slot`. It is `AtLimit` exactly at the limit, and else
+    /// `Blocked`, with the least link end that stops the node. The error is want of memory, and leaves the node before the slot.
+    pub fn run_slot(&mut self) -> Result<Ran, AllocError>
+        ensures ran { IfOk result (λ ran. Runs self.old ran self.new) }
+        ensures err { OnErr result (self.new ≡ self.old) }
+    {
+        if !self.horizon.may_run(self.clock) {
+            return Ok(stopped(&self.horizon, self.clock));
+        }
+        self.seat.reserve()?;
+        make_room(&mut self.batches)?;
+        let arrived = arrive_all(&mut self.inlets, self.clock);
+        self.seat.step(self.clock, arrived.some, &arrived.arrivals);
+        put_all(&mut self.batches, self.clock, &self.seat.given);
+        self.clock += 1;
+        Ok(Ran::Slot)
+    }
+
+    /// Publishes the link that leaves by a link end, 0 to 7, up to the clock: what it has carried from the published slot on and before the
+    /// clock, which may be nothing. It takes no memory.
+    pub fn send(&mut self, end: u8) -> Batch
+        requires there { IsSome (outgoing self.old.plan self.old.node end) }
+        ensures own { (link : LinkNumber) → outgoing self.old.plan self.old.node end ≡ Some link → result.entries ≡ history self.old.plan link (slice_index self.old.published end) self.old.clock }
+        ensures rest { self.new ≡ record self.old { published = slice_set self.old.published end self.old.clock } }
+    {
+        let batch = mem::replace(&mut self.batches[end as usize], Batch::new(self.alloc));
+        self.published[end as usize] = self.clock;
+        batch
+    }
+
+    /// Takes back what `send` gave last for a link end, and that nobody else has: it is published up to the slot `from` again. It takes no
+    /// memory.
+    pub fn unsend(&mut self, end: u8, batch: Batch, from: u32)
+        requires there { IsSome (outgoing self.old.plan self.old.node end) }
+        requires before { from ≤ self.old.clock }
+        requires last { slice_index self.old.published end ≡ self.old.clock }
+        requires own { (link : LinkNumber) → outgoing self.old.plan self.old.node end ≡ Some link → batch.entries ≡ history self.old.plan link from self.old.clock }
+        ensures rest { self.new ≡ record self.old { published = slice_set self.old.published end from } }
+    {
+        self.batches[end as usize] = batch;
+        self.published[end as usize] = from;
+    }
+
+    /// The number of slots that it has run.
+    pub fn clock(&self) -> u32
+        ensures value { result ≡ self.now.clock }
+        ensures within { result ≤ self.now.horizon.limit }
+        ensures ahead { (end : ℕ) (s : Seen) → Sees self.now.horizon end s → result ≤ horizon_at s }
+        ensures behind { (end : ℕ) → slice_index self.now.published end ≤ result }
+    {
+        self.clock
+    }
+
+    /// The core, which stands for the node's record of the serial machine.
+    pub fn core(&self) -> &Core
+        ensures stands { StandsAt result.now (node_in (serial self.now.plan self.now.clock) self.now.node) self.now.clock }
+    {
+        &self.seat.core
+    }
+
+    /// What is kept of its events, which are those of the serial machine.
+    pub fn events(&self) -> &NodeEvents
+        ensures keeps { Keeps result.now (events_in (serial self.now.plan self.now.clock) self.now.node) }
+    {
+        &self.seat.events
+    }
+}
+
+// Why a node does not run the slot of its clock.
+fn stopped(horizon: &Horizon, clock: u32) -> Ran
+    requires stopped { may_run horizon.now clock ≡ false }
+    requires within { clock ≤ horizon.now.limit }
+    requires ends { length horizon.now.ends ≡ 8 }
+    requires ahead { (end : ℕ) (s : Seen) → Sees horizon.now end s → clock ≤ horizon_at s }
+    ensures stops { Stops horizon.now clock result }
+{
+    if clock == horizon.limit() {
+        return Ran::AtLimit;
+    }
+    match horizon.first_block(clock) {
+        Some((end, seen)) => Ran::Blocked { end, seen },
+        None => Ran::AtLimit,
+    }
+}
