@@ -1,0 +1,217 @@
+-- What an end has after each step of a turn.
+use Rattle.std.proofs.Common.{◌≡◌, ◌≢◌, ℕ, ◌+◌, ◌≤◌, List, [], ◌∷◌, ◌++◌, sym, refl, ap, ◌∙◌, subst, arith, le_refl, le_trans, Some, None, Result, Ok, Err, IfOk, OnOk, OnErr}
+use Rattle.atomic_table.specs.Table.{rest}
+use Rattle.xs_base.specs.Numbers.{Slot}
+use Rattle.xs_base.specs.declared.entry.Entry.{Entry}
+use Rattle.link_logs.specs.declared.answers.Got.{Got}
+use Rattle.link_logs.specs.Logs.{LogRec, WriteRec, ReadRec, Writes, Reads, Finds, looked}
+use Rattle.log_cells.specs.declared.view.View.TheVariants.{Writer, Reader}
+use Rattle.log_cells.specs.Rule.{WritingIn, ReadingIn, writing_of, reading_of, refused_of}
+use Rattle.log_cells.specs.Ends.{LooksAt}
+use Rattle.log_cells.specs.Plays.{SeatIn, writer_at, reader_at, WriterClaims, ReaderClaims, gives_written, gives_taken, gives_kept, Follows, SameToWriter, WriterHas, ReaderHas, HasKept, HasTaken}
+use Rattle.log_cells.proofs.Kept.{a_step, log_or}
+
+module _ {Run : Type 0} (refused found : ℕ) (m : SeatIn Run) where
+  pub writer_won : (end : WriteRec Run) → WriterClaims (writing_of end refused) found m → found ≡ 0 → WriterHas end (refused_of m.0) m
+  writer_won end k z = let t = k.0 z in record {
+    view = record (writing_of end refused) { held = Some t.0 };
+    found = t.0;
+    log = t.0;
+    me_is = t.2;
+    held = refl;
+    refused_is = sym (ap (λ (x : SeatIn Run). refused_of x.0) t.2);
+    run = refl;
+    number = refl;
+    writes = t.1;
+    follows = record { run = refl; number = refl; base = refl; published = le_refl t.0.published };
+  }
+
+  pub writer_won_later : (end : WriteRec Run) → WriterClaims (writing_of end refused) found m → found ≡ 0 → refused ≤ refused_of m.0
+  writer_won_later end k z = omega (arith, ap (λ (x : SeatIn Run). refused_of x.0) (k.0 z).2)
+
+  writer_lost_more : (end : WriteRec Run) → WriterClaims (writing_of end refused) found m → found ≢ 0 → refused_of m.0 ≡ refused + 1
+  writer_lost_more end k n = ap (λ (x : SeatIn Run). refused_of x.0) (k.1 n)
+
+  pub writer_lost : (end : WriteRec Run) → WriterClaims (writing_of end refused) found m → found ≢ 0 → m ≡ writer_at end (refused_of m.0)
+  writer_lost end k n = k.1 n ∙ (λ i. writer_at end (sym (writer_lost_more end k n) i))
+
+  pub writer_lost_later : (end : WriteRec Run) → WriterClaims (writing_of end refused) found m → found ≢ 0 → refused ≤ refused_of m.0
+  writer_lost_later end k n = omega (arith, writer_lost_more end k n)
+
+  pub reader_won : (end : ReadRec Run) → ReaderClaims (reading_of end refused) found m → found ≡ 0 → HasKept end (refused_of m.0) m
+  reader_won end k z = let t = k.0 z in (
+    record {
+      view = record (reading_of end refused) { held = Some t.0 };
+      found = t.0;
+      log = t.0;
+      me_is = t.2;
+      held = refl;
+      refused_is = sym (ap (λ (x : SeatIn Run). refused_of x.0) t.2);
+      run = refl;
+      number = refl;
+      reads = record { run = t.1.run; number = t.1.number; base = t.1.base; published = t.1.published };
+      same = record { run = refl; number = refl; published = refl; cause = refl };
+    },
+    refl,
+  )
+
+  pub reader_won_later : (end : ReadRec Run) → ReaderClaims (reading_of end refused) found m → found ≡ 0 → refused ≤ refused_of m.0
+  reader_won_later end k z = omega (arith, ap (λ (x : SeatIn Run). refused_of x.0) (k.0 z).2)
+
+  reader_lost_more : (end : ReadRec Run) → ReaderClaims (reading_of end refused) found m → found ≢ 0 → refused_of m.0 ≡ refused + 1
+  reader_lost_more end k n = ap (λ (x : SeatIn Run). refused_of x.0) (k.1 n)
+
+  pub reader_lost : (end : ReadRec Run) → ReaderClaims (reading_of end refused) found m → found ≢ 0 → m ≡ reader_at end (refused_of m.0)
+  reader_lost end k n = k.1 n ∙ (λ i. reader_at end (sym (reader_lost_more end k n) i))
+
+  pub reader_lost_later : (end : ReadRec Run) → ReaderClaims (reading_of end refused) found m → found ≢ 0 → refused ≤ refused_of m.0
+  reader_lost_later end k n = omega (arith, reader_lost_more end k n)
+
+module _ {Run : Type 0} (refused : ℕ) (m m' : SeatIn Run) where
+  pub gave_written : (end : WriteRec Run) → WriterHas end refused m → gives_written a_step m 0 m' → m' ≡ writer_at end refused
+  gave_written end has gave = gave has.view has.log has.me_is
+      ∙ (λ i. (Writer (record { run = has.run i; number = has.number i; published = sym has.writes.published i; cause = sym has.writes.cause i; held = None; refused = has.refused_is i }), []))
+
+  pub gave_taken : (end : ReadRec Run) → HasTaken end refused m → gives_taken a_step m 0 m' → m' ≡ reader_at end refused
+  gave_taken end took gave = let has = took.0 in gave has.view has.log has.me_is
+      ∙ (λ i. (Reader (record { run = has.run i; number = has.number i; got = sym took.1 i; held = None; refused = has.refused_is i }), []))
+
+  pub gave_kept : (end : ReadRec Run) → HasKept end refused m → gives_kept a_step m 0 m' → m' ≡ reader_at end refused
+  gave_kept end kept gave = let has = kept.0 in gave has.view has.log has.me_is
+      ∙ (λ i. (Reader (record { run = has.run i; number = has.number i; got = kept.1 i; held = None; refused = has.refused_is i }), []))
+
+slot_of : {Run : Type 0} (carried : List (ℕ × LogRec Run)) (log : LogRec Run) → carried ≡ (0, log) ∷ [] → carried ≡ (0, log) ∷ rest carried
+slot_of carried log e = e ∙ (λ i. (0, log) ∷ rest (sym e i))
+
+module _ {Run : Type 0} {refused : ℕ} {m : SeatIn Run} where
+  pub writer_slot : {end : WriteRec Run} → WriterHas end refused m → (log : LogRec Run) × (m.1 ≡ (0, log) ∷ rest m.1)
+  writer_slot has = (has.log, slot_of m.1 has.log (ap (λ (x : SeatIn Run). x.1) has.me_is))
+
+  pub reader_slot : {end : ReadRec Run} → ReaderHas end refused m → (log : LogRec Run) × (m.1 ≡ (0, log) ∷ rest m.1)
+  reader_slot has = (has.log, slot_of m.1 has.log (ap (λ (x : SeatIn Run). x.1) has.me_is))
+
+  pub writer_log : {end : WriteRec Run} (has : WriterHas end refused m) (log : LogRec Run) → m.1 ≡ (0, log) ∷ rest m.1 → has.log ≡ log
+  writer_log has log e = ap (log_or has.log) (sym (ap (λ (x : SeatIn Run). x.1) has.me_is) ∙ e)
+
+  pub reader_log : {end : ReadRec Run} (has : ReaderHas end refused m) (log : LogRec Run) → m.1 ≡ (0, log) ∷ rest m.1 → has.log ≡ log
+  reader_log has log e = ap (log_or has.log) (sym (ap (λ (x : SeatIn Run). x.1) has.me_is) ∙ e)
+
+  -- the log was written, by an end that knows what it has now
+  pub wrote : {end : WriteRec Run} (has : WriterHas end refused m) (log log' : LogRec Run) (end' : WriteRec Run) → m.1 ≡ (0, log) ∷ rest m.1
+      → end'.run ≡ end.run → end'.number ≡ end.number → Writes end' log' → Follows log log' → WriterHas end' refused (m.0, (0, log') ∷ rest m.1)
+  wrote has log log' end' at run number writes went =
+      let here = writer_log has log at in
+      let before : Follows has.found log = subst (λ (l : LogRec Run). Follows has.found l) here has.follows in
+      record {
+        view = has.view;
+        found = has.found;
+        log = log';
+        me_is = λ i. ((has.me_is i).0, (0, log') ∷ rest (has.me_is i).1);
+        held = has.held;
+        refused_is = has.refused_is;
+        run = has.run ∙ sym run;
+        number = has.number ∙ sym number;
+        writes = writes;
+        follows = record { run = went.run ∙ before.run; number = went.number ∙ before.number; base = went.base ∙ before.base; published = le_trans before.published went.published };
+      }
+
+  -- the log was read, by an end that has read its part of it
+  abbrev pub read : {end : ReadRec Run} (has : ReaderHas end refused m) (log log' : LogRec Run) (end' : ReadRec Run) → m.1 ≡ (0, log) ∷ rest m.1
+      → log' ≡ log → end'.run ≡ end.run → end'.number ≡ end.number → Reads end' log' → ReaderHas end' refused (m.0, (0, log') ∷ rest m.1)
+  read has log log' end' at stays run number reads =
+      let here = reader_log has log at in
+      let same : SameToWriter has.found log' = subst (λ (l : LogRec Run). SameToWriter has.found l) (here ∙ sym stays) has.same in
+      record {
+        view = has.view;
+        found = has.found;
+        log = log';
+        me_is = λ i. ((has.me_is i).0, (0, log') ∷ rest (has.me_is i).1);
+        held = has.held;
+        refused_is = has.refused_is;
+        run = has.run ∙ sym run;
+        number = has.number ∙ sym number;
+        reads = reads;
+        same = same;
+      }
+
+-- what a log and its end have after an append
+pub record Appended {Run : Type 0} (log log' : LogRec Run) (end end' : WriteRec Run) : Type 0 where
+  pub run : end'.run ≡ end.run
+  pub number : end'.number ≡ end.number
+  pub writes : Writes end' log'
+  pub follows : Follows log log'
+
+module _ {Run : Type 0} {E : Type 0} (log log' : LogRec Run) where
+  pub appended : (end end' : WriteRec Run) (upto : Slot) (more : List Entry) (x : Result (Unit {0}) E) → Writes end log → log.published ≤ upto
+      → OnOk x (log' ≡ record log { published = upto; entries = more }) → OnOk x (end' ≡ record end { published = upto }) → OnErr x (log' ≡ log) → OnErr x (end' ≡ end) → Appended log log' end end'
+  appended end end' upto more (Ok u) writes on is_log is_end err err_end = record {
+    run = ap (λ (w : WriteRec Run). w.run) is_end;
+    number = ap (λ (w : WriteRec Run). w.number) is_end;
+    writes = record {
+      run = ap (λ (w : WriteRec Run). w.run) is_end ∙ writes.run ∙ sym (ap (λ (l : LogRec Run). l.run) is_log);
+      number = ap (λ (w : WriteRec Run). w.number) is_end ∙ writes.number ∙ sym (ap (λ (l : LogRec Run). l.number) is_log);
+      published = ap (λ (w : WriteRec Run). w.published) is_end ∙ sym (ap (λ (l : LogRec Run). l.published) is_log);
+      cause = ap (λ (w : WriteRec Run). w.cause) is_end ∙ writes.cause ∙ sym (ap (λ (l : LogRec Run). l.cause) is_log);
+    };
+    follows = record {
+      run = ap (λ (l : LogRec Run). l.run) is_log;
+      number = ap (λ (l : LogRec Run). l.number) is_log;
+      base = ap (λ (l : LogRec Run). l.base) is_log;
+      published = omega (arith, on, ap (λ (l : LogRec Run). l.published) is_log);
+    };
+  }
+  appended end end' upto more (Err e) writes on is_log is_end err err_end = record {
+    run = ap (λ (w : WriteRec Run). w.run) err_end;
+    number = ap (λ (w : WriteRec Run). w.number) err_end;
+    writes = record {
+      run = ap (λ (w : WriteRec Run). w.run) err_end ∙ writes.run ∙ sym (ap (λ (l : LogRec Run). l.run) err);
+      number = ap (λ (w : WriteRec Run). w.number) err_end ∙ writes.number ∙ sym (ap (λ (l : LogRec Run). l.number) err);
+      published = ap (λ (w : WriteRec Run). w.published) err_end ∙ writes.published ∙ sym (ap (λ (l : LogRec Run). l.published) err);
+      cause = ap (λ (w : WriteRec Run). w.cause) err_end ∙ writes.cause ∙ sym (ap (λ (l : LogRec Run). l.cause) err);
+    };
+    follows = record {
+      run = ap (λ (l : LogRec Run). l.run) err;
+      number = ap (λ (l : LogRec Run). l.number) err;
+      base = ap (λ (l : LogRec Run). l.base) err;
+      published = omega (arith, ap (λ (l : LogRec Run). l.published) err);
+    };
+  }
+
+module _ {Run : Type 0} {E : Type 0} (log : LogRec Run) (end end' : ReadRec Run) where
+  -- an answer of a look
+  pub looks_at : (at : Slot → List Entry) (x : Result Got E) → Reads end log → IfOk x (λ got. Finds at log end.got got) → IfOk x (λ got. end' ≡ looked log got end) → IfOk x (λ got. LooksAt at end got end')
+  looks_at at (Ok got) reads finds is_end = record { log = log; reads = reads; finds = finds; end = is_end }
+  looks_at at (Err e) reads finds is_end = tt
+
+  -- the log after a look
+  pub takes_all : (log' : LogRec Run) (refused : ℕ) (m : SeatIn Run) (x : Result Got E) → (has : ReaderHas end refused m) → m.1 ≡ (0, log) ∷ rest m.1 → log' ≡ log → Reads end log
+      → IfOk x (λ got. end' ≡ looked log got end) → OnOk x (HasTaken end' refused (m.0, (0, log') ∷ rest m.1))
+  takes_all log' refused m (Ok got) has here same reads is_end =
+      let run : end'.run ≡ end.run = ap (λ (r : ReadRec Run). r.run) is_end in
+      let number : end'.number ≡ end.number = ap (λ (r : ReadRec Run). r.number) is_end in
+      let all : end'.got ≡ log'.published = ap (λ (r : ReadRec Run). r.got) is_end ∙ sym (ap (λ (l : LogRec Run). l.published) same) in (
+        read has log log' end' here same run number record {
+          run = run ∙ reads.run ∙ sym (ap (λ (l : LogRec Run). l.run) same);
+          number = number ∙ reads.number ∙ sym (ap (λ (l : LogRec Run). l.number) same);
+          base = omega (arith, all, reads.base, reads.published, ap (λ (l : LogRec Run). l.base) same, ap (λ (l : LogRec Run). l.published) same);
+          published = omega (arith, all);
+        },
+        all,
+      )
+  takes_all log' refused m (Err e) has here same reads is_end = tt
+
+  pub takes_none : (log' : LogRec Run) (refused : ℕ) (m : SeatIn Run) (x : Result Got E) → HasKept end refused m → m.1 ≡ (0, log) ∷ rest m.1 → log' ≡ log → Reads end log
+      → OnErr x (end' ≡ end) → OnErr x (HasKept end' refused (m.0, (0, log') ∷ rest m.1))
+  takes_none log' refused m (Ok got) kept here same reads is_end = tt
+  takes_none log' refused m (Err e) kept here same reads is_end =
+      let run : end'.run ≡ end.run = ap (λ (r : ReadRec Run). r.run) is_end in
+      let number : end'.number ≡ end.number = ap (λ (r : ReadRec Run). r.number) is_end in
+      let got : end'.got ≡ end.got = ap (λ (r : ReadRec Run). r.got) is_end in (
+        read kept.0 log log' end' here same run number record {
+          run = run ∙ reads.run ∙ sym (ap (λ (l : LogRec Run). l.run) same);
+          number = number ∙ reads.number ∙ sym (ap (λ (l : LogRec Run). l.number) same);
+          base = omega (arith, got, reads.base, ap (λ (l : LogRec Run). l.base) same);
+          published = omega (arith, got, reads.published, ap (λ (l : LogRec Run). l.published) same);
+        },
+        kept.1 ∙ sym got,
+      )

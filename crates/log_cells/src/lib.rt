@@ -1,0 +1,14 @@
+//! Cells: the log of a directed link, which the end that writes and the end that reads use by turns from two threads.
+//! See docs/LOOKAHEAD.md.
+#![tactic(auto)]
+
+mod cell;
+mod ends;
+mod plays;
+mod steps;
+#[cfg(test)]
+mod tests;
+mod view;
+
+pub use cell::{Cell, make_cell};
+pub use ends::{ReadEnd, WriteEnd};

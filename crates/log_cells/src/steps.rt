@@ -1,0 +1,151 @@
+//! What is done in a turn: the turn is claimed, the log is used, and the turn is given back.
+ghost use Rattle.std.specs.Prelude.{◌≡◌, ◌≤◌, [], None, IfOk, OnOk, OnErr};
+ghost use Rattle.link_logs.specs.Entries.{between};
+ghost use Rattle.log_cells.specs.Rule.{refused_of};
+ghost use Rattle.log_cells.specs.Ends.{LooksAt};
+ghost use Rattle.log_cells.specs.Plays.{IsSized, writer_at, reader_at, WriterHas, ReaderHas, HasKept, HasTaken};
+
+use crate::plays::{ClaimToRead, ClaimToWrite, GiveKept, GiveTaken, GiveWritten, Raise};
+use crate::view::{Place, Top};
+use link_logs::{Got, ReadEnd, Story, WriteEnd};
+use std::alloc::AllocError;
+use std::sync::Wait;
+use std::thread::yield_now;
+use xs_base::Batch;
+
+// The word that says whose turn it is, and its three values.
+const TURN: usize = 0;
+
+const FREE: u64 = 0;
+
+const WRITERS: u64 = 1;
+
+const READERS: u64 = 2;
+
+// The word that is raised where there are news.
+const NEWS: usize = 1;
+
+// The log.
+const LOG: usize = 0;
+
+// Tries to claim the turn until the end that writes has it.
+pub fn claim_to_write<S: Story, R: Wait>(
+    rt: &R,
+    top: &Top<S>,
+    seat: &mut Place<S>,
+    end: &WriteEnd<S>,
+)
+    requires table { (seat.old.table_id ≡ top.now.table_id) × IsSized top.now.table_id }
+    requires writer { seat.old.me ≡ writer_at end.now (refused_of seat.old.me.0) }
+    ensures table { seat.new.table_id ≡ seat.old.table_id }
+    ensures has { WriterHas end.now (refused_of seat.new.me.0) seat.new.me }
+    ensures refused { refused_of seat.old.me.0 ≤ refused_of seat.new.me.0 }
+{
+    for _ in rt.forever() {
+        if top.compare_exchange::<ClaimToWrite>(seat, TURN, FREE, WRITERS) == FREE {
+            return;
+        }
+        yield_now();
+    }
+}
+
+// The same for the end that reads.
+pub fn claim_to_read<S: Story, R: Wait>(rt: &R, top: &Top<S>, seat: &mut Place<S>, end: &ReadEnd<S>)
+    requires table { (seat.old.table_id ≡ top.now.table_id) × IsSized top.now.table_id }
+    requires reader { seat.old.me ≡ reader_at end.now (refused_of seat.old.me.0) }
+    ensures table { seat.new.table_id ≡ seat.old.table_id }
+    ensures has { HasKept end.now (refused_of seat.new.me.0) seat.new.me }
+    ensures refused { refused_of seat.old.me.0 ≤ refused_of seat.new.me.0 }
+{
+    for _ in rt.forever() {
+        if top.compare_exchange::<ClaimToRead>(seat, TURN, FREE, READERS) == FREE {
+            return;
+        }
+        yield_now();
+    }
+}
+
+// `Log::append`, where the seat has the log.
+pub fn append<S: Story>(
+    top: &Top<S>,
+    seat: &mut Place<S>,
+    end: &mut WriteEnd<S>,
+    upto: u32,
+    batch: &mut Batch,
+) -> Result<(), AllocError>
+    requires table { seat.old.table_id ≡ top.now.table_id }
+    requires has { WriterHas end.old (refused_of seat.old.me.0) seat.old.me }
+    requires open { end.old.cause ≡ None }
+    requires on { end.old.published ≤ upto }
+    requires own { batch.old.entries ≡ between (S.entries_at end.old.run end.old.number) end.old.published upto }
+    ensures table { seat.new.table_id ≡ seat.old.table_id }
+    ensures has { WriterHas end.new (refused_of seat.new.me.0) seat.new.me }
+    ensures refused { refused_of seat.new.me.0 ≡ refused_of seat.old.me.0 }
+    ensures end { OnOk result (end.new ≡ record end.old { published = upto }) }
+    ensures batch { OnOk result (batch.new.entries ≡ []) }
+    ensures err_end { OnErr result (end.new ≡ end.old) }
+    ensures err_batch { OnErr result (batch.new ≡ batch.old) }
+{
+    let log = seat.slot_mut(top, LOG);
+    log.append(end, upto, batch)
+}
+
+// `Log::take`, where the seat has the log.
+pub fn take<S: Story>(
+    top: &Top<S>,
+    seat: &mut Place<S>,
+    end: &mut ReadEnd<S>,
+) -> Result<Got, AllocError>
+    requires table { seat.old.table_id ≡ top.now.table_id }
+    requires has { HasKept end.old (refused_of seat.old.me.0) seat.old.me }
+    ensures table { seat.new.table_id ≡ seat.old.table_id }
+    ensures refused { refused_of seat.new.me.0 ≡ refused_of seat.old.me.0 }
+    ensures got { IfOk result (λ got. LooksAt (S.entries_at end.old.run end.old.number) end.old got end.new) }
+    ensures has { OnOk result (HasTaken end.new (refused_of seat.new.me.0) seat.new.me) }
+    ensures err { OnErr result (end.new ≡ end.old) }
+    ensures err_has { OnErr result (HasKept end.new (refused_of seat.new.me.0) seat.new.me) }
+{
+    let log = seat.slot_mut(top, LOG);
+    log.take(end)
+}
+
+// Gives the turn back after the end has written.
+pub fn give_written<S: Story>(top: &Top<S>, seat: &mut Place<S>, end: &WriteEnd<S>)
+    requires table { (seat.old.table_id ≡ top.now.table_id) × IsSized top.now.table_id }
+    requires has { WriterHas end.now (refused_of seat.old.me.0) seat.old.me }
+    ensures table { seat.new.table_id ≡ seat.old.table_id }
+    ensures writer { seat.new.me ≡ writer_at end.now (refused_of seat.old.me.0) }
+{
+    top.store::<GiveWritten>(seat, TURN, FREE);
+}
+
+// Gives the turn back after the end has taken all that it had not read.
+pub fn give_taken<S: Story>(top: &Top<S>, seat: &mut Place<S>, end: &ReadEnd<S>)
+    requires table { (seat.old.table_id ≡ top.now.table_id) × IsSized top.now.table_id }
+    requires has { HasTaken end.now (refused_of seat.old.me.0) seat.old.me }
+    ensures table { seat.new.table_id ≡ seat.old.table_id }
+    ensures reader { seat.new.me ≡ reader_at end.now (refused_of seat.old.me.0) }
+{
+    top.store::<GiveTaken>(seat, TURN, FREE);
+}
+
+// Gives the turn back after the end has taken nothing.
+pub fn give_kept<S: Story>(top: &Top<S>, seat: &mut Place<S>, end: &ReadEnd<S>)
+    requires table { (seat.old.table_id ≡ top.now.table_id) × IsSized top.now.table_id }
+    requires has { HasKept end.now (refused_of seat.old.me.0) seat.old.me }
+    ensures table { seat.new.table_id ≡ seat.old.table_id }
+    ensures reader { seat.new.me ≡ reader_at end.now (refused_of seat.old.me.0) }
+{
+    top.store::<GiveKept>(seat, TURN, FREE);
+}
+
+// Raises the news, and wakes who sleeps on them.
+pub fn raise<S: Story>(top: &Top<S>, seat: &mut Place<S>, end: &WriteEnd<S>)
+    requires table { (seat.old.table_id ≡ top.now.table_id) × IsSized top.now.table_id }
+    requires writer { seat.old.me ≡ writer_at end.now (refused_of seat.old.me.0) }
+    ensures table { seat.new.table_id ≡ seat.old.table_id }
+    ensures same { seat.new.me ≡ seat.old.me }
+{
+    top.fetch_add::<Raise>(seat, NEWS, 1);
+    top.wake_one(NEWS);
+}
