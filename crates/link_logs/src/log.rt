@@ -113,10 +113,11 @@ impl<S: Story> ReadEnd<S> {
 }
 
 impl<S: Story> Log<S> {
-    /// The entries, in the order in which they were sent. It takes no memory.
+    /// The entries, in the order in which they were sent, from slot 0 on. It takes no memory.
     pub fn entries(&self) -> &[Entry]
         ensures value { result.now ≡ self.now.entries }
         ensures own { result.now ≡ between (S.entries_at self.now.run self.now.number) self.now.base self.now.published }
+        ensures base { self.now.base ≡ 0 }
     {
         self.entries.as_slice()
     }
@@ -163,6 +164,7 @@ impl<S: Story> Log<S> {
         ensures log { self.new ≡ self.old }
         ensures found { IfOk result (λ got. Finds (S.entries_at self.old.run self.old.number) self.old r.old.got got) }
         ensures end { IfOk result (λ got. r.new ≡ looked self.old got r.old) }
+        ensures more { r.old.looks ≤ r.new.looks }
         ensures err { OnErr result (r.new ≡ r.old) }
     {
         let got = self.found(r)?;

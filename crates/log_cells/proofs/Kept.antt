@@ -4,12 +4,12 @@ use mathlib.Core.Option.{some, none, some-injective, some-ne-none}
 use mathlib.Core.Option as maybe
 use lib.ListN.{get_elem?}
 use prog.Atomic.{either}
-use Rattle.atomic_table.specs.Table.{State, Me, Step, step, Act, keeps, takes, gives, stepped, homes_after, carried_after, Valid, Allows, Splits, Joins, opening}
+use Rattle.atomic_table.specs.Table.{State, Me, Step, step, Act, keeps, takes, gives, stepped, homes_after, carried_after, Valid, Allows, Splits, Joins, opening, Final, Seen}
 use Rattle.atomic_table.proofs.Lists.{set_again, exchanged}
 use Rattle.link_logs.specs.Logs.{LogRec, WriteRec, ReadRec, Writes, Reads}
 use Rattle.log_cells.specs.declared.view.View.TheVariants.{Whole, Writer, Reader, Joined, Spent}
 use Rattle.log_cells.specs.Rule.{WritingIn, ReadingIn, ViewIn, Turn, free, writers, readers, Stage, made, parted, joined, ReadsFrom, Agrees, Fits, IsCell, seats_at, write_end_of, new_view}
-use Rattle.log_cells.specs.Plays.{SeatIn, WriterClaims, ReaderClaims, claims_as_writer, claims_as_reader, gives_written, gives_taken, gives_kept, raises, writer_part, reader_part, joined_view, Follows, SameToWriter, WriterHas, ReaderHas, HasKept, HasTaken}
+use Rattle.log_cells.specs.Plays.{SeatIn, WriterClaims, ReaderClaims, claims_as_writer, claims_as_reader, gives_written, gives_taken, gives_kept, raises, writer_part, reader_part, joined_view, Follows, SameToWriter, WriterHas, ReaderHas, HasKept, HasTaken, IsJoined, AgreesWith}
 use Rattle.log_cells.proofs.Seats.{writing_or, reading_or, writer_seat, reader_seat, whole_seat, joined_seat, AtHome, is_free, is_left, is_writers, is_readers}
 
 abbrev StateIn : Type 0 → Type 0
@@ -360,9 +360,19 @@ module _ {Run : Type 0} where
   }
 
   -- at the end the log is at home, and is what both ends knew
-  pub ends_at_home : (s : StateIn Run) (c : IsCell s) (id : ℕ) (w : WritingIn Run) (r : ReadingIn Run) → get_elem? s.views id ≡ some (Joined w r) → w.held ≡ None → r.held ≡ None
+  ends_at_home : (s : StateIn Run) (c : IsCell s) (id : ℕ) (w : WritingIn Run) (r : ReadingIn Run) → get_elem? s.views id ≡ some (Joined w r) → w.held ≡ None → r.held ≡ None
       → (log : LogRec Run) × (get_elem? s.homes 0 ≡ some (some log)) × Agrees log w r
   ends_at_home s c id w r at a b =
       let here = joined_seat c.stage c.w c.r id w r (seat_is s c id (Joined w r) at) in
       let left = is_left c.word c.home w r (subst (λ (x : WritingIn Run × ReadingIn Run). Fits c.word c.home x.0 x.1) (λ i. (here.0 i, here.1 i)) c.fits) a b in
       (left.log, ap (λ (l : List (maybe.Option (LogRec Run))). get_elem? l 0) c.homes ∙ ap some left.home_is, left.agrees)
+
+  pub left_at_home : (words : List ℕ) (logs : List (LogRec Run)) (id : ℕ) (v : ViewIn Run) (log : LogRec Run) → IsJoined v → Final (Seen IsCell id v) words logs → get_elem? logs 0 ≡ some log → AgreesWith v log
+  left_at_home words logs id (Joined w r) log idle final at =
+      let t = ends_at_home final.0 final.1.0 id w r final.1.1 idle.0 idle.1 in
+      let same : t.0 ≡ log = some-injective t.0 log (sym (final.4 0 t.0 t.1) ∙ at) in
+      subst (λ (l : LogRec Run). Agrees l w r) same t.2
+  left_at_home words logs id (Whole w r) log idle final at = absurd idle
+  left_at_home words logs id (Writer w) log idle final at = absurd idle
+  left_at_home words logs id (Reader r) log idle final at = absurd idle
+  left_at_home words logs id Spent log idle final at = absurd idle

@@ -1,8 +1,9 @@
 -- What an end has after each step of a turn.
-use Rattle.std.proofs.Common.{◌≡◌, ◌≢◌, ℕ, ◌+◌, ◌≤◌, List, [], ◌∷◌, ◌++◌, sym, refl, ap, ◌∙◌, subst, arith, le_refl, le_trans, Some, None, Result, Ok, Err, IfOk, OnOk, OnErr}
+use Rattle.std.proofs.Common.{◌≡◌, ◌≢◌, ℕ, ◌+◌, ◌≤◌, List, [], ◌∷◌, ◌++◌, sym, refl, ap, ◌∙◌, subst, arith, le_refl, le_trans, Option, Some, None, Result, Ok, Err, IfOk, OnOk, OnErr}
 use Rattle.atomic_table.specs.Table.{rest}
 use Rattle.xs_base.specs.Numbers.{Slot}
 use Rattle.xs_base.specs.declared.entry.Entry.{Entry}
+use Rattle.link_logs.specs.declared.answers.Cause.{Cause}
 use Rattle.link_logs.specs.declared.answers.Got.{Got}
 use Rattle.link_logs.specs.Logs.{LogRec, WriteRec, ReadRec, Writes, Reads, Finds, looked}
 use Rattle.log_cells.specs.declared.view.View.TheVariants.{Writer, Reader}
@@ -134,16 +135,16 @@ module _ {Run : Type 0} {refused : ℕ} {m : SeatIn Run} where
         same = same;
       }
 
--- what a log and its end have after an append
-pub record Appended {Run : Type 0} (log log' : LogRec Run) (end end' : WriteRec Run) : Type 0 where
+-- what a log and its end have after the end has written
+pub record WentOn {Run : Type 0} (log log' : LogRec Run) (end end' : WriteRec Run) : Type 0 where
   pub run : end'.run ≡ end.run
   pub number : end'.number ≡ end.number
   pub writes : Writes end' log'
   pub follows : Follows log log'
 
-module _ {Run : Type 0} {E : Type 0} (log log' : LogRec Run) where
-  pub appended : (end end' : WriteRec Run) (upto : Slot) (more : List Entry) (x : Result (Unit {0}) E) → Writes end log → log.published ≤ upto
-      → OnOk x (log' ≡ record log { published = upto; entries = more }) → OnOk x (end' ≡ record end { published = upto }) → OnErr x (log' ≡ log) → OnErr x (end' ≡ end) → Appended log log' end end'
+module _ {Run : Type 0} (log log' : LogRec Run) where
+  pub appended : {E : Type 0} (end end' : WriteRec Run) (upto : Slot) (more : List Entry) (x : Result (Unit {0}) E) → Writes end log → log.published ≤ upto
+      → OnOk x (log' ≡ record log { published = upto; entries = more }) → OnOk x (end' ≡ record end { published = upto }) → OnErr x (log' ≡ log) → OnErr x (end' ≡ end) → WentOn log log' end end'
   appended end end' upto more (Ok u) writes on is_log is_end err err_end = record {
     run = ap (λ (w : WriteRec Run). w.run) is_end;
     number = ap (λ (w : WriteRec Run). w.number) is_end;
@@ -174,6 +175,24 @@ module _ {Run : Type 0} {E : Type 0} (log log' : LogRec Run) where
       number = ap (λ (l : LogRec Run). l.number) err;
       base = ap (λ (l : LogRec Run). l.base) err;
       published = omega (arith, ap (λ (l : LogRec Run). l.published) err);
+    };
+  }
+
+  pub shut : (end end' : WriteRec Run) (cause : Option Cause) → Writes end log → log' ≡ record log { cause = cause } → end' ≡ record end { cause = cause } → WentOn log log' end end'
+  shut end end' cause writes is_log is_end = record {
+    run = ap (λ (w : WriteRec Run). w.run) is_end;
+    number = ap (λ (w : WriteRec Run). w.number) is_end;
+    writes = record {
+      run = ap (λ (w : WriteRec Run). w.run) is_end ∙ writes.run ∙ sym (ap (λ (l : LogRec Run). l.run) is_log);
+      number = ap (λ (w : WriteRec Run). w.number) is_end ∙ writes.number ∙ sym (ap (λ (l : LogRec Run). l.number) is_log);
+      published = ap (λ (w : WriteRec Run). w.published) is_end ∙ writes.published ∙ sym (ap (λ (l : LogRec Run). l.published) is_log);
+      cause = ap (λ (w : WriteRec Run). w.cause) is_end ∙ sym (ap (λ (l : LogRec Run). l.cause) is_log);
+    };
+    follows = record {
+      run = ap (λ (l : LogRec Run). l.run) is_log;
+      number = ap (λ (l : LogRec Run). l.number) is_log;
+      base = ap (λ (l : LogRec Run). l.base) is_log;
+      published = omega (arith, ap (λ (l : LogRec Run). l.published) is_log);
     };
   }
 

@@ -4,7 +4,7 @@ use Rattle.atomic_table.specs.Table.{Me, Step}
 use Rattle.atomic_table.specs.Seated.{TableId}
 use Rattle.link_logs.specs.Logs.{LogRec, WriteRec, ReadRec, Writes, Reads}
 use Rattle.log_cells.specs.declared.view.View.TheVariants.{Whole, Writer, Reader, Joined, Spent}
-use Rattle.log_cells.specs.Rule.{WritingIn, ReadingIn, ViewIn, writing_of, reading_of, write_end_of, ReadsFrom}
+use Rattle.log_cells.specs.Rule.{WritingIn, ReadingIn, ViewIn, writing_of, reading_of, write_end_of, ReadsFrom, Agrees}
 
 -- two words and one slot
 pub record IsSized (z : TableId) : Type 0 where
@@ -124,3 +124,12 @@ module _ {Run : Type 0} where
 
   abbrev pub HasTaken : ReadRec Run → ℕ → SeatIn Run → Type 0
   HasTaken end refused m = (has : ReaderHas end refused m) × (end.got ≡ has.log.published)
+
+  -- the seat of two ends that were joined, neither of which has the log; and what is then known of the log
+  abbrev pub IsJoined : ViewIn Run → Type 0
+  IsJoined (Joined w r) = (w.held ≡ None) × (r.held ≡ None)
+  IsJoined _ = ⊥
+
+  abbrev pub AgreesWith : ViewIn Run → LogRec Run → Type 0
+  AgreesWith (Joined w r) log = Agrees log w r
+  AgreesWith _ log = ⊥

@@ -1,14 +1,15 @@
 //! `Cell`, a log that two threads use by turns. See docs/LOOKAHEAD.md.
-ghost use Rattle.std.specs.Prelude.{◌≡◌, ◌≤◌, [], None, IfOk, OnOk, OnErr};
+ghost use Rattle.std.specs.Prelude.{◌≡◌, ◌≤◌, [], Some, None, IfOk, OnOk, OnErr};
 ghost use Rattle.link_logs.specs.Entries.{between};
 ghost use Rattle.link_logs.specs.Logs.{new_write_end, new_read_end};
-ghost use Rattle.log_cells.specs.Ends.{WritesTo, ReadsOf, StaysWriter, StaysReader, LooksAt, Gives};
+ghost use Rattle.log_cells.specs.Plays.{IsSized, IsJoined, AgreesWith};
+ghost use Rattle.log_cells.specs.Ends.{WritesTo, ReadsOf, StaysWriter, StaysReader, LooksAt, Gives, WaitsFor, IsNews, having_looked};
 
 use crate::ends::{ReadEnd, WriteEnd};
 use crate::plays::TwoEnds;
 use crate::steps;
-use crate::view::Board;
-use link_logs::{Got, Story};
+use crate::view::{Board, Place};
+use link_logs::{Cause, Got, Log, Story};
 use std::alloc::{AllocError, Global};
 use std::marker::Model;
 use std::sync::Wait;
@@ -98,6 +99,7 @@ impl<S: Story> Cell<S> {
         ensures stays { StaysReader r.old r.new }
         ensures log { IfOk result (λ got. LooksAt (S.entries_at r.old.end.run r.old.end.number) r.old.end got r.new.end) }
         ensures gives { IfOk result (λ got. Gives (S.entries_at r.old.end.run r.old.end.number) r.old.end got r.new.end) }
+        ensures more { r.old.end.looks ≤ r.new.end.looks }
         ensures err { OnErr result (r.new.end ≡ r.old.end) }
     {
         let top = &self.table.shared;
@@ -113,4 +115,87 @@ impl<S: Story> Cell<S> {
             }
         }
     }
+
+    /// Waits for its turn, and closes the log, with the cause. The end has to be this cell's, and the log not closed. Who waits for news
+    /// is woken. It takes no memory.
+    pub fn end<R: Wait>(&self, rt: &R, w: &mut WriteEnd<S>, cause: Cause)
+        requires cell { WritesTo w.old self.now }
+        requires open { w.old.end.cause ≡ None }
+        ensures stays { StaysWriter w.old w.new }
+        ensures end { w.new.end ≡ record w.old.end { cause = Some cause } }
+    {
+        let top = &self.table.shared;
+        steps::claim_to_write(rt, top, &mut w.seat, &w.end);
+        steps::close(top, &mut w.seat, &mut w.end, cause);
+        steps::give_written(top, &mut w.seat, &w.end);
+        steps::raise(top, &mut w.seat, &w.end);
+    }
+
+    /// Polls until there is something, and sleeps in between. It never answers `Nothing`. The error is want of memory: the end has then
+    /// read no more than before, and may have looked.
+    pub fn wait_news<R: Wait>(&self, rt: &R, r: &mut ReadEnd<S>) -> Result<Got, AllocError>
+        requires cell { ReadsOf r.old self.now }
+        ensures stays { StaysReader r.old r.new }
+        ensures news { IfOk result (λ got. IsNews got) }
+        ensures waits { IfOk result (λ got. WaitsFor (S.entries_at r.old.end.run r.old.end.number) r.old.end got r.new.end) }
+        ensures more { r.old.end.looks ≤ r.new.end.looks }
+        ensures err { OnErr result (r.new.end ≡ having_looked r.old.end r.new.end.looks) }
+    {
+        for _ in rt.forever() {
+            let seen = self.news();
+            match self.poll(rt, r)? {
+                Got::Nothing { published: _ } => self.sleep(rt, seen),
+                got => return Ok(got),
+            }
+        }
+        unreachable!()
+    }
+
+    // How often the news were raised, in its low 32 bits.
+    fn news(&self) -> u32 {
+        steps::news(&self.table.shared)
+    }
+
+    // Sleeps until the news are raised, unless they were raised since so many were seen.
+    fn sleep<R: Wait>(&self, rt: &R, seen: u32) {
+        steps::sleep(rt, &self.table.shared, seen);
+    }
+}
+
+impl<S: Story + Drop> Cell<S> {
+    /// The log, where both ends have done with it. They have to be this cell's. It takes no memory.
+    pub fn done(self, w: WriteEnd<S>, r: ReadEnd<S>) -> Log<S>
+        requires writer { WritesTo w self }
+        requires reader { ReadsOf r self }
+        ensures run { result.run ≡ self.run }
+        ensures number { result.number ≡ self.number }
+        ensures base { result.base ≡ 0 }
+        ensures published { result.published ≡ w.end.published }
+        ensures cause { result.cause ≡ w.end.cause }
+        ensures got { r.end.got ≤ result.published }
+        ensures own { result.entries ≡ between (S.entries_at result.run result.number) 0 result.published }
+    {
+        let WriteEnd { mut seat, end: _ } = w;
+        let ReadEnd {
+            seat: other,
+            end: _,
+        } = r;
+        let Cell { table } = self;
+        table.shared.join_seat::<TwoEnds>(&mut seat, other);
+        let log = log_at_home(table, seat);
+        let _ = log.entries();
+        log
+    }
+}
+
+// The log that is at home, where the two ends were joined.
+fn log_at_home<S: Story>(table: Board<S>, seat: Place<S>) -> Log<S>
+    requires table { (seat.table_id ≡ table.shared.table_id) × IsSized table.shared.table_id }
+    requires joined { IsJoined seat.me.0 }
+    ensures agrees { AgreesWith seat.me.0 result }
+{
+    let mut closed = table.close_with(seat);
+    let log = closed.take(0);
+    closed.free();
+    log
 }

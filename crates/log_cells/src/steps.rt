@@ -1,5 +1,5 @@
 //! What is done in a turn: the turn is claimed, the log is used, and the turn is given back.
-ghost use Rattle.std.specs.Prelude.{◌≡◌, ◌≤◌, [], None, IfOk, OnOk, OnErr};
+ghost use Rattle.std.specs.Prelude.{◌≡◌, ◌≤◌, [], Some, None, IfOk, OnOk, OnErr};
 ghost use Rattle.link_logs.specs.Entries.{between};
 ghost use Rattle.log_cells.specs.Rule.{refused_of};
 ghost use Rattle.log_cells.specs.Ends.{LooksAt};
@@ -7,7 +7,7 @@ ghost use Rattle.log_cells.specs.Plays.{IsSized, writer_at, reader_at, WriterHas
 
 use crate::plays::{ClaimToRead, ClaimToWrite, GiveKept, GiveTaken, GiveWritten, Raise};
 use crate::view::{Place, Top};
-use link_logs::{Got, ReadEnd, Story, WriteEnd};
+use link_logs::{Cause, Got, ReadEnd, Story, WriteEnd};
 use std::alloc::AllocError;
 use std::sync::Wait;
 use std::thread::yield_now;
@@ -90,6 +90,20 @@ pub fn append<S: Story>(
     log.append(end, upto, batch)
 }
 
+// `Log::close`, where the seat has the log.
+pub fn close<S: Story>(top: &Top<S>, seat: &mut Place<S>, end: &mut WriteEnd<S>, cause: Cause)
+    requires table { seat.old.table_id ≡ top.now.table_id }
+    requires has { WriterHas end.old (refused_of seat.old.me.0) seat.old.me }
+    requires open { end.old.cause ≡ None }
+    ensures table { seat.new.table_id ≡ seat.old.table_id }
+    ensures has { WriterHas end.new (refused_of seat.new.me.0) seat.new.me }
+    ensures refused { refused_of seat.new.me.0 ≡ refused_of seat.old.me.0 }
+    ensures end { end.new ≡ record end.old { cause = Some cause } }
+{
+    let log = seat.slot_mut(top, LOG);
+    log.close(end, cause);
+}
+
 // `Log::take`, where the seat has the log.
 pub fn take<S: Story>(
     top: &Top<S>,
@@ -101,6 +115,7 @@ pub fn take<S: Story>(
     ensures table { seat.new.table_id ≡ seat.old.table_id }
     ensures refused { refused_of seat.new.me.0 ≡ refused_of seat.old.me.0 }
     ensures got { IfOk result (λ got. LooksAt (S.entries_at end.old.run end.old.number) end.old got end.new) }
+    ensures more { end.old.looks ≤ end.new.looks }
     ensures has { OnOk result (HasTaken end.new (refused_of seat.new.me.0) seat.new.me) }
     ensures err { OnErr result (end.new ≡ end.old) }
     ensures err_has { OnErr result (HasKept end.new (refused_of seat.new.me.0) seat.new.me) }
@@ -137,6 +152,20 @@ pub fn give_kept<S: Story>(top: &Top<S>, seat: &mut Place<S>, end: &ReadEnd<S>)
     ensures reader { seat.new.me ≡ reader_at end.now (refused_of seat.old.me.0) }
 {
     top.store::<GiveKept>(seat, TURN, FREE);
+}
+
+// How often the news were raised, in its low 32 bits.
+pub fn news<S: Story>(top: &Top<S>) -> u32
+    requires table { IsSized top.now.table_id }
+{
+    (top.peek(NEWS) % (1 << 32)) as u32
+}
+
+// Sleeps until the news are raised, unless they were raised since so many were seen.
+pub fn sleep<S: Story, R: Wait>(rt: &R, top: &Top<S>, seen: u32)
+    requires table { IsSized top.now.table_id }
+{
+    top.park(rt, NEWS, seen);
 }
 
 // Raises the news, and wakes who sleeps on them.
