@@ -5,5 +5,7 @@ mod inlet;
 mod outlet;
 mod runner;
 mod starts;
+#[cfg(test)]
+mod tests;
 
 pub use runner::{NodeRunner, Ran};
