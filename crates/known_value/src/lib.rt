@@ -17,6 +17,9 @@ impl<T> Model for Known<T> {
     ghost also_owns = { λ _. ftrue };
 }
 
+// It owns nothing.
+unsafe impl<T: Send> Send for Known<T> {}
+
 impl<T> Known<T> {
     /// Keeps what a value is now.
     pub fn of(value: &T) -> Known<T>

@@ -1,11 +1,15 @@
 //! A cell that its two ends use, by turns and from two threads.
-ghost use Rattle.std.specs.Prelude.{List, []};
+ghost use Rattle.std.specs.Prelude.{◌≡◌, List, [], None};
 ghost use Rattle.xs_base.specs.declared.entry.Entry.{Entry};
+ghost use Rattle.log_cells.specs.Ends.{WritesTo, ReadsOf};
 ghost use Rattle.std.proofs.Common.{rules};
 
-use crate::make_cell;
-use link_logs::{Got, Story};
-use std::alloc::AllocError;
+use crate::{Cell, ReadEnd, WriteEnd, make_cell};
+use link_logs::{Cause, Got, Story};
+use std::alloc::{AllocError, Global};
+use std::sync::Wait;
+use std::thread;
+use std::time::{Clock, Duration};
 use xs_base::Batch;
 
 // A link that carries nothing.
@@ -41,5 +45,74 @@ fn what_is_published_is_polled_once(rt: HostRuntime) -> Result<(), AllocError> {
     }
     assert!(rt; matches!(cell.poll(&rt, &mut r)?, Got::Nothing { published: 5 }));
     assert!(rt; r.got() == 5 && r.looks() == 2 && !r.is_shut());
+    Ok(())
+}
+
+#[test]
+fn a_closed_log_is_read_to_its_end_and_comes_home(rt: HostRuntime) -> Result<(), AllocError> {
+    let (cell, mut w, mut r) = make_cell(rt.alloc(), Silence)?;
+    let mut batch = Batch::new(rt.alloc());
+    cell.publish(&rt, &mut w, 3, &mut batch)?;
+    cell.end(&rt, &mut w, Cause::Neighbour { link: 2 });
+    assert!(rt; w.cause() == Some(Cause::Neighbour { link: 2 }));
+    assert!(rt;
+        matches!(
+            cell.wait_news(&rt, &mut r)?,
+            Got::Entries {
+                from: 0,
+                to: 3,
+                batch: _
+            }
+        )
+    );
+    assert!(rt; matches!(cell.wait_news(&rt, &mut r)?, Got::Closed));
+    assert!(rt; matches!(cell.poll(&rt, &mut r)?, Got::Closed));
+    assert!(rt; r.got() == 3 && r.looks() == 3 && r.is_shut());
+    let log = cell.done(w, r);
+    assert!(rt; log.published() == 3 && log.entries().is_empty());
+    Ok(())
+}
+
+// Publishes up to slot 5 after a while, and then closes the log.
+fn publish_late<R: Wait + Clock>(
+    rt: &R,
+    alloc: Global,
+    cell: &Cell<Silence>,
+    mut w: WriteEnd<Silence>,
+) -> Result<(), AllocError>
+    requires cell { WritesTo w cell.now }
+    requires new { (w.end.published ≡ 0) × (w.end.cause ≡ None) }
+{
+    thread::sleep(rt, Duration::from_millis(30));
+    let mut batch = Batch::new(alloc);
+    cell.publish(rt, &mut w, 5, &mut batch)?;
+    thread::sleep(rt, Duration::from_millis(30));
+    cell.end(rt, &mut w, Cause::Memory);
+    Ok(())
+}
+
+// How many slots were waited for, until the log was closed.
+fn hear<R: Wait>(rt: &R, cell: &Cell<Silence>, mut r: ReadEnd<Silence>) -> Result<u32, AllocError>
+    requires { ReadsOf r cell.now }
+{
+    for _ in rt.forever() {
+        if matches!(cell.wait_news(rt, &mut r)?, Got::Closed) {
+            break;
+        }
+    }
+    Ok(r.got())
+}
+
+#[test]
+fn a_sleeper_wakes_at_each_news(rt: HostRuntime) -> Result<(), AllocError> {
+    let alloc = rt.alloc();
+    let (cell, w, r) = make_cell(alloc, Silence)?;
+    let (told, heard) = thread::join(
+        &rt,
+        || publish_late(&rt, alloc, &cell, w),
+        || hear(&rt, &cell, r),
+    );
+    told?;
+    assert!(rt; heard? == 5);
     Ok(())
 }
