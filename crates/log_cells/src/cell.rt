@@ -105,9 +105,9 @@ impl<S: Story> Cell<S> {
         let top = &self.table.shared;
         steps::claim_to_read(rt, top, &mut r.seat, &r.end);
         match steps::take(top, &mut r.seat, &mut r.end) {
-            Ok(got) => {
+            Ok(found) => {
                 steps::give_taken(top, &mut r.seat, &r.end);
-                Ok(got)
+                Ok(found)
             }
             Err(error) => {
                 steps::give_kept(top, &mut r.seat, &r.end);
