@@ -1,5 +1,5 @@
 -- What an end has after each step of a turn.
-use Rattle.std.proofs.Common.{◌≡◌, ◌≢◌, ℕ, ◌+◌, ◌≤◌, List, [], ◌∷◌, ◌++◌, sym, refl, ap, ◌∙◌, subst, arith, le_refl, le_trans, Option, Some, None, Result, Ok, Err, IfOk, OnOk, OnErr}
+use Rattle.std.proofs.Common.{◌≡◌, ◌≢◌, ℕ, ◌+◌, ◌≤◌, List, [], ◌∷◌, sym, refl, ap, ◌∙◌, subst, arith, le_refl, le_trans, Option, Some, None, Result, Ok, Err, IfOk, OnOk, OnErr}
 use Rattle.atomic_table.specs.Table.{rest}
 use Rattle.xs_base.specs.Numbers.{Slot}
 use Rattle.xs_base.specs.declared.entry.Entry.{Entry}
@@ -7,7 +7,7 @@ use Rattle.link_logs.specs.declared.answers.Cause.{Cause}
 use Rattle.link_logs.specs.declared.answers.Got.{Got}
 use Rattle.link_logs.specs.Logs.{LogRec, WriteRec, ReadRec, Writes, Reads, Finds, looked}
 use Rattle.log_cells.specs.declared.view.View.TheVariants.{Writer, Reader}
-use Rattle.log_cells.specs.Rule.{WritingIn, ReadingIn, writing_of, reading_of, refused_of}
+use Rattle.log_cells.specs.Rule.{writing_of, reading_of, refused_of}
 use Rattle.log_cells.specs.Ends.{LooksAt}
 use Rattle.log_cells.specs.Plays.{SeatIn, writer_at, reader_at, WriterClaims, ReaderClaims, gives_written, gives_taken, gives_kept, Follows, SameToWriter, WriterHas, ReaderHas, HasKept, HasTaken}
 use Rattle.log_cells.proofs.Kept.{a_step, log_or}

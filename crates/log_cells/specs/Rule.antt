@@ -4,7 +4,6 @@ use Rattle.std.specs.Prelude.{◌≡◌, ℕ, ◌≤◌, List, [], ◌∷◌, Op
 use mathlib.Core.Option.{some, none}
 use mathlib.Core.Option as maybe
 use Rattle.atomic_table.specs.Table.{State}
-use Rattle.xs_base.specs.Numbers.{Slot}
 use Rattle.link_logs.specs.Logs.{LogRec, WriteRec, ReadRec, Writes}
 use Rattle.log_cells.specs.declared.view.Writing.{Writing}
 use Rattle.log_cells.specs.declared.view.Reading.{Reading}

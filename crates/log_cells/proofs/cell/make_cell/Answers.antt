@@ -1,4 +1,4 @@
-use Rattle.std.proofs.Common.{rules, ◌≡◌, ap, sym, refl, ◌∙◌, ◌++◌, ◌∷◌, []}
+use Rattle.std.proofs.Common.{rules, ap, sym, refl, ◌∙◌}
 use Rattle.log_cells.proofs.Kept.{begins, parts}
 use Rattle.log_cells.proofs.cell.make_cell.Goals as goal
 
