@@ -1,0 +1,289 @@
+-- The ends are taken back from the last directed link on, and each log is as its end that writes has left it.
+use Rattle.std.proofs.Common.{◌≡◌, ℕ, zero, suc, ◌+◌, ◌<◌, ◌≤◌, Option, Some, List, [], ◌∷◌, ◌++◌, length, map, take, get_or, set, slice_get, refl, sym, ap, ◌∙◌, subst, arith, inl, inr}
+use Rattle.std.specs.Prelude.{reverse}
+use mathlib.Core.Logic.{◌⊎◌}
+use Rattle.std.specs.List.{AllByRecursion}
+use Rattle.std.proofs.lemmas.Bool.{cases_eq}
+use Rattle.std.proofs.lemmas.Option.{none-some, same_Some, slice_get_within}
+use Rattle.std.proofs.lemmas.List.{append_assoc, append-nil, reverse-append, length-map, length-set, length_push, get_or-set_same, get_or-set_other, take_all}
+use Rattle.xs_base.specs.Numbers.{Position, LinkNumber, Slot}
+use Rattle.xs_base.specs.declared.entry.Entry.{Entry}
+use Rattle.sys_plan.specs.Plan.{PlanRec, Direction, directions}
+use Rattle.serial_model.specs.Serial.{history}
+use Rattle.link_logs.specs.Logs.{LogRec}
+use Rattle.link_logs.specs.Entries.{between}
+use Rattle.log_cells.specs.Ends.{CellRec, WritesTo, ReadsOf}
+use Rattle.run_plan.specs.Stories.{carried_at}
+use Rattle.run_plan.proofs.Stories.{between_is_history}
+use Rattle.plan_cells.specs.declared.ends.Outgoing.{Outgoing}
+use Rattle.plan_cells.specs.declared.ends.Incoming.{Incoming}
+use Rattle.plan_cells.specs.declared.ends.Ends.{Ends}
+use Rattle.plan_cells.specs.Ends.{CellsRec, LinkAt, leaves_at, comes_at, IsOutgoing, IsIncoming, AreEnds, IsLogOf, HasLeft}
+use Rattle.plan_cells.specs.Inside.{Lies, AllLie, OutgoingLie, IncomingLie, handed, tables_of, cells_of, outgoing_of, incoming_of, IsCellOf, AreCells}
+use Rattle.plan_cells.proofs.Lists.{some_at, before_push, at_push, all_give, map_at, map_or_at}
+use Rattle.plan_cells.proofs.Dealing.{take_next, length_first, some_lie, last_at, last_fit, fewer_lie}
+use Rattle.plan_cells.proofs.AtEnds.{writes_to, reads_of}
+
+-- ---- What was taken back from a list, and what is left
+
+pub record Parted {X : Type 0} (Then : X → Type 0) (whole left : List X) : Type 0 where
+  pub gone : List X
+  pub parts : whole ≡ left ++ gone
+  pub each : AllByRecursion Then gone
+
+abbrev pub AllParted : {X : Type 0} → (X → Type 0) → List (List X) → List (List X) → Type 0
+AllParted Then whole left = (n : Position) → Parted Then (get_or whole n []) (get_or left n [])
+
+module _ {X : Type 0} where
+  pub none_parted : (Then : X → Type 0) (whole : List (List X)) → AllParted Then whole whole
+  none_parted Then whole n = record { gone = []; parts = sym (append-nil (get_or whole n [])); each = tt }
+
+  module _ (Before Then : X → Type 0) (stays : (y : X) → Before y → Then y) (whole left : List (List X)) (m : Position) (x : X)
+      (all : AllParted Before whole (handed left m x)) (fit : Then x) (inside : m < length left) where
+    parted_at : (n : Position) → (n ≡ m) ⊎ (n ≡ m → ⊥) → Parted Then (get_or whole n []) (get_or left n [])
+    parted_at n (inl same) =
+        let xs = get_or left n [] in
+        let old = all n in
+        let is : get_or (handed left m x) n [] ≡ xs ++ x ∷ [] =
+        ap (λ j. get_or (handed left m x) j []) same ∙ get_or-set_same left m (get_or left m [] ++ x ∷ []) [] inside ∙ (λ i. get_or left (sym same i) [] ++ x ∷ []) in
+        record {
+          gone = x ∷ old.gone;
+          parts = old.parts ∙ (λ i. is i ++ old.gone) ∙ append_assoc xs (x ∷ []) old.gone;
+          each = (fit, all_give stays old.gone old.each);
+        }
+    parted_at n (inr other) =
+        let old = all n in
+        let is : get_or (handed left m x) n [] ≡ get_or left n [] = get_or-set_other left m n (get_or left m [] ++ x ∷ []) [] other in
+        record { gone = old.gone; parts = old.parts ∙ (λ i. is i ++ old.gone); each = all_give stays old.gone old.each }
+
+    pub more_parted : AllParted Then whole left
+    more_parted n = parted_at n (cases_eq n m)
+
+  -- nothing is left
+  pub all_parted : (Then : X → Type 0) (whole : List X) (left : List X) → Parted Then whole left → left ≡ [] → AllByRecursion Then whole
+  all_parted Then whole left p none = subst (AllByRecursion Then) (sym (p.parts ∙ (λ i. none i ++ p.gone))) p.each
+
+-- ---- The logs so far: those of the directed links from a number on
+
+-- the log of an end's link is among them, as the end has left it
+pub record LeftFrom (k : LinkNumber) (logs : List (LogRec PlanRec)) (o : Outgoing) : Type 0 where
+  pub place : ℕ
+  pub link_is : o.link ≡ k + place
+  pub log : LogRec PlanRec
+  pub log_at : slice_get logs place ≡ Some log
+  pub published : log.published ≡ o.w.end.published
+  pub cause : log.cause ≡ o.w.end.cause
+
+left_stays : (k : LinkNumber) (logs : List (LogRec PlanRec)) (log : LogRec PlanRec) (o : Outgoing) → LeftFrom (k + 1) logs o → LeftFrom k (log ∷ logs) o
+left_stays k logs log o is = record { place = suc is.place; link_is = omega (arith, is.link_is); log = is.log; log_at = is.log_at; published = is.published; cause = is.cause }
+
+pub has_left : (logs : List (LogRec PlanRec)) (o : Outgoing) → LeftFrom 0 logs o → HasLeft logs o
+has_left logs o is =
+    let at : o.link ≡ is.place = omega (arith, is.link_is) in
+    record { log = is.log; log_at = ap (slice_get logs) at ∙ is.log_at; published = is.published; cause = is.cause }
+
+-- what was taken out of a cell
+pub record IsTaken (cell : CellRec PlanRec) (o : Outgoing) (log : LogRec PlanRec) : Type 0 where
+  pub run : log.run ≡ cell.run
+  pub number : log.number ≡ cell.number
+  pub base : log.base ≡ 0
+  pub published : log.published ≡ o.w.end.published
+  pub cause : log.cause ≡ o.w.end.cause
+  pub own : log.entries ≡ between (carried_at log.run log.number) 0 log.published
+
+log_of : (plan : PlanRec) (link : LinkNumber) (cell : CellRec PlanRec) (o : Outgoing) (log : LogRec PlanRec) → IsCellOf plan link cell → IsTaken cell o log → IsLogOf plan link log
+log_of plan link cell o log is taken =
+    let run = taken.run ∙ is.run in
+    let number = taken.number ∙ is.number in
+    record {
+      run = run;
+      number = number;
+      base = taken.base;
+      entries = taken.own ∙ (λ i. between (carried_at (run i) (number i)) 0 log.published) ∙ between_is_history plan link 0 log.published (omega arith);
+    }
+
+-- ---- From the last directed link on
+
+-- what is left of the cells and of the ends, and the logs so far, the last of which is that of the first directed link
+pub record Gathers (plan : PlanRec) (whole : List (CellRec PlanRec)) (given : List Ends) (cells : List (CellRec PlanRec)) (all : List Ends) (logs : List (LogRec PlanRec)) : Type 0 where
+  pub each : (k : LinkNumber) (cell : CellRec PlanRec) → slice_get cells k ≡ Some cell → slice_get whole k ≡ Some cell
+  pub count : length cells + length logs ≡ length (directions plan.links)
+  pub nodes : length all ≡ length plan.nodes
+  pub outgoing : OutgoingLie (IsOutgoing (cells_of plan whole)) (take (length cells) (directions plan.links)) all
+  pub incoming : IncomingLie (IsIncoming (cells_of plan whole)) (take (length cells) (directions plan.links)) all
+  pub own : (k : ℕ) (log : LogRec PlanRec) → slice_get (reverse logs) k ≡ Some log → IsLogOf plan (length cells + k) log
+  pub left : AllParted (LeftFrom (length cells) (reverse logs)) (outgoing_of given) (outgoing_of all)
+
+-- before the first step
+module _ (plan : PlanRec) (whole : List (CellRec PlanRec)) (given : List Ends) (are : AreCells plan whole) (nodes : length given ≡ length plan.nodes)
+    (ends : (n : Position) (e : Ends) → slice_get given n ≡ Some e → AreEnds (cells_of plan whole) n e) where
+  all_first : take (length whole) (directions plan.links) ≡ directions plan.links
+  all_first = take_all (length whole) (directions plan.links) (omega (arith, are.count))
+
+  pub gathers_none : Gathers plan whole given whole given []
+  gathers_none = record {
+    each = λ k cell h. h;
+    count = omega (arith, are.count);
+    nodes = nodes;
+    outgoing = λ n below.
+        let e = some_at given n (omega (arith, length-map given (λ (e : Ends). e.outgoing.items))) in
+        let is = ends n e.0 e.1 in
+        subst (λ (l : List Direction). Lies leaves_at (λ (d : Direction). d.from) (λ (d : Direction). d.from_end) (IsOutgoing (cells_of plan whole)) l n (get_or (outgoing_of given) n [])) (sym all_first)
+        (subst (Lies leaves_at (λ (d : Direction). d.from) (λ (d : Direction). d.from_end) (IsOutgoing (cells_of plan whole)) (directions plan.links) n) (sym (map_or_at (λ (e : Ends). e.outgoing.items) given n e.0 [] e.1))
+        (record { places = is.outgoing_at; fit = is.outgoing_fit }));
+    incoming = λ n below.
+        let e = some_at given n (omega (arith, length-map given (λ (e : Ends). e.incoming.items))) in
+        let is = ends n e.0 e.1 in
+        subst (λ (l : List Direction). Lies comes_at (λ (d : Direction). d.to) (λ (d : Direction). d.to_end) (IsIncoming (cells_of plan whole)) l n (get_or (incoming_of given) n [])) (sym all_first)
+        (subst (Lies comes_at (λ (d : Direction). d.to) (λ (d : Direction). d.to_end) (IsIncoming (cells_of plan whole)) (directions plan.links) n) (sym (map_or_at (λ (e : Ends). e.incoming.items) given n e.0 [] e.1))
+        (record { places = is.incoming_at; fit = is.incoming_fit }));
+    own = λ k log h. absurd (none-some log h);
+    left = none_parted (LeftFrom (length whole) []) (outgoing_of given);
+  }
+
+-- after the last
+module _ (plan : PlanRec) (whole : List (CellRec PlanRec)) (given all : List Ends) (logs : List (LogRec PlanRec)) (g : Gathers plan whole given [] all logs) (nodes : length given ≡ length plan.nodes) where
+  none_left : (n : Position) → n < length (outgoing_of all) → get_or (outgoing_of all) n [] ≡ []
+  none_left n below = map_none (get_or (outgoing_of all) n []) (g.outgoing n below).places
+    where
+      map_none : (xs : List Outgoing) → map leaves_at xs ≡ [] → xs ≡ []
+      map_none [] h = refl
+      map_none (x ∷ xs) h = cc
+
+  pub all_left : (n : Position) (e : Ends) → slice_get given n ≡ Some e → AllByRecursion (HasLeft (reverse logs)) e.outgoing.items
+  all_left n e h =
+      let inside : n < length (outgoing_of all) = omega (arith, slice_get_within given n e h, nodes, g.nodes, length-map all (λ (x : Ends). x.outgoing.items)) in
+      let done = all_parted (LeftFrom 0 (reverse logs)) (get_or (outgoing_of given) n []) (get_or (outgoing_of all) n []) (g.left n) (none_left n inside) in
+      subst (AllByRecursion (HasLeft (reverse logs))) (map_or_at (λ (x : Ends). x.outgoing.items) given n e [] h)
+      (all_give (has_left (reverse logs)) (get_or (outgoing_of given) n []) done)
+
+  pub all_own : (k : LinkNumber) (log : LogRec PlanRec) → slice_get (reverse logs) k ≡ Some log → IsLogOf plan k log
+  all_own k log h = let none : 0 + k ≡ k = omega arith in subst (λ (l : LinkNumber). IsLogOf plan l log) none (g.own k log h)
+
+-- one step: the ends of the last cell that is left
+module _ (plan : PlanRec) (whole : List (CellRec PlanRec)) (given : List Ends) (are : AreCells plan whole) (cells : List (CellRec PlanRec)) (cell : CellRec PlanRec) (all : List Ends) (logs : List (LogRec PlanRec))
+    (g : Gathers plan whole given (cells ++ cell ∷ []) all logs) where
+  abbrev ds : List Direction
+  ds = directions plan.links
+
+  abbrev link : LinkNumber
+  link = length cells
+
+  pub link_inside : link < length ds
+  link_inside = omega (arith, length_push cells cell, g.count)
+
+  cell_here : slice_get whole link ≡ Some cell
+  cell_here = g.each link cell (at_push cells cell link refl)
+
+  module _ (d : Direction) (here : slice_get ds link ≡ Some d) (from_there : d.from < length plan.nodes) (to_there : d.to < length plan.nodes) where
+    first_are : take (length (cells ++ cell ∷ [])) ds ≡ take link ds ++ d ∷ []
+    first_are = ap (λ (k : ℕ). take k ds) (length_push cells cell) ∙ take_next ds link d here
+
+    outgoing_lie : OutgoingLie (IsOutgoing (cells_of plan whole)) (take link ds ++ d ∷ []) all
+    outgoing_lie = subst (λ (l : List Direction). OutgoingLie (IsOutgoing (cells_of plan whole)) l all) first_are g.outgoing
+
+    incoming_lie : IncomingLie (IsIncoming (cells_of plan whole)) (take link ds ++ d ∷ []) all
+    incoming_lie = subst (λ (l : List Direction). IncomingLie (IsIncoming (cells_of plan whole)) l all) first_are g.incoming
+
+    pub from_inside : d.from < length all
+    from_inside = omega (arith, g.nodes)
+
+    pub some_outgoing : 0 < length (get_or (outgoing_of all) d.from [])
+    some_outgoing =
+        some_lie leaves_at (λ (e : Direction). e.from) (λ (e : Direction). e.from_end) (IsOutgoing (cells_of plan whole)) (take link ds) d (outgoing_of all) outgoing_lie
+        (omega (arith, length-map all (λ (e : Ends). e.outgoing.items), g.nodes, from_there))
+
+    -- the end that writes is taken back
+    module _ (o : Outgoing) (mid : List Ends) (o_back : outgoing_of all ≡ handed (outgoing_of mid) d.from o) (i_stay : incoming_of mid ≡ incoming_of all) where
+      mid_nodes : length mid ≡ length plan.nodes
+      mid_nodes =
+          omega (
+            arith, g.nodes, length-map all (λ (e : Ends). e.outgoing.items), length-map mid (λ (e : Ends). e.outgoing.items),
+            ap (length {A = List Outgoing}) o_back, length-set (outgoing_of mid) d.from (get_or (outgoing_of mid) d.from [] ++ o ∷ [])
+          )
+
+      pub to_inside : d.to < length mid
+      to_inside = omega (arith, mid_nodes, to_there)
+
+      mid_incoming : IncomingLie (IsIncoming (cells_of plan whole)) (take link ds ++ d ∷ []) mid
+      mid_incoming = subst (AllLie comes_at (λ (e : Direction). e.to) (λ (e : Direction). e.to_end) (IsIncoming (cells_of plan whole)) (take link ds ++ d ∷ [])) (sym i_stay) incoming_lie
+
+      pub some_incoming : 0 < length (get_or (incoming_of mid) d.to [])
+      some_incoming =
+          some_lie comes_at (λ (e : Direction). e.to) (λ (e : Direction). e.to_end) (IsIncoming (cells_of plan whole)) (take link ds) d (incoming_of mid) mid_incoming
+          (omega (arith, length-map mid (λ (e : Ends). e.incoming.items), mid_nodes, to_there))
+
+      from_mid : d.from < length (outgoing_of mid)
+      from_mid = omega (arith, length-map mid (λ (e : Ends). e.outgoing.items), mid_nodes, from_there)
+
+      o_lie : AllLie leaves_at (λ (e : Direction). e.from) (λ (e : Direction). e.from_end) (IsOutgoing (cells_of plan whole)) (take link ds ++ d ∷ []) (handed (outgoing_of mid) d.from o)
+      o_lie = subst (AllLie leaves_at (λ (e : Direction). e.from) (λ (e : Direction). e.from_end) (IsOutgoing (cells_of plan whole)) (take link ds ++ d ∷ [])) o_back outgoing_lie
+
+      first_long : length (take link ds) ≡ link
+      first_long = length_first ds link link_inside
+
+      o_link : o.link ≡ link
+      o_link = ap (λ (p : LinkAt). p.1) (last_at leaves_at (λ (e : Direction). e.from) (λ (e : Direction). e.from_end) (IsOutgoing (cells_of plan whole)) (take link ds) d (outgoing_of mid) o o_lie from_mid) ∙ first_long
+
+      table_is : slice_get (tables_of whole) link ≡ Some cell.table
+      table_is = map_at (λ (c : CellRec PlanRec). c.table) whole link cell cell_here
+
+      pub o_writes : WritesTo o.w cell
+      o_writes =
+          writes_to (cells_of plan whole) cell link table_is (are.each link cell cell_here).run (are.each link cell cell_here).number o
+          (last_fit leaves_at (λ (e : Direction). e.from) (λ (e : Direction). e.from_end) (IsOutgoing (cells_of plan whole)) (take link ds) d (outgoing_of mid) o o_lie from_mid) o_link
+
+      -- and the end that reads
+      module _ (i : Incoming) (after : List Ends) (i_back : incoming_of mid ≡ handed (incoming_of after) d.to i) (o_stay : outgoing_of after ≡ outgoing_of mid) where
+        after_nodes : length after ≡ length plan.nodes
+        after_nodes =
+            omega (arith, mid_nodes, length-map after (λ (e : Ends). e.outgoing.items), length-map mid (λ (e : Ends). e.outgoing.items), ap (length {A = List Outgoing}) o_stay)
+
+        to_after : d.to < length (incoming_of after)
+        to_after = omega (arith, length-map after (λ (e : Ends). e.incoming.items), after_nodes, to_there)
+
+        i_lie : AllLie comes_at (λ (e : Direction). e.to) (λ (e : Direction). e.to_end) (IsIncoming (cells_of plan whole)) (take link ds ++ d ∷ []) (handed (incoming_of after) d.to i)
+        i_lie = subst (AllLie comes_at (λ (e : Direction). e.to) (λ (e : Direction). e.to_end) (IsIncoming (cells_of plan whole)) (take link ds ++ d ∷ [])) i_back mid_incoming
+
+        i_link : i.link ≡ link
+        i_link = ap (λ (p : LinkAt). p.1) (last_at comes_at (λ (e : Direction). e.to) (λ (e : Direction). e.to_end) (IsIncoming (cells_of plan whole)) (take link ds) d (incoming_of after) i i_lie to_after) ∙ first_long
+
+        pub i_reads : ReadsOf i.r cell
+        i_reads =
+            reads_of (cells_of plan whole) cell link table_is (are.each link cell cell_here).run (are.each link cell cell_here).number i
+            (last_fit comes_at (λ (e : Direction). e.to) (λ (e : Direction). e.to_end) (IsIncoming (cells_of plan whole)) (take link ds) d (incoming_of after) i i_lie to_after) i_link
+
+        module _ (log : LogRec PlanRec) (taken : IsTaken cell o log) where
+          reversed_are : reverse (logs ++ log ∷ []) ≡ log ∷ reverse logs
+          reversed_are = reverse-append logs (log ∷ [])
+
+          own_at : (k : ℕ) (x : LogRec PlanRec) → slice_get (log ∷ reverse logs) k ≡ Some x → IsLogOf plan (link + k) x
+          own_at zero x h =
+              let none : link ≡ link + 0 = omega arith in
+              subst (λ (l : LinkNumber). IsLogOf plan l x) none (subst (IsLogOf plan link) (same_Some log x h) (log_of plan link cell o log (are.each link cell cell_here) taken))
+          own_at (suc k) x h =
+              let more : length (cells ++ cell ∷ []) + k ≡ link + suc k = omega (arith, length_push cells cell) in
+              subst (λ (l : LinkNumber). IsLogOf plan l x) more (g.own k x h)
+
+          left_all : AllParted (LeftFrom link (log ∷ reverse logs)) (outgoing_of given) (outgoing_of mid)
+          left_all =
+              more_parted (LeftFrom (link + 1) (reverse logs)) (LeftFrom link (log ∷ reverse logs)) (left_stays link (reverse logs) log) (outgoing_of given) (outgoing_of mid) d.from o
+              (subst (λ (k : ℕ). AllParted (LeftFrom k (reverse logs)) (outgoing_of given) (handed (outgoing_of mid) d.from o)) (length_push cells cell)
+              (subst (AllParted (LeftFrom (length (cells ++ cell ∷ [])) (reverse logs)) (outgoing_of given)) o_back g.left))
+              (record { place = 0; link_is = omega (arith, o_link); log = log; log_at = refl; published = taken.published; cause = taken.cause }) from_mid
+
+          pub gathers_more : Gathers plan whole given cells after (logs ++ log ∷ [])
+          gathers_more = record {
+            each = λ k c h. g.each k c (before_push cells cell c k h);
+            count = omega (arith, g.count, length_push cells cell, length_push logs log);
+            nodes = after_nodes;
+            outgoing =
+                subst (AllLie leaves_at (λ (e : Direction). e.from) (λ (e : Direction). e.from_end) (IsOutgoing (cells_of plan whole)) (take link ds)) (sym o_stay)
+                (fewer_lie leaves_at (λ (e : Direction). e.from) (λ (e : Direction). e.from_end) (IsOutgoing (cells_of plan whole)) (take link ds) d (outgoing_of mid) o o_lie from_mid);
+            incoming =
+                fewer_lie comes_at (λ (e : Direction). e.to) (λ (e : Direction). e.to_end) (IsIncoming (cells_of plan whole)) (take link ds) d (incoming_of after) i i_lie to_after;
+            own = subst (λ (ls : List (LogRec PlanRec)). (k : ℕ) (x : LogRec PlanRec) → slice_get ls k ≡ Some x → IsLogOf plan (link + k) x) (sym reversed_are) own_at;
+            left =
+                subst (λ (ls : List (LogRec PlanRec)). AllParted (LeftFrom link ls) (outgoing_of given) (outgoing_of after)) (sym reversed_are)
+                (subst (AllParted (LeftFrom link (log ∷ reverse logs)) (outgoing_of given)) (sym o_stay) left_all);
+          }

@@ -1,0 +1,14 @@
+use Rattle.std.proofs.Common.{refl}
+use Rattle.plan_cells.specs.declared.ends.Ends.{Ends}
+use Rattle.plan_cells.proofs.Lists.{given_none, taken_one}
+use Rattle.plan_cells.proofs.gather.last_incoming.Goals as goal
+
+pub returns-clause-incoming : goal.returns-clause-incoming
+returns-clause-incoming c =
+    let now : Ends = c.index_mut-ends.result.now in
+    taken_one (λ (e : Ends). e.incoming.items) c.args.all.now.items c.args.node now (record now { incoming = c.pop.new.self }) c.requires.node c.index_mut-ends.ensures.value c.in-Some.incoming c.in-Some.ensures.items
+
+pub returns-clause-outgoing : goal.returns-clause-outgoing
+returns-clause-outgoing c =
+    let now : Ends = c.index_mut-ends.result.now in
+    given_none (λ (e : Ends). e.outgoing.items) c.args.all.now.items c.args.node now (record now { incoming = c.pop.new.self }) c.requires.node c.index_mut-ends.ensures.value refl

@@ -1,0 +1,100 @@
+-- What the cells of a plan are made of, and how their ends are dealt to the nodes.
+use Rattle.std.specs.Prelude.{ℕ, ◌≡◌, ◌<◌, ◌++◌, ◌==◌, Some, None, List, [], ◌∷◌, length, map, slice_get, slice_set, slice_index_or}
+use Rattle.std.specs.List.{AllByRecursion}
+use Rattle.atomic_table.specs.Seated.{TableId}
+use Rattle.xs_base.specs.Numbers.{EndNumber, Position, LinkNumber}
+use Rattle.sys_plan.specs.Plan.{PlanRec, Direction, directions}
+use Rattle.link_logs.specs.Logs.{new_write_end, new_read_end}
+use Rattle.log_cells.specs.Ends.{CellRec}
+use Rattle.plan_cells.specs.declared.way.Way.{Way}
+use Rattle.plan_cells.specs.declared.ends.Outgoing.{Outgoing}
+use Rattle.plan_cells.specs.declared.ends.Incoming.{Incoming}
+use Rattle.plan_cells.specs.declared.ends.Ends.{Ends}
+use Rattle.plan_cells.specs.Ends.{LinkAt, CellsRec, links_by, leaves_at, comes_at, IsOutgoing, IsIncoming, IsNewOutgoing, IsNewIncoming}
+
+-- ---- Cells by number
+
+abbrev pub tables_of : List (CellRec PlanRec) → List TableId
+tables_of cells = map (λ (c : CellRec PlanRec). c.table) cells
+
+abbrev pub cells_of : PlanRec → List (CellRec PlanRec) → CellsRec
+cells_of plan cells = record { plan = plan; tables = tables_of cells }
+
+-- a cell is that of the directed link with a number
+pub record IsCellOf (plan : PlanRec) (link : LinkNumber) (cell : CellRec PlanRec) : Type 0 where
+  pub run : cell.run ≡ plan
+  pub number : cell.number ≡ link
+
+-- one cell for each directed link of a plan, by number
+pub record AreCells (plan : PlanRec) (cells : List (CellRec PlanRec)) : Type 0 where
+  pub count : length cells ≡ length (directions plan.links)
+  pub each : (link : LinkNumber) (cell : CellRec PlanRec) → slice_get cells link ≡ Some cell → IsCellOf plan link cell
+
+-- ---- Directed links
+
+-- a way is that of the directed link with a number, and its nodes are there
+pub record IsWay (plan : PlanRec) (link : LinkNumber) (way : Way) : Type 0 where
+  pub direction : Direction
+  pub here : slice_get (directions plan.links) link ≡ Some direction
+  pub from : way.from ≡ direction.from
+  pub from_end : way.from_end ≡ direction.from_end
+  pub to : way.to ≡ direction.to
+  pub to_end : way.to_end ≡ direction.to_end
+  pub from_there : direction.from < length plan.nodes
+  pub to_there : direction.to < length plan.nodes
+
+-- ---- Ends by node
+
+abbrev pub outgoing_of : List Ends → List (List Outgoing)
+outgoing_of all = map (λ (e : Ends). e.outgoing.items) all
+
+abbrev pub incoming_of : List Ends → List (List Incoming)
+incoming_of all = map (λ (e : Ends). e.incoming.items) all
+
+-- one more stands in the list at a place, behind the others
+abbrev pub handed : {X : Type 0} → List (List X) → ℕ → X → List (List X)
+handed lists n x = slice_set lists n (slice_index_or lists n [] ++ x ∷ [])
+
+-- at each place stand those of the directed links at that node, by number, and each is fit
+pub record Lies {X : Type 0} (at : X → LinkAt) (site : Direction → Position) (end : Direction → EndNumber) (Fit : X → Type 0) (ds : List Direction) (n : Position) (xs : List X) : Type 0 where
+  pub places : map at xs ≡ links_by (λ d. site d == n) end 0 ds
+  pub fit : AllByRecursion Fit xs
+
+abbrev pub AllLie : {X : Type 0} → (X → LinkAt) → (Direction → Position) → (Direction → EndNumber) → (X → Type 0) → List Direction → List (List X) → Type 0
+AllLie at site end Fit ds lists = (n : Position) → n < length lists → Lies at site end Fit ds n (slice_index_or lists n [])
+
+abbrev pub OutgoingLie : (Outgoing → Type 0) → List Direction → List Ends → Type 0
+OutgoingLie Fit ds all = AllLie leaves_at (λ d. d.from) (λ d. d.from_end) Fit ds (outgoing_of all)
+
+abbrev pub IncomingLie : (Incoming → Type 0) → List Direction → List Ends → Type 0
+IncomingLie Fit ds all = AllLie comes_at (λ d. d.to) (λ d. d.to_end) Fit ds (incoming_of all)
+
+-- ---- Dealing
+
+-- the ends of a cell as they are made
+abbrev pub outgoing_end : Direction → LinkNumber → PlanRec → TableId → Outgoing
+outgoing_end d link plan table = record { end = d.from_end; link = link; w = record { table = table; end = new_write_end plan link; refused = 0 } }
+
+abbrev pub incoming_end : Direction → LinkNumber → PlanRec → TableId → Incoming
+incoming_end d link plan table = record { end = d.to_end; link = link; r = record { table = table; end = new_read_end plan link; refused = 0 }; hand = None }
+
+-- the ends of one more cell go to its two nodes
+pub record Deals (plan : PlanRec) (link : LinkNumber) (cell : CellRec PlanRec) (before after : List Ends) : Type 0 where
+  pub direction : Direction
+  pub here : slice_get (directions plan.links) link ≡ Some direction
+  pub from_there : direction.from < length plan.nodes
+  pub to_there : direction.to < length plan.nodes
+  pub outgoing : outgoing_of after ≡ handed (outgoing_of before) direction.from (outgoing_end direction link plan cell.table)
+  pub incoming : incoming_of after ≡ handed (incoming_of before) direction.to (incoming_end direction link plan cell.table)
+
+-- each end is a new one of a cell among these
+abbrev pub IsDealtOutgoing : CellsRec → Outgoing → Type 0
+IsDealtOutgoing cells o = IsOutgoing cells o × IsNewOutgoing cells.plan o
+
+abbrev pub IsDealtIncoming : CellsRec → Incoming → Type 0
+IsDealtIncoming cells i = IsIncoming cells i × IsNewIncoming cells.plan i
+
+-- the ends of the first directed links are with their nodes
+pub record AreDealt (cells : CellsRec) (ds : List Direction) (all : List Ends) : Type 0 where
+  pub outgoing : OutgoingLie (IsDealtOutgoing cells) ds all
+  pub incoming : IncomingLie (IsDealtIncoming cells) ds all

@@ -1,0 +1,38 @@
+//! The ends of cells that a node holds. See docs/LOOKAHEAD.md.
+use log_cells::{ReadEnd, WriteEnd};
+use run_plan::PlanStory;
+use xs_base::Batch;
+
+/// What a node has read of a link that comes to it, and was not handed: the entries from the slot up to which it was handed all, on
+/// and before the slot `to`.
+#[derive(Drop)]
+pub struct Hand {
+    pub batch: Batch,
+    pub to: u32,
+}
+
+/// The end by which a node writes to the cell of a directed link that leaves it: the link end, 0 to 7, by which the link leaves, and
+/// the number of the directed link.
+#[derive(Drop)]
+pub struct Outgoing {
+    pub end: u8,
+    pub link: u32,
+    pub w: WriteEnd<PlanStory>,
+}
+
+/// The end by which a node reads the cell of a directed link that comes to it: the link end, 0 to 7, to which the link comes, the
+/// number of the directed link, and what was read and is still in hand.
+#[derive(Drop)]
+pub struct Incoming {
+    pub end: u8,
+    pub link: u32,
+    pub r: ReadEnd<PlanStory>,
+    pub hand: Option<Hand>,
+}
+
+/// The ends that a node holds, one for each directed link that leaves it and one for each that comes to it, by number.
+#[derive(Drop)]
+pub struct Ends {
+    pub outgoing: Vec<Outgoing>,
+    pub incoming: Vec<Incoming>,
+}

@@ -1,0 +1,11 @@
+//! The cells of a plan's directed links, one for each, and the ends of these cells by node. See docs/LOOKAHEAD.md.
+#![tactic(auto)]
+
+mod cells;
+mod deal;
+mod ends;
+mod gather;
+mod way;
+
+pub use cells::PlanCells;
+pub use ends::{Ends, Hand, Incoming, Outgoing};

@@ -1,0 +1,38 @@
+//! `Way`, which link ends a directed link joins.
+ghost use Rattle.std.specs.Prelude.{◌<◌, length};
+ghost use Rattle.sys_plan.specs.Plan.{directions};
+ghost use Rattle.plan_cells.specs.Inside.{IsWay};
+
+use sys_plan::Plan;
+
+/// A directed link leads from a link end of the node at a position to one of another.
+#[derive(Clone, Copy)]
+pub(crate) struct Way {
+    pub(crate) from: u8,
+    pub(crate) from_end: u8,
+    pub(crate) to: u8,
+    pub(crate) to_end: u8,
+}
+
+/// The way of the directed link with a number.
+pub(crate) fn way_of(plan: &Plan, link: usize) -> Way
+    requires link { link < length (directions plan.now.links) }
+    ensures way { IsWay plan.now link result }
+{
+    let of = plan.links()[link / 2];
+    if link % 2 == 0 {
+        Way {
+            from: of.a,
+            from_end: of.a_end,
+            to: of.b,
+            to_end: of.b_end,
+        }
+    } else {
+        Way {
+            from: of.b,
+            from_end: of.b_end,
+            to: of.a,
+            to_end: of.a_end,
+        }
+    }
+}
