@@ -44,6 +44,7 @@ fn a_node_stops_where_its_link_was_not_seen(rt: HostRuntime) -> Result<(), Fail>
     })?;
     let plan = Plan::of(nodes, links, Script::empty(), Vec::new(rt.alloc()));
     let mut runner = NodeRunner::new(rt.alloc(), &plan, 0, 40)?;
+    assert!(rt; runner.send(7).entries().is_empty());
     for slot in 0..3 {
         assert!(rt; runner.clock() == slot);
         assert!(rt; runner.run_slot()? == Ran::Slot);
@@ -51,11 +52,7 @@ fn a_node_stops_where_its_link_was_not_seen(rt: HostRuntime) -> Result<(), Fail>
     assert!(rt; runner.run_slot()? == Ran::Blocked { end: 7, seen: 0 });
     assert!(rt; runner.clock() == 3);
 
-    // It has no code: its thread trapped in slot 0 and is halted, and nothing was sent.
+    // It has no code: its thread trapped in slot 0 and is halted.
     assert!(rt; runner.events().events().len() == 2);
-    let batch = runner.send(7);
-    assert!(rt; batch.entries().is_empty());
-    runner.unsend(7, batch, 0);
-    assert!(rt; runner.send(7).entries().is_empty());
     Ok(())
 }
