@@ -180,8 +180,11 @@ deals_nodes plan link cell before after one =
     let d = one.direction in
     let x = outgoing_end d link plan cell.table in
     omega (
-      arith, length-map before (λ (e : Ends). e.outgoing.items), length-map after (λ (e : Ends). e.outgoing.items),
-      ap (length {A = List Outgoing}) one.outgoing, length-set (outgoing_of before) d.from (get_or (outgoing_of before) d.from [] ++ x ∷ [])
+      arith,
+      length-map before (λ (e : Ends). e.outgoing.items),
+      length-map after (λ (e : Ends). e.outgoing.items),
+      ap (length {A = List Outgoing}) one.outgoing,
+      length-set (outgoing_of before) d.from (get_or (outgoing_of before) d.from [] ++ x ∷ []),
     )
 
 -- all are dealt

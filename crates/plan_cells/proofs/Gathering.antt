@@ -198,8 +198,12 @@ module _ (plan : PlanRec) (whole : List (CellRec PlanRec)) (given : List Ends) (
       mid_nodes : length mid ≡ length plan.nodes
       mid_nodes =
           omega (
-            arith, g.nodes, length-map all (λ (e : Ends). e.outgoing.items), length-map mid (λ (e : Ends). e.outgoing.items),
-            ap (length {A = List Outgoing}) o_back, length-set (outgoing_of mid) d.from (get_or (outgoing_of mid) d.from [] ++ o ∷ [])
+            arith,
+            g.nodes,
+            length-map all (λ (e : Ends). e.outgoing.items),
+            length-map mid (λ (e : Ends). e.outgoing.items),
+            ap (length {A = List Outgoing}) o_back,
+            length-set (outgoing_of mid) d.from (get_or (outgoing_of mid) d.from [] ++ o ∷ []),
           )
 
       pub to_inside : d.to < length mid

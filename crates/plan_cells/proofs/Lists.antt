@@ -86,8 +86,8 @@ module _ {X Y : Type 0} (field : Y → List X) (all : List Y) (n : ℕ) (now aft
       let lists = map field all in
       let then_at : get_or (set lists n (field after)) n [] ≡ field after = get_or-set_same lists n (field after) [] (omega (arith, length-map all field, inside)) in
       sym (
-        (λ i. handed (map-set field all n after i) n x)
-        ∙ set-set lists n (field after) (get_or (set lists n (field after)) n [] ++ x ∷ [])
-        ∙ (λ i. set lists n ((ap (λ (xs : List X). xs ++ x ∷ []) then_at ∙ sym more ∙ sym field_at) i))
-        ∙ set-get_or lists n []
+      (λ i. handed (map-set field all n after i) n x)
+      ∙ set-set lists n (field after) (get_or (set lists n (field after)) n [] ++ x ∷ [])
+      ∙ (λ i. set lists n ((ap (λ (xs : List X). xs ++ x ∷ []) then_at ∙ sym more ∙ sym field_at) i))
+      ∙ set-get_or lists n []
       )

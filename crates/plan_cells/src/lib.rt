@@ -5,6 +5,8 @@ mod cells;
 mod deal;
 mod ends;
 mod gather;
+#[cfg(test)]
+mod tests;
 mod way;
 
 pub use cells::PlanCells;
