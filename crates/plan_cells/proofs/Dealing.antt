@@ -1,7 +1,6 @@
 -- The ends of one more cell are with their nodes where those before it are, and the other way about.
-use Rattle.std.proofs.Common.{◌≡◌, ℕ, ◌+◌, ◌<◌, Bool, true, false, eqb, Some, List, [], ◌∷◌, ◌++◌, length, map, replicate, take, get_or, set, slice_get, refl, sym, ap, ◌∙◌, subst, arith, inl, inr}
+use Rattle.std.proofs.Common.{◌≡◌, ℕ, ◌+◌, ◌<◌, Bool, eqb, Some, List, [], ◌∷◌, ◌++◌, length, map, replicate, take, get_or, slice_get, refl, sym, ap, ◌∙◌, subst, arith, inl, inr}
 use mathlib.Core.Logic.{◌⊎◌}
-use Rattle.std.specs.List.{AllByRecursion}
 use Rattle.std.proofs.lemmas.Bool.{cases_eq, eq-eqb, ne_eqb}
 use Rattle.std.proofs.lemmas.Option.{same_Some, get_or_from_slice_get, slice_get_within}
 use Rattle.std.proofs.lemmas.List.{map-append, length-map, length-set, length-take, length-replicate, length_push, get_or-replicate, get_or-set_same, get_or-set_other, take_more}
@@ -12,8 +11,8 @@ use Rattle.log_cells.specs.Ends.{CellRec}
 use Rattle.plan_cells.specs.declared.ends.Outgoing.{Outgoing}
 use Rattle.plan_cells.specs.declared.ends.Incoming.{Incoming}
 use Rattle.plan_cells.specs.declared.ends.Ends.{Ends}
-use Rattle.plan_cells.specs.Ends.{CellsRec, LinkAt, links_by, leaves_at, comes_at, IsOutgoing, IsIncoming, AreNewEnds}
-use Rattle.plan_cells.specs.Inside.{Lies, AllLie, handed, tables_of, cells_of, outgoing_of, incoming_of, outgoing_end, incoming_end, Deals, IsDealtOutgoing, IsDealtIncoming, AreDealt, IsCellOf}
+use Rattle.plan_cells.specs.Ends.{CellsRec, LinkAt, links_by, leaves_at, comes_at, AreNewEnds}
+use Rattle.plan_cells.specs.Inside.{Lies, AllLie, OutgoingLie, IncomingLie, from_of, to_of, from_end_of, to_end_of, handed, tables_of, cells_of, outgoing_items, incoming_items, outgoing_of, incoming_of, outgoing_end, incoming_end, Deals, IsDealtOutgoing, IsDealtIncoming, AreDealt, IsCellOf}
 use Rattle.plan_cells.proofs.Lists.{some_at, before_push, at_push, same_last, all_give, all_push, all_but_last, map_or_at}
 use Rattle.plan_cells.proofs.Links.{one_more, no_more}
 
@@ -141,22 +140,22 @@ module _ (plan : PlanRec) (cells : List (CellRec PlanRec)) (cell : CellRec PlanR
   deal_more before after nodes dealt one =
       let d = one.direction in
       let first = length_first ds link (slice_get_within ds link d one.here) in
-      let outgoing_inside : d.from < length (outgoing_of before) = omega (arith, length-map before (λ (e : Ends). e.outgoing.items), nodes, one.from_there) in
-      let incoming_inside : d.to < length (incoming_of before) = omega (arith, length-map before (λ (e : Ends). e.incoming.items), nodes, one.to_there) in
-      let outgoing_then = more_lie leaves_at (λ (e : Direction). e.from) (λ (e : Direction). e.from_end) (IsDealtOutgoing (cells_of plan cells)) (IsDealtOutgoing (cells_of plan (cells ++ cell ∷ [])))
+      let outgoing_inside : d.from < length (outgoing_of before) = omega (arith, length-map before outgoing_items, nodes, one.from_there) in
+      let incoming_inside : d.to < length (incoming_of before) = omega (arith, length-map before incoming_items, nodes, one.to_there) in
+      let outgoing_then = more_lie leaves_at from_of from_end_of (IsDealtOutgoing (cells_of plan cells)) (IsDealtOutgoing (cells_of plan (cells ++ cell ∷ [])))
       stays_outgoing (take link ds) d (outgoing_of before) (outgoing_end d link plan cell.table) dealt.outgoing (λ i. (d.from_end, sym first i))
       (record { table = table_here; run = refl; number = refl }, refl) outgoing_inside in
-      let incoming_then = more_lie comes_at (λ (e : Direction). e.to) (λ (e : Direction). e.to_end) (IsDealtIncoming (cells_of plan cells)) (IsDealtIncoming (cells_of plan (cells ++ cell ∷ [])))
+      let incoming_then = more_lie comes_at to_of to_end_of (IsDealtIncoming (cells_of plan cells)) (IsDealtIncoming (cells_of plan (cells ++ cell ∷ [])))
       stays_incoming (take link ds) d (incoming_of before) (incoming_end d link plan cell.table) dealt.incoming (λ i. (d.to_end, sym first i))
       (record { table = table_here; run = refl; number = refl }, record { end = refl; none_in_hand = refl }) incoming_inside in
       let next = sym (take_next ds link d one.here) in
       record {
         outgoing =
-            subst (λ (l : List Direction). AllLie leaves_at (λ (e : Direction). e.from) (λ (e : Direction). e.from_end) (IsDealtOutgoing (cells_of plan (cells ++ cell ∷ []))) l (outgoing_of after)) next
-            (subst (AllLie leaves_at (λ (e : Direction). e.from) (λ (e : Direction). e.from_end) (IsDealtOutgoing (cells_of plan (cells ++ cell ∷ []))) (take link ds ++ d ∷ [])) (sym one.outgoing) outgoing_then);
+            subst (λ (l : List Direction). OutgoingLie (IsDealtOutgoing (cells_of plan (cells ++ cell ∷ []))) l (outgoing_of after)) next
+            (subst (OutgoingLie (IsDealtOutgoing (cells_of plan (cells ++ cell ∷ []))) (take link ds ++ d ∷ [])) (sym one.outgoing) outgoing_then);
         incoming =
-            subst (λ (l : List Direction). AllLie comes_at (λ (e : Direction). e.to) (λ (e : Direction). e.to_end) (IsDealtIncoming (cells_of plan (cells ++ cell ∷ []))) l (incoming_of after)) next
-            (subst (AllLie comes_at (λ (e : Direction). e.to) (λ (e : Direction). e.to_end) (IsDealtIncoming (cells_of plan (cells ++ cell ∷ []))) (take link ds ++ d ∷ [])) (sym one.incoming) incoming_then);
+            subst (λ (l : List Direction). IncomingLie (IsDealtIncoming (cells_of plan (cells ++ cell ∷ []))) l (incoming_of after)) next
+            (subst (IncomingLie (IsDealtIncoming (cells_of plan (cells ++ cell ∷ []))) (take link ds ++ d ∷ [])) (sym one.incoming) incoming_then);
       }
 
   -- it stands behind the others
@@ -181,8 +180,8 @@ deals_nodes plan link cell before after one =
     let x = outgoing_end d link plan cell.table in
     omega (
       arith,
-      length-map before (λ (e : Ends). e.outgoing.items),
-      length-map after (λ (e : Ends). e.outgoing.items),
+      length-map before outgoing_items,
+      length-map after outgoing_items,
       ap (length {A = List Outgoing}) one.outgoing,
       length-set (outgoing_of before) d.from (get_or (outgoing_of before) d.from [] ++ x ∷ []),
     )
@@ -192,10 +191,10 @@ pub new_ends : (cells : CellsRec) (all : List Ends) → AreDealt cells (directio
 new_ends cells all dealt n ends h =
     let ds = directions cells.plan.links in
     let within = slice_get_within all n ends h in
-    let out = subst (Lies leaves_at (λ (e : Direction). e.from) (λ (e : Direction). e.from_end) (IsDealtOutgoing cells) ds n) (map_or_at (λ (e : Ends). e.outgoing.items) all n ends [] h)
-    (dealt.outgoing n (omega (arith, length-map all (λ (e : Ends). e.outgoing.items), within))) in
-    let come = subst (Lies comes_at (λ (e : Direction). e.to) (λ (e : Direction). e.to_end) (IsDealtIncoming cells) ds n) (map_or_at (λ (e : Ends). e.incoming.items) all n ends [] h)
-    (dealt.incoming n (omega (arith, length-map all (λ (e : Ends). e.incoming.items), within))) in
+    let out = subst (Lies leaves_at from_of from_end_of (IsDealtOutgoing cells) ds n) (map_or_at outgoing_items all n ends [] h)
+    (dealt.outgoing n (omega (arith, length-map all outgoing_items, within))) in
+    let come = subst (Lies comes_at to_of to_end_of (IsDealtIncoming cells) ds n) (map_or_at incoming_items all n ends [] h)
+    (dealt.incoming n (omega (arith, length-map all incoming_items, within))) in
     record {
       are_ends = record {
         outgoing_at = out.places;

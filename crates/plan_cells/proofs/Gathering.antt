@@ -1,15 +1,13 @@
 -- The ends are taken back from the last directed link on, and each log is as its end that writes has left it.
-use Rattle.std.proofs.Common.{◌≡◌, ℕ, zero, suc, ◌+◌, ◌<◌, ◌≤◌, Option, Some, List, [], ◌∷◌, ◌++◌, length, map, take, get_or, set, slice_get, refl, sym, ap, ◌∙◌, subst, arith, inl, inr}
+use Rattle.std.proofs.Common.{◌≡◌, ℕ, zero, suc, ◌+◌, ◌<◌, Some, List, [], ◌∷◌, ◌++◌, length, map, take, get_or, slice_get, refl, sym, ap, ◌∙◌, subst, arith, inl, inr}
 use Rattle.std.specs.Prelude.{reverse}
 use mathlib.Core.Logic.{◌⊎◌}
 use Rattle.std.specs.List.{AllByRecursion}
 use Rattle.std.proofs.lemmas.Bool.{cases_eq}
 use Rattle.std.proofs.lemmas.Option.{none-some, same_Some, slice_get_within}
 use Rattle.std.proofs.lemmas.List.{append_assoc, append-nil, reverse-append, length-map, length-set, length_push, get_or-set_same, get_or-set_other, take_all}
-use Rattle.xs_base.specs.Numbers.{Position, LinkNumber, Slot}
-use Rattle.xs_base.specs.declared.entry.Entry.{Entry}
+use Rattle.xs_base.specs.Numbers.{Position, LinkNumber}
 use Rattle.sys_plan.specs.Plan.{PlanRec, Direction, directions}
-use Rattle.serial_model.specs.Serial.{history}
 use Rattle.link_logs.specs.Logs.{LogRec}
 use Rattle.link_logs.specs.Entries.{between}
 use Rattle.log_cells.specs.Ends.{CellRec, WritesTo, ReadsOf}
@@ -18,8 +16,8 @@ use Rattle.run_plan.proofs.Stories.{between_is_history}
 use Rattle.plan_cells.specs.declared.ends.Outgoing.{Outgoing}
 use Rattle.plan_cells.specs.declared.ends.Incoming.{Incoming}
 use Rattle.plan_cells.specs.declared.ends.Ends.{Ends}
-use Rattle.plan_cells.specs.Ends.{CellsRec, LinkAt, leaves_at, comes_at, IsOutgoing, IsIncoming, AreEnds, IsLogOf, HasLeft}
-use Rattle.plan_cells.specs.Inside.{Lies, AllLie, OutgoingLie, IncomingLie, handed, tables_of, cells_of, outgoing_of, incoming_of, IsCellOf, AreCells}
+use Rattle.plan_cells.specs.Ends.{LinkAt, leaves_at, comes_at, IsOutgoing, IsIncoming, AreEnds, IsLogOf, HasLeft}
+use Rattle.plan_cells.specs.Inside.{Lies, OutgoingLie, IncomingLie, from_of, to_of, from_end_of, to_end_of, handed, tables_of, cells_of, outgoing_items, incoming_items, outgoing_of, incoming_of, IsCellOf, AreCells}
 use Rattle.plan_cells.proofs.Lists.{some_at, before_push, at_push, all_give, map_at, map_or_at}
 use Rattle.plan_cells.proofs.Dealing.{take_next, length_first, some_lie, last_at, last_fit, fewer_lie}
 use Rattle.plan_cells.proofs.AtEnds.{writes_to, reads_of}
@@ -109,8 +107,8 @@ pub record Gathers (plan : PlanRec) (whole : List (CellRec PlanRec)) (given : Li
   pub each : (k : LinkNumber) (cell : CellRec PlanRec) → slice_get cells k ≡ Some cell → slice_get whole k ≡ Some cell
   pub count : length cells + length logs ≡ length (directions plan.links)
   pub nodes : length all ≡ length plan.nodes
-  pub outgoing : OutgoingLie (IsOutgoing (cells_of plan whole)) (take (length cells) (directions plan.links)) all
-  pub incoming : IncomingLie (IsIncoming (cells_of plan whole)) (take (length cells) (directions plan.links)) all
+  pub outgoing : OutgoingLie (IsOutgoing (cells_of plan whole)) (take (length cells) (directions plan.links)) (outgoing_of all)
+  pub incoming : IncomingLie (IsIncoming (cells_of plan whole)) (take (length cells) (directions plan.links)) (incoming_of all)
   pub own : (k : ℕ) (log : LogRec PlanRec) → slice_get (reverse logs) k ≡ Some log → IsLogOf plan (length cells + k) log
   pub left : AllParted (LeftFrom (length cells) (reverse logs)) (outgoing_of given) (outgoing_of all)
 
@@ -126,16 +124,16 @@ module _ (plan : PlanRec) (whole : List (CellRec PlanRec)) (given : List Ends) (
     count = omega (arith, are.count);
     nodes = nodes;
     outgoing = λ n below.
-        let e = some_at given n (omega (arith, length-map given (λ (e : Ends). e.outgoing.items))) in
+        let e = some_at given n (omega (arith, length-map given outgoing_items)) in
         let is = ends n e.0 e.1 in
-        subst (λ (l : List Direction). Lies leaves_at (λ (d : Direction). d.from) (λ (d : Direction). d.from_end) (IsOutgoing (cells_of plan whole)) l n (get_or (outgoing_of given) n [])) (sym all_first)
-        (subst (Lies leaves_at (λ (d : Direction). d.from) (λ (d : Direction). d.from_end) (IsOutgoing (cells_of plan whole)) (directions plan.links) n) (sym (map_or_at (λ (e : Ends). e.outgoing.items) given n e.0 [] e.1))
+        subst (λ (l : List Direction). Lies leaves_at from_of from_end_of (IsOutgoing (cells_of plan whole)) l n (get_or (outgoing_of given) n [])) (sym all_first)
+        (subst (Lies leaves_at from_of from_end_of (IsOutgoing (cells_of plan whole)) (directions plan.links) n) (sym (map_or_at outgoing_items given n e.0 [] e.1))
         (record { places = is.outgoing_at; fit = is.outgoing_fit }));
     incoming = λ n below.
-        let e = some_at given n (omega (arith, length-map given (λ (e : Ends). e.incoming.items))) in
+        let e = some_at given n (omega (arith, length-map given incoming_items)) in
         let is = ends n e.0 e.1 in
-        subst (λ (l : List Direction). Lies comes_at (λ (d : Direction). d.to) (λ (d : Direction). d.to_end) (IsIncoming (cells_of plan whole)) l n (get_or (incoming_of given) n [])) (sym all_first)
-        (subst (Lies comes_at (λ (d : Direction). d.to) (λ (d : Direction). d.to_end) (IsIncoming (cells_of plan whole)) (directions plan.links) n) (sym (map_or_at (λ (e : Ends). e.incoming.items) given n e.0 [] e.1))
+        subst (λ (l : List Direction). Lies comes_at to_of to_end_of (IsIncoming (cells_of plan whole)) l n (get_or (incoming_of given) n [])) (sym all_first)
+        (subst (Lies comes_at to_of to_end_of (IsIncoming (cells_of plan whole)) (directions plan.links) n) (sym (map_or_at incoming_items given n e.0 [] e.1))
         (record { places = is.incoming_at; fit = is.incoming_fit }));
     own = λ k log h. absurd (none-some log h);
     left = none_parted (LeftFrom (length whole) []) (outgoing_of given);
@@ -152,9 +150,9 @@ module _ (plan : PlanRec) (whole : List (CellRec PlanRec)) (given all : List End
 
   pub all_left : (n : Position) (e : Ends) → slice_get given n ≡ Some e → AllByRecursion (HasLeft (reverse logs)) e.outgoing.items
   all_left n e h =
-      let inside : n < length (outgoing_of all) = omega (arith, slice_get_within given n e h, nodes, g.nodes, length-map all (λ (x : Ends). x.outgoing.items)) in
+      let inside : n < length (outgoing_of all) = omega (arith, slice_get_within given n e h, nodes, g.nodes, length-map all outgoing_items) in
       let done = all_parted (LeftFrom 0 (reverse logs)) (get_or (outgoing_of given) n []) (get_or (outgoing_of all) n []) (g.left n) (none_left n inside) in
-      subst (AllByRecursion (HasLeft (reverse logs))) (map_or_at (λ (x : Ends). x.outgoing.items) given n e [] h)
+      subst (AllByRecursion (HasLeft (reverse logs))) (map_or_at outgoing_items given n e [] h)
       (all_give (has_left (reverse logs)) (get_or (outgoing_of given) n []) done)
 
   pub all_own : (k : LinkNumber) (log : LogRec PlanRec) → slice_get (reverse logs) k ≡ Some log → IsLogOf plan k log
@@ -169,7 +167,13 @@ module _ (plan : PlanRec) (whole : List (CellRec PlanRec)) (given : List Ends) (
   abbrev link : LinkNumber
   link = length cells
 
-  pub link_inside : link < length ds
+  abbrev FitsOutgoing : Outgoing → Type 0
+  FitsOutgoing = IsOutgoing (cells_of plan whole)
+
+  abbrev FitsIncoming : Incoming → Type 0
+  FitsIncoming = IsIncoming (cells_of plan whole)
+
+  link_inside : link < length ds
   link_inside = omega (arith, length_push cells cell, g.count)
 
   cell_here : slice_get whole link ≡ Some cell
@@ -179,19 +183,16 @@ module _ (plan : PlanRec) (whole : List (CellRec PlanRec)) (given : List Ends) (
     first_are : take (length (cells ++ cell ∷ [])) ds ≡ take link ds ++ d ∷ []
     first_are = ap (λ (k : ℕ). take k ds) (length_push cells cell) ∙ take_next ds link d here
 
-    outgoing_lie : OutgoingLie (IsOutgoing (cells_of plan whole)) (take link ds ++ d ∷ []) all
-    outgoing_lie = subst (λ (l : List Direction). OutgoingLie (IsOutgoing (cells_of plan whole)) l all) first_are g.outgoing
+    outgoing_lie : OutgoingLie FitsOutgoing (take link ds ++ d ∷ []) (outgoing_of all)
+    outgoing_lie = subst (λ (l : List Direction). OutgoingLie FitsOutgoing l (outgoing_of all)) first_are g.outgoing
 
-    incoming_lie : IncomingLie (IsIncoming (cells_of plan whole)) (take link ds ++ d ∷ []) all
-    incoming_lie = subst (λ (l : List Direction). IncomingLie (IsIncoming (cells_of plan whole)) l all) first_are g.incoming
-
-    pub from_inside : d.from < length all
-    from_inside = omega (arith, g.nodes)
+    incoming_lie : IncomingLie FitsIncoming (take link ds ++ d ∷ []) (incoming_of all)
+    incoming_lie = subst (λ (l : List Direction). IncomingLie FitsIncoming l (incoming_of all)) first_are g.incoming
 
     pub some_outgoing : 0 < length (get_or (outgoing_of all) d.from [])
     some_outgoing =
-        some_lie leaves_at (λ (e : Direction). e.from) (λ (e : Direction). e.from_end) (IsOutgoing (cells_of plan whole)) (take link ds) d (outgoing_of all) outgoing_lie
-        (omega (arith, length-map all (λ (e : Ends). e.outgoing.items), g.nodes, from_there))
+        some_lie leaves_at from_of from_end_of FitsOutgoing (take link ds) d (outgoing_of all) outgoing_lie
+        (omega (arith, length-map all outgoing_items, g.nodes, from_there))
 
     -- the end that writes is taken back
     module _ (o : Outgoing) (mid : List Ends) (o_back : outgoing_of all ≡ handed (outgoing_of mid) d.from o) (i_stay : incoming_of mid ≡ incoming_of all) where
@@ -200,34 +201,31 @@ module _ (plan : PlanRec) (whole : List (CellRec PlanRec)) (given : List Ends) (
           omega (
             arith,
             g.nodes,
-            length-map all (λ (e : Ends). e.outgoing.items),
-            length-map mid (λ (e : Ends). e.outgoing.items),
+            length-map all outgoing_items,
+            length-map mid outgoing_items,
             ap (length {A = List Outgoing}) o_back,
             length-set (outgoing_of mid) d.from (get_or (outgoing_of mid) d.from [] ++ o ∷ []),
           )
 
-      pub to_inside : d.to < length mid
-      to_inside = omega (arith, mid_nodes, to_there)
-
-      mid_incoming : IncomingLie (IsIncoming (cells_of plan whole)) (take link ds ++ d ∷ []) mid
-      mid_incoming = subst (AllLie comes_at (λ (e : Direction). e.to) (λ (e : Direction). e.to_end) (IsIncoming (cells_of plan whole)) (take link ds ++ d ∷ [])) (sym i_stay) incoming_lie
+      mid_incoming : IncomingLie FitsIncoming (take link ds ++ d ∷ []) (incoming_of mid)
+      mid_incoming = subst (IncomingLie FitsIncoming (take link ds ++ d ∷ [])) (sym i_stay) incoming_lie
 
       pub some_incoming : 0 < length (get_or (incoming_of mid) d.to [])
       some_incoming =
-          some_lie comes_at (λ (e : Direction). e.to) (λ (e : Direction). e.to_end) (IsIncoming (cells_of plan whole)) (take link ds) d (incoming_of mid) mid_incoming
-          (omega (arith, length-map mid (λ (e : Ends). e.incoming.items), mid_nodes, to_there))
+          some_lie comes_at to_of to_end_of FitsIncoming (take link ds) d (incoming_of mid) mid_incoming
+          (omega (arith, length-map mid incoming_items, mid_nodes, to_there))
 
       from_mid : d.from < length (outgoing_of mid)
-      from_mid = omega (arith, length-map mid (λ (e : Ends). e.outgoing.items), mid_nodes, from_there)
+      from_mid = omega (arith, length-map mid outgoing_items, mid_nodes, from_there)
 
-      o_lie : AllLie leaves_at (λ (e : Direction). e.from) (λ (e : Direction). e.from_end) (IsOutgoing (cells_of plan whole)) (take link ds ++ d ∷ []) (handed (outgoing_of mid) d.from o)
-      o_lie = subst (AllLie leaves_at (λ (e : Direction). e.from) (λ (e : Direction). e.from_end) (IsOutgoing (cells_of plan whole)) (take link ds ++ d ∷ [])) o_back outgoing_lie
+      o_lie : OutgoingLie FitsOutgoing (take link ds ++ d ∷ []) (handed (outgoing_of mid) d.from o)
+      o_lie = subst (OutgoingLie FitsOutgoing (take link ds ++ d ∷ [])) o_back outgoing_lie
 
       first_long : length (take link ds) ≡ link
       first_long = length_first ds link link_inside
 
       o_link : o.link ≡ link
-      o_link = ap (λ (p : LinkAt). p.1) (last_at leaves_at (λ (e : Direction). e.from) (λ (e : Direction). e.from_end) (IsOutgoing (cells_of plan whole)) (take link ds) d (outgoing_of mid) o o_lie from_mid) ∙ first_long
+      o_link = ap (λ (p : LinkAt). p.1) (last_at leaves_at from_of from_end_of FitsOutgoing (take link ds) d (outgoing_of mid) o o_lie from_mid) ∙ first_long
 
       table_is : slice_get (tables_of whole) link ≡ Some cell.table
       table_is = map_at (λ (c : CellRec PlanRec). c.table) whole link cell cell_here
@@ -235,27 +233,27 @@ module _ (plan : PlanRec) (whole : List (CellRec PlanRec)) (given : List Ends) (
       pub o_writes : WritesTo o.w cell
       o_writes =
           writes_to (cells_of plan whole) cell link table_is (are.each link cell cell_here).run (are.each link cell cell_here).number o
-          (last_fit leaves_at (λ (e : Direction). e.from) (λ (e : Direction). e.from_end) (IsOutgoing (cells_of plan whole)) (take link ds) d (outgoing_of mid) o o_lie from_mid) o_link
+          (last_fit leaves_at from_of from_end_of FitsOutgoing (take link ds) d (outgoing_of mid) o o_lie from_mid) o_link
 
       -- and the end that reads
       module _ (i : Incoming) (after : List Ends) (i_back : incoming_of mid ≡ handed (incoming_of after) d.to i) (o_stay : outgoing_of after ≡ outgoing_of mid) where
         after_nodes : length after ≡ length plan.nodes
         after_nodes =
-            omega (arith, mid_nodes, length-map after (λ (e : Ends). e.outgoing.items), length-map mid (λ (e : Ends). e.outgoing.items), ap (length {A = List Outgoing}) o_stay)
+            omega (arith, mid_nodes, length-map after outgoing_items, length-map mid outgoing_items, ap (length {A = List Outgoing}) o_stay)
 
         to_after : d.to < length (incoming_of after)
-        to_after = omega (arith, length-map after (λ (e : Ends). e.incoming.items), after_nodes, to_there)
+        to_after = omega (arith, length-map after incoming_items, after_nodes, to_there)
 
-        i_lie : AllLie comes_at (λ (e : Direction). e.to) (λ (e : Direction). e.to_end) (IsIncoming (cells_of plan whole)) (take link ds ++ d ∷ []) (handed (incoming_of after) d.to i)
-        i_lie = subst (AllLie comes_at (λ (e : Direction). e.to) (λ (e : Direction). e.to_end) (IsIncoming (cells_of plan whole)) (take link ds ++ d ∷ [])) i_back mid_incoming
+        i_lie : IncomingLie FitsIncoming (take link ds ++ d ∷ []) (handed (incoming_of after) d.to i)
+        i_lie = subst (IncomingLie FitsIncoming (take link ds ++ d ∷ [])) i_back mid_incoming
 
         i_link : i.link ≡ link
-        i_link = ap (λ (p : LinkAt). p.1) (last_at comes_at (λ (e : Direction). e.to) (λ (e : Direction). e.to_end) (IsIncoming (cells_of plan whole)) (take link ds) d (incoming_of after) i i_lie to_after) ∙ first_long
+        i_link = ap (λ (p : LinkAt). p.1) (last_at comes_at to_of to_end_of FitsIncoming (take link ds) d (incoming_of after) i i_lie to_after) ∙ first_long
 
         pub i_reads : ReadsOf i.r cell
         i_reads =
             reads_of (cells_of plan whole) cell link table_is (are.each link cell cell_here).run (are.each link cell cell_here).number i
-            (last_fit comes_at (λ (e : Direction). e.to) (λ (e : Direction). e.to_end) (IsIncoming (cells_of plan whole)) (take link ds) d (incoming_of after) i i_lie to_after) i_link
+            (last_fit comes_at to_of to_end_of FitsIncoming (take link ds) d (incoming_of after) i i_lie to_after) i_link
 
         module _ (log : LogRec PlanRec) (taken : IsTaken cell o log) where
           reversed_are : reverse (logs ++ log ∷ []) ≡ log ∷ reverse logs
@@ -282,10 +280,10 @@ module _ (plan : PlanRec) (whole : List (CellRec PlanRec)) (given : List Ends) (
             count = omega (arith, g.count, length_push cells cell, length_push logs log);
             nodes = after_nodes;
             outgoing =
-                subst (AllLie leaves_at (λ (e : Direction). e.from) (λ (e : Direction). e.from_end) (IsOutgoing (cells_of plan whole)) (take link ds)) (sym o_stay)
-                (fewer_lie leaves_at (λ (e : Direction). e.from) (λ (e : Direction). e.from_end) (IsOutgoing (cells_of plan whole)) (take link ds) d (outgoing_of mid) o o_lie from_mid);
+                subst (OutgoingLie FitsOutgoing (take link ds)) (sym o_stay)
+                (fewer_lie leaves_at from_of from_end_of FitsOutgoing (take link ds) d (outgoing_of mid) o o_lie from_mid);
             incoming =
-                fewer_lie comes_at (λ (e : Direction). e.to) (λ (e : Direction). e.to_end) (IsIncoming (cells_of plan whole)) (take link ds) d (incoming_of after) i i_lie to_after;
+                fewer_lie comes_at to_of to_end_of FitsIncoming (take link ds) d (incoming_of after) i i_lie to_after;
             own = subst (λ (ls : List (LogRec PlanRec)). (k : ℕ) (x : LogRec PlanRec) → slice_get ls k ≡ Some x → IsLogOf plan (link + k) x) (sym reversed_are) own_at;
             left =
                 subst (λ (ls : List (LogRec PlanRec)). AllParted (LeftFrom link ls) (outgoing_of given) (outgoing_of after)) (sym reversed_are)

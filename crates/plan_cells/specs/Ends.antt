@@ -1,5 +1,5 @@
 -- The cells of a plan's directed links, and the ends of these cells that the nodes hold.
-use Rattle.std.specs.Prelude.{ℕ, ◌≡◌, ◌+◌, Bool, ◌==◌, if◌then◌else◌, Option, Some, None, List, [], ◌∷◌, map, slice_get}
+use Rattle.std.specs.Prelude.{◌≡◌, ◌+◌, Bool, ◌==◌, if◌then◌else◌, Some, None, List, [], ◌∷◌, map, slice_get}
 use Rattle.std.specs.List.{AllByRecursion}
 use Rattle.atomic_table.specs.Seated.{TableId}
 use Rattle.xs_base.specs.Numbers.{EndNumber, Position, LinkNumber}

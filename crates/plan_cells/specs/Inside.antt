@@ -45,17 +45,23 @@ pub record IsWay (plan : PlanRec) (link : LinkNumber) (way : Way) : Type 0 where
 
 -- ---- Ends by node
 
+abbrev pub outgoing_items : Ends → List Outgoing
+outgoing_items ends = ends.outgoing.items
+
+abbrev pub incoming_items : Ends → List Incoming
+incoming_items ends = ends.incoming.items
+
 abbrev pub outgoing_of : List Ends → List (List Outgoing)
-outgoing_of all = map (λ (e : Ends). e.outgoing.items) all
+outgoing_of all = map outgoing_items all
 
 abbrev pub incoming_of : List Ends → List (List Incoming)
-incoming_of all = map (λ (e : Ends). e.incoming.items) all
+incoming_of all = map incoming_items all
 
 -- one more stands in the list at a place, behind the others
 abbrev pub handed : {X : Type 0} → List (List X) → ℕ → X → List (List X)
 handed lists n x = slice_set lists n (slice_index_or lists n [] ++ x ∷ [])
 
--- at each place stand those of the directed links at that node, by number, and each is fit
+-- of the directed links at a node, in order, each has one of these, and each of these is fit
 pub record Lies {X : Type 0} (at : X → LinkAt) (site : Direction → Position) (end : Direction → EndNumber) (Fit : X → Type 0) (ds : List Direction) (n : Position) (xs : List X) : Type 0 where
   pub places : map at xs ≡ links_by (λ d. site d == n) end 0 ds
   pub fit : AllByRecursion Fit xs
@@ -63,11 +69,23 @@ pub record Lies {X : Type 0} (at : X → LinkAt) (site : Direction → Position)
 abbrev pub AllLie : {X : Type 0} → (X → LinkAt) → (Direction → Position) → (Direction → EndNumber) → (X → Type 0) → List Direction → List (List X) → Type 0
 AllLie at site end Fit ds lists = (n : Position) → n < length lists → Lies at site end Fit ds n (slice_index_or lists n [])
 
-abbrev pub OutgoingLie : (Outgoing → Type 0) → List Direction → List Ends → Type 0
-OutgoingLie Fit ds all = AllLie leaves_at (λ d. d.from) (λ d. d.from_end) Fit ds (outgoing_of all)
+abbrev pub from_of : Direction → Position
+from_of d = d.from
 
-abbrev pub IncomingLie : (Incoming → Type 0) → List Direction → List Ends → Type 0
-IncomingLie Fit ds all = AllLie comes_at (λ d. d.to) (λ d. d.to_end) Fit ds (incoming_of all)
+abbrev pub to_of : Direction → Position
+to_of d = d.to
+
+abbrev pub from_end_of : Direction → EndNumber
+from_end_of d = d.from_end
+
+abbrev pub to_end_of : Direction → EndNumber
+to_end_of d = d.to_end
+
+abbrev pub OutgoingLie : (Outgoing → Type 0) → List Direction → List (List Outgoing) → Type 0
+OutgoingLie Fit ds lists = AllLie leaves_at from_of from_end_of Fit ds lists
+
+abbrev pub IncomingLie : (Incoming → Type 0) → List Direction → List (List Incoming) → Type 0
+IncomingLie Fit ds lists = AllLie comes_at to_of to_end_of Fit ds lists
 
 -- ---- Dealing
 
@@ -96,5 +114,5 @@ IsDealtIncoming cells i = IsIncoming cells i × IsNewIncoming cells.plan i
 
 -- the ends of the first directed links are with their nodes
 pub record AreDealt (cells : CellsRec) (ds : List Direction) (all : List Ends) : Type 0 where
-  pub outgoing : OutgoingLie (IsDealtOutgoing cells) ds all
-  pub incoming : IncomingLie (IsDealtIncoming cells) ds all
+  pub outgoing : OutgoingLie (IsDealtOutgoing cells) ds (outgoing_of all)
+  pub incoming : IncomingLie (IsDealtIncoming cells) ds (incoming_of all)

@@ -1,11 +1,10 @@
-use Rattle.std.proofs.Common.{◌≡◌, ℕ, suc, ◌+◌, ◌≤◌, Some, List, [], ◌∷◌, ◌++◌, length, take, slice_get, ap, ◌∙◌, sym, subst, arith}
-use Rattle.std.proofs.lemmas.List.{length-map, length_push, length-replicate, take_all}
+use Rattle.std.proofs.Common.{◌≡◌, ◌+◌, ◌≤◌, Some, List, [], ◌∷◌, ◌++◌, length, take, slice_get, ap, ◌∙◌, sym, subst, arith}
+use Rattle.std.proofs.lemmas.List.{length_push, take_all}
 use Rattle.xs_base.specs.Numbers.{LinkNumber}
 use Rattle.sys_plan.specs.declared.LinkPlan.{LinkPlan}
 use Rattle.sys_plan.specs.Plan.{PlanRec, Direction, directions}
 use Rattle.sys_plan.proofs.Directions.{directions_length}
 use Rattle.log_cells.specs.Ends.{CellRec}
-use Rattle.plan_cells.specs.declared.ends.Ends.{Ends}
 use Rattle.plan_cells.specs.Inside.{IsCellOf, AreDealt, cells_of}
 use Rattle.plan_cells.proofs.Dealing.{deal_more, deals_nodes, push_cell}
 use Rattle.plan_cells.proofs.deal.deal_all.Goals as goal

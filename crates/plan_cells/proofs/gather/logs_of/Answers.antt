@@ -1,13 +1,10 @@
-use Rattle.std.proofs.Common.{◌≡◌, ◌<◌, ◌∷◌, ◌++◌, Some, List, [], length, get_or, slice_get, refl, sym, ap, ◌∙◌, subst, arith}
-use Rattle.std.specs.Prelude.{reverse}
+use Rattle.std.proofs.Common.{◌≡◌, ◌<◌, Some, List, [], length, get_or, slice_get, sym, ap, ◌∙◌, subst}
 use Rattle.std.specs.List.{AllByRecursion}
 use Rattle.xs_base.specs.Numbers.{Position, LinkNumber}
-use Rattle.sys_plan.specs.Plan.{PlanRec, Direction, directions}
+use Rattle.sys_plan.specs.Plan.{PlanRec, directions}
 use Rattle.link_logs.specs.Logs.{LogRec}
 use Rattle.log_cells.specs.Ends.{CellRec}
 use Rattle.plan_cells.specs.declared.ends.Ends.{Ends}
-use Rattle.plan_cells.specs.declared.ends.Outgoing.{Outgoing}
-use Rattle.plan_cells.specs.declared.ends.Incoming.{Incoming}
 use Rattle.plan_cells.specs.Ends.{IsLogOf, HasLeft}
 use Rattle.plan_cells.specs.Inside.{handed, outgoing_of, incoming_of}
 use Rattle.plan_cells.proofs.Lists.{no_items}

@@ -1,8 +1,6 @@
-use Rattle.std.proofs.Common.{◌≡◌, Some, slice_get, sym, ap, ◌∙◌, subst}
-use Rattle.xs_base.specs.Numbers.{Position, LinkNumber}
+use Rattle.std.proofs.Common.{sym, ap, ◌∙◌, subst}
 use Rattle.sys_plan.specs.Plan.{PlanRec}
-use Rattle.link_logs.specs.Logs.{LogRec}
-use Rattle.plan_cells.specs.Ends.{CellsRec, AreEnds, IsLogOf}
+use Rattle.plan_cells.specs.Ends.{CellsRec, AreEnds}
 use Rattle.plan_cells.specs.Inside.{cells_of}
 use Rattle.plan_cells.proofs.cells.PlanCells.logs.Goals as goal
 

@@ -1,4 +1,4 @@
-use Rattle.std.proofs.Common.{sym, ap, ◌∙◌, subst}
+use Rattle.std.proofs.Common.{sym, subst}
 use Rattle.sys_plan.specs.Plan.{PlanRec, directions}
 use Rattle.plan_cells.specs.Inside.{AreDealt, cells_of}
 use Rattle.plan_cells.proofs.Dealing.{new_ends}
