@@ -152,12 +152,12 @@ impl<S: Story> Cell<S> {
     }
 
     // How often the news were raised, in its low 32 bits.
-    fn news(&self) -> u32 {
+    pub(crate) fn news(&self) -> u32 {
         steps::news(&self.table.shared)
     }
 
     // Sleeps until the news are raised, unless they were raised since so many were seen.
-    fn sleep<R: Wait>(&self, rt: &R, seen: u32) {
+    pub(crate) fn sleep<R: Wait>(&self, rt: &R, seen: u32) {
         steps::sleep(rt, &self.table.shared, seen);
     }
 }

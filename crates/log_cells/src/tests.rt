@@ -73,6 +73,19 @@ fn a_closed_log_is_read_to_its_end_and_comes_home(rt: HostRuntime) -> Result<(),
     Ok(())
 }
 
+#[test]
+fn who_saw_the_news_before_does_not_sleep(rt: HostRuntime) -> Result<(), AllocError> {
+    let (cell, mut w, _r) = make_cell(rt.alloc(), Silence)?;
+    let mut batch = Batch::new(rt.alloc());
+    let seen = cell.news();
+    cell.publish(&rt, &mut w, 5, &mut batch)?;
+    cell.sleep(&rt, seen);
+    let seen = cell.news();
+    cell.end(&rt, &mut w, Cause::Memory);
+    cell.sleep(&rt, seen);
+    Ok(())
+}
+
 // Publishes up to slot 5 after a while, and then closes the log.
 fn publish_late<R: Wait + Clock>(
     rt: &R,
