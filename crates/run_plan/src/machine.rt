@@ -79,7 +79,8 @@ impl SerialMachine {
         ensures on { self.old.now ≤ self.new.now }
         ensures err { OnErr result (self.new.now < limit) }
     {
-        for _ in self.clock..limit {
+        // By the clock alone: with a range beside it, another number would be counted up in every slot.
+        while self.clock < limit {
             self.slot()?;
         }
         Ok(())
