@@ -31,6 +31,10 @@ impl Track {
         let entries = self.history.entries();
         match entries.get(self.first).copied() {
             None => Crossing::none(),
+            // The second is read only where the first arrives.
+            Some(e) if u64::from(e.slot) + u64::from(self.delay) != u64::from(slot) => {
+                Crossing::none()
+            }
             first => due(
                 slot,
                 self.delay,
