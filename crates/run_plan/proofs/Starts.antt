@@ -10,7 +10,7 @@ use Rattle.serial_model.specs.Serial.{system_at_start, nodes_at_start, serial}
 use Rattle.run_plan.specs.declared.track.Track.{Track}
 use Rattle.run_plan.specs.declared.station.Station.{Station}
 use Rattle.run_plan.specs.Stations.{IsStation}
-use Rattle.run_plan.specs.Passes.{IsReadyTrack}
+use Rattle.run_plan.specs.Passes.{IsReadyTrack, IsHeeded}
 use Rattle.run_plan.specs.Run.{AllServe, AllCarry, IsSystem, AreReady}
 use Rattle.run_plan.specs.Starts.{StartsHere, AllStart, track_at_start, tracks_at_start}
 use Rattle.run_plan.proofs.Systems.{play-length, carry-length}
@@ -41,11 +41,11 @@ start-more plan n (y ∷ ys) [] m node station all e s = absurd all
 start-more plan n (y ∷ ys) (x ∷ xs) m node station all e s = (all.0, start-more plan (n + 1) ys xs m node station all.1 (omega arith) s)
 
 -- one more link
-tracks-append : (links : List LinkPlan) (link : LinkPlan) → tracks_at_start (directions (links ++ link ∷ [])) ≡ (tracks_at_start (directions links) ++ track_at_start link.a link.a_end link.delay ∷ []) ++ track_at_start link.b link.b_end link.delay ∷ []
+tracks-append : (links : List LinkPlan) (link : LinkPlan) → tracks_at_start (directions (links ++ link ∷ [])) ≡ (tracks_at_start (directions links) ++ track_at_start link.a link.a_end link.b link.delay ∷ []) ++ track_at_start link.b link.b_end link.a link.delay ∷ []
 tracks-append [] link = refl
-tracks-append (l ∷ links) link = λ i. track_at_start l.a l.a_end l.delay ∷ (track_at_start l.b l.b_end l.delay ∷ tracks-append links link i)
+tracks-append (l ∷ links) link = λ i. track_at_start l.a l.a_end l.b l.delay ∷ (track_at_start l.b l.b_end l.a l.delay ∷ tracks-append links link i)
 
-pub tracks-more : (links : List LinkPlan) (i : ℕ) (d link : LinkPlan) → i < length links → get_or links i d ≡ link → tracks_at_start (directions (take (i + 1) links)) ≡ (tracks_at_start (directions (take i links)) ++ track_at_start link.a link.a_end link.delay ∷ []) ++ track_at_start link.b link.b_end link.delay ∷ []
+pub tracks-more : (links : List LinkPlan) (i : ℕ) (d link : LinkPlan) → i < length links → get_or links i d ≡ link → tracks_at_start (directions (take (i + 1) links)) ≡ (tracks_at_start (directions (take i links)) ++ track_at_start link.a link.a_end link.b link.delay ∷ []) ++ track_at_start link.b link.b_end link.a link.delay ∷ []
 tracks-more links i d link h e =
     ap (λ (ls : List LinkPlan). tracks_at_start (directions ls)) (take_more links i d h ∙ ap (λ (l : LinkPlan). take i links ++ l ∷ []) e)
     ∙ tracks-append (take i links) link
@@ -58,7 +58,7 @@ start-play plan n (y ∷ ys) (x ∷ xs) all = (all.0.serves, start-play plan (n 
 
 start-carry : (ds : List Direction) → AllCarry ds (tracks_at_start ds) (map (λ (d : Direction). []) ds)
 start-carry [] = tt
-start-carry (d ∷ ds) = (record { from = refl; from_end = refl; delay = refl; entries = refl }, start-carry ds)
+start-carry (d ∷ ds) = (record { from = refl; from_end = refl; to = refl; delay = refl; entries = refl }, start-carry ds)
 
 start-stations : (plan : PlanRec) (n links : ℕ) (nodes : List NodePlan) (stations : List Station) → length (directions plan.links) ≡ links → AllStart plan n nodes stations → AllByRecursion (IsStation 0 links) stations
 start-stations plan n links [] [] e all = tt
@@ -69,12 +69,17 @@ start-stations plan n links (y ∷ ys) (x ∷ xs) e all = (subst (λ (m : ℕ). 
 start-tracks : (count : ℕ) (links : List LinkPlan) → AllByRecursion (IsLink count) links → AllByRecursion (IsReadyTrack 0 count) (tracks_at_start (directions links))
 start-tracks count [] all = tt
 start-tracks count (l ∷ links) all = (
-  record { from = all.0.a; here = record { from_end = all.0.a_end; delayed = all.0.least_delay; in_order = tt; before = tt; few = omega arith; due = tt; arrived = refl } },
+  record { from = all.0.a; to = all.0.b; here = record { from_end = all.0.a_end; delayed = all.0.least_delay; in_order = tt; before = tt; few = omega arith; due = tt; arrived = refl } },
   (
-    record { from = all.0.b; here = record { from_end = all.0.b_end; delayed = all.0.least_delay; in_order = tt; before = tt; few = omega arith; due = tt; arrived = refl } },
+    record { from = all.0.b; to = all.0.a; here = record { from_end = all.0.b_end; delayed = all.0.least_delay; in_order = tt; before = tt; few = omega arith; due = tt; arrived = refl } },
     start-tracks count links all.1,
   ),
 )
+
+-- nothing arrives in the first slot
+start-heeded : (stations : List Station) (ds : List Direction) → AllByRecursion (IsHeeded stations) (tracks_at_start ds)
+start-heeded stations [] = tt
+start-heeded stations (d ∷ ds) = (λ _. refl, start-heeded stations ds)
 
 pub run-start : (plan : PlanRec) (stations : List Station) (tracks : List Track) → IsPlan plan → AllStart plan 0 plan.nodes stations → tracks ≡ tracks_at_start (directions plan.links) → AreReady plan 0 stations tracks
 run-start plan stations tracks is all e =
@@ -86,4 +91,5 @@ run-start plan stations tracks is all e =
       system = subst (IsSystem plan 0 stations (tracks_at_start ds)) (sym (serial-start plan)) (record { serve = play; carry = start-carry ds });
       stations = start-stations plan 0 (length (tracks_at_start ds)) plan.nodes stations (sym links) all;
       tracks = subst (λ (m : ℕ). AllByRecursion (IsReadyTrack 0 m) (tracks_at_start ds)) (sym count) (start-tracks (length plan.nodes) plan.links is.links);
+      heeded = start-heeded stations ds;
     })

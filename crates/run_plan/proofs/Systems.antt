@@ -1,18 +1,17 @@
 -- The nodes and directed links at work, from slot to slot, are those of the serial machine.
-use Rattle.std.proofs.Common.{◌≡◌, ℕ, zero, suc, ◌+◌, ◌<◌, Option, Some, None, List, [], ◌∷◌, ◌++◌, length, map, get_or, refl, sym, ap, ◌∙◌, subst, arith, add-one}
+use Rattle.std.proofs.Common.{◌≡◌, ℕ, zero, suc, ◌+◌, ◌<◌, false, Option, Some, None, List, [], ◌∷◌, ◌++◌, length, map, get_or, refl, sym, ap, ◌∙◌, subst, arith, add-one}
 use Rattle.std.specs.List.{AllByRecursion, AllZip}
 use Rattle.xs_base.specs.Batch.{BatchRec}
 use Rattle.xs_base.specs.declared.entry.Entry.{Entry}
 use Rattle.xs_model.specs.declared.event.Event.{Event}
 use Rattle.xs_model.specs.Record.{NodeRec}
-use Rattle.xs_model.specs.Outside.{Emitted, emitted_events}
+use Rattle.xs_model.specs.Outside.{emitted_events}
 use Rattle.sys_plan.specs.declared.NodePlan.{NodePlan}
 use Rattle.sys_plan.specs.Plan.{PlanRec, Direction, directions, gaps_of}
 use Rattle.step_model.specs.Start.{fixed_of}
 use Rattle.step_model.specs.Step.{Stepped, node_step}
-use Rattle.trace_lines.specs.Kept.{KeptEvents, Keeps}
+use Rattle.trace_lines.specs.Kept.{Keeps}
 use Rattle.core_step.specs.Core.{StandsAt}
-use Rattle.pin_scripts.specs.Script.{view_at}
 use Rattle.serial_model.specs.Serial.{arriving, arriving_by, token_among, credit_among, arrivals_at, pins_at, steps_from, steps_of, sent_by, longer_histories, longer_events, system_step, serial}
 use Rattle.crossings.specs.declared.crossing.Crossing.{Crossing}
 use Rattle.run_plan.specs.declared.track.Track.{Track}
@@ -21,14 +20,11 @@ use Rattle.crossings.specs.Crossings.{crossing_of, no_crossing}
 use Rattle.run_plan.specs.Incoming.{IncomingRec, IsBelow, incoming_of, arrived_of, arrived_by, arrivals_by}
 use Rattle.node_seats.specs.Seats.{Plays}
 use Rattle.node_seats.proofs.Seats.{own_step, given-is, plays-next, plays-same, ready-same as seat-ready-same}
-use Rattle.run_plan.specs.Stations.{IsStation, StationSteps}
-use Rattle.run_plan.specs.Passes.{IsReadyTrack, Advances, SameStation, SameTrack}
+use Rattle.run_plan.specs.Stations.{IsStation, StationSteps, taken_by}
+use Rattle.run_plan.specs.Passes.{IsReadyTrack, IsHeeded, Advances, SameNode, SameStation, SameTrack, SameButDue}
 use Rattle.run_plan.specs.Run.{Serves, AllServe, Carries, AllCarry, IsSystem, AreReady}
-use Rattle.run_plan.proofs.Through.{all-at, all-zip, zip-length}
-
-map-same : {X Y : Type 0} (f g : X → Y) → ((x : X) → f x ≡ g x) → (xs : List X) → map f xs ≡ map g xs
-map-same f g h [] = refl
-map-same f g h (x ∷ xs) = λ i. h x i ∷ map-same f g h xs i
+use Rattle.run_plan.proofs.Through.{all-at, all-zip, zip-first, zip-second, zip-length}
+use Rattle.run_plan.proofs.Due.{map-same, IsQuiet, AllQuiet, taken-is, all-quiet, heeded-same}
 
 module _ (plan : PlanRec) (slot nodes_count : ℕ) where
   -- what arrives by the directed link with a number
@@ -55,104 +51,76 @@ module _ (plan : PlanRec) (slot nodes_count : ℕ) where
     abbrev serial_step : ℕ → NodePlan → NodeRec → Stepped
     serial_step n node rec = node_step (fixed_of node (gaps_of plan n)) rec slot (arrivals_at plan histories slot n) (pins_at plan n slot)
 
-    step-same : (n : ℕ) (node : NodePlan) (station : Station) (rec : NodeRec) (events : List Event) → (is : Serves plan slot n node station rec events)
-        → own_step plan slot n node station.seat rec events is.plays (arrivals_by tracks station.incoming.links) ≡ serial_step n node rec
-    step-same n node station rec events is =
-        let arrivals = ap (arrivals_by tracks) is.incoming ∙ arrivals-same n in
+    step-same : (n : ℕ) (node : NodePlan) (station : Station) (rec : NodeRec) (events : List Event) → (is : Serves plan slot n node station rec events) → (station.due ≡ false → IsQuiet plan tracks n)
+        → own_step plan slot n node station.seat rec events is.plays (taken_by tracks station) ≡ serial_step n node rec
+    step-same n node station rec events is quiet =
+        let arrivals = taken-is plan tracks n station is.incoming quiet ∙ arrivals-same n in
         λ i. node_step (fixed_of node (gaps_of plan n)) rec slot (arrivals i) (pins_at plan n slot)
 
-    serves-next : (n : ℕ) (node : NodePlan) (before after : Station) (rec : NodeRec) (events : List Event) → Serves plan slot n node before rec events → StationSteps slot tracks before after
+    serves-next : (n : ℕ) (node : NodePlan) (before after : Station) (rec : NodeRec) (events : List Event) → Serves plan slot n node before rec events → (before.due ≡ false → IsQuiet plan tracks n) → StationSteps slot tracks before after
         → Serves plan (slot + 1) n node after (serial_step n node rec).rec (events ++ (serial_step n node rec).emitted.events)
-    serves-next n node before after rec events is s = record {
+    serves-next n node before after rec events is quiet s = record {
       plays =
-          subst (λ (st : Stepped). Plays plan (slot + 1) n node after.seat st.rec (events ++ st.emitted.events)) (step-same n node before rec events is)
-          (plays-next plan slot n node before.seat rec events is.plays (arrivals_by tracks before.incoming.links) after.seat s.steps);
+          subst (λ (st : Stepped). Plays plan (slot + 1) n node after.seat st.rec (events ++ st.emitted.events)) (step-same n node before rec events is quiet)
+          (plays-next plan slot n node before.seat rec events is.plays (taken_by tracks before) after.seat s.steps);
       incoming = s.incoming ∙ is.incoming;
     }
 
-    gave : (n : ℕ) (node : NodePlan) (before after : Station) (rec : NodeRec) (events : List Event) → Serves plan slot n node before rec events → StationSteps slot tracks before after
+    gave : (n : ℕ) (node : NodePlan) (before after : Station) (rec : NodeRec) (events : List Event) → Serves plan slot n node before rec events → (before.due ≡ false → IsQuiet plan tracks n) → StationSteps slot tracks before after
         → after.seat.given ≡ (serial_step n node rec).emitted
-    gave n node before after rec events is s =
-        given-is plan slot n node before.seat rec events is.plays (arrivals_by tracks before.incoming.links) after.seat s.steps
-        ∙ ap (λ (st : Stepped). st.emitted) (step-same n node before rec events is)
+    gave n node before after rec events is quiet s =
+        given-is plan slot n node before.seat rec events is.plays (taken_by tracks before) after.seat s.steps
+        ∙ ap (λ (st : Stepped). st.emitted) (step-same n node before rec events is quiet)
 
-    all-play : (n : ℕ) (nodes : List NodePlan) (stations : List Station) (recs : List NodeRec) (events : List (List Event)) (after : List Station) → AllServe plan slot n nodes stations recs events → AllZip (StationSteps slot tracks) stations after
+    all-play : (n : ℕ) (nodes : List NodePlan) (stations : List Station) (recs : List NodeRec) (events : List (List Event)) (after : List Station) → AllServe plan slot n nodes stations recs events → AllQuiet plan tracks n stations → AllZip (StationSteps slot tracks) stations after
         → AllServe plan (slot + 1) n nodes after (map (λ (s : Stepped). s.rec) (steps_from plan histories slot n nodes recs)) (longer_events (steps_from plan histories slot n nodes recs) events)
-    all-play n [] [] [] [] [] play zip = tt
-    all-play n [] [] [] [] (a ∷ afters) play zip = absurd zip
-    all-play n (node ∷ nodes) (station ∷ stations) (rec ∷ recs) (es ∷ all_events) [] play zip = absurd zip
-    all-play n (node ∷ nodes) (station ∷ stations) (rec ∷ recs) (es ∷ all_events) (a ∷ afters) play zip = (
-      serves-next n node station a rec es play.0 zip.0,
-      all-play (n + 1) nodes stations recs all_events afters play.1 zip.1,
+    all-play n [] [] [] [] [] play quiet zip = tt
+    all-play n [] [] [] [] (a ∷ afters) play quiet zip = absurd zip
+    all-play n (node ∷ nodes) (station ∷ stations) (rec ∷ recs) (es ∷ all_events) [] play quiet zip = absurd zip
+    all-play n (node ∷ nodes) (station ∷ stations) (rec ∷ recs) (es ∷ all_events) (a ∷ afters) play quiet zip = (
+      serves-next n node station a rec es play.0 quiet.0 zip.0,
+      all-play (n + 1) nodes stations recs all_events afters play.1 quiet.1 zip.1,
     )
-    all-play n _ _ _ _ _ play zip = absurd play
+    all-play n _ _ _ _ _ play quiet zip = absurd play
 
-    all-given : (n : ℕ) (nodes : List NodePlan) (stations : List Station) (recs : List NodeRec) (events : List (List Event)) (after : List Station) → AllServe plan slot n nodes stations recs events → AllZip (StationSteps slot tracks) stations after
+    all-given : (n : ℕ) (nodes : List NodePlan) (stations : List Station) (recs : List NodeRec) (events : List (List Event)) (after : List Station) → AllServe plan slot n nodes stations recs events → AllQuiet plan tracks n stations → AllZip (StationSteps slot tracks) stations after
         → map (λ (s : Station). s.seat.given) after ≡ map (λ (s : Stepped). s.emitted) (steps_from plan histories slot n nodes recs)
-    all-given n [] [] [] [] [] play zip = refl
-    all-given n [] [] [] [] (a ∷ afters) play zip = absurd zip
-    all-given n (node ∷ nodes) (station ∷ stations) (rec ∷ recs) (es ∷ all_events) [] play zip = absurd zip
-    all-given n (node ∷ nodes) (station ∷ stations) (rec ∷ recs) (es ∷ all_events) (a ∷ afters) play zip =
-        let here = gave n node station a rec es play.0 zip.0 in
-        let rest = all-given (n + 1) nodes stations recs all_events afters play.1 zip.1 in
+    all-given n [] [] [] [] [] play quiet zip = refl
+    all-given n [] [] [] [] (a ∷ afters) play quiet zip = absurd zip
+    all-given n (node ∷ nodes) (station ∷ stations) (rec ∷ recs) (es ∷ all_events) [] play quiet zip = absurd zip
+    all-given n (node ∷ nodes) (station ∷ stations) (rec ∷ recs) (es ∷ all_events) (a ∷ afters) play quiet zip =
+        let here = gave n node station a rec es play.0 quiet.0 zip.0 in
+        let rest = all-given (n + 1) nodes stations recs all_events afters play.1 quiet.1 zip.1 in
         λ i. here i ∷ rest i
-    all-given n _ _ _ _ _ play zip = absurd play
+    all-given n _ _ _ _ _ play quiet zip = absurd play
 
-  all-carry : (steps : List Stepped) (after_stations : List Station) → map (λ (s : Station). s.seat.given) after_stations ≡ map (λ (s : Stepped). s.emitted) steps
-      → (ds : List Direction) (tracks : List Track) (histories : List (List Entry)) (after : List Track) → AllCarry ds tracks histories → AllZip (Advances slot after_stations) tracks after
+  all-carry : (steps : List Stepped) (stations stations_after : List Station) → map (λ (s : Station). s.seat.given) stations ≡ map (λ (s : Stepped). s.emitted) steps
+      → (ds : List Direction) (tracks : List Track) (histories : List (List Entry)) (after : List Track) → AllCarry ds tracks histories → AllZip (Advances slot stations stations_after) tracks after
       → AllCarry ds after (longer_histories slot steps ds histories)
-  all-carry steps stations given [] [] [] [] carry zip = tt
-  all-carry steps stations given [] [] [] (a ∷ afters) carry zip = absurd zip
-  all-carry steps stations given (d ∷ ds) (t ∷ ts) (h ∷ hs) [] carry zip = absurd zip
-  all-carry steps stations given (d ∷ ds) (t ∷ ts) (h ∷ hs) (a ∷ afters) carry zip =
+  all-carry steps stations stations_after given [] [] [] [] carry zip = tt
+  all-carry steps stations stations_after given [] [] [] (a ∷ afters) carry zip = absurd zip
+  all-carry steps stations stations_after given (d ∷ ds) (t ∷ ts) (h ∷ hs) [] carry zip = absurd zip
+  all-carry steps stations stations_after given (d ∷ ds) (t ∷ ts) (h ∷ hs) (a ∷ afters) carry zip =
       let c = carry.0 in
-      let z = zip.0 in (
+      let z = zip.0.on in (
         record {
           from = z.from ∙ c.from;
           from_end = z.from_end ∙ c.from_end;
+          to = z.to ∙ c.to;
           delay = z.delay ∙ c.delay;
           entries = z.entries ∙ (λ i. c.entries i ++ sent_by slot (get_or (given i) (c.from i) (emitted_events [])) (c.from_end i));
         },
-        all-carry steps stations given ds ts hs afters carry.1 zip.1,
+        all-carry steps stations stations_after given ds ts hs afters carry.1 zip.1,
       )
-  all-carry steps stations given _ _ _ _ carry zip = absurd carry
+  all-carry steps stations stations_after given _ _ _ _ carry zip = absurd carry
 
 serial-next : (plan : PlanRec) (slot : ℕ) → serial plan (slot + 1) ≡ system_step plan slot (serial plan slot)
 unfolding serial
 serial-next plan slot = rw add-one refl
 
--- the nodes and directed links after a slot are the serial machine's
-pub system-next : (plan : PlanRec) (slot count : ℕ) (stations after : List Station) (tracks tracks_after : List Track) → IsSystem plan slot stations tracks (serial plan slot) → AllByRecursion (IsReadyTrack slot count) tracks
-    → AllZip (StationSteps slot tracks) stations after → AllZip (Advances slot after) tracks tracks_after → IsSystem plan (slot + 1) after tracks_after (serial plan (slot + 1))
-system-next plan slot count stations after tracks tracks_after is ready steps advances =
-    let system = serial plan slot in
-    let given = all-given plan slot count tracks system.histories is.carry ready 0 plan.nodes stations system.nodes system.events after is.serve steps in
-    subst (IsSystem plan (slot + 1) after tracks_after) (sym (serial-next plan slot)) (record {
-      serve = all-play plan slot count tracks system.histories is.carry ready 0 plan.nodes stations system.nodes system.events after is.serve steps;
-      carry = all-carry plan slot count (steps_of plan slot system) after given (directions plan.links) tracks system.histories tracks_after is.carry advances;
-    })
+-- ---- What stays, where room is made and where a node becomes due
 
--- each node and each directed link is ready for the next slot
-stations-next : (slot count : ℕ) (tracks : List Track) (stations after : List Station) → AllZip (StationSteps slot tracks) stations after → AllByRecursion (IsStation slot count) stations → AllByRecursion (IsStation (slot + 1) count) after
-stations-next slot count tracks stations after = all-zip (StationSteps slot tracks) (IsStation slot count) (IsStation (slot + 1) count) (λ x y s h. record {
-  here = s.steps.next;
-  incoming = subst (AllByRecursion (IsBelow count)) (sym s.incoming) h.incoming;
-}) stations after
-
-tracks-next : (slot count : ℕ) (stations : List Station) (tracks after : List Track) → AllZip (Advances slot stations) tracks after → AllByRecursion (IsReadyTrack slot count) tracks → AllByRecursion (IsReadyTrack (slot + 1) count) after
-tracks-next slot count stations tracks after = all-zip (Advances slot stations) (IsReadyTrack slot count) (IsReadyTrack (slot + 1) count) (λ x y a h. record {
-  from = omega (arith, a.from, h.from);
-  here = a.next;
-}) tracks after
-
--- room that is made changes none of this
-pub same-itself : (station : Station) → SameStation station station
-same-itself station = record { seat = refl; incoming = refl }
-
-pub same-track : (track : Track) (history : BatchRec) → history.entries ≡ track.history.entries → SameTrack track (record track { history = history })
-same-track track history e = λ i. record track { history = record { entries = e i; spare = track.history.spare } }
-
-play-same : (plan : PlanRec) (slot n : ℕ) (nodes : List NodePlan) (stations : List Station) (recs : List NodeRec) (events : List (List Event)) (after : List Station) → AllServe plan slot n nodes stations recs events → AllZip SameStation stations after → AllServe plan slot n nodes after recs events
+play-same : (plan : PlanRec) (slot n : ℕ) (nodes : List NodePlan) (stations : List Station) (recs : List NodeRec) (events : List (List Event)) (after : List Station) → AllServe plan slot n nodes stations recs events → AllZip SameNode stations after → AllServe plan slot n nodes after recs events
 play-same plan slot n [] [] [] [] [] play zip = tt
 play-same plan slot n [] [] [] [] (a ∷ afters) play zip = absurd zip
 play-same plan slot n (node ∷ nodes) (station ∷ stations) (rec ∷ recs) (es ∷ all_events) [] play zip = absurd zip
@@ -162,22 +130,70 @@ play-same plan slot n (node ∷ nodes) (station ∷ stations) (rec ∷ recs) (es
 )
 play-same plan slot n _ _ _ _ _ play zip = absurd play
 
+stations-stay : (slot count : ℕ) (stations after : List Station) → AllZip SameNode stations after → AllByRecursion (IsStation slot count) stations → AllByRecursion (IsStation slot count) after
+stations-stay slot count stations after =
+    all-zip SameNode (IsStation slot count) (IsStation slot count)
+    (λ x y s h. record {
+      here = seat-ready-same slot x.seat y.seat h.here s.seat;
+      incoming = subst (λ (i : IncomingRec). AllByRecursion (IsBelow count) i.links) (sym s.incoming) h.incoming;
+    }) stations after
+
+same-node : (before after : Station) → SameButDue before after → SameNode before after
+same-node before after s = record { seat = λ i. record (s.seat i) { events = record (s.seat i).events { spare = before.seat.events.spare } }; incoming = s.incoming }
+
+same-nodes : (stations after : List Station) → AllZip SameButDue stations after → AllZip SameNode stations after
+same-nodes stations after = zip-first SameButDue SameNode same-node stations after
+
+-- ---- The next slot
+
+-- the nodes and directed links after a slot are the serial machine's
+pub system-next : (plan : PlanRec) (slot count : ℕ) (stations stepped after : List Station) (tracks tracks_after : List Track) → IsSystem plan slot stations tracks (serial plan slot) → AllByRecursion (IsReadyTrack slot count) tracks → AllByRecursion (IsHeeded stations) tracks
+    → AllZip (StationSteps slot tracks) stations stepped → AllZip SameButDue stepped after → AllZip (Advances slot stepped after) tracks tracks_after → IsSystem plan (slot + 1) after tracks_after (serial plan (slot + 1))
+system-next plan slot count stations stepped after tracks tracks_after is ready heeded steps same advances =
+    let system = serial plan slot in
+    let quiet = all-quiet plan tracks stations system.histories is.carry heeded in
+    let given = all-given plan slot count tracks system.histories is.carry ready 0 plan.nodes stations system.nodes system.events stepped is.serve quiet steps in
+    let next = system_step plan slot system in
+    subst (IsSystem plan (slot + 1) after tracks_after) (sym (serial-next plan slot)) (record {
+      serve =
+          play-same plan (slot + 1) 0 plan.nodes stepped next.nodes next.events after
+          (all-play plan slot count tracks system.histories is.carry ready 0 plan.nodes stations system.nodes system.events stepped is.serve quiet steps) (same-nodes stepped after same);
+      carry = all-carry plan slot count (steps_of plan slot system) stepped after given (directions plan.links) tracks system.histories tracks_after is.carry advances;
+    })
+
+-- each node and each directed link is ready for the next slot
+stations-next : (slot count : ℕ) (tracks : List Track) (stations after : List Station) → AllZip (StationSteps slot tracks) stations after → AllByRecursion (IsStation slot count) stations → AllByRecursion (IsStation (slot + 1) count) after
+stations-next slot count tracks stations after = all-zip (StationSteps slot tracks) (IsStation slot count) (IsStation (slot + 1) count) (λ x y s h. record {
+  here = s.steps.next;
+  incoming = subst (AllByRecursion (IsBelow count)) (sym s.incoming) h.incoming;
+}) stations after
+
+tracks-next : (slot count : ℕ) (stations stations_after : List Station) (tracks after : List Track) → AllZip (Advances slot stations stations_after) tracks after → AllByRecursion (IsReadyTrack slot count) tracks → AllByRecursion (IsReadyTrack (slot + 1) count) after
+tracks-next slot count stations stations_after tracks after = all-zip (Advances slot stations stations_after) (IsReadyTrack slot count) (IsReadyTrack (slot + 1) count) (λ x y a h. record {
+  from = omega (arith, a.on.from, h.from);
+  to = omega (arith, a.on.to, h.to);
+  here = a.on.next;
+}) tracks after
+
+-- ---- Where room is made
+
+pub same-itself : (station : Station) → SameStation station station
+same-itself station = record { node = record { seat = refl; incoming = refl }; due = refl }
+
+pub same-track : (track : Track) (history : BatchRec) → history.entries ≡ track.history.entries → SameTrack track (record track { history = history })
+same-track track history e = λ i. record track { history = record { entries = e i; spare = track.history.spare } }
+
 carry-same : (ds : List Direction) (tracks : List Track) (histories : List (List Entry)) (after : List Track) → AllCarry ds tracks histories → AllZip SameTrack tracks after → AllCarry ds after histories
 carry-same [] [] [] [] carry zip = tt
 carry-same [] [] [] (a ∷ afters) carry zip = absurd zip
 carry-same (d ∷ ds) (t ∷ ts) (h ∷ hs) [] carry zip = absurd zip
 carry-same (d ∷ ds) (t ∷ ts) (h ∷ hs) (a ∷ afters) carry zip =
     let c = subst (λ (t : Track). Carries d t h) (sym zip.0) carry.0 in
-    (record { from = c.from; from_end = c.from_end; delay = c.delay; entries = c.entries }, carry-same ds ts hs afters carry.1 zip.1)
+    (record { from = c.from; from_end = c.from_end; to = c.to; delay = c.delay; entries = c.entries }, carry-same ds ts hs afters carry.1 zip.1)
 carry-same _ _ _ _ carry zip = absurd carry
 
 pub stations-same : (slot count : ℕ) (stations after : List Station) → AllZip SameStation stations after → AllByRecursion (IsStation slot count) stations → AllByRecursion (IsStation slot count) after
-stations-same slot count stations after =
-    all-zip SameStation (IsStation slot count) (IsStation slot count)
-    (λ x y s h. record {
-      here = seat-ready-same slot x.seat y.seat h.here s.seat;
-      incoming = subst (λ (i : IncomingRec). AllByRecursion (IsBelow count) i.links) (sym s.incoming) h.incoming;
-    }) stations after
+stations-same slot count stations after zip = stations-stay slot count stations after (zip-first SameStation SameNode (λ x y s. s.node) stations after zip)
 
 pub tracks-same : (slot count : ℕ) (tracks after : List Track) → AllZip SameTrack tracks after → AllByRecursion (IsReadyTrack slot count) tracks → AllByRecursion (IsReadyTrack slot count) after
 tracks-same slot count tracks after =
@@ -185,7 +201,7 @@ tracks-same slot count tracks after =
     (λ x y s h.
     let k = subst (IsReadyTrack slot count) (sym s) h in
     let t = k.here in
-    record { from = k.from; here = record { from_end = t.from_end; delayed = t.delayed; in_order = t.in_order; before = t.before; few = t.few; due = t.due; arrived = t.arrived } })
+    record { from = k.from; to = k.to; here = record { from_end = t.from_end; delayed = t.delayed; in_order = t.in_order; before = t.before; few = t.few; due = t.due; arrived = t.arrived } })
     tracks after
 
 -- the node and the directed link at a place
@@ -218,12 +234,6 @@ carry-length [] [] [] carry = refl
 carry-length (d ∷ ds) (x ∷ xs) (h ∷ hs) carry = omega (arith, carry-length ds xs hs carry.1)
 carry-length _ _ _ carry = absurd carry
 
--- what a node gave
-pub given-at : (stations : List Station) (k : ℕ) (d : Emitted) (s : Station) → k < length stations → get_or (map (λ (x : Station). x.seat.given) stations) k d ≡ (get_or stations k s).seat.given
-given-at [] k d s h = absurd (omega arith)
-given-at (x ∷ xs) zero d s h = refl
-given-at (x ∷ xs) (suc k) d s h = given-at xs k d s (omega arith)
-
 -- the directed link at a place is ready
 pub ready-at : (slot count : ℕ) (tracks : List Track) (i : ℕ) (d t : Track) → AllByRecursion (IsReadyTrack slot count) tracks → i < length tracks → get_or tracks i d ≡ t → IsReadyTrack slot count t
 ready-at slot count tracks i d t all inside is = subst (IsReadyTrack slot count) is (all-at (IsReadyTrack slot count) tracks i d all inside)
@@ -232,16 +242,23 @@ ready-at slot count tracks i d t all inside is = subst (IsReadyTrack slot count)
 pub ready-same : (plan : PlanRec) (slot : ℕ) (stations after : List Station) (tracks tracks_after : List Track) → AreReady plan slot stations tracks → AllZip SameStation stations after → AllZip SameTrack tracks tracks_after → AreReady plan slot after tracks_after
 ready-same plan slot stations after tracks tracks_after ready s t = record {
   system = record {
-    serve = play-same plan slot 0 plan.nodes stations (serial plan slot).nodes (serial plan slot).events after ready.system.serve s;
+    serve = play-same plan slot 0 plan.nodes stations (serial plan slot).nodes (serial plan slot).events after ready.system.serve (zip-first SameStation SameNode (λ x y s. s.node) stations after s);
     carry = carry-same (directions plan.links) tracks (serial plan slot).histories tracks_after ready.system.carry t;
   };
   stations = subst (λ (n : ℕ). AllByRecursion (IsStation slot n) after) (sym (zip-length SameTrack tracks tracks_after t)) (stations-same slot (length tracks) stations after s ready.stations);
   tracks = subst (λ (n : ℕ). AllByRecursion (IsReadyTrack slot n) tracks_after) (sym (zip-length SameStation stations after s)) (tracks-same slot (length stations) tracks tracks_after t ready.tracks);
+  heeded = heeded-same stations after tracks tracks_after s t ready.heeded;
 }
 
-pub ready-next : (plan : PlanRec) (slot : ℕ) (stations after : List Station) (tracks tracks_after : List Track) → AreReady plan slot stations tracks → AllZip (StationSteps slot tracks) stations after → AllZip (Advances slot after) tracks tracks_after → AreReady plan (slot + 1) after tracks_after
-ready-next plan slot stations after tracks tracks_after ready s t = record {
-  system = system-next plan slot (length stations) stations after tracks tracks_after ready.system ready.tracks s t;
-  stations = subst (λ (n : ℕ). AllByRecursion (IsStation (slot + 1) n) after) (sym (zip-length (Advances slot after) tracks tracks_after t)) (stations-next slot (length tracks) tracks stations after s ready.stations);
-  tracks = subst (λ (n : ℕ). AllByRecursion (IsReadyTrack (slot + 1) n) tracks_after) (sym (zip-length (StationSteps slot tracks) stations after s)) (tracks-next slot (length stations) after tracks tracks_after t ready.tracks);
-}
+pub ready-next : (plan : PlanRec) (slot : ℕ) (stations stepped after : List Station) (tracks tracks_after : List Track) → AreReady plan slot stations tracks
+    → AllZip (StationSteps slot tracks) stations stepped → AllZip SameButDue stepped after → AllZip (Advances slot stepped after) tracks tracks_after → AreReady plan (slot + 1) after tracks_after
+ready-next plan slot stations stepped after tracks tracks_after ready s b t =
+    let links = zip-length (Advances slot stepped after) tracks tracks_after t in
+    let nodes = zip-length SameButDue stepped after b ∙ zip-length (StationSteps slot tracks) stations stepped s in
+    let steady = stations-stay (slot + 1) (length tracks) stepped after (same-nodes stepped after b) (stations-next slot (length tracks) tracks stations stepped s ready.stations) in
+    record {
+      system = system-next plan slot (length stations) stations stepped after tracks tracks_after ready.system ready.tracks ready.heeded s b t;
+      stations = subst (λ (n : ℕ). AllByRecursion (IsStation (slot + 1) n) after) (sym links) steady;
+      tracks = subst (λ (n : ℕ). AllByRecursion (IsReadyTrack (slot + 1) n) tracks_after) (sym nodes) (tracks-next slot (length stations) stepped after tracks tracks_after t ready.tracks);
+      heeded = zip-second (Advances slot stepped after) (IsHeeded after) (λ x y a. a.heeded) tracks tracks_after t;
+    }

@@ -45,14 +45,15 @@ module _ (slot : ℕ) (track : Track) (is : IsTrack slot track) (token : Option 
       (all-map (λ (e : Entry). e.slot < slot) (λ (e : Entry). e.slot < slot + 1) (λ e l. omega (arith, l)) track.history.entries is.before)
       (all-map (λ (e : Entry). e.slot ≡ slot) (λ (e : Entry). e.slot < slot + 1) (λ e same. omega (arith, same)) sent at_sent)
 
-  pub goes-on : (after : Track) → after.from ≡ track.from → after.from_end ≡ track.from_end → after.delay ≡ track.delay → after.history.entries ≡ entries → after.first ≡ first
+  pub goes-on : (after : Track) → after.from ≡ track.from → after.from_end ≡ track.from_end → after.to ≡ track.to → after.delay ≡ track.delay → after.history.entries ≡ entries → after.first ≡ first
       → after.arrived ≡ seen_of (due_of (slot + 1) track.delay (slice_get entries first)) (due_of (slot + 1) track.delay (slice_get entries (first + 1)))
       → GoesOn slot sent track after
-  goes-on after from from_end delay is_entries is_first is_arrived =
+  goes-on after from from_end to delay is_entries is_first is_arrived =
       let seen : after.arrived ≡ crossing_of (arriving (slot + 1) track.delay entries) = is_arrived ∙ sym (seen-at (slot + 1) track.delay first entries due_all order_all) in
       record {
         from = from;
         from_end = from_end;
+        to = to;
         delay = delay;
         entries = is_entries;
         next = record {

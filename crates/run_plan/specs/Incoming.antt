@@ -18,24 +18,22 @@ incoming_of plan n = map (λ end. incoming plan n end) link_ends
 abbrev pub IsNowhere : Option LinkNumber → Type 0
 IsNowhere link = link ≡ None
 
--- the directed link that comes to each link end, where one does, and what arrived by them last
+-- the directed link that comes to each link end, where one does
 pub record IncomingRec : Type 0 where
   pub links : List (Option LinkNumber)
-  pub arrivals : Arrivals
 
--- nothing arrived by the link ends that no directed link comes to
+-- nothing arrives by the link ends that no directed link comes to
 abbrev pub NothingElse : List (Option LinkNumber) → List (Option Token) → List Bool → Type 0
 NothingElse [] [] [] = Unit {0}
 NothingElse (link ∷ links) (token ∷ tokens) (credit ∷ credits) =
     (IsNowhere link → (token ≡ None) × (credit ≡ false)) × NothingElse links tokens credits
 NothingElse _ _ _ = ⊥
 
--- of all the link ends, none from this one on is reached, and nothing arrived by those that are not
-pub record IsReachedBelow (reached : EndNumber) (links : List (Option LinkNumber)) (arrivals : Arrivals) : Type 0 where
+-- of all the link ends, none from this one on is reached
+pub record IsReachedBelow (reached : EndNumber) (links : List (Option LinkNumber)) : Type 0 where
   pub all_ends : length links ≡ LINK_ENDS
   pub within : reached ≤ LINK_ENDS
   pub rest : AllByRecursion IsNowhere (drop reached links)
-  pub nothing_else : NothingElse links arrivals.tokens arrivals.credits
 
 -- a directed link is one of so many
 abbrev pub IsBelow : ℕ → Option LinkNumber → Type 0

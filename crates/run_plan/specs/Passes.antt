@@ -1,8 +1,9 @@
 -- Passes over lists, in which each place is changed in turn.
-use Rattle.std.specs.Prelude.{ℕ, zero, suc, ◌≡◌, ◌<◌, ◌≤◌, List, [], ◌∷◌, map, slice_index_or}
+use Rattle.std.specs.Prelude.{ℕ, zero, suc, ◌≡◌, ◌<◌, ◌≤◌, Bool, false, List, [], ◌∷◌, map, slice_index_or}
 use Rattle.xs_base.specs.Numbers.{Slot, Position}
 use Rattle.xs_model.specs.Outside.{Emitted, emitted_events}
 use Rattle.serial_model.specs.Serial.{sent_by}
+use Rattle.crossings.specs.Crossings.{no_crossing}
 use Rattle.node_seats.specs.Seats.{HasEventRoom, SameSeat}
 use Rattle.run_plan.specs.declared.track.Track.{Track}
 use Rattle.run_plan.specs.declared.station.Station.{Station}
@@ -23,9 +24,19 @@ HasRoomForEvents station = HasEventRoom station.seat
 abbrev pub HasEntryRoom : Track → Type 0
 HasEntryRoom track = 2 ≤ track.history.spare
 
+-- nothing of a node changed but the room, with the directed links that come to it
+pub record SameNode (before after : Station) : Type 0 where
+  pub seat : SameSeat before.seat after.seat
+  pub incoming : after.incoming ≡ before.incoming
+
 -- nothing changed but the room
 pub record SameStation (before after : Station) : Type 0 where
-  pub seat : SameSeat before.seat after.seat
+  pub node : SameNode before after
+  pub due : after.due ≡ before.due
+
+-- nothing changed but whether it is due
+pub record SameButDue (before after : Station) : Type 0 where
+  pub seat : after.seat ≡ before.seat
   pub incoming : after.incoming ≡ before.incoming
 
 abbrev pub SameTrack : Track → Track → Type 0
@@ -43,11 +54,22 @@ pub record MakesEntryRoom (before after : Track) : Type 0 where
 -- a directed link as it is before a slot, among so many nodes
 pub record IsReadyTrack (slot : Slot) (node_count : ℕ) (track : Track) : Type 0 where
   pub from : track.from < node_count
+  pub to : track.to < node_count
   pub here : IsTrack slot track
 
 -- what the node at a position gave in its slot
 abbrev pub given_at : List Station → Position → Emitted
 given_at stations n = slice_index_or (map (λ (s : Station). s.seat.given) stations) n (emitted_events [])
 
-abbrev pub Advances : Slot → List Station → Track → Track → Type 0
-Advances slot stations before after = GoesOn slot (sent_by slot (given_at stations before.from) before.from_end) before after
+-- whether the node at a position is due
+abbrev pub due_at : List Station → Position → Bool
+due_at stations n = slice_index_or (map (λ (s : Station). s.due) stations) n false
+
+-- where something arrives by a directed link, the node that it leads to is due
+abbrev pub IsHeeded : List Station → Track → Type 0
+IsHeeded stations track = due_at stations track.to ≡ false → track.arrived ≡ no_crossing
+
+-- what the nodes gave in a slot makes this of a directed link, and the nodes are due as they are afterwards
+pub record Advances (slot : Slot) (nodes nodes_after : List Station) (before after : Track) : Type 0 where
+  pub on : GoesOn slot (sent_by slot (given_at nodes before.from) before.from_end) before after
+  pub heeded : IsHeeded nodes_after after

@@ -13,7 +13,7 @@ use Rattle.run_plan.specs.declared.track.Track.{Track}
 use Rattle.run_plan.specs.declared.station.Station.{Station}
 use Rattle.run_plan.specs.Incoming.{incoming_of}
 use Rattle.run_plan.specs.Stations.{IsStation}
-use Rattle.run_plan.specs.Passes.{IsReadyTrack}
+use Rattle.run_plan.specs.Passes.{IsReadyTrack, IsHeeded}
 
 -- a node of a plan, at a position, plays its part there, with the directed links that come to it
 pub record Serves (plan : PlanRec) (slot : Slot) (n : Position) (node : NodePlan) (station : Station) (rec : NodeRec) (events : List Event) : Type 0 where
@@ -31,6 +31,7 @@ AllServe plan slot n _ _ _ _ = ⊥
 pub record Carries (d : Direction) (track : Track) (history : List Entry) : Type 0 where
   pub from : track.from ≡ d.from
   pub from_end : track.from_end ≡ d.from_end
+  pub to : track.to ≡ d.to
   pub delay : track.delay ≡ d.delay
   pub entries : track.history.entries ≡ history
 
@@ -49,3 +50,4 @@ pub record AreReady (plan : PlanRec) (slot : Slot) (all_stations : List Station)
   pub system : IsSystem plan slot all_stations all_tracks (serial plan slot)
   pub stations : AllByRecursion (IsStation slot (length all_tracks)) all_stations
   pub tracks : AllByRecursion (IsReadyTrack slot (length all_stations)) all_tracks
+  pub heeded : AllByRecursion (IsHeeded all_stations) all_tracks

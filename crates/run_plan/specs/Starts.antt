@@ -26,10 +26,11 @@ abbrev pub StartsAs : PlanRec → Position → Station → Type 0
 StartsAs plan n station = (node : NodePlan) → slice_get plan.nodes n ≡ Some node → StartsHere plan n node station
 
 -- a directed link as it starts
-abbrev pub track_at_start : Position → EndNumber → ℕ → Track
-track_at_start from from_end delay = record {
+abbrev pub track_at_start : Position → EndNumber → Position → ℕ → Track
+track_at_start from from_end to delay = record {
   from = from;
   from_end = from_end;
+  to = to;
   delay = delay;
   history = record { entries = []; spare = 0 };
   first = 0;
@@ -37,4 +38,4 @@ track_at_start from from_end delay = record {
 }
 
 abbrev pub tracks_at_start : List Direction → List Track
-tracks_at_start ds = map (λ (d : Direction). track_at_start d.from d.from_end d.delay) ds
+tracks_at_start ds = map (λ (d : Direction). track_at_start d.from d.from_end d.to d.delay) ds

@@ -1,19 +1,24 @@
 -- Nodes at work, with the directed links that come to them.
-use Rattle.std.specs.Prelude.{ℕ, ◌≡◌, ◌+◌}
+use Rattle.std.specs.Prelude.{ℕ, ◌≡◌, if◌then◌else◌, List}
 use Rattle.std.specs.List.{AllByRecursion}
 use Rattle.xs_base.specs.Numbers.{Slot}
+use Rattle.xs_model.specs.declared.outside.Arrivals.{Arrivals}
 use Rattle.node_seats.specs.Seats.{IsSeat, StepsOn}
 use Rattle.run_plan.specs.declared.track.Track.{Track}
 use Rattle.run_plan.specs.declared.station.Station.{Station}
+use Rattle.run_plan.specs.declared.station.TheConstants.{NOTHING}
 use Rattle.run_plan.specs.Incoming.{IsBelow, arrivals_by}
-use Rattle.std.specs.Prelude.{List}
 
 -- a node as it is before a slot, among so many directed links
 pub record IsStation (slot : Slot) (link_count : ℕ) (station : Station) : Type 0 where
   pub here : IsSeat slot station.seat
   pub incoming : AllByRecursion (IsBelow link_count) station.incoming.links
 
--- what a slot makes of a node: it goes on with what arrives by the directed links that come to it
+-- what a node goes on with: what arrives by the directed links that come to it, if it is due, and nothing if it is not
+abbrev pub taken_by : List Track → Station → Arrivals
+taken_by tracks station = if station.due then arrivals_by tracks station.incoming.links else NOTHING
+
+-- what a slot makes of a node
 pub record StationSteps (slot : Slot) (tracks : List Track) (before after : Station) : Type 0 where
   pub incoming : after.incoming.links ≡ before.incoming.links
-  pub steps : StepsOn slot (arrivals_by tracks before.incoming.links) before.seat after.seat
+  pub steps : StepsOn slot (taken_by tracks before) before.seat after.seat

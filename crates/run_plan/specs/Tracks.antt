@@ -22,6 +22,7 @@ pub record IsTrack (slot : Slot) (track : Track) : Type 0 where
 pub record GoesOn (slot : Slot) (sent : List Entry) (before after : Track) : Type 0 where
   pub from : after.from ≡ before.from
   pub from_end : after.from_end ≡ before.from_end
+  pub to : after.to ≡ before.to
   pub delay : after.delay ≡ before.delay
   pub entries : after.history.entries ≡ before.history.entries ++ sent
   pub next : IsTrack (slot + 1) after

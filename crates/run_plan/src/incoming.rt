@@ -1,9 +1,8 @@
 //! `Incoming`, the directed links that come to a node's link ends, and what arrives by them.
-ghost use Rattle.std.specs.Prelude.{◌≡◌, ◌≤◌, false, length, drop};
+ghost use Rattle.std.specs.Prelude.{◌≡◌, ◌≤◌, length, drop};
 ghost use Rattle.std.specs.List.{AllByRecursion};
 ghost use Rattle.xs_base.specs.declared.numbers.TheConstants.{LINK_ENDS};
 ghost use Rattle.sys_plan.specs.Plan.{directions};
-ghost use Rattle.core_step.specs.Core.{NothingArrives};
 ghost use Rattle.run_plan.specs.Incoming.{arrivals_by, arrived_by, incoming_of, IsBelow, IsNowhere};
 
 use crate::track::Track;
@@ -13,14 +12,13 @@ use sys_plan::Plan;
 use xs_base::numbers::LINK_ENDS;
 use xs_model::Arrivals;
 
-/// The directed links that come to a node's link ends, and what arrived by them last. Contracts see it as an
-/// `IncomingRec` of `Rattle.run_plan.specs.Incoming`.
+/// The directed links that come to a node's link ends. Contracts see it as an `IncomingRec` of
+/// `Rattle.run_plan.specs.Incoming`.
 #[derive(Drop)]
 pub(crate) struct Incoming {
     links: [Option<u32>; 8],
     // No link comes to a link end from this one on.
     reached: usize,
-    arrivals: Arrivals,
 }
 
 impl Model for Incoming {
@@ -30,13 +28,13 @@ impl Model for Incoming {
 
     ghost use Rattle.run_plan.specs.Incoming.{IsReachedBelow};
 
-    ghost view = { λ i. record { links = i.links; arrivals = i.arrivals } };
+    ghost view = { λ i. record { links = i.links } };
 
-    ghost invariant = { λ i. IsReachedBelow i.reached i.links i.arrivals };
+    ghost invariant = { λ i. IsReachedBelow i.reached i.links };
 }
 
 impl Incoming {
-    /// The directed links that come to the link ends of the node at a position. Nothing arrived by them yet.
+    /// The directed links that come to the link ends of the node at a position.
     pub(crate) fn of(plan: &Plan, n: u8) -> Incoming
         ensures links { result.links ≡ incoming_of plan.now n }
         ensures below { AllByRecursion (IsBelow (length (directions plan.now.links))) result.links }
@@ -45,36 +43,23 @@ impl Incoming {
         Incoming {
             links,
             reached: reached_of(&links),
-            arrivals: Arrivals {
-                tokens: [None; 8],
-                credits: [false; 8],
-            },
         }
     }
 
-    /// Looks at what arrives: whether anything does. A link end that no link comes to costs nothing, if none after it is
+    /// What arrives by the link ends in this slot. One that no directed link comes to costs nothing, if none after it is
     /// reached either.
-    pub(crate) fn look(&mut self, tracks: &[Track]) -> bool
-        requires below { AllByRecursion (IsBelow (length tracks.now)) self.old.links }
-        ensures links { self.new.links ≡ self.old.links }
-        ensures arrivals { self.new.arrivals ≡ arrivals_by tracks.now self.old.links }
-        ensures nothing { result ≡ false → NothingArrives self.new.arrivals }
+    pub(crate) fn arrivals(&self, tracks: &[Track]) -> Arrivals
+        requires below { AllByRecursion (IsBelow (length tracks.now)) self.now.links }
+        ensures { result ≡ arrivals_by tracks.now self.now.links }
     {
-        let mut some = false;
+        let mut tokens = [None; 8];
+        let mut credits = [false; 8];
         for end in 0..self.reached {
             let arrived = arrived(tracks, self.links[end]);
-            self.arrivals.tokens[end] = arrived.token;
-            self.arrivals.credits[end] = arrived.credit;
-            some |= arrived.is_some();
+            tokens[end] = arrived.token;
+            credits[end] = arrived.credit;
         }
-        some
-    }
-
-    /// What arrived when it last looked.
-    pub(crate) fn arrivals(&self) -> &Arrivals
-        ensures { result.now ≡ self.now.arrivals }
-    {
-        &self.arrivals
+        Arrivals { tokens, credits }
     }
 }
 

@@ -3,7 +3,7 @@ ghost use Rattle.std.specs.Prelude.{◌≡◌, ◌+◌, ◌-◌, ◌^◌, ◌<�
 ghost use Rattle.std.specs.List.{AllByRecursion, AllZip};
 ghost use Rattle.sys_plan.specs.Plan.{PlanRec};
 ghost use Rattle.run_plan.specs.Stations.{IsStation, StationSteps};
-ghost use Rattle.run_plan.specs.Passes.{HasRoomForEvents, HasEntryRoom, SameStation, SameTrack, IsReadyTrack, Advances};
+ghost use Rattle.run_plan.specs.Passes.{HasRoomForEvents, HasEntryRoom, SameStation, SameTrack, IsReadyTrack, Advances, SameButDue};
 ghost use Rattle.run_plan.specs.Run.{AreReady};
 
 use crate::station::Station;
@@ -68,15 +68,19 @@ fn step_all(stations: &mut [Station], tracks: &[Track], slot: u32)
     }
 }
 
-// Each directed link goes on with what its sender's slot gave.
-fn advance_all(tracks: &mut [Track], stations: &[Station], slot: u32)
+// Each directed link goes on with what its sender's slot gave. Where something then arrives by it, the node that it leads
+// to becomes due.
+fn advance_all(tracks: &mut [Track], stations: &mut [Station], slot: u32)
     requires slot { slot < 2 ^ 32 - 1 }
-    requires tracks { AllByRecursion (IsReadyTrack slot (length stations.now)) tracks.old }
+    requires tracks { AllByRecursion (IsReadyTrack slot (length stations.old)) tracks.old }
     requires room { AllByRecursion HasEntryRoom tracks.old }
-    ensures advances { AllZip (Advances slot stations.now) tracks.old tracks.new }
+    ensures advances { AllZip (Advances slot stations.old stations.new) tracks.old tracks.new }
+    ensures same { AllZip SameButDue stations.old stations.new }
 {
     for track in tracks.iter_mut() {
         let sender = &stations[track.from as usize];
-        track.go_on(slot, &sender.seat.given);
+        if track.go_on(slot, &sender.seat.given) {
+            stations[track.to as usize].due = true;
+        }
     }
 }

@@ -1,17 +1,26 @@
 //! `Station`, one node of a system, and the directed links that come to it.
-ghost use Rattle.std.specs.Prelude.{◌≡◌, ◌-◌, ◌^◌, ◌<◌, length};
+ghost use Rattle.std.specs.Prelude.{◌≡◌, ◌-◌, ◌^◌, ◌<◌, true, length};
 ghost use Rattle.node_seats.specs.Seats.{HasEventRoom};
 ghost use Rattle.run_plan.specs.Stations.{IsStation, StationSteps};
 
 use crate::incoming::Incoming;
 use crate::track::Track;
 use node_seats::Seat;
+use xs_model::Arrivals;
+
+// What arrives at a node that is not due.
+const NOTHING: Arrivals = Arrivals {
+    tokens: [None; 8],
+    credits: [false; 8],
+};
 
 /// A node at work, and the directed links that come to it.
 #[derive(Drop)]
 pub(crate) struct Station {
     pub(crate) seat: Seat,
     pub(crate) incoming: Incoming,
+    // Whether something arrives at it in this slot.
+    pub(crate) due: bool,
 }
 
 impl Station {
@@ -22,7 +31,25 @@ impl Station {
         requires room { HasEventRoom self.old.seat }
         ensures steps { StationSteps slot tracks.now self.old self.new }
     {
-        let arrives = self.incoming.look(tracks);
-        self.seat.step(slot, arrives, self.incoming.arrivals());
+        if self.due {
+            self.step_due(tracks, slot);
+        } else {
+            self.seat.step(slot, false, &NOTHING);
+        }
+    }
+
+    // One slot of a node that is due. In most slots a node is not, and its links are not looked at.
+    #[cold]
+    #[inline(never)]
+    fn step_due(&mut self, tracks: &[Track], slot: u32)
+        requires slot { slot < 2 ^ 32 - 1 }
+        requires station { IsStation slot (length tracks.now) self.old }
+        requires room { HasEventRoom self.old.seat }
+        requires due { self.old.due ≡ true }
+        ensures steps { StationSteps slot tracks.now self.old self.new }
+    {
+        let arrivals = self.incoming.arrivals(tracks);
+        self.seat.step(slot, true, &arrivals);
+        self.due = false;
     }
 }

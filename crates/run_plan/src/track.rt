@@ -1,5 +1,5 @@
 //! `Track`, one directed link: its history, and what of it arrives. See docs/LINKS.md.
-ghost use Rattle.std.specs.Prelude.{◌≡◌, ◌+◌, ◌-◌, ◌^◌, ◌<◌, ◌≤◌, ◌++◌, slice_get};
+ghost use Rattle.std.specs.Prelude.{◌≡◌, ◌+◌, ◌-◌, ◌^◌, ◌<◌, ◌≤◌, ◌++◌, false, slice_get};
 ghost use Rattle.xs_base.specs.declared.numbers.TheConstants.{LINK_ENDS};
 ghost use Rattle.serial_model.specs.Serial.{sent_by};
 ghost use Rattle.crossings.specs.Crossings.{due_of, seen_of, no_crossing, entry_count};
@@ -9,11 +9,12 @@ use crossings::{Crossing, due};
 use trace_lines::Emissions;
 use xs_base::Batch;
 
-/// A directed link: it leads from a link end of the node at a position, with a delay in slots.
+/// A directed link: it leads from a link end of the node at a position to the node at another, with a delay in slots.
 #[derive(Drop)]
 pub(crate) struct Track {
     pub(crate) from: u8,
     pub(crate) from_end: u8,
+    pub(crate) to: u8,
     pub(crate) delay: u32,
     pub(crate) history: Batch,
     // The place in the history of the first entry that has not arrived before this slot.
@@ -56,16 +57,19 @@ impl Track {
         }
     }
 
-    // Notes what arrives in a slot, where nothing was noted yet. That costs little where nothing does.
-    fn see(&mut self, slot: u32)
+    // Notes what arrives in a slot, where nothing was noted yet: whether anything does. That costs little where nothing does.
+    fn see(&mut self, slot: u32) -> bool
         requires first { self.old.first < 2 ^ 63 }
         requires nothing { self.old.arrived ≡ no_crossing }
-        ensures { self.new ≡ record self.old { arrived = seen_of (due_of slot self.old.delay (slice_get self.old.history.entries self.old.first)) (due_of slot self.old.delay (slice_get self.old.history.entries (self.old.first + 1))) } }
+        ensures quiet { result ≡ false → self.new.arrived ≡ no_crossing }
+        ensures seen { self.new ≡ record self.old { arrived = seen_of (due_of slot self.old.delay (slice_get self.old.history.entries self.old.first)) (due_of slot self.old.delay (slice_get self.old.history.entries (self.old.first + 1))) } }
     {
         let seen = self.seen(slot);
-        if seen.is_some() {
+        let some = seen.is_some();
+        if some {
             self.arrived = seen;
         }
+        some
     }
 
     // Puts what the sender's link end sent in a slot after the history.
@@ -79,15 +83,16 @@ impl Track {
     }
 
     /// Goes on to the next slot: what arrived in this one is behind it, and what the sender's link end sent stands
-    /// in the history, in room that was made for two entries.
-    pub(crate) fn go_on(&mut self, slot: u32, sent: &Emissions)
+    /// in the history, in room that was made for two entries. The result is whether anything arrives in the next.
+    pub(crate) fn go_on(&mut self, slot: u32, sent: &Emissions) -> bool
         requires slot { slot < 2 ^ 32 - 1 }
         requires track { IsTrack slot self.old }
         requires room { 2 ≤ self.old.history.spare }
         ensures next { GoesOn slot (sent_by slot sent.now self.old.from_end) self.old self.new }
+        ensures quiet { result ≡ false → self.new.arrived ≡ no_crossing }
     {
         self.pass();
         self.append(slot, sent);
-        self.see(slot + 1);
+        self.see(slot + 1)
     }
 }

@@ -33,6 +33,7 @@ fn station_of(alloc: Global, plan: &Plan, n: u8) -> Result<Station, AllocError>
     Ok(Station {
         seat,
         incoming: Incoming::of(plan, n),
+        due: false,
     })
 }
 
@@ -43,19 +44,20 @@ pub(crate) fn tracks_of(alloc: Global, plan: &Plan) -> Result<Vec<Track>, AllocE
 {
     let mut tracks = Vec::new(alloc);
     for link in plan.links() {
-        tracks.push(track_of(alloc, link.a, link.a_end, link.delay))?;
-        tracks.push(track_of(alloc, link.b, link.b_end, link.delay))?;
+        tracks.push(track_of(alloc, link.a, link.a_end, link.b, link.delay))?;
+        tracks.push(track_of(alloc, link.b, link.b_end, link.a, link.delay))?;
     }
     Ok(tracks)
 }
 
 // A directed link as it starts.
-fn track_of(alloc: Global, from: u8, from_end: u8, delay: u32) -> Track
-    ensures { result ≡ track_at_start from from_end delay }
+fn track_of(alloc: Global, from: u8, from_end: u8, to: u8, delay: u32) -> Track
+    ensures { result ≡ track_at_start from from_end to delay }
 {
     Track {
         from,
         from_end,
+        to,
         delay,
         history: Batch::new(alloc),
         first: 0,

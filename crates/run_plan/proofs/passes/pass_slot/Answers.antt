@@ -38,5 +38,5 @@ advance_all-requires-clause-tracks c =
 
 pub returns-clause-ok : goal.returns-clause-ok
 returns-clause-ok c = λ plan ready.
-    ready-next plan c.args.slot _ _ _ _ (ready-same plan c.args.slot _ _ _ _ ready c.make_event_room.ensures.same c.make_entry_room.ensures.same)
-    c.step_all.ensures.steps c.advance_all.ensures.advances
+    ready-next plan c.args.slot _ _ _ _ _ (ready-same plan c.args.slot _ _ _ _ ready c.make_event_room.ensures.same c.make_entry_room.ensures.same)
+    c.step_all.ensures.steps c.advance_all.ensures.same c.advance_all.ensures.advances

@@ -1,0 +1,5 @@
+use Rattle.run_plan.proofs.Arrivals.{nothing-arrives}
+use Rattle.run_plan.proofs.station.Station.step.Goals as goal
+
+pub step-requires-clause-arrives : goal.step-requires-clause-arrives
+step-requires-clause-arrives c = λ _. nothing-arrives
