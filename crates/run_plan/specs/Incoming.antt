@@ -8,6 +8,7 @@ use Rattle.xs_model.specs.declared.outside.Arrivals.{Arrivals}
 use Rattle.sys_plan.specs.Plan.{PlanRec, incoming, link_ends}
 use Rattle.crossings.specs.declared.crossing.Crossing.{Crossing}
 use Rattle.run_plan.specs.declared.track.Track.{Track}
+use Rattle.run_plan.specs.declared.incoming.TheConstants.{NOTHING}
 use Rattle.crossings.specs.Crossings.{no_crossing}
 
 -- the directed links that come to the link ends of the node at a position
@@ -29,11 +30,12 @@ NothingElse (link ∷ links) (token ∷ tokens) (credit ∷ credits) =
     (IsNowhere link → (token ≡ None) × (credit ≡ false)) × NothingElse links tokens credits
 NothingElse _ _ _ = ⊥
 
--- of all the link ends, none from this one on is reached
-pub record IsReachedBelow (reached : EndNumber) (links : List (Option LinkNumber)) : Type 0 where
+-- of all the link ends, none from this one on is reached; and this is nothing
+pub record IsReachedBelow (reached : EndNumber) (links : List (Option LinkNumber)) (nothing : Arrivals) : Type 0 where
   pub all_ends : length links ≡ LINK_ENDS
   pub within : reached ≤ LINK_ENDS
   pub rest : AllByRecursion IsNowhere (drop reached links)
+  pub is_nothing : nothing ≡ NOTHING
 
 -- a directed link is one of so many
 abbrev pub IsBelow : ℕ → Option LinkNumber → Type 0

@@ -6,7 +6,7 @@ use Rattle.xs_model.specs.declared.outside.Arrivals.{Arrivals}
 use Rattle.node_seats.specs.Seats.{IsSeat, StepsOn}
 use Rattle.run_plan.specs.declared.track.Track.{Track}
 use Rattle.run_plan.specs.declared.station.Station.{Station}
-use Rattle.run_plan.specs.declared.station.TheConstants.{NOTHING}
+use Rattle.run_plan.specs.declared.incoming.TheConstants.{NOTHING}
 use Rattle.run_plan.specs.Incoming.{IsBelow, arrivals_by}
 
 -- a node as it is before a slot, among so many directed links

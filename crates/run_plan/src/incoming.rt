@@ -12,6 +12,12 @@ use sys_plan::Plan;
 use xs_base::numbers::LINK_ENDS;
 use xs_model::Arrivals;
 
+// What arrives where nothing does.
+const NOTHING: Arrivals = Arrivals {
+    tokens: [None; 8],
+    credits: [false; 8],
+};
+
 /// The directed links that come to a node's link ends. Contracts see it as an `IncomingRec` of
 /// `Rattle.run_plan.specs.Incoming`.
 #[derive(Drop)]
@@ -19,6 +25,8 @@ pub(crate) struct Incoming {
     links: [Option<u32>; 8],
     // No link comes to a link end from this one on.
     reached: usize,
+    // It is kept, so that no slot has to make it.
+    nothing: Arrivals,
 }
 
 impl Model for Incoming {
@@ -30,7 +38,7 @@ impl Model for Incoming {
 
     ghost view = { λ i. record { links = i.links } };
 
-    ghost invariant = { λ i. IsReachedBelow i.reached i.links };
+    ghost invariant = { λ i. IsReachedBelow i.reached i.links i.nothing };
 }
 
 impl Incoming {
@@ -43,6 +51,7 @@ impl Incoming {
         Incoming {
             links,
             reached: reached_of(&links),
+            nothing: NOTHING,
         }
     }
 
@@ -60,6 +69,13 @@ impl Incoming {
             credits[end] = arrived.credit;
         }
         Arrivals { tokens, credits }
+    }
+
+    /// What arrives where nothing does.
+    pub(crate) fn nothing(&self) -> &Arrivals
+        ensures { result.now ≡ NOTHING }
+    {
+        &self.nothing
     }
 }
 

@@ -6,13 +6,6 @@ ghost use Rattle.run_plan.specs.Stations.{IsStation, StationSteps};
 use crate::incoming::Incoming;
 use crate::track::Track;
 use node_seats::Seat;
-use xs_model::Arrivals;
-
-// What arrives at a node that is not due.
-const NOTHING: Arrivals = Arrivals {
-    tokens: [None; 8],
-    credits: [false; 8],
-};
 
 /// A node at work, and the directed links that come to it.
 #[derive(Drop)]
@@ -34,7 +27,7 @@ impl Station {
         if self.due {
             self.step_due(tracks, slot);
         } else {
-            self.seat.step(slot, false, &NOTHING);
+            self.seat.step(slot, false, self.incoming.nothing());
         }
     }
 
