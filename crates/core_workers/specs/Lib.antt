@@ -1,1 +1,3 @@
 pub mod Finished
+pub mod Worker
+pub mod Steps

@@ -1,10 +1,21 @@
-//! What the run of a system has become in the end, whatever the way in which its nodes were run. See docs/LOOKAHEAD.md.
+//! Workers, each of which runs one node of a system ahead of the others, and what the run has become in the end, whatever the way in which
+//! its nodes were run. See docs/LOOKAHEAD.md.
 #![tactic(auto)]
 
+mod advance;
+mod exchange;
 mod finished;
+mod hear;
+mod lanes;
 mod sent;
+mod tell;
+mod turn;
 mod way;
+mod worker;
 
 pub use finished::Finished;
+pub use lanes::Lanes;
 pub use node_runners::{NodeRunner, Ran};
+pub use turn::Turn;
 pub use way::Way;
+pub use worker::{Part, Worker};

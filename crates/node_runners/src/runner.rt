@@ -1,7 +1,7 @@
 //! `NodeRunner`, one node that runs ahead of the others.
 ghost use Rattle.std.specs.Prelude.{ℕ, ◌≡◌, ◌+◌, ◌<◌, ◌≤◌, Some, None, IsSome, false, [], length, slice_index, slice_index_or, slice_set, IfOk, IfErr, OnOk, OnErr};
 ghost use Rattle.xs_base.specs.Numbers.{LinkNumber};
-ghost use Rattle.sys_plan.specs.Plan.{outgoing, incoming};
+ghost use Rattle.sys_plan.specs.Plan.{IsPlan, outgoing, incoming};
 ghost use Rattle.serial_model.specs.Serial.{serial, history};
 ghost use Rattle.locality_laws.specs.Locality.{node_in, events_in};
 ghost use Rattle.trace_lines.specs.Kept.{Keeps};
@@ -148,6 +148,14 @@ impl NodeRunner {
     {
         self.batches[end as usize] = batch;
         self.published[end as usize] = from;
+    }
+
+    /// The position of the node.
+    pub fn node(&self) -> u8
+        ensures value { result ≡ self.now.node }
+        ensures plan { IsPlan self.now.plan }
+    {
+        self.node
     }
 
     /// The number of slots that it has run.

@@ -1,0 +1,10 @@
+pub mod Passes
+pub mod Routes
+pub mod Hearing
+pub mod Telling
+pub mod Reaching
+pub mod Shut
+pub mod Closing
+pub mod Handing
+pub mod Starting
+pub mod Exchanges

@@ -1,0 +1,84 @@
+//! What a worker reads of the links that come to its node.
+ghost use Rattle.std.specs.Prelude.{◌≡◌, Some, None, OnOk};
+ghost use Rattle.std.specs.List.{AllZip};
+ghost use Rattle.sys_plan.specs.Plan.{IsPlan, incoming};
+ghost use Rattle.plan_cells.specs.Ends.{IsIncoming};
+ghost use Rattle.core_workers.specs.Worker.{IsHeard, Listens, StaysIncoming, Looked};
+ghost use Rattle.core_workers.specs.Steps.{HearsAt};
+
+use link_logs::Got;
+use node_runners::NodeRunner;
+use plan_cells::{Ends, Hand, Incoming, PlanCells};
+use std::alloc::AllocError;
+use std::sync::Wait;
+
+// Hands to the node what is in hand. The error is want of memory: it is in hand then.
+fn hand_over(reader: &mut Incoming, runner: &mut NodeRunner) -> Result<(), AllocError>
+    requires route { incoming runner.old.plan runner.old.node reader.old.end ≡ Some reader.old.link }
+    requires heard { IsHeard runner.old.plan runner.old.horizon reader.old }
+    ensures heard { IsHeard runner.old.plan runner.new.horizon reader.new }
+    ensures hears { HearsAt reader.old.end runner.old runner.new }
+    ensures rest { reader.new ≡ record reader.old { hand = reader.new.hand } }
+    ensures ok { OnOk result (reader.new.hand ≡ None) }
+{
+    let Some(hand) = reader.hand.take() else {
+        return Ok(());
+    };
+    let Hand { batch, to } = hand;
+    match runner.take(reader.end, batch, to) {
+        Ok(()) => Ok(()),
+        Err(batch) => {
+            reader.hand = Some(Hand { batch, to });
+            Err(AllocError)
+        }
+    }
+}
+
+// Looks at the log of a link that comes to the node, and hands to the node all that was read of it. The error is want of memory.
+fn hear<R: Wait>(
+    rt: &R,
+    cells: &PlanCells,
+    reader: &mut Incoming,
+    runner: &mut NodeRunner,
+) -> Result<(), AllocError>
+    requires of_plan { runner.old.plan ≡ cells.now.plan }
+    requires fit { IsIncoming cells.now reader.old }
+    requires route { incoming runner.old.plan runner.old.node reader.old.end ≡ Some reader.old.link }
+    requires heard { IsHeard runner.old.plan runner.old.horizon reader.old }
+    ensures heard { IsHeard runner.old.plan runner.new.horizon reader.new }
+    ensures hears { HearsAt reader.old.end runner.old runner.new }
+    ensures stays { StaysIncoming reader.old reader.new }
+    ensures looked { OnOk result (Looked reader.old reader.new) }
+{
+    hand_over(reader, runner)?;
+    let cell = cells.cell(reader.link);
+    match cell.poll(rt, &mut reader.r)? {
+        Got::Entries { to, batch, .. } => {
+            reader.hand = Some(Hand { batch, to });
+            hand_over(reader, runner)
+        }
+        Got::Nothing { .. } | Got::Closed => Ok(()),
+    }
+}
+
+/// Looks at the log of each link that comes to the node, and hands to the node all that was read of it. The error is want of memory.
+pub(crate) fn hear_all<R: Wait>(
+    rt: &R,
+    cells: &PlanCells,
+    ends: &mut Ends,
+    runner: &mut NodeRunner,
+) -> Result<(), AllocError>
+    requires plan { IsPlan cells.now.plan }
+    requires of_plan { runner.old.plan ≡ cells.now.plan }
+    requires listens { Listens cells.now runner.old ends.old.incoming.items }
+    ensures listens { Listens cells.now runner.new ends.new.incoming.items }
+    ensures rest { runner.new ≡ record runner.old { horizon = record runner.old.horizon { ends = runner.new.horizon.ends } } }
+    ensures outgoing { ends.new.outgoing ≡ ends.old.outgoing }
+    ensures stays { AllZip StaysIncoming ends.old.incoming.items ends.new.incoming.items }
+    ensures looked { OnOk result (AllZip Looked ends.old.incoming.items ends.new.incoming.items) }
+{
+    for reader in ends.incoming.iter_mut() {
+        hear(rt, cells, reader, runner)?;
+    }
+    Ok(())
+}

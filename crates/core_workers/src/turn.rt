@@ -1,0 +1,17 @@
+//! `Turn`, what came of a worker's turn.
+
+/// What came of a worker's turn. See docs/LOOKAHEAD.md.
+#[derive(Clone, Copy, PartialEq, Eq, Debug)]
+pub enum Turn {
+    /// The node has run the slots from one on and before another, and is not at the limit.
+    Ran { from: u32, to: u32 },
+    /// The node has run no slot, and no log was found closed. The link that comes to a link end, 0 to 7, stops it: this much of it was
+    /// seen, in slots.
+    Blocked { end: u8, seen: u32 },
+    /// The node has run all slots of the run, and all that it sends is published.
+    Finished,
+    /// The node has run no slot, and is not at the limit, and the log of this directed link that comes to it was found closed.
+    Stopped { link: u32 },
+    /// Memory was wanting. What was done of the turn stands.
+    Memory,
+}

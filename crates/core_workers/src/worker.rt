@@ -1,0 +1,124 @@
+//! `Worker`, a node that runs ahead of the others on a thread of its own, and `Part`, what is left of it.
+ghost use Rattle.std.specs.Prelude.{◌≡◌, ◌≢◌, All};
+ghost use Rattle.std.specs.List.{AllZip};
+ghost use Rattle.plan_cells.specs.Ends.{AreNewEnds};
+ghost use Rattle.node_runners.specs.Runner.{new_runner};
+
+use crate::exchange::take_turn;
+use crate::lanes::Lanes;
+use crate::tell::close_all;
+use crate::turn::Turn;
+use known_value::Known;
+use link_logs::Cause;
+use node_runners::NodeRunner;
+use plan_cells::{Ends, PlanCells};
+use std::marker::Model;
+use std::sync::Wait;
+use xs_edge::Gate;
+
+/// A node that runs ahead of the others, and the ends by which it reads and writes the cells of its links. Contracts see a `WorkerRec` of
+/// `Rattle.core_workers.specs.Worker`. See docs/LOOKAHEAD.md.
+#[derive(Drop)]
+pub struct Worker<'a> {
+    lanes: &'a Lanes,
+    runner: NodeRunner,
+    ends: Ends,
+}
+
+impl<'a> Model for Worker<'a> {
+    ghost use Rattle.core_workers.specs.Worker.{WorkerRec};
+
+    ghost Value = { WorkerRec };
+
+    ghost use Rattle.core_workers.specs.Worker.{IsWorker};
+
+    ghost view = { λ w. record { cells = w.lanes.now; runner = w.runner; ends = w.ends } };
+
+    ghost invariant = { λ w. IsWorker (record { cells = w.lanes.now; runner = w.runner; ends = w.ends }) };
+}
+
+/// What is left of a worker: its node, and the ends of its links. `Worker::parts` alone makes one, and nothing changes it. Contracts see
+/// it as they saw the worker.
+#[derive(Drop)]
+pub struct Part {
+    cells: Known<PlanCells>,
+    runner: NodeRunner,
+    ends: Ends,
+}
+
+impl Model for Part {
+    ghost use Rattle.core_workers.specs.Worker.{WorkerRec};
+
+    ghost Value = { WorkerRec };
+
+    ghost use Rattle.core_workers.specs.Worker.{IsWorker};
+
+    ghost view = { λ p. record { cells = p.cells.value; runner = p.runner; ends = p.ends } };
+
+    ghost invariant = { λ p. IsWorker (record { cells = p.cells.value; runner = p.runner; ends = p.ends }) };
+}
+
+impl<'a> Worker<'a> {
+    ghost use Rattle.core_workers.specs.Worker.{IsWorker, IsOpen, Stays, Exchanged, Answers, Closes, KeepsAllElse};
+    ghost use Rattle.core_workers.specs.declared.turn.Turn.TheVariants as turn;
+
+    /// A worker of the node at a position of the plan of these lanes, with the ends that are the node's. Nothing was run, read or
+    /// published yet. It takes no memory.
+    pub fn new(runner: NodeRunner, lanes: &'a Lanes, ends: Ends) -> Worker<'a>
+        requires new_runner { runner ≡ new_runner lanes.now.plan runner.horizon.limit runner.node }
+        requires new_ends { AreNewEnds lanes.now runner.node ends }
+        ensures made { result ≡ record { cells = lanes.now; runner = runner; ends = ends } }
+        ensures keeps { IsWorker result }
+    {
+        // What every runner keeps is told where its node is read.
+        let _node = runner.node();
+        Worker {
+            lanes,
+            runner,
+            ends,
+        }
+    }
+
+    /// Passes the gate; then looks once at the log of each link that comes to the node, runs the node as far as it may, and publishes
+    /// all that it has sent. No log of a link that leaves the node may be closed, and none is closed by it. It may wait for those that
+    /// look at the same logs.
+    pub fn turn<R: Wait, G: Gate>(&mut self, rt: &R, gate: &G) -> Turn
+        requires open { All IsOpen self.old.ends.outgoing.items }
+        ensures keeps { IsWorker self.new }
+        ensures stays { Stays self.old self.new }
+        ensures exchanged { result ≢ turn.Memory → Exchanged self.old self.new }
+        ensures answer { Answers self.old result self.new }
+    {
+        gate.pass(u32::from(self.runner.node()));
+        let lanes = self.lanes;
+        take_turn(rt, &lanes.cells, &mut self.runner, &mut self.ends)
+    }
+
+    /// Closes the logs of the links that leave the node with a cause; those that were closed keep theirs. It may wait for those that look
+    /// at the same logs, and takes no memory.
+    pub fn stop<R: Wait>(&mut self, rt: &R, cause: Cause)
+        ensures keeps { IsWorker self.new }
+        ensures closed { AllZip (Closes cause) self.old.ends.outgoing.items self.new.ends.outgoing.items }
+        ensures rest { KeepsAllElse self.old self.new }
+    {
+        let lanes = self.lanes;
+        close_all(rt, &lanes.cells, &mut self.ends, cause);
+    }
+
+    /// The node and the ends, which name no lanes any more. It takes no memory.
+    pub fn parts(self) -> Part
+        ensures same { result ≡ self.entry }
+        ensures keeps { IsWorker result }
+    {
+        let Worker {
+            lanes,
+            runner,
+            ends,
+        } = self;
+        Part {
+            cells: Known::of(&lanes.cells),
+            runner,
+            ends,
+        }
+    }
+}
