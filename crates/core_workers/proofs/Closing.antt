@@ -1,6 +1,6 @@
 -- The logs of the links that leave a node are closed: what holds of its ends goes on to hold.
 use Rattle.std.proofs.Common.{◌≡◌, List, [], ◌∷◌, map, slice_index, refl, sym, ap, ◌∙◌, subst}
-use Rattle.std.specs.List.{AllByRecursion, AllZip}
+use Rattle.std.specs.List.{All, AllByRecursion, AllZip}
 use Rattle.std.proofs.lemmas.List.Elements.{All-from_recursion, recursion_from_All}
 use Rattle.xs_base.specs.Numbers.{Slot}
 use Rattle.sys_plan.specs.Plan.{PlanRec}
@@ -10,7 +10,7 @@ use Rattle.node_runners.specs.Runner.{RunnerRec}
 use Rattle.plan_cells.specs.declared.ends.Outgoing.{Outgoing}
 use Rattle.plan_cells.specs.declared.ends.Ends.{Ends}
 use Rattle.plan_cells.specs.Ends.{CellsRec, leaves_at, IsOutgoing}
-use Rattle.core_workers.specs.Worker.{IsTold, Tells, Closes, IsWorker, Listens}
+use Rattle.core_workers.specs.Worker.{IsTold, IsOpen, Tells, StaysOutgoing, Closes, IsWorker, Listens}
 use Rattle.core_workers.proofs.Telling.{outgoing_fits}
 use Rattle.plan_cells.specs.declared.ends.Incoming.{Incoming}
 
@@ -57,3 +57,13 @@ module _ (cause : Cause) where
         listens = subst (λ (xs : List Incoming). Listens cells runner xs) (sym incoming_items) is.listens;
         tells = closed_tells cells runner before.outgoing.items after.outgoing.items all is.tells;
       }
+
+-- a turn leaves the logs open
+pub still_open : (old new : List Outgoing) → AllZip StaysOutgoing old new → AllByRecursion IsOpen old → AllByRecursion IsOpen new
+still_open [] [] all is = tt
+still_open [] (y ∷ new) all is = absurd all
+still_open (x ∷ old) [] all is = tt
+still_open (x ∷ old) (y ∷ new) all is = (ap (λ (w : WriteRec PlanRec). w.cause) all.0.rest ∙ is.0, still_open old new all.1 is.1)
+
+pub all_open : (old new : List Outgoing) → AllZip StaysOutgoing old new → All IsOpen old → All IsOpen new
+all_open old new all is = All-from_recursion IsOpen new (still_open old new all (recursion_from_All IsOpen old is))

@@ -86,6 +86,7 @@ impl<'a> Worker<'a> {
         requires open { All IsOpen self.old.ends.outgoing.items }
         ensures keeps { IsWorker self.new }
         ensures stays { Stays self.old self.new }
+        ensures open { All IsOpen self.new.ends.outgoing.items }
         ensures exchanged { result ≢ turn.Memory → Exchanged self.old self.new }
         ensures answer { Answers self.old result self.new }
     {
