@@ -118,9 +118,6 @@ module _ (cells : CellsRec) (r0 r1 : RunnerRec) (e0 e1 : Ends) (start : IsWorker
       subst (λ (v : List Outgoing). Tells cells r1 v) (sym outgoing_items)
       (tells_by cells r0 r1 e0.outgoing.items node_1 (ap (λ (r : RunnerRec). r.published) heard) start.tells)
 
-  pub worker_1 : IsWorker (worker cells r1 e1)
-  worker_1 = record { plan_is = start.plan_is; of_plan = plan_1; listens = listens; tells = tells_1 }
-
   stays_out_1 : AllZip StaysOutgoing e0.outgoing.items e1.outgoing.items
   stays_out_1 = subst (λ (v : List Outgoing). AllZip StaysOutgoing e0.outgoing.items v) (sym outgoing_items) (all_zip_refl StaysOutgoing none_changes e0.outgoing.items)
 
@@ -152,9 +149,6 @@ module _ (cells : CellsRec) (r0 r1 : RunnerRec) (e0 e1 : Ends) (start : IsWorker
 
     pub tells_2 : Tells cells r2 e1.outgoing.items
     tells_2 = tells_by cells r1 r2 e1.outgoing.items node_2 (ap (λ (r : RunnerRec). r.published) ran) tells_1
-
-    pub worker_2 : IsWorker (worker cells r2 e1)
-    worker_2 = record { plan_is = start.plan_is; of_plan = plan_2; listens = listens_2; tells = tells_2 }
 
     pub stays_2 : Stays (worker cells r0 e0) (worker cells r2 e1)
     stays_2 =

@@ -23,22 +23,6 @@ use Rattle.core_workers.proofs.Passes.{slice_get-set_same, slice_get-set_other}
 
 -- ---- The node hears at one link end
 
-pub hears_none : (end : EndNumber) (before after : RunnerRec) → after ≡ before → HearsAt end before after
-hears_none end before after same =
-    let none : HearsAt end before before = record { rest = refl; others = λ k apart. refl } in
-    subst (λ (r : RunnerRec). HearsAt end before r) (sym same) none
-
-pub hears_on : (end later : EndNumber) (a b c : RunnerRec) → later ≡ end → HearsAt end a b → HearsAt later b c → HearsAt end a c
-hears_on end later a b c same first second =
-    let onto : RunnerRec → RunnerRec = λ r. record r { horizon = record r.horizon { ends = c.horizon.ends } } in
-    record {
-      rest = second.rest ∙ ap onto first.rest;
-      others = λ k apart. second.others k (λ is. apart (is ∙ same)) ∙ first.others k apart;
-    }
-
-pub seen_is : (plan : PlanRec) (h : HorizonRec) (i : Incoming) → (heard : IsHeard plan h i) → seen_at h i.end ≡ heard.seen.seen
-seen_is plan h i heard = ap seen_by_end (get_or_from_slice_get h.ends i.end (Some heard.seen) None heard.there)
-
 pub at_hand : (plan : PlanRec) (link : LinkNumber) (seen got : Slot) (o : Option Hand) (hand : Hand) → o ≡ Some hand → IsInHand plan link seen got o → IsInHand plan link seen got (Some hand)
 at_hand plan link seen got o hand is h = subst (λ (x : Option Hand). IsInHand plan link seen got x) is h
 
@@ -86,52 +70,6 @@ module _ (plan : PlanRec) (before after : RunnerRec) (old : Incoming) (heard : I
       }
 
 -- ---- A look at a log
-
-pub record Reads (old new : ReadRec PlanRec) : Type 0 where
-  pub run : new.run ≡ old.run
-  pub number : new.number ≡ old.number
-  pub got : old.got ≤ new.got
-  pub looks : new.looks ≡ one_more old.looks
-  pub shut : old.shut ≡ true → new.shut ≡ true
-
-pub reads_by : (at : Slot → List Entry) (old new : ReadRec PlanRec) (got : Got) → Gives at old got new → Reads old new
-reads_by at old new (Entries from to batch) g =
-    let is : new ≡ record old { got = to; looks = one_more old.looks } = g.3 in
-    record {
-      run = ap (λ (r : ReadRec PlanRec). r.run) is;
-      number = ap (λ (r : ReadRec PlanRec). r.number) is;
-      got = omega (arith, g.0, g.1, ap (λ (r : ReadRec PlanRec). r.got) is);
-      looks = ap (λ (r : ReadRec PlanRec). r.looks) is;
-      shut = λ was. ap (λ (r : ReadRec PlanRec). r.shut) is ∙ was;
-    }
-reads_by at old new (Nothing published) g =
-    let is : new ≡ record old { looks = one_more old.looks } = g.1 in
-    record {
-      run = ap (λ (r : ReadRec PlanRec). r.run) is;
-      number = ap (λ (r : ReadRec PlanRec). r.number) is;
-      got = omega (arith, ap (λ (r : ReadRec PlanRec). r.got) is);
-      looks = ap (λ (r : ReadRec PlanRec). r.looks) is;
-      shut = λ was. ap (λ (r : ReadRec PlanRec). r.shut) is ∙ was;
-    }
-reads_by at old new Closed g = record {
-  run = ap (λ (r : ReadRec PlanRec). r.run) g;
-  number = ap (λ (r : ReadRec PlanRec). r.number) g;
-  got = omega (arith, ap (λ (r : ReadRec PlanRec). r.got) g);
-  looks = ap (λ (r : ReadRec PlanRec). r.looks) g;
-  shut = λ was. ap (λ (r : ReadRec PlanRec). r.shut) g;
-}
-
--- only what is in hand changed, and by a look the end that reads
-pub stays_by_look : (old new : Incoming) → new.end ≡ old.end → new.link ≡ old.link → new.r.table ≡ old.r.table → Reads old.r.end new.r.end → StaysIncoming old new
-stays_by_look old new end link table reads = record {
-  end = end;
-  link = link;
-  table = table;
-  run = reads.run;
-  number = reads.number;
-  got = reads.got;
-  shut = reads.shut;
-}
 
 -- nothing was read
 pub stays_unread : (old new : Incoming) → new.end ≡ old.end → new.link ≡ old.link → new.r.table ≡ old.r.table → new.r.end ≡ old.r.end → StaysIncoming old new

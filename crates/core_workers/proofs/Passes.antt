@@ -55,22 +55,6 @@ module _ {X : Type 0} (R : X → X → Type 0) where
       let is : x ≡ get_or old i x = sym (get_or_from_slice_get old i x x at) in
       subst (λ ys. AllZip R (take (i + 1) old) ys) (sym (take_more_set now i y inside)) (all_zip_more R old (take i now) i x y within is all r)
 
-  pub all_zip_whole : (old now : List X) (i : ℕ) → length old ≤ i → length now ≤ i → AllZip R (take i old) (take i now) → AllZip R old now
-  all_zip_whole old now i a b all = subst (λ ys. AllZip R ys now) (take_all i old a) (subst (λ ys. AllZip R (take i old) ys) (take_all i now b) all)
-
-  pub all_zip_join : (S T : X → X → Type 0) → ((x y : X) → R x y → S x y → T x y) → (xs ys : List X) → AllZip R xs ys → AllZip S xs ys → AllZip T xs ys
-  all_zip_join S T then [] [] r s = tt
-  all_zip_join S T then [] (y ∷ ys) r s = r
-  all_zip_join S T then (x ∷ xs) [] r s = r
-  all_zip_join S T then (x ∷ xs) (y ∷ ys) r s = (then x y r.0 s.0, all_zip_join S T then xs ys r.1 s.1)
-
-  pub all_zip_trans : ((x y z : X) → R x y → R y z → R x z) → (xs ys zs : List X) → AllZip R xs ys → AllZip R ys zs → AllZip R xs zs
-  all_zip_trans step [] [] zs r s = s
-  all_zip_trans step [] (y ∷ ys) zs r s = absurd r
-  all_zip_trans step (x ∷ xs) [] zs r s = absurd r
-  all_zip_trans step (x ∷ xs) (y ∷ ys) [] r s = s
-  all_zip_trans step (x ∷ xs) (y ∷ ys) (z ∷ zs) r s = (step x y z r.0 s.0, all_zip_trans step xs ys zs r.1 s.1)
-
 -- ---- Places that are still to come
 
 module _ {X : Type 0} (old now : List X) (i : ℕ) (left : drop i now ≡ drop i old) where

@@ -51,36 +51,6 @@ module _ (cells : CellsRec) (is : IsPlan cells.plan) (before after : RunnerRec) 
 
 -- ---- A node publishes by one link end
 
-pub publishes_none : (end : EndNumber) (before after : RunnerRec) → after ≡ before → PublishesAt end before after
-publishes_none end before after same =
-    let none : PublishesAt end before before = record { rest = refl; others = λ k apart. refl; all_ends = refl } in
-    subst (λ (r : RunnerRec). PublishesAt end before r) (sym same) none
-
-pub publishes_to : (end : EndNumber) (before after : RunnerRec) (slot : Slot) → after ≡ record before { published = set before.published end slot } → PublishesAt end before after
-publishes_to end before after slot sent =
-    let published : after.published ≡ set before.published end slot = ap (λ (r : RunnerRec). r.published) sent in
-    let with_published : List Slot → RunnerRec = λ ps. record before { published = ps } in
-    record {
-      rest = sent ∙ ap with_published (sym published);
-      others = λ k apart. ap (λ (ps : List Slot). get_or ps k 0) published ∙ get_or-set_other before.published end k slot 0 apart;
-      all_ends = ap length published ∙ length-set before.published end slot;
-    }
-
-pub publishes_on : (end : EndNumber) (a b c : RunnerRec) → PublishesAt end a b → PublishesAt end b c → PublishesAt end a c
-publishes_on end a b c first second =
-    let onto : RunnerRec → RunnerRec = λ r. record r { published = c.published } in
-    record {
-      rest = second.rest ∙ ap onto first.rest;
-      others = λ k apart. second.others k apart ∙ first.others k apart;
-      all_ends = second.all_ends ∙ first.all_ends;
-    }
-
--- what is published by a link end, where it was sent
-pub published_then : (end : EndNumber) (before after : RunnerRec) (slot : Slot) → end < length before.published → after ≡ record before { published = set before.published end slot }
-    → slice_index after.published end ≡ slot
-published_then end before after slot within sent =
-    ap (λ (r : RunnerRec). get_or r.published end 0) sent ∙ get_or-set_same before.published end slot 0 within
-
 pub stays_published : (old new : Outgoing) (slot : Slot) → new.end ≡ old.end → new.link ≡ old.link → new.w.table ≡ old.w.table → new.w.end ≡ record old.w.end { published = slot }
     → old.w.end.published ≤ slot → StaysOutgoing old new
 stays_published old new slot end link table is on =
