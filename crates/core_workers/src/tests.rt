@@ -1,5 +1,7 @@
 //! Two nodes in one thread, whose workers take turns by hand.
 ghost use Rattle.std.specs.Prelude.{◌≡◌, ◌<◌, All, Some, IfOk, length, replicate, slice_get};
+ghost use Rattle.xs_base.specs.Numbers.{Position};
+ghost use Rattle.plan_cells.specs.declared.ends.Ends.{Ends};
 ghost use Rattle.plan_cells.specs.Ends.{AreNewEnds};
 ghost use Rattle.core_workers.specs.Worker.{IsOpen};
 
@@ -73,14 +75,32 @@ fn worker<'a>(
     Ok(Worker::new(runner, lanes, ends))
 }
 
+// The workers of both nodes before their first turns.
+fn workers<'a>(
+    alloc: Global,
+    plan: &Plan,
+    lanes: &'a Lanes,
+    mut ends: Vec<Ends>,
+) -> Result<(Worker<'a>, Worker<'a>), AllocError>
+    requires plan { lanes.now.plan ≡ plan.now }
+    requires nodes { length plan.now.nodes ≡ 2 }
+    requires count { length ends.items ≡ 2 }
+    requires ends { (n : Position) (e : Ends) → slice_get ends.items n ≡ Some e → AreNewEnds lanes.now n e }
+    ensures first { IfOk result (λ w. All IsOpen w.0.ends.outgoing.items) }
+    ensures second { IfOk result (λ w. All IsOpen w.1.ends.outgoing.items) }
+{
+    let second = ends.remove(1);
+    let first = ends.remove(0);
+    let first = worker(alloc, plan, lanes, 0, first)?;
+    let second = worker(alloc, plan, lanes, 1, second)?;
+    Ok((first, second))
+}
+
 #[test]
 fn two_nodes_run_ahead_of_each_other(rt: HostRuntime) -> Result<(), Fail> {
     let plan = Arc::new(rt.alloc(), pair(rt.alloc())?)?;
-    let (lanes, mut ends) = Lanes::new(rt.alloc(), &plan)?;
-    let second = ends.remove(1);
-    let first = ends.remove(0);
-    let mut first = worker(rt.alloc(), &plan, &lanes, 0, first)?;
-    let mut second = worker(rt.alloc(), &plan, &lanes, 1, second)?;
+    let (lanes, ends) = Lanes::new(rt.alloc(), &plan)?;
+    let (mut first, mut second) = workers(rt.alloc(), &plan, &lanes, ends)?;
     assert_eq!(rt; first.turn(&rt, &OpenGate), Turn::Ran { from: 0, to: 5 });
     assert_eq!(rt;
         first.turn(&rt, &OpenGate),
@@ -101,11 +121,8 @@ fn two_nodes_run_ahead_of_each_other(rt: HostRuntime) -> Result<(), Fail> {
 #[test]
 fn a_node_stops_where_its_neighbour_did(rt: HostRuntime) -> Result<(), Fail> {
     let plan = Arc::new(rt.alloc(), pair(rt.alloc())?)?;
-    let (lanes, mut ends) = Lanes::new(rt.alloc(), &plan)?;
-    let second = ends.remove(1);
-    let first = ends.remove(0);
-    let mut first = worker(rt.alloc(), &plan, &lanes, 0, first)?;
-    let mut second = worker(rt.alloc(), &plan, &lanes, 1, second)?;
+    let (lanes, ends) = Lanes::new(rt.alloc(), &plan)?;
+    let (mut first, mut second) = workers(rt.alloc(), &plan, &lanes, ends)?;
     assert_eq!(rt; second.turn(&rt, &OpenGate), Turn::Ran { from: 0, to: 5 });
     second.stop(&rt, Cause::Memory);
     // What was published before the log was closed is heard first.
