@@ -54,7 +54,8 @@ fn hear<R: Wait>(
     let cell = cells.cell(reader.link);
     match cell.poll(rt, &mut reader.r)? {
         Got::Entries { to, batch, .. } => {
-            reader.hand = Some(Hand { batch, to });
+            let hand = Hand { batch, to };
+            reader.hand = Some(hand);
             hand_over(reader, runner)
         }
         Got::Nothing { .. } | Got::Closed => Ok(()),

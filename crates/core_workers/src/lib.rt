@@ -9,8 +9,6 @@ mod hear;
 mod lanes;
 mod sent;
 mod tell;
-#[cfg(test)]
-mod tests;
 mod turn;
 mod way;
 mod worker;
