@@ -1,7 +1,7 @@
 -- What a node makes of what it is handed, and what a look at a log leaves.
-use Rattle.std.proofs.Common.{◌≡◌, ◌≤◌, true, Option, Some, None, List, get_or, set, slice_get, refl, sym, ap, ◌∙◌, subst, arith}
+use Rattle.std.proofs.Common.{◌≡◌, ◌≤◌, Option, Some, None, List, get_or, set, slice_get, sym, ap, ◌∙◌, subst, arith}
 use Rattle.std.proofs.lemmas.Option.{slice_get_within, get_or_from_slice_get}
-use Rattle.xs_base.specs.Numbers.{Slot, EndNumber, LinkNumber}
+use Rattle.xs_base.specs.Numbers.{Slot, LinkNumber}
 use Rattle.xs_base.specs.declared.entry.Entry.{Entry}
 use Rattle.sys_plan.specs.Plan.{PlanRec, delay_of}
 use Rattle.serial_model.specs.Serial.{history}
@@ -9,11 +9,8 @@ use Rattle.run_plan.specs.Stories.{carried_at}
 use Rattle.run_plan.proofs.Stories.{between_is_history}
 use Rattle.link_logs.specs.Entries.{between}
 use Rattle.link_logs.specs.Logs.{ReadRec}
-use Rattle.link_logs.specs.declared.answers.Got.{Got}
-use Rattle.link_logs.specs.declared.answers.Got.TheVariants.{Entries, Nothing, Closed}
-use Rattle.log_cells.specs.Ends.{Gives, one_more}
 use Rattle.ahead_limits.specs.declared.horizon.Seen.{Seen}
-use Rattle.ahead_limits.specs.Horizon.{HorizonRec, seen_at, seen_to, seen_by_end}
+use Rattle.ahead_limits.specs.Horizon.{HorizonRec, seen_to}
 use Rattle.node_runners.specs.Runner.{RunnerRec}
 use Rattle.plan_cells.specs.declared.ends.Hand.{Hand}
 use Rattle.plan_cells.specs.declared.ends.Incoming.{Incoming}

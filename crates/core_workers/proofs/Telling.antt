@@ -1,9 +1,8 @@
 -- A node publishes by one link end: what holds of all its ends goes on to hold.
-use Rattle.std.proofs.Common.{◌≡◌, ℕ, ◌<◌, ◌≤◌, Some, List, length, get_or, set, slice_get, slice_index, refl, sym, ap, ◌∙◌, subst, arith}
+use Rattle.std.proofs.Common.{◌≡◌, ℕ, ◌≤◌, Some, List, set, slice_get, sym, ap, ◌∙◌, arith}
 use Rattle.std.proofs.lemmas.List.Elements.{All-from_recursion, recursion_from_All, All-set}
-use Rattle.std.proofs.lemmas.List.{get_or-set_same, get_or-set_other, length-set}
 use Rattle.std.proofs.lemmas.Option.{slice_get_within}
-use Rattle.xs_base.specs.Numbers.{Slot, EndNumber, LinkNumber}
+use Rattle.xs_base.specs.Numbers.{Slot, LinkNumber}
 use Rattle.xs_base.specs.declared.entry.Entry.{Entry}
 use Rattle.sys_plan.specs.Plan.{PlanRec, IsPlan}
 use Rattle.serial_model.specs.Serial.{history}
