@@ -1,15 +1,16 @@
 -- What an end has after each step of a turn.
-use Rattle.std.proofs.Common.{◌≡◌, ◌≢◌, ℕ, ◌+◌, ◌≤◌, List, [], ◌∷◌, sym, refl, ap, ◌∙◌, subst, arith, le_refl, le_trans, Option, Some, None, Result, Ok, Err, IfOk, OnOk, OnErr}
+use Rattle.std.proofs.Common.{◌≡◌, ◌≢◌, ℕ, ◌+◌, ◌≤◌, List, [], ◌∷◌, sym, refl, ap, ◌∙◌, subst, arith, le_refl, le_trans, Bool, true, false, ◌||◌, true≢false, is_some, IsSome, Option, Some, None, Result, Ok, Err, IfOk, OnOk, OnErr}
 use Rattle.atomic_table.specs.Table.{rest}
 use Rattle.xs_base.specs.Numbers.{Slot}
 use Rattle.xs_base.specs.declared.entry.Entry.{Entry}
 use Rattle.link_logs.specs.declared.answers.Cause.{Cause}
 use Rattle.link_logs.specs.declared.answers.Got.{Got}
-use Rattle.link_logs.specs.Logs.{LogRec, WriteRec, ReadRec, Writes, Reads, Finds, looked}
+use Rattle.link_logs.specs.declared.answers.Got.TheVariants.{Entries, Nothing, Closed}
+use Rattle.link_logs.specs.Logs.{LogRec, WriteRec, ReadRec, is_closed, Writes, Reads, Finds, looked}
 use Rattle.log_cells.specs.declared.view.View.TheVariants.{Writer, Reader}
 use Rattle.log_cells.specs.Rule.{writing_of, reading_of, refused_of}
-use Rattle.log_cells.specs.Ends.{LooksAt}
-use Rattle.log_cells.specs.Plays.{SeatIn, writer_at, reader_at, WriterClaims, ReaderClaims, gives_written, gives_taken, gives_kept, Follows, SameToWriter, WriterHas, ReaderHas, HasKept, HasTaken}
+use Rattle.log_cells.specs.Ends.{EndsAt, LooksAt}
+use Rattle.log_cells.specs.Plays.{SeatIn, writer_at, reader_at, WriterClaims, ReaderClaims, gives_written, gives_taken, gives_shut, gives_kept, Follows, SameToWriter, WriterHas, ReaderHas, HasKept, HasTaken}
 use Rattle.log_cells.proofs.Kept.{a_step, log_or}
 
 module _ {Run : Type 0} (refused found : ℕ) (m : SeatIn Run) where
@@ -24,7 +25,7 @@ module _ {Run : Type 0} (refused found : ℕ) (m : SeatIn Run) where
     run = refl;
     number = refl;
     writes = t.1;
-    follows = record { run = refl; number = refl; base = refl; published = le_refl t.0.published };
+    follows = record { run = refl; number = refl; base = refl; published = le_refl t.0.published; closed = λ h. record { published = refl; closed = h } };
   }
 
   pub writer_won_later : (end : WriteRec Run) → WriterClaims (writing_of end refused) found m → found ≡ 0 → refused ≤ refused_of m.0
@@ -51,8 +52,10 @@ module _ {Run : Type 0} (refused found : ℕ) (m : SeatIn Run) where
       run = refl;
       number = refl;
       reads = record { run = t.1.run; number = t.1.number; base = t.1.base; published = t.1.published };
+      shut = t.1.shut;
       same = record { run = refl; number = refl; published = refl; cause = refl };
     },
+    refl,
     refl,
   )
 
@@ -73,13 +76,17 @@ module _ {Run : Type 0} (refused : ℕ) (m m' : SeatIn Run) where
   gave_written end has gave = gave has.view has.log has.me_is
       ∙ (λ i. (Writer (record { run = has.run i; number = has.number i; published = sym has.writes.published i; cause = sym has.writes.cause i; held = None; refused = has.refused_is i }), []))
 
-  pub gave_taken : (end : ReadRec Run) → HasTaken end refused m → gives_taken a_step m 0 m' → m' ≡ reader_at end refused
-  gave_taken end took gave = let has = took.0 in gave has.view has.log has.me_is
-      ∙ (λ i. (Reader (record { run = has.run i; number = has.number i; got = sym took.1 i; held = None; refused = has.refused_is i }), []))
+  pub gave_taken : (end : ReadRec Run) → HasTaken end refused m → end.shut ≡ false → gives_taken a_step m 0 m' → m' ≡ reader_at end refused
+  gave_taken end took is_open gave = let has = took.0 in gave has.view has.log has.me_is
+      ∙ (λ i. (Reader (record { run = has.run i; number = has.number i; got = sym took.1 i; shut = (took.2 is_open ∙ sym is_open) i; held = None; refused = has.refused_is i }), []))
+
+  pub gave_shut : (end : ReadRec Run) → HasTaken end refused m → end.shut ≡ true → gives_shut a_step m 0 m' → m' ≡ reader_at end refused
+  gave_shut end took shut gave = let has = took.0 in gave has.view has.log has.me_is
+      ∙ (λ i. (Reader (record { run = has.run i; number = has.number i; got = sym took.1 i; shut = sym shut i; held = None; refused = has.refused_is i }), []))
 
   pub gave_kept : (end : ReadRec Run) → HasKept end refused m → gives_kept a_step m 0 m' → m' ≡ reader_at end refused
   gave_kept end kept gave = let has = kept.0 in gave has.view has.log has.me_is
-      ∙ (λ i. (Reader (record { run = has.run i; number = has.number i; got = kept.1 i; held = None; refused = has.refused_is i }), []))
+      ∙ (λ i. (Reader (record { run = has.run i; number = has.number i; got = kept.1 i; shut = kept.2 i; held = None; refused = has.refused_is i }), []))
 
 slot_of : {Run : Type 0} (carried : List (ℕ × LogRec Run)) (log : LogRec Run) → carried ≡ (0, log) ∷ [] → carried ≡ (0, log) ∷ rest carried
 slot_of carried log e = e ∙ (λ i. (0, log) ∷ rest (sym e i))
@@ -97,6 +104,9 @@ module _ {Run : Type 0} {refused : ℕ} {m : SeatIn Run} where
   pub reader_log : {end : ReadRec Run} (has : ReaderHas end refused m) (log : LogRec Run) → m.1 ≡ (0, log) ∷ rest m.1 → has.log ≡ log
   reader_log has log e = ap (log_or has.log) (sym (ap (λ (x : SeatIn Run). x.1) has.me_is) ∙ e)
 
+  pub reader_ends : (end : ReadRec Run) (has : ReaderHas end refused m) (log : LogRec Run) → m.1 ≡ (0, log) ∷ rest m.1 → end.shut ≡ true → EndsAt end.got log
+  reader_ends end has log e = subst (λ (l : LogRec Run). end.shut ≡ true → EndsAt end.got l) (reader_log has log e) has.shut
+
   -- the log was written, by an end that knows what it has now
   pub wrote : {end : WriteRec Run} (has : WriterHas end refused m) (log log' : LogRec Run) (end' : WriteRec Run) → m.1 ≡ (0, log) ∷ rest m.1
       → end'.run ≡ end.run → end'.number ≡ end.number → Writes end' log' → Follows log log' → WriterHas end' refused (m.0, (0, log') ∷ rest m.1)
@@ -113,13 +123,23 @@ module _ {Run : Type 0} {refused : ℕ} {m : SeatIn Run} where
         run = has.run ∙ sym run;
         number = has.number ∙ sym number;
         writes = writes;
-        follows = record { run = went.run ∙ before.run; number = went.number ∙ before.number; base = went.base ∙ before.base; published = le_trans before.published went.published };
+        follows = record {
+          run = went.run ∙ before.run;
+          number = went.number ∙ before.number;
+          base = went.base ∙ before.base;
+          published = le_trans before.published went.published;
+          closed = λ h.
+              let here = before.closed h in
+              let there = went.closed here.closed in
+              record { published = there.published ∙ here.published; closed = there.closed };
+        };
       }
 
   -- the log was read, by an end that has read its part of it
   abbrev pub read : {end : ReadRec Run} (has : ReaderHas end refused m) (log log' : LogRec Run) (end' : ReadRec Run) → m.1 ≡ (0, log) ∷ rest m.1
-      → log' ≡ log → end'.run ≡ end.run → end'.number ≡ end.number → Reads end' log' → ReaderHas end' refused (m.0, (0, log') ∷ rest m.1)
-  read has log log' end' at stays run number reads =
+      → log' ≡ log → end'.run ≡ end.run → end'.number ≡ end.number → Reads end' log' → (end'.shut ≡ true → EndsAt end'.got log')
+      → ReaderHas end' refused (m.0, (0, log') ∷ rest m.1)
+  read has log log' end' at stays run number reads shut =
       let here = reader_log has log at in
       let same : SameToWriter has.found log' = subst (λ (l : LogRec Run). SameToWriter has.found l) (here ∙ sym stays) has.same in
       record {
@@ -132,6 +152,7 @@ module _ {Run : Type 0} {refused : ℕ} {m : SeatIn Run} where
         run = has.run ∙ sym run;
         number = has.number ∙ sym number;
         reads = reads;
+        shut = shut;
         same = same;
       }
 
@@ -143,9 +164,12 @@ pub record WentOn {Run : Type 0} (log log' : LogRec Run) (end end' : WriteRec Ru
   pub follows : Follows log log'
 
 module _ {Run : Type 0} (log log' : LogRec Run) where
-  pub appended : {E : Type 0} (end end' : WriteRec Run) (upto : Slot) (more : List Entry) (x : Result (Unit {0}) E) → Writes end log → log.published ≤ upto
+  still_open : log.cause ≡ None → IsSome log.cause → EndsAt log.published log'
+  still_open is_open closed = absurd (true≢false (sym closed ∙ ap is_some is_open))
+
+  pub appended : {E : Type 0} (end end' : WriteRec Run) (upto : Slot) (more : List Entry) (x : Result (Unit {0}) E) → Writes end log → log.cause ≡ None → log.published ≤ upto
       → OnOk x (log' ≡ record log { published = upto; entries = more }) → OnOk x (end' ≡ record end { published = upto }) → OnErr x (log' ≡ log) → OnErr x (end' ≡ end) → WentOn log log' end end'
-  appended end end' upto more (Ok u) writes on is_log is_end err err_end = record {
+  appended end end' upto more (Ok u) writes is_open on is_log is_end err err_end = record {
     run = ap (λ (w : WriteRec Run). w.run) is_end;
     number = ap (λ (w : WriteRec Run). w.number) is_end;
     writes = record {
@@ -159,9 +183,10 @@ module _ {Run : Type 0} (log log' : LogRec Run) where
       number = ap (λ (l : LogRec Run). l.number) is_log;
       base = ap (λ (l : LogRec Run). l.base) is_log;
       published = omega (arith, on, ap (λ (l : LogRec Run). l.published) is_log);
+      closed = still_open is_open;
     };
   }
-  appended end end' upto more (Err e) writes on is_log is_end err err_end = record {
+  appended end end' upto more (Err e) writes is_open on is_log is_end err err_end = record {
     run = ap (λ (w : WriteRec Run). w.run) err_end;
     number = ap (λ (w : WriteRec Run). w.number) err_end;
     writes = record {
@@ -175,11 +200,12 @@ module _ {Run : Type 0} (log log' : LogRec Run) where
       number = ap (λ (l : LogRec Run). l.number) err;
       base = ap (λ (l : LogRec Run). l.base) err;
       published = omega (arith, ap (λ (l : LogRec Run). l.published) err);
+      closed = λ h. record { published = ap (λ (l : LogRec Run). l.published) err; closed = ap (λ (l : LogRec Run). is_some l.cause) err ∙ h };
     };
   }
 
-  pub shut : (end end' : WriteRec Run) (cause : Option Cause) → Writes end log → log' ≡ record log { cause = cause } → end' ≡ record end { cause = cause } → WentOn log log' end end'
-  shut end end' cause writes is_log is_end = record {
+  pub shut : (end end' : WriteRec Run) (cause : Option Cause) → Writes end log → log.cause ≡ None → log' ≡ record log { cause = cause } → end' ≡ record end { cause = cause } → WentOn log log' end end'
+  shut end end' cause writes is_open is_log is_end = record {
     run = ap (λ (w : WriteRec Run). w.run) is_end;
     number = ap (λ (w : WriteRec Run). w.number) is_end;
     writes = record {
@@ -193,44 +219,73 @@ module _ {Run : Type 0} (log log' : LogRec Run) where
       number = ap (λ (l : LogRec Run). l.number) is_log;
       base = ap (λ (l : LogRec Run). l.base) is_log;
       published = omega (arith, ap (λ (l : LogRec Run). l.published) is_log);
+      closed = still_open is_open;
     };
   }
 
+module _ {Run : Type 0} (log : LogRec Run) (slot : Slot) (at : Slot → List Entry) where
+  -- a log that ends where an end has read gives the close
+  ends_closed : (got : Got) → Finds at log slot got → EndsAt slot log → got ≡ Closed
+  ends_closed (Entries from to batch) finds ends = absurd (omega (arith, finds.0, ends.published))
+  ends_closed (Nothing published) finds ends = absurd (true≢false (sym ends.closed ∙ ap is_some finds.1))
+  ends_closed Closed finds ends = refl
+
+  -- an end that had found the log closed, or finds it closed now
+  found_closed : (was : Bool) (got : Got) → (was ≡ true → EndsAt slot log) → Finds at log slot got → was || is_closed got ≡ true → IsSome log.cause
+  found_closed true got before finds e = (before refl).closed
+  found_closed false (Entries from to batch) before finds e = absurd (true≢false (sym e))
+  found_closed false (Nothing published) before finds e = absurd (true≢false (sym e))
+  found_closed false Closed before finds e = finds.1
+
+neither : (a b : Bool) → a || b ≡ false → a ≡ false
+neither true b e = e
+neither false b e = refl
+
 module _ {Run : Type 0} {E : Type 0} (log : LogRec Run) (end end' : ReadRec Run) where
   -- an answer of a look
-  pub looks_at : (at : Slot → List Entry) (x : Result Got E) → Reads end log → IfOk x (λ got. Finds at log end.got got) → IfOk x (λ got. end' ≡ looked log got end) → IfOk x (λ got. LooksAt at end got end')
-  looks_at at (Ok got) reads finds is_end = record { log = log; reads = reads; finds = finds; end = is_end }
-  looks_at at (Err e) reads finds is_end = tt
+  pub looks_at : (at : Slot → List Entry) (x : Result Got E) → Reads end log → (end.shut ≡ true → EndsAt end.got log) → IfOk x (λ got. Finds at log end.got got) → IfOk x (λ got. end' ≡ looked log got end) → IfOk x (λ got. LooksAt at end got end')
+  looks_at at (Ok got) reads ends finds is_end = record { log = log; reads = reads; shut = ends; finds = finds; end = is_end }
+  looks_at at (Err e) reads ends finds is_end = tt
+
+  pub stays_shut : (at : Slot → List Entry) (x : Result Got E) → (end.shut ≡ true → EndsAt end.got log) → IfOk x (λ got. Finds at log end.got got) → IfOk x (λ got. end.shut ≡ true → got ≡ Closed)
+  stays_shut at (Ok got) ends finds = λ h. ends_closed log end.got at got finds (ends h)
+  stays_shut at (Err e) ends finds = tt
 
   -- the log after a look
-  pub takes_all : (log' : LogRec Run) (refused : ℕ) (m : SeatIn Run) (x : Result Got E) → (has : ReaderHas end refused m) → m.1 ≡ (0, log) ∷ rest m.1 → log' ≡ log → Reads end log
-      → IfOk x (λ got. end' ≡ looked log got end) → OnOk x (HasTaken end' refused (m.0, (0, log') ∷ rest m.1))
-  takes_all log' refused m (Ok got) has here same reads is_end =
+  pub takes_all : (log' : LogRec Run) (refused : ℕ) (m : SeatIn Run) (at : Slot → List Entry) (x : Result Got E) → HasKept end refused m → m.1 ≡ (0, log) ∷ rest m.1 → log' ≡ log → Reads end log
+      → (end.shut ≡ true → EndsAt end.got log) → IfOk x (λ got. Finds at log end.got got) → IfOk x (λ got. end' ≡ looked log got end) → OnOk x (HasTaken end' refused (m.0, (0, log') ∷ rest m.1))
+  takes_all log' refused m at (Ok got) kept here same reads ends finds is_end =
       let run : end'.run ≡ end.run = ap (λ (r : ReadRec Run). r.run) is_end in
       let number : end'.number ≡ end.number = ap (λ (r : ReadRec Run). r.number) is_end in
+      let shut : end'.shut ≡ end.shut || is_closed got = ap (λ (r : ReadRec Run). r.shut) is_end in
       let all : end'.got ≡ log'.published = ap (λ (r : ReadRec Run). r.got) is_end ∙ sym (ap (λ (l : LogRec Run). l.published) same) in (
-        read has log log' end' here same run number record {
+        read kept.0 log log' end' here same run number record {
           run = run ∙ reads.run ∙ sym (ap (λ (l : LogRec Run). l.run) same);
           number = number ∙ reads.number ∙ sym (ap (λ (l : LogRec Run). l.number) same);
           base = omega (arith, all, reads.base, reads.published, ap (λ (l : LogRec Run). l.base) same, ap (λ (l : LogRec Run). l.published) same);
           published = omega (arith, all);
-        },
+        } (λ h. record { published = sym all; closed = ap (λ (l : LogRec Run). is_some l.cause) same ∙ found_closed log end.got at end.shut got ends finds (sym shut ∙ h) }),
         all,
+        (λ is_open. kept.2 ∙ neither end.shut (is_closed got) (sym shut ∙ is_open)),
       )
-  takes_all log' refused m (Err e) has here same reads is_end = tt
+  takes_all log' refused m at (Err e) kept here same reads ends finds is_end = tt
 
   pub takes_none : (log' : LogRec Run) (refused : ℕ) (m : SeatIn Run) (x : Result Got E) → HasKept end refused m → m.1 ≡ (0, log) ∷ rest m.1 → log' ≡ log → Reads end log
-      → OnErr x (end' ≡ end) → OnErr x (HasKept end' refused (m.0, (0, log') ∷ rest m.1))
-  takes_none log' refused m (Ok got) kept here same reads is_end = tt
-  takes_none log' refused m (Err e) kept here same reads is_end =
+      → (end.shut ≡ true → EndsAt end.got log) → OnErr x (end' ≡ end) → OnErr x (HasKept end' refused (m.0, (0, log') ∷ rest m.1))
+  takes_none log' refused m (Ok got) kept here same reads ends is_end = tt
+  takes_none log' refused m (Err e) kept here same reads ends is_end =
       let run : end'.run ≡ end.run = ap (λ (r : ReadRec Run). r.run) is_end in
       let number : end'.number ≡ end.number = ap (λ (r : ReadRec Run). r.number) is_end in
-      let got : end'.got ≡ end.got = ap (λ (r : ReadRec Run). r.got) is_end in (
+      let got : end'.got ≡ end.got = ap (λ (r : ReadRec Run). r.got) is_end in
+      let shut : end'.shut ≡ end.shut = ap (λ (r : ReadRec Run). r.shut) is_end in (
         read kept.0 log log' end' here same run number record {
           run = run ∙ reads.run ∙ sym (ap (λ (l : LogRec Run). l.run) same);
           number = number ∙ reads.number ∙ sym (ap (λ (l : LogRec Run). l.number) same);
           base = omega (arith, got, reads.base, ap (λ (l : LogRec Run). l.base) same);
           published = omega (arith, got, reads.published, ap (λ (l : LogRec Run). l.published) same);
-        },
+        } (λ h.
+            let there = ends (sym shut ∙ h) in
+            record { published = ap (λ (l : LogRec Run). l.published) same ∙ there.published ∙ sym got; closed = ap (λ (l : LogRec Run). is_some l.cause) same ∙ there.closed }),
         kept.1 ∙ sym got,
+        kept.2 ∙ sym shut,
       )

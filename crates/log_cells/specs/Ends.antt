@@ -1,5 +1,5 @@
 -- A cell and its ends, as contracts see them, and what a look at a cell gives.
-use Rattle.std.specs.Prelude.{◌≡◌, ℕ, ◌<◌, ◌≤◌, ◌+◌, min, true, List}
+use Rattle.std.specs.Prelude.{◌≡◌, ℕ, ◌<◌, ◌≤◌, ◌+◌, min, true, IsSome, List}
 use Rattle.atomic_table.specs.Seated.{TableId}
 use Rattle.xs_base.specs.Numbers.{Slot, LinkNumber}
 use Rattle.xs_base.specs.declared.entry.Entry.{Entry}
@@ -49,10 +49,16 @@ module _ {Run : Type 0} where
     pub table : new.table ≡ old.table
     pub refused : old.refused ≤ new.refused
 
-  -- a look of an end at the log as it was then
+  -- a log is closed, and was published up to a slot
+  pub record EndsAt (slot : Slot) (log : LogRec Run) : Type 0 where
+    pub published : log.published ≡ slot
+    pub closed : IsSome log.cause
+
+  -- a look of an end at the log as it was then; an end that had found its log closed finds it ended where it has read
   pub record LooksAt (at : Slot → List Entry) (old : ReadRec Run) (got : Got) (new : ReadRec Run) : Type 0 where
     pub log : LogRec Run
     pub reads : Reads old log
+    pub shut : old.shut ≡ true → EndsAt old.got log
     pub finds : Finds at log old.got got
     pub end : new ≡ looked log got old
 

@@ -1,9 +1,10 @@
 -- What each kind of step on a cell's words tells, and what an end has while it is its turn.
-use Rattle.std.specs.Prelude.{◌≡◌, ◌≢◌, ℕ, ◌≤◌, ◌+◌, [], ◌∷◌, Some, None}
+use Rattle.std.specs.Prelude.{◌≡◌, ◌≢◌, ℕ, ◌≤◌, ◌+◌, true, false, IsSome, [], ◌∷◌, Some, None}
 use Rattle.atomic_table.specs.Table.{Me, Step}
 use Rattle.atomic_table.specs.Seated.{TableId}
 use Rattle.link_logs.specs.Logs.{LogRec, WriteRec, ReadRec, Writes, Reads}
 use Rattle.log_cells.specs.declared.view.View.TheVariants.{Whole, Writer, Reader, Joined, Spent}
+use Rattle.log_cells.specs.Ends.{EndsAt}
 use Rattle.log_cells.specs.Rule.{WritingIn, ReadingIn, ViewIn, writing_of, reading_of, write_end_of, ReadsFrom, Agrees}
 
 -- two words and one slot
@@ -48,6 +49,10 @@ module _ {Run : Type 0} where
   abbrev pub gives_taken : Step (LogRec Run) → SeatIn Run → ℕ → SeatIn Run → Type 0
   gives_taken st m found m' = (v : ReadingIn Run) (log : LogRec Run) → m ≡ (Reader v, (0, log) ∷ []) → m' ≡ (Reader (record v { got = log.published; held = None }), [])
 
+  -- the same, and it was found closed
+  abbrev pub gives_shut : Step (LogRec Run) → SeatIn Run → ℕ → SeatIn Run → Type 0
+  gives_shut st m found m' = (v : ReadingIn Run) (log : LogRec Run) → m ≡ (Reader v, (0, log) ∷ []) → m' ≡ (Reader (record v { got = log.published; shut = true; held = None }), [])
+
   -- the log is given back, and nothing was taken
   abbrev pub gives_kept : Step (LogRec Run) → SeatIn Run → ℕ → SeatIn Run → Type 0
   gives_kept st m found m' = (v : ReadingIn Run) (log : LogRec Run) → m ≡ (Reader v, (0, log) ∷ []) → m' ≡ (Reader (record v { held = None }), [])
@@ -78,12 +83,13 @@ module _ {Run : Type 0} where
   joined_view (Writer w) v = with_reader w v
   joined_view _ v = Spent
 
-  -- a log that went on from another as its writer may let it
+  -- a log that went on from another as its writer may let it: one that is closed does not go on
   pub record Follows (old new : LogRec Run) : Type 0 where
     pub run : new.run ≡ old.run
     pub number : new.number ≡ old.number
     pub base : new.base ≡ old.base
     pub published : old.published ≤ new.published
+    pub closed : IsSome old.cause → EndsAt old.published new
 
   -- a log that is another to its writer's eyes
   pub record SameToWriter (old new : LogRec Run) : Type 0 where
@@ -116,14 +122,15 @@ module _ {Run : Type 0} where
     pub run : view.run ≡ end.run
     pub number : view.number ≡ end.number
     pub reads : Reads end log
+    pub shut : end.shut ≡ true → EndsAt end.got log
     pub same : SameToWriter found log
 
-  -- it has taken nothing yet; it has taken all
+  -- it has taken nothing yet; it has taken all, and where it has not found the log closed it had not before
   abbrev pub HasKept : ReadRec Run → ℕ → SeatIn Run → Type 0
-  HasKept end refused m = (has : ReaderHas end refused m) × (has.view.got ≡ end.got)
+  HasKept end refused m = (has : ReaderHas end refused m) × (has.view.got ≡ end.got) × (has.view.shut ≡ end.shut)
 
   abbrev pub HasTaken : ReadRec Run → ℕ → SeatIn Run → Type 0
-  HasTaken end refused m = (has : ReaderHas end refused m) × (end.got ≡ has.log.published)
+  HasTaken end refused m = (has : ReaderHas end refused m) × (end.got ≡ has.log.published) × (end.shut ≡ false → has.view.shut ≡ false)
 
   -- the seat of two ends that were joined, neither of which has the log; and what is then known of the log
   abbrev pub IsJoined : ViewIn Run → Type 0

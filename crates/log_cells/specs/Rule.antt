@@ -1,10 +1,11 @@
 -- The rule of a cell: one log, whose turn it is, and what its two ends know.
 -- The turn word is 0 where it is nobody's turn, 1 where it is the writer's and 2 where it is the reader's. Of the news word nothing is said.
-use Rattle.std.specs.Prelude.{◌≡◌, ℕ, ◌≤◌, List, [], ◌∷◌, Option, Some, None}
+use Rattle.std.specs.Prelude.{◌≡◌, ℕ, ◌≤◌, true, false, List, [], ◌∷◌, Option, Some, None}
 use mathlib.Core.Option.{some, none}
 use mathlib.Core.Option as maybe
 use Rattle.atomic_table.specs.Table.{State}
 use Rattle.link_logs.specs.Logs.{LogRec, WriteRec, ReadRec, Writes}
+use Rattle.log_cells.specs.Ends.{EndsAt}
 use Rattle.log_cells.specs.declared.view.Writing.{Writing}
 use Rattle.log_cells.specs.declared.view.Reading.{Reading}
 use Rattle.log_cells.specs.declared.view.View.{View}
@@ -42,18 +43,19 @@ module _ {Run : Type 0} where
   writing_of end refused = record { run = end.run; number = end.number; published = end.published; cause = end.cause; held = None; refused = refused }
 
   abbrev pub reading_of : ReadRec Run → ℕ → ReadingIn Run
-  reading_of end refused = record { run = end.run; number = end.number; got = end.got; held = None; refused = refused }
+  reading_of end refused = record { run = end.run; number = end.number; got = end.got; shut = end.shut; held = None; refused = refused }
 
   -- the end of a log that knows as much as a seat
   abbrev pub write_end_of : WritingIn Run → WriteRec Run
   write_end_of w = record { run = w.run; number = w.number; published = w.published; cause = w.cause }
 
-  -- the end of a log that reads has read up to a slot that is between its base and the published slot
+  -- the end of a log that reads has read up to a slot that is between its base and the published slot; where it has found the log closed, the log ends there
   pub record ReadsFrom (r : ReadingIn Run) (log : LogRec Run) : Type 0 where
     pub run : r.run ≡ log.run
     pub number : r.number ≡ log.number
     pub base : log.base ≤ r.got
     pub published : r.got ≤ log.published
+    pub shut : r.shut ≡ true → EndsAt r.got log
 
   -- what is said of the log at home, and of a log that an end has, as it found it
   pub record Agrees (log : LogRec Run) (w : WritingIn Run) (r : ReadingIn Run) : Type 0 where
@@ -104,7 +106,7 @@ module _ {Run : Type 0} where
 
   -- of a new log
   abbrev pub new_view : WriteRec Run → ViewIn Run
-  new_view end = Whole (writing_of end 0) (record { run = end.run; number = end.number; got = 0; held = None; refused = 0 })
+  new_view end = Whole (writing_of end 0) (record { run = end.run; number = end.number; got = 0; shut = false; held = None; refused = 0 })
 
   -- how often a seat was refused the turn
   abbrev pub refused_of : ViewIn Run → ℕ

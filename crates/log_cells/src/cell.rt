@@ -1,6 +1,7 @@
 //! `Cell`, a log that two threads use by turns. See docs/LOOKAHEAD.md.
-ghost use Rattle.std.specs.Prelude.{◌≡◌, ◌≤◌, [], Some, None, IfOk, OnOk, OnErr};
+ghost use Rattle.std.specs.Prelude.{◌≡◌, ◌≤◌, [], Some, None, true, IfOk, OnOk, OnErr};
 ghost use Rattle.link_logs.specs.Entries.{between};
+ghost use Rattle.link_logs.specs.declared.answers.Got.TheVariants.{Closed};
 ghost use Rattle.link_logs.specs.Logs.{new_write_end, new_read_end};
 ghost use Rattle.log_cells.specs.Plays.{IsSized, IsJoined, AgreesWith};
 ghost use Rattle.log_cells.specs.Ends.{WritesTo, ReadsOf, StaysWriter, StaysReader, LooksAt, Gives, WaitsFor, IsNews, having_looked};
@@ -92,13 +93,14 @@ impl<S: Story> Cell<S> {
 
     /// Waits for its turn, and reads what the end has not read. `Nothing` comes exactly where it has read up to the published slot and
     /// the log is not closed, `Closed` exactly where it has and the log is. Else there are entries: all from where the end had read to
-    /// the published slot, and it has read up to that then. The end has to be this cell's. The error is want of memory, and changes
-    /// nothing.
+    /// the published slot, and it has read up to that then. An end that had found its log closed finds it closed again. The end has
+    /// to be this cell's. The error is want of memory, and changes nothing.
     pub fn poll<R: Wait>(&self, rt: &R, r: &mut ReadEnd<S>) -> Result<Got, AllocError>
         requires cell { ReadsOf r.old self.now }
         ensures stays { StaysReader r.old r.new }
         ensures log { IfOk result (λ got. LooksAt (S.entries_at r.old.end.run r.old.end.number) r.old.end got r.new.end) }
         ensures gives { IfOk result (λ got. Gives (S.entries_at r.old.end.run r.old.end.number) r.old.end got r.new.end) }
+        ensures shut { IfOk result (λ got. r.old.end.shut ≡ true → got ≡ Closed) }
         ensures more { r.old.end.looks ≤ r.new.end.looks }
         ensures err { OnErr result (r.new.end ≡ r.old.end) }
     {
@@ -131,13 +133,14 @@ impl<S: Story> Cell<S> {
         steps::raise(top, &mut w.seat, &w.end);
     }
 
-    /// Polls until there is something, and sleeps in between. It never answers `Nothing`. The error is want of memory: the end has then
-    /// read no more than before, and may have looked.
+    /// Polls until there is something, and sleeps in between. It never answers `Nothing`. An end that had found its log closed finds it
+    /// closed again. The error is want of memory: the end has then read no more than before, and may have looked.
     pub fn wait_news<R: Wait>(&self, rt: &R, r: &mut ReadEnd<S>) -> Result<Got, AllocError>
         requires cell { ReadsOf r.old self.now }
         ensures stays { StaysReader r.old r.new }
         ensures news { IfOk result (λ got. IsNews got) }
         ensures waits { IfOk result (λ got. WaitsFor (S.entries_at r.old.end.run r.old.end.number) r.old.end got r.new.end) }
+        ensures shut { IfOk result (λ got. r.old.end.shut ≡ true → got ≡ Closed) }
         ensures more { r.old.end.looks ≤ r.new.end.looks }
         ensures err { OnErr result (r.new.end ≡ having_looked r.old.end r.new.end.looks) }
     {

@@ -1,11 +1,12 @@
 //! What is done in a turn: the turn is claimed, the log is used, and the turn is given back.
-ghost use Rattle.std.specs.Prelude.{◌≡◌, ◌≤◌, [], Some, None, IfOk, OnOk, OnErr};
+ghost use Rattle.std.specs.Prelude.{◌≡◌, ◌≤◌, [], Some, None, true, IfOk, OnOk, OnErr};
 ghost use Rattle.link_logs.specs.Entries.{between};
+ghost use Rattle.link_logs.specs.declared.answers.Got.TheVariants.{Closed};
 ghost use Rattle.log_cells.specs.Rule.{refused_of};
 ghost use Rattle.log_cells.specs.Ends.{LooksAt};
 ghost use Rattle.log_cells.specs.Plays.{IsSized, writer_at, reader_at, WriterHas, ReaderHas, HasKept, HasTaken};
 
-use crate::plays::{ClaimToRead, ClaimToWrite, GiveKept, GiveTaken, GiveWritten, Raise};
+use crate::plays::{ClaimToRead, ClaimToWrite, GiveKept, GiveShut, GiveTaken, GiveWritten, Raise};
 use crate::view::{Place, Top};
 use link_logs::{Cause, Got, ReadEnd, Story, WriteEnd};
 use std::alloc::AllocError;
@@ -115,6 +116,7 @@ pub fn take<S: Story>(
     ensures table { seat.new.table_id ≡ seat.old.table_id }
     ensures refused { refused_of seat.new.me.0 ≡ refused_of seat.old.me.0 }
     ensures got { IfOk result (λ got. LooksAt (S.entries_at end.old.run end.old.number) end.old got end.new) }
+    ensures shut { IfOk result (λ got. end.old.shut ≡ true → got ≡ Closed) }
     ensures more { end.old.looks ≤ end.new.looks }
     ensures has { OnOk result (HasTaken end.new (refused_of seat.new.me.0) seat.new.me) }
     ensures err { OnErr result (end.new ≡ end.old) }
@@ -141,7 +143,11 @@ pub fn give_taken<S: Story>(top: &Top<S>, seat: &mut Place<S>, end: &ReadEnd<S>)
     ensures table { seat.new.table_id ≡ seat.old.table_id }
     ensures reader { seat.new.me ≡ reader_at end.now (refused_of seat.old.me.0) }
 {
-    top.store::<GiveTaken>(seat, TURN, FREE);
+    if end.is_shut() {
+        top.store::<GiveShut>(seat, TURN, FREE);
+    } else {
+        top.store::<GiveTaken>(seat, TURN, FREE);
+    }
 }
 
 // Gives the turn back after the end has taken nothing.

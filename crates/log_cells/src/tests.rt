@@ -104,6 +104,21 @@ fn publish_late<R: Wait + Clock>(
     Ok(())
 }
 
+// Publishes up to slot 5 after a while, and leaves the log open.
+fn publish_alone<R: Wait + Clock>(
+    rt: &R,
+    alloc: Global,
+    cell: &Cell<Silence>,
+    mut w: WriteEnd<Silence>,
+) -> Result<(), AllocError>
+    requires cell { WritesTo w cell.now }
+    requires new { (w.end.published ≡ 0) × (w.end.cause ≡ None) }
+{
+    thread::sleep(rt, Duration::from_millis(30));
+    let mut batch = Batch::new(alloc);
+    cell.publish(rt, &mut w, 5, &mut batch)
+}
+
 // How many slots were waited for, until the log was closed.
 fn hear<R: Wait>(rt: &R, cell: &Cell<Silence>, mut r: ReadEnd<Silence>) -> Result<u32, AllocError>
     requires { ReadsOf r cell.now }
@@ -114,6 +129,36 @@ fn hear<R: Wait>(rt: &R, cell: &Cell<Silence>, mut r: ReadEnd<Silence>) -> Resul
         }
     }
     Ok(r.got())
+}
+
+// How many slots were read, once there was something to read.
+fn hear_once<R: Wait>(
+    rt: &R,
+    cell: &Cell<Silence>,
+    mut r: ReadEnd<Silence>,
+) -> Result<u32, AllocError>
+    requires { ReadsOf r cell.now }
+{
+    let news = cell.wait_news(rt, &mut r)?;
+    if matches!(news, Got::Closed) {
+        return Ok(0);
+    }
+    Ok(r.got())
+}
+
+// It would sleep for ever where only a close woke it.
+#[test]
+fn a_publish_alone_wakes_a_sleeper(rt: HostRuntime) -> Result<(), AllocError> {
+    let alloc = rt.alloc();
+    let (cell, w, r) = make_cell(alloc, Silence)?;
+    let (told, heard) = thread::join(
+        &rt,
+        || publish_alone(&rt, alloc, &cell, w),
+        || hear_once(&rt, &cell, r),
+    );
+    told?;
+    assert!(rt; heard? == 5);
+    Ok(())
 }
 
 #[test]

@@ -15,12 +15,13 @@ pub struct Writing<L, N> {
     pub refused: u64,
 }
 
-/// What the seat of the end that reads knows: the log's run and link, up to which slot it has read, where this seat has the turn
-/// the log as it found it, and how often it was refused the turn. No value of it is made.
+/// What the seat of the end that reads knows: the log's run and link, up to which slot it has read, whether it has found the log closed,
+/// where this seat has the turn the log as it found it, and how often it was refused the turn. No value of it is made.
 pub struct Reading<L, N> {
     pub run: N,
     pub number: u32,
     pub got: u32,
+    pub shut: bool,
     pub held: Option<L>,
     pub refused: u64,
 }

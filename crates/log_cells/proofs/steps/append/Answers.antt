@@ -1,4 +1,4 @@
-use Rattle.std.proofs.Common.{subst, arith}
+use Rattle.std.proofs.Common.{sym, ◌∙◌, subst, arith}
 use Rattle.link_logs.specs.Logs.{Writes}
 use Rattle.log_cells.proofs.Turns.{writer_slot, writer_log, wrote, appended}
 use Rattle.log_cells.proofs.steps.append.Goals as goal
@@ -13,5 +13,5 @@ returns-clause-has g c =
     let log = c.slot_mut-log.result.now in
     let writes = subst (λ l. Writes c.args.end.now l) (writer_log has log here) has.writes in
     let t = c.append.ensures in
-    let done = appended log c.append.new.self c.args.end.now c.append.new.w c.args.upto _ c.append.result writes (omega (arith, c.requires.on, writes.published)) t.log t.end t.err t.err_end in
+    let done = appended log c.append.new.self c.args.end.now c.append.new.w c.args.upto _ c.append.result writes (sym writes.cause ∙ c.requires.open) (omega (arith, c.requires.on, writes.published)) t.log t.end t.err t.err_end in
     wrote has log c.append.new.self c.append.new.w here done.run done.number done.writes done.follows
