@@ -1,8 +1,8 @@
 -- What the parts of a turn make of a worker.
-use Rattle.std.proofs.Common.{◌≡◌, ℕ, ◌≤◌, Option, Some, None, List, [], ◌∷◌, slice_get, refl, sym, ap, ◌∙◌, subst, arith}
+use Rattle.std.proofs.Common.{◌≡◌, ℕ, ◌<◌, ◌≤◌, Option, Some, None, List, [], ◌∷◌, slice_get, refl, sym, ap, ◌∙◌, subst, arith}
 use Rattle.std.specs.List.{All, AllZip, AllByRecursion}
 use Rattle.std.proofs.lemmas.List.Elements.{All-from_recursion}
-use Rattle.std.proofs.lemmas.Option.{same_Some}
+use Rattle.std.proofs.lemmas.Option.{same_Some, slice_get_within, get_or_from_slice_get}
 use Rattle.xs_base.specs.Numbers.{Slot, EndNumber, LinkNumber}
 use Rattle.sys_plan.specs.Plan.{PlanRec, IsPlan, delay_of}
 use Rattle.ahead_limits.specs.declared.horizon.Seen.{Seen}
@@ -14,7 +14,8 @@ use Rattle.plan_cells.specs.declared.ends.Outgoing.{Outgoing}
 use Rattle.plan_cells.specs.declared.ends.Incoming.{Incoming}
 use Rattle.plan_cells.specs.declared.ends.Ends.{Ends}
 use Rattle.plan_cells.specs.Ends.{CellsRec}
-use Rattle.core_workers.specs.Worker.{WorkerRec, IsInHand, IsHeard, Listens, Tells, IsWorker, StaysIncoming, StaysOutgoing, Looked, Published, reach, Stays, Exchanged}
+use Rattle.core_workers.specs.declared.turn.Turn.TheVariants as turn
+use Rattle.core_workers.specs.Worker.{WorkerRec, IsInHand, IsHeard, Listens, Tells, IsWorker, StaysIncoming, StaysOutgoing, Looked, Published, reach, Stays, Exchanged, IsReadTo, Answers, shut_links}
 use Rattle.core_workers.proofs.Hearing.{fits_at}
 use Rattle.core_workers.proofs.Passes.{all_zip_refl}
 use Rattle.core_workers.proofs.Reaching.{reach_within, reach_below, reach_above}
@@ -59,6 +60,33 @@ module _ (cells : CellsRec) (is : IsPlan cells.plan) (runner : RunnerRec) (ends 
       let all : heard.seen ≡ record { delay = delay_of cells.plan i.link; seen = i.r.end.got } = λ j. record { delay = heard.delay j; seen = seen j } in
       heard.there ∙ ap (λ (s : Seen). Some (Some s)) all
 
+  -- the end that reads the link that comes to a link end, of which this much was seen
+  record ReadsThere (end : EndNumber) (s : Seen) : Type 0 where
+    place : ℕ
+    reader : Incoming
+    at : slice_get ends place ≡ Some reader
+    end_is : reader.end ≡ end
+    same : s ≡ record { delay = delay_of cells.plan reader.link; seen = reader.r.end.got }
+
+  reads_there : (end : EndNumber) (s : Seen) → Sees runner.horizon end s → ReadsThere end s
+  reads_there end s sees =
+      let other = listens.no_others end s sees in
+      let comes = comes_there cells.plan is runner.node ends listens.places end other.0 other.1 in
+      let is_read : Seen = record { delay = delay_of cells.plan comes.reader.link; seen = comes.reader.r.end.got } in
+      let there : Sees runner.horizon end is_read = subst (λ e. Sees runner.horizon e is_read) comes.end_is (seen_is_read comes.place comes.reader comes.at) in
+      record { place = comes.place; reader = comes.reader; at = comes.at; end_is = comes.end_is; same = same_Some _ _ (same_Some _ _ (sym sees ∙ there)) }
+
+  -- what was seen of the link that stops the node is what was read of it
+  pub read_at_stop : (end seen : ℕ) → StopsAt runner.horizon runner.clock end seen → IsReadTo seen end ends
+  read_at_stop end seen stop =
+      let reads = reads_there end stop.link stop.there in
+      record {
+        reader = reads.reader;
+        there = (reads.place, slice_get_within ends reads.place reads.reader reads.at, get_or_from_slice_get ends reads.place reads.reader reads.reader reads.at);
+        at_end = reads.end_is;
+        got = sym (ap (λ (x : Seen). x.seen) reads.same) ∙ stop.seen_there;
+      }
+
   module _ (within : runner.clock ≤ runner.horizon.limit) (ahead : (end : ℕ) (s : Seen) → Sees runner.horizon end s → runner.clock ≤ horizon_at s) where
     clock_above : runner.clock ≤ reach cells.plan runner.horizon.limit ends
     clock_above = reach_above cells.plan runner.horizon.limit runner.clock ends within
@@ -69,14 +97,9 @@ module _ (cells : CellsRec) (is : IsPlan cells.plan) (runner : RunnerRec) (ends 
 
     pub at_stop : (end seen : ℕ) → StopsAt runner.horizon runner.clock end seen → runner.clock ≡ reach cells.plan runner.horizon.limit ends
     at_stop end seen stop =
-        let other = listens.no_others end stop.link stop.there in
-        let comes = comes_there cells.plan is runner.node ends listens.places end other.0 other.1 in
-        let there : Sees runner.horizon end (record { delay = delay_of cells.plan comes.reader.link; seen = comes.reader.r.end.got })
-        = subst (λ e. Sees runner.horizon e (record { delay = delay_of cells.plan comes.reader.link; seen = comes.reader.r.end.got })) comes.end_is (seen_is_read comes.place comes.reader comes.at) in
-        let same : stop.link ≡ record { delay = delay_of cells.plan comes.reader.link; seen = comes.reader.r.end.got }
-        = same_Some _ _ (same_Some _ _ (sym stop.there ∙ there)) in
-        let below = reach_below cells.plan runner.horizon.limit ends comes.place comes.reader comes.at in
-        omega (arith, stop.is_horizon, ap horizon_at same, below, clock_above)
+        let reads = reads_there end stop.link stop.there in
+        let below = reach_below cells.plan runner.horizon.limit ends reads.place reads.reader reads.at in
+        omega (arith, stop.is_horizon, ap horizon_at reads.same, below, clock_above)
 
 -- ---- The parts of a turn, one after the other
 
@@ -86,7 +109,7 @@ none_changes o = record { end = refl; link = refl; table = refl; rest = refl; pu
 same_clock : (clock slot : Slot) (old new : List Outgoing) → clock ≡ slot → AllZip (Published slot) old new → AllZip (Published clock) old new
 same_clock clock slot old new is all = subst (λ t. AllZip (Published t) old new) (sym is) all
 
-all_handed : (old new : List Incoming) → AllZip Looked old new → AllByRecursion (λ (i : Incoming). i.hand ≡ None) new
+pub all_handed : (old new : List Incoming) → AllZip Looked old new → AllByRecursion (λ (i : Incoming). i.hand ≡ None) new
 all_handed [] [] all = tt
 all_handed [] (y ∷ new) all = absurd all
 all_handed (x ∷ old) [] all = tt
@@ -219,6 +242,19 @@ module _ (cells : CellsRec) (r0 r1 : RunnerRec) (e0 e1 : Ends) (start : IsWorker
         pub far_at_stop : r2.clock ≤ r2.horizon.limit → ((end : EndNumber) (s : Seen) → Sees r2.horizon end s → r2.clock ≤ horizon_at s) → (end seen : ℕ) → StopsAt r2.horizon r2.clock end seen
             → r2.clock ≡ reach cells.plan r2.horizon.limit e1.incoming.items
         far_at_stop within ahead end seen stop = at_stop cells start.plan_is r2 e1.incoming.items listens_2 handed within ahead end seen stop
+
+        -- the node stands at a link end, and no log was found closed
+        pub blocked : (end seen : ℕ) → r2.clock ≤ r0.clock → r2.clock < r2.horizon.limit → StopsAt r2.horizon r2.clock end seen → shut_links e2.incoming.items ≡ []
+            → Answers (worker cells r0 e0) (turn.Blocked end seen) (worker cells r3 e2)
+        blocked end seen stands below stop none = (
+          record {
+            clock = omega (arith, clock_3, stays_2.clock, stands);
+            below = omega (arith, clock_3, ap (λ (h : HorizonRec). h.limit) horizon_3, below);
+          },
+          none,
+          subst (λ (h : HorizonRec). StopsAt h r3.clock end seen) (sym horizon_3) (subst (λ t. StopsAt r2.horizon t end seen) (sym clock_3) stop),
+          subst (λ (v : List Incoming). IsReadTo seen end v) (sym incoming_items) (read_at_stop cells start.plan_is r2 e1.incoming.items listens_2 handed end seen stop),
+        )
 
         pub told_to_limit : r2.clock ≡ r2.horizon.limit → All (λ (o : Outgoing). o.w.end.published ≡ r3.horizon.limit) e2.outgoing.items
         told_to_limit at =

@@ -8,3 +8,6 @@ pub mod Closing
 pub mod Handing
 pub mod Starting
 pub mod Exchanges
+pub mod Running
+pub mod Gathering
+pub mod AtLimit

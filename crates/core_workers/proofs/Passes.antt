@@ -42,6 +42,13 @@ module _ {X : Type 0} (R : X → X → Type 0) where
   all_zip_refl self [] = tt
   all_zip_refl self (x ∷ xs) = (self x, all_zip_refl self xs)
 
+  pub all_zip_then : ((x y z : X) → R x y → R y z → R x z) → (xs ys zs : List X) → AllZip R xs ys → AllZip R ys zs → AllZip R xs zs
+  all_zip_then on [] [] zs first then = then
+  all_zip_then on [] (y ∷ ys) zs first then = absurd first
+  all_zip_then on (x ∷ xs) [] zs first then = absurd first
+  all_zip_then on (x ∷ xs) (y ∷ ys) [] first then = then
+  all_zip_then on (x ∷ xs) (y ∷ ys) (z ∷ zs) first then = (on x y z first.0 then.0, all_zip_then on xs ys zs first.1 then.1)
+
   pub all_zip_set : (old now : List X) (i : ℕ) (x y : X) → AllZip R old now → slice_get old i ≡ Some x → R x y → AllZip R old (set now i y)
   all_zip_set [] [] i x y all at r = tt
   all_zip_set [] (b ∷ now) i x y all at r = absurd all
@@ -54,6 +61,12 @@ module _ {X : Type 0} (R : X → X → Type 0) where
   all_zip_front old now i x y within inside at all r =
       let is : x ≡ get_or old i x = sym (get_or_from_slice_get old i x x at) in
       subst (λ ys. AllZip R (take (i + 1) old) ys) (sym (take_more_set now i y inside)) (all_zip_more R old (take i now) i x y within is all r)
+
+pub all_zip_weaker : {X : Type 0} (R S : X → X → Type 0) → ((x y : X) → R x y → S x y) → (xs ys : List X) → AllZip R xs ys → AllZip S xs ys
+all_zip_weaker R S says [] [] all = tt
+all_zip_weaker R S says [] (y ∷ ys) all = absurd all
+all_zip_weaker R S says (x ∷ xs) [] all = absurd all
+all_zip_weaker R S says (x ∷ xs) (y ∷ ys) all = (says x y all.0, all_zip_weaker R S says xs ys all.1)
 
 -- ---- Places that are still to come
 

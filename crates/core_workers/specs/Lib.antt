@@ -1,3 +1,5 @@
 pub mod Finished
 pub mod Worker
+pub mod Run
 pub mod Steps
+pub mod Gathered

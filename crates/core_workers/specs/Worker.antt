@@ -69,7 +69,7 @@ IsOpen o = o.w.end.cause ≡ None
 
 -- ---- What any turn leaves as it was
 
--- an end is that of the same link and cell; it has read no less, and where it had found the log closed it still has
+-- an end is that of the same link and cell; it has read no less and looked no less often, and where it had found the log closed it still has
 pub record StaysIncoming (before after : Incoming) : Type 0 where
   pub end : after.end ≡ before.end
   pub link : after.link ≡ before.link
@@ -77,6 +77,7 @@ pub record StaysIncoming (before after : Incoming) : Type 0 where
   pub run : after.r.end.run ≡ before.r.end.run
   pub number : after.r.end.number ≡ before.r.end.number
   pub got : before.r.end.got ≤ after.r.end.got
+  pub looks : before.r.end.looks ≤ after.r.end.looks
   pub shut : before.r.end.shut ≡ true → after.r.end.shut ≡ true
 
 -- an end is that of the same link and cell; it has published no less, and has not closed the log
@@ -134,12 +135,20 @@ pub record HasNotRun (before after : WorkerRec) : Type 0 where
   pub clock : after.runner.clock ≡ before.runner.clock
   pub below : after.runner.clock < after.runner.horizon.limit
 
+-- the link that comes to a link end was read up to a slot
+pub record IsReadTo (slot : Slot) (end : EndNumber) (ends : List Incoming) : Type 0 where
+  pub reader : Incoming
+  pub there : Contains ends reader
+  pub at_end : reader.end ≡ end
+  pub got : reader.r.end.got ≡ slot
+
 abbrev pub Answers : WorkerRec → Turn → WorkerRec → Type 0
 Answers before Finished after =
     (after.runner.clock ≡ after.runner.horizon.limit) × All (λ (o : Outgoing). o.w.end.published ≡ after.runner.horizon.limit) after.ends.outgoing.items
 Answers before (Ran from to) after = (from ≡ before.runner.clock) × (to ≡ after.runner.clock) × (from < to) × (to < after.runner.horizon.limit)
 Answers before (Stopped link) after = HasNotRun before after × IsLeast link (shut_links after.ends.incoming.items)
-Answers before (Blocked end seen) after = HasNotRun before after × (shut_links after.ends.incoming.items ≡ []) × StopsAt after.runner.horizon after.runner.clock end seen
+Answers before (Blocked end seen) after =
+    HasNotRun before after × (shut_links after.ends.incoming.items ≡ []) × StopsAt after.runner.horizon after.runner.clock end seen × IsReadTo seen end after.ends.incoming.items
 Answers before Memory after = Unit {0}
 
 -- ---- Stopping

@@ -4,7 +4,13 @@ ghost use Rattle.xs_base.specs.Numbers.{Position};
 ghost use Rattle.sys_plan.specs.Plan.{directions};
 ghost use Rattle.plan_cells.specs.declared.ends.Ends.{Ends};
 ghost use Rattle.plan_cells.specs.Ends.{AreNewEnds};
+ghost use Rattle.core_workers.specs.Worker.{WorkerRec};
+ghost use Rattle.core_workers.specs.Run.{IsLeftAt};
 
+use crate::finished::Finished;
+use crate::gathered::Gathered;
+use crate::way::Way;
+use crate::worker::Part;
 use plan_cells::{Ends, PlanCells};
 use std::alloc::{AllocError, Global};
 use std::marker::Model;
@@ -23,7 +29,11 @@ impl Model for Lanes {
 
     ghost Value = { CellsRec };
 
+    ghost use Rattle.sys_plan.specs.Plan.{IsPlan};
+
     ghost view = { λ l. l.cells };
+
+    ghost invariant = { λ l. IsPlan l.cells.plan };
 }
 
 impl Lanes {
@@ -35,7 +45,20 @@ impl Lanes {
         ensures nodes { IfOk result (λ made. length made.1.items ≡ length plan.now.value.nodes) }
         ensures ends { IfOk result (λ made. (n : Position) (ends : Ends) → slice_get made.1.items n ≡ Some ends → AreNewEnds made.0 n ends) }
     {
+        // What every plan keeps is told where its lists are read.
+        let _links = plan.links();
         let (cells, ends) = PlanCells::new(alloc, plan)?;
         Ok((Lanes { cells }, ends))
+    }
+
+    /// The run of a system of which all nodes have run so many slots, `limit`, each on a worker of its own: `parts` are what is left of
+    /// these workers, by position. The error is want of memory, and leaves nothing.
+    pub fn finish(self, alloc: Global, parts: Vec<Part>, limit: u32) -> Result<Finished, AllocError>
+        requires nodes { length parts.items ≡ length self.plan.nodes }
+        requires at_limit { (n : Position) (part : WorkerRec) → slice_get parts.items n ≡ Some part → IsLeftAt self limit n part }
+        ensures finished { IfOk result (λ f. f ≡ record { plan = self.plan; limit = limit; way = Way.Workers }) }
+    {
+        let gathered = Gathered::of(alloc, self.cells, parts, limit)?;
+        Ok(Finished::of_workers(gathered))
     }
 }

@@ -3,10 +3,13 @@
 #![tactic(auto)]
 
 mod advance;
+mod ended;
 mod exchange;
 mod finished;
+mod gathered;
 mod hear;
 mod lanes;
+mod news;
 mod sent;
 mod tell;
 #[cfg(test)]
@@ -15,6 +18,7 @@ mod turn;
 mod way;
 mod worker;
 
+pub use ended::Ended;
 pub use finished::Finished;
 pub use lanes::Lanes;
 pub use node_runners::{NodeRunner, Ran};

@@ -5,15 +5,16 @@ ghost use Rattle.plan_cells.specs.declared.ends.Ends.{Ends};
 ghost use Rattle.plan_cells.specs.Ends.{AreNewEnds};
 ghost use Rattle.core_workers.specs.Worker.{IsOpen};
 
-use crate::{Lanes, NodeRunner, Turn, Worker};
+use crate::{Ended, Lanes, NodeRunner, Turn, Worker};
 use link_logs::Cause;
 use pin_scripts::Script;
 use plan_cells::Ends;
 use std::alloc::{AllocError, Global};
 use std::sync::Arc;
+use std::sync::atomic::{AtomicU64, Ordering};
 use std::test::Fail;
 use sys_plan::{LinkPlan, NodePlan, Plan};
-use xs_edge::OpenGate;
+use xs_edge::{Gate, OpenGate};
 use xs_instructions::{Image, Symbols};
 
 // The slots of the run.
@@ -129,5 +130,79 @@ fn a_node_stops_where_its_neighbour_did(rt: HostRuntime) -> Result<(), Fail> {
     assert_eq!(rt; first.turn(&rt, &OpenGate), Turn::Ran { from: 0, to: 10 });
     assert_eq!(rt; first.turn(&rt, &OpenGate), Turn::Stopped { link: 1 });
     first.stop(&rt, Cause::Neighbour { link: 1 });
+    Ok(())
+}
+
+// A gate that keeps the numbers of those that passed, two digits each.
+#[derive(Drop)]
+struct Passed {
+    numbers: AtomicU64,
+}
+
+impl Gate for Passed {
+    fn pass(&self, worker: u32) {
+        let before = self.numbers.load(Ordering::SeqCst);
+        self.numbers.store(
+            before
+                .wrapping_mul(100)
+                .wrapping_add(u64::from(worker) + 10),
+            Ordering::SeqCst,
+        );
+    }
+}
+
+#[test]
+fn each_turn_passes_the_gate(rt: HostRuntime) -> Result<(), Fail> {
+    let plan = Arc::new(rt.alloc(), pair(rt.alloc())?)?;
+    let (lanes, ends) = Lanes::new(rt.alloc(), &plan)?;
+    let (mut first, mut second) = workers(rt.alloc(), &plan, &lanes, ends)?;
+    let gate = Passed {
+        numbers: AtomicU64::new(0),
+    };
+    let _ = first.turn(&rt, &gate);
+    let _ = second.turn(&rt, &gate);
+    // One turn takes the run of the first to its end.
+    assert_eq!(rt; first.run(&rt, &gate), Ended::Finished);
+    assert_eq!(rt; gate.numbers.load(Ordering::SeqCst), 10_11_10);
+    Ok(())
+}
+
+#[test]
+fn a_run_ends_with_the_last_slot(rt: HostRuntime) -> Result<(), Fail> {
+    let plan = Arc::new(rt.alloc(), pair(rt.alloc())?)?;
+    let (lanes, ends) = Lanes::new(rt.alloc(), &plan)?;
+    let (mut first, mut second) = workers(rt.alloc(), &plan, &lanes, ends)?;
+    // The turns of the neighbour come first, so that no run has to wait.
+    assert_eq!(rt; first.turn(&rt, &OpenGate), Turn::Ran { from: 0, to: 5 });
+    assert_eq!(rt; second.turn(&rt, &OpenGate), Turn::Ran { from: 0, to: 10 });
+    assert_eq!(rt; first.run(&rt, &OpenGate), Ended::Finished);
+    assert_eq!(rt; second.run(&rt, &OpenGate), Ended::Finished);
+    let part = first.parts();
+    assert!(rt;
+        part.ends
+            .outgoing
+            .iter()
+            .all(|o| o.w.published() == LIMIT && o.w.cause().is_none())
+    );
+    Ok(())
+}
+
+#[test]
+fn a_run_stops_where_the_neighbour_did(rt: HostRuntime) -> Result<(), Fail> {
+    let plan = Arc::new(rt.alloc(), pair(rt.alloc())?)?;
+    let (lanes, ends) = Lanes::new(rt.alloc(), &plan)?;
+    let (mut first, mut second) = workers(rt.alloc(), &plan, &lanes, ends)?;
+    assert_eq!(rt; second.turn(&rt, &OpenGate), Turn::Ran { from: 0, to: 5 });
+    second.stop(&rt, Cause::Memory);
+    assert_eq!(rt; first.run(&rt, &OpenGate), Ended::Stopped);
+    // The second hears of it as it would of any neighbour.
+    let part = first.parts();
+    let cause = Some(Cause::Neighbour { link: 1 });
+    assert!(rt;
+        part.ends
+            .outgoing
+            .iter()
+            .all(|o| o.w.published() == 10 && o.w.cause() == cause)
+    );
     Ok(())
 }

@@ -181,6 +181,14 @@ impl NodeRunner {
     {
         &self.seat.events
     }
+
+    /// What is kept of its events, which are those of the serial machine. Nothing else is left of the node. It takes no memory.
+    pub fn into_events(self) -> NodeEvents
+        ensures keeps { Keeps result (events_in (serial self.plan self.clock) self.node) }
+    {
+        let seat = self.seat;
+        seat.events
+    }
 }
 
 // Why a node does not run the slot of its clock.

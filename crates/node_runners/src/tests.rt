@@ -54,5 +54,6 @@ fn a_node_stops_where_its_link_was_not_seen(rt: HostRuntime) -> Result<(), Fail>
 
     // It has no code: its thread trapped in slot 0 and is halted.
     assert!(rt; runner.events().events().len() == 2);
+    assert!(rt; runner.into_events().events().len() == 2);
     Ok(())
 }

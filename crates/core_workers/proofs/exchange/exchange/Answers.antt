@@ -1,10 +1,12 @@
-use Rattle.std.proofs.Common.{◌≤◌, sym, ap, ◌∙◌, subst, arith}
-use Rattle.xs_base.specs.Numbers.{EndNumber}
+use Rattle.std.proofs.Common.{◌≤◌, Option, sym, ap, ◌∙◌, subst, arith}
+use Rattle.xs_base.specs.Numbers.{EndNumber, LinkNumber}
 use Rattle.ahead_limits.specs.declared.horizon.Seen.{Seen}
 use Rattle.ahead_limits.specs.Horizon.{HorizonRec, Sees, horizon_at}
 use Rattle.node_runners.specs.declared.runner.Ran.{Ran}
 use Rattle.node_runners.specs.Runner.{RunnerRec, Stops}
-use Rattle.core_workers.proofs.Exchanges.{stays_1, stays_2, stays_3, worker_3, exchanged, far_at_limit, far_at_stop, told_to_limit}
+use Rattle.core_workers.specs.Worker.{shut_links}
+use Rattle.core_workers.specs.Steps.{IsLeastOf}
+use Rattle.core_workers.proofs.Exchanges.{stays_1, stays_2, stays_3, worker_3, exchanged, far_at_limit, far_at_stop, told_to_limit, blocked}
 use Rattle.core_workers.proofs.exchange.exchange.Goals as goal
 
 pub returns-in_err-hear_all-clause-stays : goal.returns-in_err-hear_all-clause-stays
@@ -117,3 +119,13 @@ returns-in-None-clause-exchanged g c =
     c.run_all.new.runner c.run_all.ensures.rest c.run_all.ensures.on
     c.tell_all.new.runner c.tell_all.new.ends c.tell_all.ensures.tells c.tell_all.ensures.rest c.tell_all.ensures.incoming c.tell_all.ensures.stays
     c.in_ok-hear_all.ensures.looked c.in_ok-tell_all.ensures.published far
+
+pub returns-in-None-clause-answer : goal.returns-in-None-clause-answer
+returns-in-None-clause-answer g c =
+    let stands : c.run_all.new.runner.clock ≤ c.args.runner.now.clock = omega (arith, c.if-from-to.false, c.clock-from.ensures.value, c.clock-to.ensures.value) in
+    let stops = subst (λ (r : Ran). Stops c.run_all.new.runner.horizon c.run_all.new.runner.clock r) c.in-Blocked-2.is c.in_ok-ran.ensures.stops in
+    let none = ap shut_links (sym c.deref.ensures.value) ∙ subst (λ (o : Option LinkNumber). IsLeastOf o (shut_links c.deref.result.now)) c.in-None.is c.least_shut.ensures in
+    blocked c.args.cells.now c.args.runner.now c.hear_all.new.runner c.args.ends.now c.hear_all.new.ends c.requires.worker c.hear_all.ensures.listens c.hear_all.ensures.rest c.hear_all.ensures.outgoing c.hear_all.ensures.stays
+    c.run_all.new.runner c.run_all.ensures.rest c.run_all.ensures.on
+    c.tell_all.new.runner c.tell_all.new.ends c.tell_all.ensures.tells c.tell_all.ensures.rest c.tell_all.ensures.incoming c.tell_all.ensures.stays
+    c.in_ok-hear_all.ensures.looked c.in_ok-tell_all.ensures.published c.in-Blocked-2.end c.in-Blocked-2.seen stands stops.0 stops.1 none

@@ -1,0 +1,115 @@
+-- What is left of all workers is at the limit: each node, and the log of each directed link.
+use Rattle.std.proofs.Common.{◌≡◌, ◌<◌, Some, List, length, map, get_or, slice_get, sym, ap, ◌∙◌, subst, arith}
+use Rattle.std.specs.List.{AllByRecursion}
+use Rattle.std.proofs.lemmas.Option.{slice_get_within, slice_get-get_or}
+use Rattle.std.proofs.lemmas.List.{length-map}
+use Rattle.std.proofs.lemmas.List.Elements.{recursion_from_All}
+use Rattle.xs_base.specs.Numbers.{Slot, LinkNumber, Position}
+use Rattle.sys_plan.specs.Plan.{PlanRec, IsPlan, directions}
+use Rattle.serial_model.specs.Serial.{serial, history}
+use Rattle.locality_laws.specs.Locality.{node_in, events_in}
+use Rattle.core_step.specs.Core.{CoreValue, StandsAt}
+use Rattle.trace_lines.specs.Kept.{KeptEvents, Keeps}
+use Rattle.link_logs.specs.Logs.{LogRec}
+use Rattle.plan_cells.specs.declared.ends.Ends.{Ends}
+use Rattle.plan_cells.specs.Ends.{CellsRec, leaving, coming, IsOutgoing, IsIncoming, AreEnds, IsLogOf, HasLeft}
+use Rattle.plan_cells.proofs.Lists.{all_at, from_map}
+use Rattle.plan_cells.proofs.AtEnds.{left_by}
+use Rattle.node_runners.specs.Runner.{RunnerRec}
+use Rattle.core_workers.specs.Worker.{WorkerRec, IsWorker}
+use Rattle.core_workers.specs.Run.{IsLeftAt, IsToldTo}
+use Rattle.core_workers.specs.Gathered.{HasRun, IsFull, IsGathered}
+
+abbrev pub runner_of : WorkerRec → RunnerRec
+runner_of part = part.runner
+
+abbrev pub ends_of : WorkerRec → Ends
+ends_of part = part.ends
+
+module _ (cells : CellsRec) (limit : Slot) (parts : List WorkerRec)
+    (nodes : length parts ≡ length cells.plan.nodes)
+    (workers : AllByRecursion IsWorker parts)
+    (left : (n : Position) (part : WorkerRec) → slice_get parts n ≡ Some part → IsLeftAt cells limit n part) where
+  each_node : (n : Position) (runner : RunnerRec) → slice_get (map runner_of parts) n ≡ Some runner → HasRun cells.plan limit n runner
+  each_node n runner here =
+      let part = from_map runner_of parts n runner here in
+      let w = all_at IsWorker parts n part.0 workers part.1 in
+      let l = left n part.0 part.1 in
+      record {
+        plan_is = ap (λ (r : RunnerRec). r.plan) (sym part.2) ∙ w.of_plan ∙ ap (λ (c : CellsRec). c.plan) l.cells_are;
+        node = ap (λ (r : RunnerRec). r.node) (sym part.2) ∙ l.node;
+        clock = ap (λ (r : RunnerRec). r.clock) (sym part.2) ∙ l.clock;
+      }
+
+  own_ends : (n : Position) (part : WorkerRec) → slice_get parts n ≡ Some part → AreEnds cells n part.ends
+  own_ends n part here =
+      let w = all_at IsWorker parts n part workers here in
+      let l = left n part here in
+      record {
+        outgoing_at = w.tells.places ∙ (λ i. leaving (l.cells_are i).plan (l.node i));
+        incoming_at = w.listens.places ∙ (λ i. coming (l.cells_are i).plan (l.node i));
+        outgoing_fit = subst (λ (c : CellsRec). AllByRecursion (IsOutgoing c) part.ends.outgoing.items) l.cells_are w.tells.fit;
+        incoming_fit = subst (λ (c : CellsRec). AllByRecursion (IsIncoming c) part.ends.incoming.items) l.cells_are w.listens.fit;
+      }
+
+  pub are_ends : (n : Position) (ends : Ends) → slice_get (map ends_of parts) n ≡ Some ends → AreEnds cells n ends
+  are_ends n ends here =
+      let part = from_map ends_of parts n ends here in
+      subst (AreEnds cells n) part.2 (own_ends n part.0 part.1)
+
+  pub all_ends : length (map ends_of parts) ≡ length cells.plan.nodes
+  all_ends = length-map parts ends_of ∙ nodes
+
+  -- so is the log of each directed link, since it is as the end has left it by which the link leaves its node
+  module _ (is : IsPlan cells.plan) (logs : List (LogRec PlanRec))
+      (links : length logs ≡ length (directions cells.plan.links))
+      (own : (link : LinkNumber) (log : LogRec PlanRec) → slice_get logs link ≡ Some log → IsLogOf cells.plan link log)
+      (has_left : (n : Position) (ends : Ends) → slice_get (map ends_of parts) n ≡ Some ends → AllByRecursion (HasLeft logs) ends.outgoing.items) where
+    told_by : (n : Position) (ends : Ends) → slice_get (map ends_of parts) n ≡ Some ends → AllByRecursion (IsToldTo limit) ends.outgoing.items
+    told_by n ends here =
+        let part = from_map ends_of parts n ends here in
+        subst (λ (e : Ends). AllByRecursion (IsToldTo limit) e.outgoing.items) part.2
+        (recursion_from_All (IsToldTo limit) part.0.ends.outgoing.items (left n part.0 part.1).told)
+
+    each_link : (link : LinkNumber) (log : LogRec PlanRec) → slice_get logs link ≡ Some log → IsFull cells.plan limit link log
+    each_link link log here =
+        let below : link < length (directions cells.plan.links) = omega (arith, slice_get_within logs link log here, links) in
+        let by = left_by cells is (map ends_of parts) all_ends are_ends logs has_left link below log here in
+        let told = told_by by.writer.node by.writer.ends by.writer.ends_at in
+        record {
+          log_of = own link log here;
+          published = by.published ∙ all_at (IsToldTo limit) by.writer.ends.outgoing.items by.writer.place by.writer.end told by.writer.end_at;
+        }
+
+    pub gathered : IsGathered cells.plan limit (map runner_of parts) logs
+    gathered = record {
+      nodes = length-map parts runner_of ∙ nodes;
+      each_node = each_node;
+      links = links;
+      each_link = each_link;
+    }
+
+-- ---- What is read of it
+
+module _ (plan : PlanRec) (limit : Slot) (n : Position) (runner : RunnerRec) (has : HasRun plan limit n runner) where
+  abbrev Place : Type 0
+  Place = PlanRec × Slot × Position
+
+  same_place : ◌≡◌ {A = Place} (runner.plan, runner.clock, runner.node) (plan, limit, n)
+  same_place = λ i. (has.plan_is i, has.clock i, has.node i)
+
+  pub stands_there : (core : CoreValue) → StandsAt core (node_in (serial runner.plan runner.clock) runner.node) runner.clock → StandsAt core (node_in (serial plan limit) n) limit
+  stands_there core stands = subst (λ (p : Place). StandsAt core (node_in (serial p.0 p.1) p.2) p.1) same_place stands
+
+  pub keeps_there : (kept : KeptEvents) → Keeps kept (events_in (serial runner.plan runner.clock) runner.node) → Keeps kept (events_in (serial plan limit) n)
+  keeps_there kept keeps = subst (λ (p : Place). Keeps kept (events_in (serial p.0 p.1) p.2)) same_place keeps
+
+module _ (plan : PlanRec) (limit : Slot) (runners : List RunnerRec) (logs : List (LogRec PlanRec)) (is : IsGathered plan limit runners logs) where
+  pub node_at : (n : Position) (runner : RunnerRec) → n < length plan.nodes → runner ≡ get_or runners n runner → HasRun plan limit n runner
+  node_at n runner below here =
+      is.each_node n runner (slice_get-get_or runners n runner (omega (arith, below, is.nodes)) ∙ ap (λ (r : RunnerRec). Some r) (sym here))
+
+  pub carried : (link : LinkNumber) (log : LogRec PlanRec) → link < length (directions plan.links) → log ≡ get_or logs link log → log.entries ≡ history plan link 0 limit
+  carried link log below here =
+      let full = is.each_link link log (slice_get-get_or logs link log (omega (arith, below, is.links)) ∙ ap (λ (l : LogRec PlanRec). Some l) (sym here)) in
+      full.log_of.entries ∙ ap (history plan link 0) full.published
