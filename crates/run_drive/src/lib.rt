@@ -2,6 +2,7 @@
 #![tactic(auto)]
 
 mod error;
+mod free;
 mod lane;
 mod play;
 mod played;
@@ -11,6 +12,7 @@ mod stage;
 mod tests;
 
 pub use error::DriveError;
+pub use free::drive_free;
 pub use play::drive_play;
 pub use played::{PlayLine, Played};
 pub use serial::drive_serial;

@@ -1,0 +1,12 @@
+//! The workers of all nodes of a plan, each in a thread of its own where one can be started. See docs/LOOKAHEAD.md.
+#![tactic(auto)]
+
+mod fresh;
+mod here;
+mod node;
+mod seat;
+mod team;
+#[cfg(test)]
+mod tests;
+
+pub use team::run_workers;

@@ -1,0 +1,154 @@
+//! How the workers of all nodes are run at once.
+ghost use Rattle.std.specs.Prelude.{◌≡◌, Some, IfOk, length, slice_get};
+ghost use Rattle.std.specs.List.{AllByRecursion};
+ghost use Rattle.xs_base.specs.Numbers.{Slot, Position};
+ghost use Rattle.plan_cells.specs.declared.ends.Ends as node_ends;
+ghost use Rattle.plan_cells.specs.Ends.{CellsRec, AreNewEnds};
+ghost use Rattle.core_workers.specs.Worker.{WorkerRec};
+ghost use Rattle.core_workers.specs.Run.{IsLeftAt};
+ghost use Rattle.worker_threads.specs.Team.{AreFresh, AreSeats, AreLeft, AreParts, IsReady};
+
+use crate::fresh::{Fresh, fresh_nodes};
+use crate::node::Left;
+use crate::seat::{Seat, seat_of};
+use core_workers::{Ended, Lanes, Part};
+use plan_cells::Ends;
+use std::alloc::{AllocError, Global};
+use std::sync::Wait;
+use std::sync::atomic::AtomicBool;
+use std::thread;
+use std::thread::{Scope, Threads, yield_now};
+use sys_plan::Plan;
+use xs_edge::Gate;
+
+/// Runs the nodes of a plan for so many slots, each by a worker of its own over these lanes, and gives what is left of the workers, by
+/// position. `ends` are the ends that the lanes have for the nodes. Each worker runs in a thread of its own, where one can be started; the
+/// turns of the others are taken in this thread, one after the other. It returns when all workers have ended. The error is want of memory,
+/// here or in a worker.
+pub fn run_workers<R: Threads + Wait + Sync, G: Gate>(
+    rt: &R,
+    alloc: Global,
+    plan: &Plan,
+    lanes: &Lanes,
+    ends: Vec<Ends>,
+    limit: u32,
+    gate: &G,
+) -> Result<Vec<Part>, AllocError>
+    requires plan { lanes.now.plan ≡ plan.now }
+    requires nodes { length ends.items ≡ length plan.now.nodes }
+    requires new_ends { (n : Position) (e : node_ends.Ends) → slice_get ends.items n ≡ Some e → AreNewEnds lanes.now n e }
+    ensures nodes { IfOk result (λ parts. length parts.items ≡ length plan.now.nodes) }
+    ensures at_limit { IfOk result (λ parts. (n : Position) (part : WorkerRec) → slice_get parts.items n ≡ Some part → IsLeftAt lanes.now limit n part) }
+{
+    let nodes = fresh_nodes(alloc, plan, lanes, ends, limit)?;
+    let refused = &no_flags(alloc, nodes.len())?;
+    let all = thread::scope(
+        thread::scope_env(),
+        rt,
+        |scope| -> Result<Vec<Left>, AllocError>
+            requires { AreFresh lanes.now limit nodes.items × (length refused.now.items ≡ length lanes.now.plan.nodes) }
+            ensures { IfOk result (λ all. AreLeft lanes.entry.now limit all.items) }
+        {
+            let mut seats = seats_of(scope, rt, alloc, lanes, refused, gate, nodes, limit)?;
+            take_turns(rt, gate, &mut seats);
+            all_left(rt, alloc, lanes, gate, seats)
+        },
+    )?;
+    parts_of(alloc, all)
+}
+
+// A flag for each node, which is not set.
+fn no_flags(alloc: Global, nodes: usize) -> Result<Vec<AtomicBool>, AllocError>
+    ensures count { IfOk result (λ flags. length flags.items ≡ nodes) }
+{
+    let mut flags = Vec::with_capacity(alloc, nodes)?;
+    for _ in 0..nodes {
+        flags.push(AtomicBool::new(false))?;
+    }
+    Ok(flags)
+}
+
+// The seats of all nodes, by position. The memory for them is there before the first thread is started: none of them waits for a node
+// that has no seat.
+fn seats_of<'s, E, R: Wait + Sync, G: Gate>(
+    scope: &Scope<'s, E>,
+    rt: &'s R,
+    alloc: Global,
+    lanes: &'s Lanes,
+    refused: &'s Vec<AtomicBool>,
+    gate: &'s G,
+    nodes: Vec<Fresh>,
+    limit: u32,
+) -> Result<Vec<Seat<'s>>, AllocError>
+    requires fresh { AreFresh lanes.now limit nodes.items }
+    requires flags { length refused.now.items ≡ length lanes.now.plan.nodes }
+    ensures seats { IfOk result (λ seats. AreSeats lanes.now limit seats.items) }
+    ensures ready { IfOk result (λ seats. AllByRecursion IsReady seats.items) }
+{
+    let mut seats = Vec::with_capacity(alloc, nodes.len())?;
+    for node in nodes {
+        seats.push(seat_of(scope, rt, lanes, refused, gate, node, limit))?;
+    }
+    Ok(seats)
+}
+
+// Takes the turns of the nodes that this thread runs, one after the other, until all their runs are over.
+fn take_turns<'s, R: Wait, G: Gate>(rt: &R, gate: &G, seats: &mut Vec<Seat<'s>>)
+    requires ready { AllByRecursion IsReady seats.old.items }
+    ensures ready { AllByRecursion IsReady seats.new.items }
+    ensures seats { (cells : CellsRec) (limit : Slot) → AreSeats cells limit seats.old.items → AreSeats cells limit seats.new.items }
+{
+    for _ in rt.forever() {
+        if !take_one_turn_each(rt, gate, seats) {
+            return;
+        }
+        yield_now();
+    }
+}
+
+// One turn of each of them. It tells whether any of their runs goes on.
+fn take_one_turn_each<'s, R: Wait, G: Gate>(rt: &R, gate: &G, seats: &mut Vec<Seat<'s>>) -> bool
+    requires ready { AllByRecursion IsReady seats.old.items }
+    ensures ready { AllByRecursion IsReady seats.new.items }
+    ensures seats { (cells : CellsRec) (limit : Slot) → AreSeats cells limit seats.old.items → AreSeats cells limit seats.new.items }
+{
+    let mut some = false;
+    for n in 0..seats.len() {
+        some = seats[n].turn(rt, gate) || some;
+    }
+    some
+}
+
+// Waits for the ends of all runs.
+fn all_left<'s, R: Threads + Wait, G: Gate>(
+    rt: &R,
+    alloc: Global,
+    lanes: &'s Lanes,
+    gate: &G,
+    seats: Vec<Seat<'s>>,
+) -> Result<Vec<Left>, AllocError>
+    requires ready { AllByRecursion IsReady seats.items }
+    requires seats { (limit : Slot) × AreSeats lanes.now limit seats.items }
+    ensures all { (limit : Slot) → AreSeats lanes.now limit seats.entry.items → IfOk result (λ all. AreLeft lanes.now limit all.items) }
+{
+    let mut all = Vec::with_capacity(alloc, seats.len())?;
+    for seat in seats {
+        all.push(seat.left(rt, lanes, gate))?;
+    }
+    Ok(all)
+}
+
+// What is left of all workers, where each has run all slots. The error is want of memory, also where it was wanting in one of them.
+fn parts_of(alloc: Global, all: Vec<Left>) -> Result<Vec<Part>, AllocError>
+    ensures parts { (cells : CellsRec) (limit : Slot) → AreLeft cells limit all.items → IfOk result (λ parts. AreParts cells limit parts.items) }
+{
+    let mut parts = Vec::with_capacity(alloc, all.len())?;
+    for left in all {
+        let Left { part, ended } = left;
+        match ended {
+            Ended::Finished => parts.push(part)?,
+            Ended::Stopped | Ended::Memory => return Err(AllocError),
+        }
+    }
+    Ok(parts)
+}
