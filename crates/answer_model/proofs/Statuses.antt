@@ -3,7 +3,7 @@ use Rattle.std.proofs.Common.{◌≡◌, ℕ, ◌↔◌, List, Option, Some, Non
 use Rattle.sys_plan.specs.Plan.{PlanRec}
 use Rattle.system_model.specs.System.{System, Plan, Frame, Source, Pins, system_of}
 use Rattle.answer_model.specs.declared.Form.{Form}
-use Rattle.answer_model.specs.declared.Form.TheVariants.{Run, Play, Check}
+use Rattle.answer_model.specs.declared.Form.TheVariants.{Free, Serial, Play, Check}
 use Rattle.answer_model.specs.declared.Status.{Status}
 use Rattle.answer_model.specs.declared.Status.TheVariants as status
 use Rattle.answer_model.specs.Forms.{form_of_words}
@@ -20,7 +20,8 @@ Tells wanted IsOfKind = (text_for : PlanRec → List ℕ) (system : System) → 
 
 of_form : (wanted : Status) (IsOfKind : System → Type 0) → Tells wanted IsOfKind → (form : Option Form) (input : List ℕ) → ReadsSystem form → ((answer_of_form form input).status ≡ wanted) ↔ IsOfKind (system_of input)
 of_form wanted IsOfKind tells None input h = absurd h
-of_form wanted IsOfKind tells (Some (Run slots)) input h = tells (run_text slots) (system_of input)
+of_form wanted IsOfKind tells (Some (Free slots)) input h = tells (run_text slots) (system_of input)
+of_form wanted IsOfKind tells (Some (Serial slots)) input h = tells (run_text slots) (system_of input)
 of_form wanted IsOfKind tells (Some (Play slots)) input h = tells (played_text slots) (system_of input)
 of_form wanted IsOfKind tells (Some Check) input h = tells check_text (system_of input)
 

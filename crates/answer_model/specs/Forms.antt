@@ -1,10 +1,10 @@
--- The forms of the program's words: the table, the usage line beside it, and which forms read the input.
-use Rattle.std.specs.Prelude.{ℕ, nat_le, Bool, true, false, if◌then◌else◌, ◌&&◌, Option, Some, None, option_and_then, List, [], ◌∷◌, length, codes}
+-- The forms of the program's words: the table, the usage line beside it, which forms read the input, and which may wait for others.
+use Rattle.std.specs.Prelude.{ℕ, nat_le, Bool, true, false, if◌then◌else◌, Option, Some, None, option_and_then, List, [], ◌∷◌, length, codes}
 use Rattle.std.specs.Char.{is_ascii_digit}
 use Rattle.xs_instructions.specs.Image.{same_name}
 use Rattle.xs_text.specs.Numbers.{at_most, value_in}
 use Rattle.answer_model.specs.declared.Form.{Form}
-use Rattle.answer_model.specs.declared.Form.TheVariants.{Run, Play, Check}
+use Rattle.answer_model.specs.declared.Form.TheVariants.{Free, Serial, Play, Check}
 
 -- one to ten decimal digits, of a value of at most a limit
 abbrev pub decimal_up_to : ℕ → List ℕ → Option ℕ
@@ -13,9 +13,12 @@ decimal_up_to limit word = if nat_le (length word) 10 then at_most limit (value_
 abbrev pub most_slots : ℕ
 most_slots = 1000000
 
--- the run of so many slots as the word says, and the play in such a run
-abbrev pub run_of : List ℕ → Option Form
-run_of word = option_and_then (λ slots. Some (Run slots)) (decimal_up_to most_slots word)
+-- the run of so many slots as the word says, by workers in threads or all nodes together, and the play in such a run
+abbrev pub free_of : List ℕ → Option Form
+free_of word = option_and_then (λ slots. Some (Free slots)) (decimal_up_to most_slots word)
+
+abbrev pub serial_of : List ℕ → Option Form
+serial_of word = option_and_then (λ slots. Some (Serial slots)) (decimal_up_to most_slots word)
 
 abbrev pub play_of : List ℕ → Option Form
 play_of word = option_and_then (λ slots. Some (Play slots)) (decimal_up_to most_slots word)
@@ -23,14 +26,20 @@ play_of word = option_and_then (λ slots. Some (Play slots)) (decimal_up_to most
 -- the form of two words
 abbrev pub form_of_two : List ℕ → List ℕ → Option Form
 form_of_two command slots =
-    if same_name (codes "run") command then run_of slots
+    if same_name (codes "run") command then free_of slots
     else (if same_name (codes "play") command then play_of slots else None)
 
--- the form of the words, if they have one: `check`, `play SLOTS`, `run SLOTS` or `run SLOTS serial`, the last two the same
+-- the form of a run with a mode
+abbrev pub form_of_mode : List ℕ → List ℕ → Option Form
+form_of_mode slots mode =
+    if same_name (codes "free") mode then free_of slots
+    else (if same_name (codes "serial") mode then serial_of slots else None)
+
+-- the form of the words, if they have one: `check`, `play SLOTS`, `run SLOTS` and `run SLOTS free`, which are the same, or `run SLOTS serial`
 unfoldable pub form_of_words : List (List ℕ) → Option Form
 form_of_words (a ∷ []) = if same_name (codes "check") a then Some Check else None
 form_of_words (a ∷ n ∷ []) = form_of_two a n
-form_of_words (a ∷ n ∷ mode ∷ []) = if same_name (codes "run") a && same_name (codes "serial") mode then run_of n else None
+form_of_words (a ∷ n ∷ mode ∷ []) = if same_name (codes "run") a then form_of_mode n mode else None
 form_of_words _ = None
 
 abbrev pub usage_text : List ℕ
@@ -38,7 +47,8 @@ usage_text = codes "usage: xs1 run SLOTS [serial|free|rounds] | play SLOTS | mak
 
 -- whether a form asks for the input
 abbrev pub reads_input : Form → Bool
-reads_input (Run slots) = true
+reads_input (Free slots) = true
+reads_input (Serial slots) = true
 reads_input (Play slots) = true
 reads_input Check = true
 
@@ -46,3 +56,15 @@ reads_input Check = true
 abbrev pub asks_for_input : Option Form → Bool
 asks_for_input None = false
 asks_for_input (Some form) = reads_input form
+
+-- whether a form may wait for others: workers in threads do, for each other
+abbrev pub may_wait : Form → Bool
+may_wait (Free slots) = true
+may_wait (Serial slots) = false
+may_wait (Play slots) = false
+may_wait Check = false
+
+-- whether words of this form, or of none, may wait
+abbrev pub form_may_wait : Option Form → Bool
+form_may_wait None = false
+form_may_wait (Some form) = may_wait form

@@ -2,7 +2,7 @@
 use Rattle.std.specs.Prelude.{ℕ, ◌≡◌, ◌↔◌, Option, Some, None, List}
 use Rattle.system_model.specs.System.{System, Plan, Frame, Source, Pins, system_of}
 use Rattle.answer_model.specs.declared.Form.{Form}
-use Rattle.answer_model.specs.declared.Form.TheVariants.{Run, Play, Check}
+use Rattle.answer_model.specs.declared.Form.TheVariants.{Free, Serial, Play, Check}
 use Rattle.answer_model.specs.declared.Status.{Status}
 use Rattle.answer_model.specs.declared.Status.TheVariants.{Done, Usage, SystemFault, SourceFault, ScriptFault}
 use Rattle.answer_model.specs.Forms.{form_of_words}
@@ -36,10 +36,11 @@ RefusesNothing (Frame line kind) = ⊥
 RefusesNothing (Source node line kind) = ⊥
 RefusesNothing (Pins line kind) = ⊥
 
--- the form is `run SLOTS`, `run SLOTS serial`, `play SLOTS` or `check`
+-- the form is that of `run SLOTS`, with a mode or without, of `play SLOTS` or of `check`
 abbrev pub ReadsSystem : Option Form → Type 0
 ReadsSystem None = ⊥
-ReadsSystem (Some (Run slots)) = Unit {0}
+ReadsSystem (Some (Free slots)) = Unit {0}
+ReadsSystem (Some (Serial slots)) = Unit {0}
 ReadsSystem (Some (Play slots)) = Unit {0}
 ReadsSystem (Some Check) = Unit {0}
 

@@ -2,7 +2,7 @@
 use Rattle.std.specs.Prelude.{ℕ, ◌+◌, min, if◌then◌else◌, Option, Some, None, List, length}
 use Rattle.system_model.specs.System.{longest_input}
 use Rattle.answer_model.specs.declared.Form.{Form}
-use Rattle.answer_model.specs.declared.Form.TheVariants.{Run, Play, Check}
+use Rattle.answer_model.specs.declared.Form.TheVariants.{Free, Serial, Play, Check}
 use Rattle.answer_model.specs.declared.Answer.{Answer}
 use Rattle.answer_model.specs.declared.Status.TheVariants as status
 use Rattle.answer_model.specs.Forms.{form_of_words, usage_text, asks_for_input}
@@ -12,7 +12,8 @@ use Rattle.answer_model.specs.CheckForm.{check_answer}
 
 -- what a form answers to the bytes of the input
 abbrev pub answer_by : Form → List ℕ → Answer
-answer_by (Run slots) input = run_answer slots input
+answer_by (Free slots) input = run_answer slots input
+answer_by (Serial slots) input = run_answer slots input
 answer_by (Play slots) input = play_answer slots input
 answer_by Check input = check_answer input
 

@@ -17,8 +17,10 @@ use xs_base::Text;
 /// The forms of the command words. See docs/OUTPUT.md.
 #[derive(Clone, Copy)]
 pub enum Form {
-    /// `run SLOTS`, and `run SLOTS serial` likewise: a run of so many slots.
-    Run(u32),
+    /// `run SLOTS`, and `run SLOTS free` likewise: a run of so many slots, by workers in threads.
+    Free(u32),
+    /// `run SLOTS serial`: a run of so many slots, all nodes together.
+    Serial(u32),
     /// `play SLOTS`: the steps of the system's schedule one by one, in a run of so many slots.
     Play(u32),
     /// `check`: the source of each node as its image gives it.

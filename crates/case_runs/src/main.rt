@@ -1,7 +1,8 @@
 //! Gives each case of the files in data/ to the program's call, and says which of them it answers otherwise than the case
-//! says and how many it answers so. The texts that the cases expect were written by hand, from docs/ASSEMBLY.md,
-//! docs/SYSTEM_TEXT.md, docs/INSTRUCTIONS.md and docs/OUTPUT.md. Sources and systems that reach the limits of a memory or
-//! of the whole input are too long for a file: the tests of xs_assembler and of xs1_top try those.
+//! says and how many it answers so. A case of `run SLOTS` is tried with `run SLOTS serial` too. The texts that the cases
+//! expect were written by hand, from docs/ASSEMBLY.md, docs/SYSTEM_TEXT.md, docs/INSTRUCTIONS.md and docs/OUTPUT.md. Sources
+//! and systems that reach the limits of a memory or of the whole input are too long for a file: the tests of xs_assembler and
+//! of xs1_top try those.
 #![tactic(auto)]
 
 mod case;
@@ -9,6 +10,9 @@ mod case;
 use anyhow::{Context, Result};
 use case::Case;
 use std::fs;
+use std::rt::Files;
+use std::sync::Wait;
+use std::thread::Threads;
 use xs_edge::{ListSink, ListSource, OpenGate};
 use xs1_top::top;
 
@@ -50,7 +54,11 @@ struct Tried {
 
 impl Tried {
     // Tries the cases of a file, one a line, and tells those that were answered otherwise.
-    fn try_file(&mut self, rt: &HostRuntime, file: &str) -> Result<()> {
+    fn try_file<R: Threads + Wait + Sync + Files + Print + AllocGlobal>(
+        &mut self,
+        rt: &R,
+        file: &str,
+    ) -> Result<()> {
         for line in fs::read_to_string(rt, file)?.lines() {
             let case = Case::read(rt.alloc(), line).context("a line of the cases is no case")?;
             self.cases = self.cases.saturating_add(1);
@@ -64,10 +72,29 @@ impl Tried {
     }
 }
 
-// Whether the program, given the words and the input of the case, ends with its status and writes its text.
-fn agrees(rt: &HostRuntime, case: &Case) -> Result<bool> {
+// Whether the program answers the case as it says: a case that runs its system in threads is tried by the serial machine too.
+fn agrees<R: Threads + Wait + Sync + AllocGlobal>(rt: &R, case: &Case) -> Result<bool> {
+    let mut all = answers_to(rt, case, &case.words)?;
+    if let [command, slots] = case.words.as_slice() {
+        if command == "run" {
+            let mut words = Vec::new(rt.alloc());
+            words.push(command.clone()?)?;
+            words.push(slots.clone()?)?;
+            words.push("serial".to_string(rt.alloc())?)?;
+            all = answers_to(rt, case, &words)? && all;
+        }
+    }
+    Ok(all)
+}
+
+// Whether the program, given these words and the input of the case, ends with its status and writes its text.
+fn answers_to<R: Threads + Wait + Sync + AllocGlobal>(
+    rt: &R,
+    case: &Case,
+    words: &[String],
+) -> Result<bool> {
     let mut source = ListSource::new(case.input_bytes(rt.alloc())?);
     let mut sink = ListSink::with_room(rt.alloc(), LONGEST_TEXT)?;
-    let status = top(rt.alloc(), &case.words, &mut source, &mut sink, &OpenGate);
+    let status = top(rt, rt.alloc(), words, &mut source, &mut sink, &OpenGate);
     Ok(status.number() == case.status && case.has_text(sink.bytes()))
 }

@@ -8,7 +8,10 @@ mod timeline;
 
 use anyhow::{Context, Result};
 use slots::pictures_as;
+use std::alloc::Global;
 use std::rt::Files;
+use std::sync::Wait;
+use std::thread::Threads;
 use std::{fs, io};
 use timeline::text_after;
 use xs_edge::{ListSink, ListSource, OpenGate};
@@ -60,7 +63,10 @@ fn names(rt: &HostRuntime, ending: &str) -> Result<Vec<String>> {
 }
 
 // Whether the run ends and writes as it should.
-fn is_as_expected(rt: &HostRuntime, name: &str) -> Result<bool> {
+fn is_as_expected<R: Threads + Wait + Sync + Files + AllocGlobal>(
+    rt: &R,
+    name: &str,
+) -> Result<bool> {
     let line = fs::read_to_string(rt, format!(in rt.alloc(); "{name}.args")?)?;
     let expected = fs::read(rt, format!(in rt.alloc(); "{name}.txt")?)?;
     writes(rt, system_of(name), &line, &expected, status_of(rt, name)?)
@@ -75,7 +81,7 @@ fn system_of(name: &str) -> &str {
 }
 
 // The number that the example is to end with: that of its file, or 0 where it has none.
-fn status_of(rt: &HostRuntime, name: &str) -> Result<u8> {
+fn status_of<R: Files + AllocGlobal>(rt: &R, name: &str) -> Result<u8> {
     match fs::read_to_string(rt, format!(in rt.alloc(); "{name}.status")?) {
         Ok(number) => Ok(number.trim().parse()?),
         Err(error) if error.kind() == io::ErrorKind::NotFound => Ok(Status::Done.number()),
@@ -84,7 +90,7 @@ fn status_of(rt: &HostRuntime, name: &str) -> Result<u8> {
 }
 
 // Whether the pair, after each number of slots, wrote what its timeline says.
-fn timeline_is_as_expected(rt: &HostRuntime) -> Result<bool> {
+fn timeline_is_as_expected<R: Threads + Wait + Sync + Files + AllocGlobal>(rt: &R) -> Result<bool> {
     let timeline = fs::read_to_string(rt, "pair.timeline")?;
     for slots in 0..=TIMELINE_SLOTS {
         let line = format!(in rt.alloc(); "run {slots}")?;
@@ -105,20 +111,26 @@ fn slots_are_as_expected(rt: &HostRuntime, name: &str, pictures: &str) -> Result
 }
 
 // Whether the example, given to the program with the words of a line, ends with this number and writes this text.
-fn writes(rt: &HostRuntime, name: &str, line: &str, expected: &[u8], number: u8) -> Result<bool> {
-    let words = words(rt, line)?;
+fn writes<R: Threads + Wait + Sync + Files + AllocGlobal>(
+    rt: &R,
+    name: &str,
+    line: &str,
+    expected: &[u8],
+    number: u8,
+) -> Result<bool> {
+    let words = words(rt.alloc(), line)?;
     let input = fs::read(rt, format!(in rt.alloc(); "{name}.xs1")?)?;
     let mut source = ListSource::new(input);
     let mut sink = ListSink::with_room(rt.alloc(), LONGEST_TEXT)?;
-    let status = top(rt.alloc(), &words, &mut source, &mut sink, &OpenGate);
+    let status = top(rt, rt.alloc(), &words, &mut source, &mut sink, &OpenGate);
     Ok(status.number() == number && sink.bytes() == expected)
 }
 
 // The words of a line.
-fn words(rt: &HostRuntime, line: &str) -> Result<Vec<String>> {
-    let mut words = Vec::new(rt.alloc());
+fn words(alloc: Global, line: &str) -> Result<Vec<String>> {
+    let mut words = Vec::new(alloc);
     for word in line.split_whitespace() {
-        words.push(word.to_string(rt.alloc())?)?;
+        words.push(word.to_string(alloc)?)?;
     }
     Ok(words)
 }

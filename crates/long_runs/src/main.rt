@@ -11,6 +11,8 @@ mod trial;
 
 use anyhow::Result;
 use std::alloc::AllocError;
+use std::sync::Wait;
+use std::thread::Threads;
 use trial::Trial;
 
 fn main(rt: HostRuntime) -> Result<()> {
@@ -29,8 +31,12 @@ fn main(rt: HostRuntime) -> Result<()> {
 }
 
 // Tells whether the program answers as the trial says.
-fn tell(rt: &HostRuntime, name: &str, trial: Result<Trial, AllocError>) -> Result<()> {
-    let verdict = if trial?.is_as_expected(rt.alloc())? {
+fn tell<R: Threads + Wait + Sync + Print + AllocGlobal>(
+    rt: &R,
+    name: &str,
+    trial: Result<Trial, AllocError>,
+) -> Result<()> {
+    let verdict = if trial?.is_as_expected(rt, rt.alloc())? {
         "as expected"
     } else {
         "differs"

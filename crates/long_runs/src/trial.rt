@@ -1,6 +1,8 @@
 //! A trial: what the program is given, and what it is to answer.
 
 use std::alloc::{AllocError, Global};
+use std::sync::Wait;
+use std::thread::Threads;
 use xs_edge::{ListSink, ListSource, OpenGate};
 use xs1_top::{Status, top};
 
@@ -22,14 +24,18 @@ pub struct Trial {
 
 impl Trial {
     /// Whether the program ends and writes so. `AllocError` comes where memory runs out.
-    pub fn is_as_expected(&self, alloc: Global) -> Result<bool, AllocError> {
+    pub fn is_as_expected<R: Threads + Wait + Sync>(
+        &self,
+        rt: &R,
+        alloc: Global,
+    ) -> Result<bool, AllocError> {
         let mut words = Vec::new(alloc);
         for word in self.words.split_whitespace() {
             words.push(word.to_string(alloc)?)?;
         }
         let mut source = ListSource::new(self.input.as_bytes().to_vec(alloc)?);
         let mut sink = ListSink::with_room(alloc, LONGEST_TEXT)?;
-        let status = top(alloc, &words, &mut source, &mut sink, &OpenGate);
+        let status = top(rt, alloc, &words, &mut source, &mut sink, &OpenGate);
         Ok(status == self.status && sink.bytes() == self.text.as_bytes())
     }
 }

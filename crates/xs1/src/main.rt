@@ -12,7 +12,7 @@ fn main(rt: HostRuntime) -> ExitCode {
         Ok(words) => {
             let mut source = StdSource::new(rt.stdin());
             let mut sink = StdSink::new(rt.stdout());
-            top(rt.alloc(), &words, &mut source, &mut sink, &OpenGate)
+            top(&rt, rt.alloc(), &words, &mut source, &mut sink, &OpenGate)
         }
         Err(_) => Status::Memory,
     };

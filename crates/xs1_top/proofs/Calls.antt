@@ -5,7 +5,7 @@ use Rattle.std.proofs.Math.Seq.{drop-append_seam}
 use Rattle.std.specs.Io.KnownBytes.{Appends, Consumes}
 use Rattle.xs_edge.specs.Edge.{AppendsPart}
 use Rattle.answer_model.specs.declared.Form.{Form}
-use Rattle.answer_model.specs.declared.Form.TheVariants.{Run, Play, Check}
+use Rattle.answer_model.specs.declared.Form.TheVariants.{Free, Serial, Play, Check}
 use Rattle.answer_model.specs.declared.Answer.{Answer}
 use Rattle.answer_model.specs.declared.Status.{Status}
 use Rattle.answer_model.specs.declared.Status.TheVariants as status
@@ -21,7 +21,8 @@ use Rattle.xs1_top.proofs.Systems.{system_of-taken}
 
 -- what each form answers to the bytes taken is what it answers to the input
 answer_by-taken : (form : Form) (input : List ℕ) → answer_by form (take (taken_by (Some form) input) input) ≡ answer_by form input
-answer_by-taken (Run slots) input = ap (answer_to (run_text slots)) (system_of-taken input)
+answer_by-taken (Free slots) input = ap (answer_to (run_text slots)) (system_of-taken input)
+answer_by-taken (Serial slots) input = ap (answer_to (run_text slots)) (system_of-taken input)
 answer_by-taken (Play slots) input = ap (answer_to (played_text slots)) (system_of-taken input)
 answer_by-taken Check input = ap (answer_to check_text) (system_of-taken input)
 

@@ -3,7 +3,7 @@ use Rattle.std.specs.Prelude.{ℕ, ◌≡◌, ◌≤◌, Option, Some, None, IfS
 use Rattle.std.specs.Io.KnownBytes.{Appends}
 use Rattle.xs_edge.specs.Edge.{HasRisen, AppendsPart}
 use Rattle.answer_model.specs.declared.Form.{Form}
-use Rattle.answer_model.specs.declared.Form.TheVariants.{Run, Play, Check}
+use Rattle.answer_model.specs.declared.Form.TheVariants.{Free, Serial, Play, Check}
 use Rattle.answer_model.specs.declared.Status.{Status}
 use Rattle.answer_model.specs.declared.Status.TheVariants.{Done, Memory, Usage, SystemFault, SourceFault, ScriptFault, ReadFault, WriteFault}
 use Rattle.answer_model.specs.Forms.{most_slots}
@@ -11,7 +11,8 @@ use Rattle.answer_model.specs.Top.{answer, taken}
 
 -- a run of the form, and that in which it plays, has no more slots than a run may have
 abbrev pub HasFewSlots : Form → Type 0
-HasFewSlots (Run slots) = slots ≤ most_slots
+HasFewSlots (Free slots) = slots ≤ most_slots
+HasFewSlots (Serial slots) = slots ≤ most_slots
 HasFewSlots (Play slots) = slots ≤ most_slots
 HasFewSlots Check = Unit {0}
 

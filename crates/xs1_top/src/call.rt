@@ -1,31 +1,34 @@
-//! The program's one call.
-ghost use Rattle.std.specs.Prelude.{ℕ, ◌≡◌, ◌≢◌, ◌<◌, ◌+◌, ◌⊎◌, false, None, IfOk, map, string_bytes};
-ghost use Rattle.std.specs.Io.KnownBytes.{Appends};
-ghost use Rattle.xs_edge.specs.Edge.{HasRisen, AppendsPart};
+//! The program's one call, and the same for words of which no form may wait.
+ghost use Rattle.std.specs.Prelude.{◌≡◌, ◌≢◌, ◌<◌, ◌+◌, ◌⊎◌, false, None, IfOk, map, string_bytes};
+ghost use Rattle.xs_edge.specs.Edge.{HasRisen};
 ghost use Rattle.system_model.specs.System.{longest_input};
-ghost use Rattle.answer_model.specs.Forms.{asks_for_input, form_of_words};
+ghost use Rattle.answer_model.specs.Forms.{asks_for_input, form_may_wait, form_of_words, may_wait};
 ghost use Rattle.answer_model.specs.Top.{answer_by};
 ghost use Rattle.xs1_top.specs.Call.{IsWhole, IsRead, IsSilent, Answers, AnswersInPart, TookInput, IsAnswerStatus, EndsWhere, IsCalm};
 ghost use Rattle.xs1_top.specs.Reads.{ReadsAtMost};
 
-use crate::input::{ReadError, read_for};
-use crate::output::write_all;
+use crate::respond::{finish, respond};
 use crate::words::{form_of_words, usage_line};
 use crate::{check, play, run};
 pub use answer_model::Status;
 use answer_model::{Answer, Form};
 use std::alloc::{AllocError, Global};
+use std::sync::Wait;
+use std::thread::Threads;
 use xs_edge::{Gate, Sink, Source};
 
 /// The whole program: its words choose a form, the input is read to its end if the form asks for it, and what the form
-/// answers to it is written. `run SLOTS` and `run SLOTS serial` run the system that the input stands for and answer with
-/// the trace; `play SLOTS` takes the steps of its schedule one by one, in a run of so many slots, and answers with what each
+/// answers to it is written. `run SLOTS` and `run SLOTS free` run the system that the input stands for, each node on a worker of its
+/// own that passes `gate` before each of its turns, `run SLOTS serial` runs it all nodes together, and all three answer with the
+/// trace; `play SLOTS` takes the steps of its schedule one by one, in a run of so many slots, and answers with what each
 /// leaves and publishes; `check` runs nothing and answers with each node's source as its image gives it. `words` are the
-/// program's, without its name. Nothing is written before all is done, and writing takes no memory. Nothing waits at `gate` yet. See
-/// docs/OUTPUT.md.
+/// program's, without its name. Nothing is written before all is done, and writing takes no memory. See docs/OUTPUT.md.
 ///
 /// With words of no form, or of one that asks for no input, nothing is read. Of an input no more than 4,194,305 bytes are
 /// read, and one of more than 4,194,304 bytes is refused as a system text.
+///
+/// With `run SLOTS` and `run SLOTS free` it may never return, since workers wait for each other; with all other words it does what
+/// `top_plain` does, which returns.
 ///
 /// The statuses, of which `Status::number` gives the number; the definition of each form says which of `Done`,
 /// `SystemFault`, `SourceFault` and `ScriptFault` it answers, and `statuses_of_systems` of answer_model where:
@@ -38,7 +41,8 @@ use xs_edge::{Gate, Sink, Source};
 /// - `ReadFault`: a read failed, so the source's count of faults has risen. Nothing was written.
 /// - `WriteFault`: a write failed, so the sink's count of faults has risen. A front of what was to be written, or
 ///   nothing, was written.
-pub fn top<S: Source, K: Sink, G: Gate>(
+pub fn top<R: Threads + Wait + Sync, S: Source, K: Sink, G: Gate>(
+    rt: &R,
     alloc: Global,
     words: &[String],
     source: &mut S,
@@ -72,42 +76,76 @@ pub fn top<S: Source, K: Sink, G: Gate>(
     ensures done_given { result ≢ Status.Memory → IsCalm (S.faults source.old) (S.faults source.new) → IsCalm (K.faults sink.old) (K.faults sink.new)
         → EndsWhere Status.Done (map string_bytes words.now) (S.left source.old) result }
 {
+    let Some(Form::Free(slots)) = form_of_words(words) else {
+        return top_plain(alloc, words, source, sink, gate);
+    };
+    respond(
+        alloc,
+        words,
+        Form::Free(slots),
+        source,
+        sink,
+        |input| run::answer_freely(rt, alloc, slots, input, gate),
+    )
+}
+
+/// What `top` does with words of a form that waits for nobody, and with words of no form: with all but `run SLOTS` and
+/// `run SLOTS free`. It returns. Nothing passes `gate`. See docs/OUTPUT.md.
+///
+/// The statuses are those of `top`, and each comes as it does there.
+pub fn top_plain<S: Source, K: Sink, G: Gate>(
+    alloc: Global,
+    words: &[String],
+    source: &mut S,
+    sink: &mut K,
+    gate: &G,
+) -> Status
+    requires plain { form_may_wait (form_of_words (map string_bytes words.now)) ≡ false }
+
+    // What is written and what is read.
+    ensures answered { IsWhole result → Answers (map string_bytes words.now) (S.left source.old) (K.written sink.old) (K.written sink.new) result }
+    ensures part { result ≡ Status.WriteFault → AnswersInPart (map string_bytes words.now) (S.left source.old) (K.written sink.old) (K.written sink.new) }
+    ensures silent { IsSilent result → sink.new ≡ sink.old }
+    ensures left { IsRead result → TookInput (map string_bytes words.now) (S.left source.old) (S.left source.new) }
+    ensures reads { ReadsAtMost S.read_gives (longest_input + 1) source.old source.new }
+
+    // Where reads and writes fail.
+    ensures read_fault { result ≡ Status.ReadFault → HasRisen (S.faults source.old) (S.faults source.new) }
+    ensures read_fault_shown { S.faults source.old < S.faults source.new → result ≡ Status.ReadFault }
+    ensures write_fault { result ≡ Status.WriteFault → HasRisen (K.faults sink.old) (K.faults sink.new) }
+    ensures write_fault_shown { K.faults sink.old < K.faults sink.new → result ≡ Status.WriteFault }
+
+    // When each of the other statuses comes.
+    ensures usage { result ≡ Status.Usage → form_of_words (map string_bytes words.now) ≡ None }
+    ensures usage_given { form_of_words (map string_bytes words.now) ≡ None → (result ≡ Status.Usage) ⊎ (result ≡ Status.WriteFault) }
+    ensures reads_nothing { asks_for_input (form_of_words (map string_bytes words.now)) ≡ false → source.new ≡ source.old }
+    ensures system_fault { result ≡ Status.SystemFault → IsAnswerStatus Status.SystemFault (map string_bytes words.now) (S.left source.old) }
+    ensures system_fault_given { IsWhole result → EndsWhere Status.SystemFault (map string_bytes words.now) (S.left source.old) result }
+    ensures source_fault { result ≡ Status.SourceFault → IsAnswerStatus Status.SourceFault (map string_bytes words.now) (S.left source.old) }
+    ensures source_fault_given { IsWhole result → EndsWhere Status.SourceFault (map string_bytes words.now) (S.left source.old) result }
+    ensures script_fault { result ≡ Status.ScriptFault → IsAnswerStatus Status.ScriptFault (map string_bytes words.now) (S.left source.old) }
+    ensures script_fault_given { IsWhole result → EndsWhere Status.ScriptFault (map string_bytes words.now) (S.left source.old) result }
+    ensures done { result ≡ Status.Done → IsAnswerStatus Status.Done (map string_bytes words.now) (S.left source.old) }
+    ensures done_given { result ≢ Status.Memory → IsCalm (S.faults source.old) (S.faults source.new) → IsCalm (K.faults sink.old) (K.faults sink.new)
+        → EndsWhere Status.Done (map string_bytes words.now) (S.left source.old) result }
+{
     let Some(form) = form_of_words(words) else {
         return finish(sink, usage_line(), Status::Usage);
     };
-    let input = match read_for(alloc, form, source) {
-        Ok(input) => input,
-        Err(ReadError::Failed) => return Status::ReadFault,
-        Err(ReadError::Memory) => return Status::Memory,
-    };
-    match answer_by(alloc, form, &input) {
-        Ok(answer) => finish(sink, answer.text.bytes(), answer.status),
-        Err(AllocError) => Status::Memory,
-    }
+    respond(alloc, words, form, source, sink, |input| {
+        answer_plainly(alloc, form, input)
+    })
 }
 
-// What a form answers to the bytes of the input: each has its module. The error is want of memory.
-fn answer_by(alloc: Global, form: Form, input: &[u8]) -> Result<Answer, AllocError>
+// What a form that waits for nobody answers to the bytes of the input: each has its module. The error is want of memory.
+fn answer_plainly(alloc: Global, form: Form, input: &[u8]) -> Result<Answer, AllocError>
+    requires { may_wait form ≡ false }
     ensures { IfOk result (λ answer. answer ≡ answer_by form input.now) }
 {
     match form {
-        Form::Run(slots) => run::answer(alloc, slots, input),
+        Form::Free(_) => unreachable!(),
+        Form::Serial(slots) => run::answer_serially(alloc, slots, input),
         Form::Play(slots) => play::answer(alloc, slots, input),
         Form::Check => check::answer(alloc, input),
-    }
-}
-
-// Writes the text whole, and gives the status that the program ends with.
-fn finish<K: Sink>(sink: &mut K, text: &[u8], status: Status) -> Status
-    requires { IsWhole status }
-    ensures status { (result ≡ status) ⊎ (result ≡ Status.WriteFault) }
-    ensures whole { IsWhole result → Appends (K.written sink.old) (K.written sink.new) text.now }
-    ensures calm { IsWhole result → K.faults sink.new ≡ K.faults sink.old }
-    ensures part { result ≡ Status.WriteFault → AppendsPart (K.written sink.old) (K.written sink.new) text.now }
-    ensures fault { result ≡ Status.WriteFault → HasRisen (K.faults sink.old) (K.faults sink.new) }
-{
-    match write_all(sink, text) {
-        Ok(()) => status,
-        Err(_) => Status::WriteFault,
     }
 }

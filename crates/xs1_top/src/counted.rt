@@ -5,10 +5,13 @@ ghost use Rattle.system_model.specs.System.{longest_input};
 use crate::top;
 use answer_model::Status;
 use std::alloc::Global;
+use std::sync::Wait;
+use std::thread::Threads;
 use xs_edge::{CountingSource, Gate, Sink};
 
 /// The program's call over a source that counts its reads: it is read at most 4,194,305 times.
-pub fn top_counted<K: Sink, G: Gate>(
+pub fn top_counted<R: Threads + Wait + Sync, K: Sink, G: Gate>(
+    rt: &R,
     alloc: Global,
     words: &[String],
     source: &mut CountingSource,
@@ -17,5 +20,5 @@ pub fn top_counted<K: Sink, G: Gate>(
 ) -> Status
     ensures { source.new.reads ≤ source.old.reads + (longest_input + 1) }
 {
-    top(alloc, words, source, sink, gate)
+    top(rt, alloc, words, source, sink, gate)
 }

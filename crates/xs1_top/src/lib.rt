@@ -10,11 +10,12 @@ mod on_system;
 mod output;
 mod play;
 mod refusals;
+mod respond;
 mod run;
 #[cfg(test)]
 mod tests;
 mod words;
 
 pub use answer_model::Status;
-pub use call::top;
+pub use call::{top, top_plain};
 pub use counted::top_counted;

@@ -1,12 +1,16 @@
-//! One call that succeeds, and what the cases of case_runs cannot try: faults of the source and of the sink, and the
-//! longest input.
+//! Calls that succeed, and what the cases of case_runs cannot try: faults of the source and of the sink, the longest input, and
+//! that workers run at the same time.
 
-use crate::{top, top_counted};
-use answer_model::Status;
+use crate::words::form_of_words;
+use crate::{top, top_counted, top_plain};
+use answer_model::{Form, Status};
 use std::alloc::{AllocError, Global};
+use std::sync::Wait;
+use std::sync::atomic::{AtomicBool, Ordering};
 use std::test::Fail;
+use std::thread::Threads;
 use xs_edge::{
-    CountingSource, FailingSink, FailingSource, ListSink, ListSource, OpenGate, Sink, Source,
+    CountingSource, FailingSink, FailingSource, Gate, ListSink, ListSource, OpenGate, Sink, Source,
 };
 
 const SUM: &[u8] =
@@ -15,17 +19,91 @@ const SUM: &[u8] =
 // A system whose node has an empty source.
 const EMPTY: &[u8] = b"xs1 1\nnode 0 id 0\nsource 0\nend\n";
 
+// Two nodes, of which the first sends a token to the second.
+const PAIR: &[u8] =
+    b"xs1 1\nnode 0 id 0\nnode 1 id 1\nlink 0:0 1:0 delay 5 gap 4\nbit 0 0 0\nbit 1 0 0\nsource 0\n  getr r0, 2\n  ldw r1, dp[0]\n  setd res[r0], r1\n  outct res[r0], 1\n  freet\n  .data\n  .word 0x00010002\nend\nsource 1\n  getr r0, 2\n  chkct res[r0], 1\n  freet\nend\n";
+
+const PAIR_FOR_40: &[u8] =
+    b"30 n1 chan 0 ct 1\nlink 0:0>1:0 tokens 4 credits 0\nlink 1:0>0:0 tokens 0 credits 4\nn0 mem 0x00010000 0x00010002\nend 40\n";
+
+// A node that shifts the ten bits of 0x2aa out at a pin, one in 868 ticks of the reference clock.
+const BITS: &[u8] =
+    b"xs1 1\nnode 0 id 0\nsource 0\n  ldw r0, dp[0]\n  setc res[r0], 8\n  ldw r3, dp[1]\n  ldc r4, 10\n  ldc r5, 868\n  ldc r2, 100\n  bit: setpt res[r0], r2\n  outshr res[r0], r3\n  add r2, r2, r5\n  sub r4, r4, 1\n  bt r4, bit\n  freet\n  .data\n  .word 0x00010000, 0x2aa\nend\n";
+
+const BITS_FOR_35000: &[u8] =
+    b"402 n0 pin 1A 0x00000000\n3874 n0 pin 1A 0x00000001\n7346 n0 pin 1A 0x00000000\n10818 n0 pin 1A 0x00000001\n14290 n0 pin 1A 0x00000000\n17762 n0 pin 1A 0x00000001\n21234 n0 pin 1A 0x00000000\n24706 n0 pin 1A 0x00000001\n28178 n0 pin 1A 0x00000000\n31650 n0 pin 1A 0x00000001\nn0 mem 0x00010000 0x00010000\nn0 mem 0x00010004 0x000002aa\nend 35000\n";
+
 const LONGEST: usize = 4_194_304;
 
+// How often a worker that is held back looks for the other, at most.
+const MOST_LOOKS: u32 = 100_000_000;
+
+// A gate for two workers. It holds one back in its first pass until the other has come to the gate, or till it has looked so often
+// that nobody comes any more.
+#[derive(Drop)]
+struct Meeting {
+    // The number of the worker that is held back.
+    held: u32,
+    // Whether the worker that is held back has come to the gate.
+    is_there: AtomicBool,
+    // Whether the other has.
+    other_is_there: AtomicBool,
+    // Whether the one saw the other in its first pass.
+    met: AtomicBool,
+}
+
+impl Meeting {
+    fn of(held: u32) -> Meeting {
+        Meeting {
+            held,
+            is_there: AtomicBool::new(false),
+            other_is_there: AtomicBool::new(false),
+            met: AtomicBool::new(false),
+        }
+    }
+
+    // Looks for the other worker.
+    fn look_for_other(&self) {
+        for _ in 0..MOST_LOOKS {
+            if self.other_is_there.load(Ordering::SeqCst) {
+                self.met.store(true, Ordering::SeqCst);
+                return;
+            }
+        }
+    }
+}
+
+impl Gate for Meeting {
+    fn pass(&self, worker: u32) {
+        if worker != self.held {
+            self.other_is_there.store(true, Ordering::SeqCst);
+        } else if !self.is_there.swap(true, Ordering::SeqCst) {
+            self.look_for_other();
+        }
+    }
+}
+
 // One call with these words, with a source and a sink of the caller's.
-fn call<S: Source, K: Sink>(
+fn call<R: Threads + Wait + Sync, S: Source, K: Sink>(
+    rt: &R,
     alloc: Global,
     words: &[&str],
     source: &mut S,
     sink: &mut K,
 ) -> Result<Status, AllocError> {
     let words = owned(alloc, words)?;
-    Ok(top(alloc, &words, source, sink, &OpenGate))
+    Ok(top(rt, alloc, &words, source, sink, &OpenGate))
+}
+
+// Whether a free run of the pair writes what it should while this worker is held back, and meets the other.
+fn meets<R: Threads + Wait + Sync>(rt: &R, alloc: Global, held: u32) -> Result<bool, AllocError> {
+    let gate = Meeting::of(held);
+    let words = owned(alloc, &["run", "40", "free"])?;
+    let mut source = ListSource::new(PAIR.to_vec(alloc)?);
+    let mut sink = ListSink::with_room(alloc, 256)?;
+    let ended = top(rt, alloc, &words, &mut source, &mut sink, &gate);
+    let writes = ended == Status::Done && sink.bytes() == PAIR_FOR_40;
+    Ok(writes && gate.met.load(Ordering::SeqCst))
 }
 
 fn owned(alloc: Global, words: &[&str]) -> Result<Vec<String>, AllocError> {
@@ -40,7 +118,7 @@ fn owned(alloc: Global, words: &[&str]) -> Result<Vec<String>, AllocError> {
 fn writes_the_trace_of_a_run(rt: HostRuntime) -> Result<(), Fail> {
     let mut source = ListSource::new(SUM.to_vec(rt.alloc())?);
     let mut sink = ListSink::with_room(rt.alloc(), 256)?;
-    let ended = call(rt.alloc(), &["run", "20"], &mut source, &mut sink)?;
+    let ended = call(&rt, rt.alloc(), &["run", "20"], &mut source, &mut sink)?;
     assert_eq!(rt; ended, Status::Done);
     assert_eq!(rt;
         sink.bytes(),
@@ -50,10 +128,51 @@ fn writes_the_trace_of_a_run(rt: HostRuntime) -> Result<(), Fail> {
 }
 
 #[test]
+fn writes_the_same_by_either_drive(rt: HostRuntime) -> Result<(), Fail> {
+    for words in [
+        ["run", "35000", "free"].as_slice(),
+        ["run", "35000"].as_slice(),
+        ["run", "35000", "serial"].as_slice(),
+    ] {
+        let mut source = ListSource::new(BITS.to_vec(rt.alloc())?);
+        let mut sink = ListSink::with_room(rt.alloc(), 512)?;
+        let ended = call(&rt, rt.alloc(), words, &mut source, &mut sink)?;
+        assert_eq!(rt; ended, Status::Done);
+        assert_eq!(rt; sink.bytes(), BITS_FOR_35000);
+    }
+    Ok(())
+}
+
+// Nothing waits, so this call takes no runtime.
+#[test]
+fn writes_the_trace_of_a_serial_run(rt: HostRuntime) -> Result<(), Fail> {
+    let words = owned(rt.alloc(), &["run", "40", "serial"])?;
+    assert!(rt; matches!(form_of_words(&words), Some(Form::Serial(40))));
+    let mut source = ListSource::new(PAIR.to_vec(rt.alloc())?);
+    let mut sink = ListSink::with_room(rt.alloc(), 256)?;
+    let ended = top_plain(rt.alloc(), &words, &mut source, &mut sink, &OpenGate);
+    assert_eq!(rt; ended, Status::Done);
+    assert_eq!(rt; sink.bytes(), PAIR_FOR_40);
+    Ok(())
+}
+
+#[test]
+fn a_worker_comes_to_the_gate_while_the_first_is_held_back(rt: HostRuntime) -> Result<(), Fail> {
+    assert!(rt; meets(&rt, rt.alloc(), 0)?);
+    Ok(())
+}
+
+#[test]
+fn a_worker_comes_to_the_gate_while_the_second_is_held_back(rt: HostRuntime) -> Result<(), Fail> {
+    assert!(rt; meets(&rt, rt.alloc(), 1)?);
+    Ok(())
+}
+
+#[test]
 fn writes_nothing_after_a_failed_read(rt: HostRuntime) -> Result<(), Fail> {
     let mut source = FailingSource::new(SUM.to_vec(rt.alloc())?, 30);
     let mut sink = ListSink::with_room(rt.alloc(), 256)?;
-    let ended = call(rt.alloc(), &["run", "20"], &mut source, &mut sink)?;
+    let ended = call(&rt, rt.alloc(), &["run", "20"], &mut source, &mut sink)?;
     assert_eq!(rt; ended, Status::ReadFault);
     assert_eq!(rt; sink.bytes(), b"".as_slice());
     Ok(())
@@ -63,7 +182,7 @@ fn writes_nothing_after_a_failed_read(rt: HostRuntime) -> Result<(), Fail> {
 fn writes_a_front_before_a_failed_write(rt: HostRuntime) -> Result<(), Fail> {
     let mut source = ListSource::new(SUM.to_vec(rt.alloc())?);
     let mut sink = FailingSink::new(rt.alloc(), 3)?;
-    let ended = call(rt.alloc(), &["run", "20"], &mut source, &mut sink)?;
+    let ended = call(&rt, rt.alloc(), &["run", "20"], &mut source, &mut sink)?;
     assert_eq!(rt; ended, Status::WriteFault);
     assert_eq!(rt; sink.bytes(), b"n0 ".as_slice());
     Ok(())
@@ -100,7 +219,7 @@ fn takes_the_longest_input_and_no_longer(rt: HostRuntime) -> Result<(), Fail> {
     for (before, after, status, text) in rows {
         let mut source = ListSource::new(padded(rt.alloc(), before, after)?);
         let mut sink = ListSink::with_room(rt.alloc(), 256)?;
-        let ended = call(rt.alloc(), &["run", "0"], &mut source, &mut sink)?;
+        let ended = call(&rt, rt.alloc(), &["run", "0"], &mut source, &mut sink)?;
         assert_eq!(rt; ended, status);
         assert_eq!(rt; sink.bytes(), text);
     }
@@ -121,7 +240,7 @@ fn fails_where_a_read_fails_before_the_last_byte_that_is_taken(
             after,
         );
         let mut sink = ListSink::with_room(rt.alloc(), 256)?;
-        let ended = call(rt.alloc(), &["run", "0"], &mut source, &mut sink)?;
+        let ended = call(&rt, rt.alloc(), &["run", "0"], &mut source, &mut sink)?;
         assert_eq!(rt; ended, status);
     }
     Ok(())
@@ -132,7 +251,7 @@ fn reads_a_short_input_and_its_end(rt: HostRuntime) -> Result<(), Fail> {
     let mut source = CountingSource::new(SUM.to_vec(rt.alloc())?);
     let mut sink = ListSink::with_room(rt.alloc(), 256)?;
     let words = owned(rt.alloc(), &["run", "20"])?;
-    let ended = top_counted(rt.alloc(), &words, &mut source, &mut sink, &OpenGate);
+    let ended = top_counted(&rt, rt.alloc(), &words, &mut source, &mut sink, &OpenGate);
     assert_eq!(rt; ended, Status::Done);
     assert_eq!(rt; source.reads(), 2);
     Ok(())

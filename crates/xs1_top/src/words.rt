@@ -4,7 +4,7 @@ ghost use Rattle.std.specs.List.{list_all};
 ghost use Rattle.std.specs.Char.{is_ascii_digit};
 ghost use Rattle.xs_instructions.specs.Image.{same_name};
 ghost use Rattle.xs_text.specs.Tokens.{is_run};
-ghost use Rattle.answer_model.specs.Forms.{decimal_up_to, form_of_words, play_of, reads_input, run_of, usage_text};
+ghost use Rattle.answer_model.specs.Forms.{decimal_up_to, form_of_mode, form_of_words, free_of, play_of, reads_input, serial_of, usage_text};
 ghost use Rattle.xs1_top.specs.Call.{HasFewSlots};
 
 use answer_model::Form;
@@ -17,8 +17,8 @@ const MOST_SLOTS: u32 = 1_000_000;
 // The most digits of a count.
 const MOST_DIGITS: usize = 10;
 
-/// The form of the program's words, without the program's name: `run SLOTS`, `run SLOTS serial`, `play SLOTS` or
-/// `check`. SLOTS is one to ten decimal digits with a value of at most 1,000,000. None comes exactly where the words are of no
+/// The form of the program's words, without the program's name: `run SLOTS`, `run SLOTS free`, `run SLOTS serial`, `play SLOTS`
+/// or `check`. SLOTS is one to ten decimal digits with a value of at most 1,000,000. None comes exactly where the words are of no
 /// form. See docs/OUTPUT.md.
 #[tactic(auto, unfolding(answer_model::specs::Forms::form_of_words))]
 pub fn form_of_words(words: &[String]) -> Option<Form>
@@ -27,9 +27,9 @@ pub fn form_of_words(words: &[String]) -> Option<Form>
 {
     match words {
         [command] if is(command, b"check") => Some(Form::Check),
-        [command, slots] if is(command, b"run") => run_of(slots),
+        [command, slots] if is(command, b"run") => free_of(slots),
         [command, slots] if is(command, b"play") => play_of(slots),
-        [command, slots, mode] if is(command, b"run") && is(mode, b"serial") => run_of(slots),
+        [command, slots, mode] if is(command, b"run") => form_of_mode(slots, mode),
         _ => None,
     }
 }
@@ -46,7 +46,7 @@ pub fn reads_input(form: Form) -> bool
     ensures { result ≡ reads_input form }
 {
     match form {
-        Form::Run(_) | Form::Play(_) | Form::Check => true,
+        Form::Free(_) | Form::Serial(_) | Form::Play(_) | Form::Check => true,
     }
 }
 
@@ -57,13 +57,36 @@ fn is(word: &str, wanted: &[u8]) -> bool
     same_name(wanted, word.as_bytes())
 }
 
-// The run of so many slots as the word says.
-fn run_of(word: &str) -> Option<Form>
-    ensures value { result ≡ run_of word.now }
+// The form of a run with a mode.
+fn form_of_mode(slots: &str, mode: &str) -> Option<Form>
+    ensures value { result ≡ form_of_mode slots.now mode.now }
+    ensures few { IfSome result HasFewSlots }
+{
+    if is(mode, b"free") {
+        return free_of(slots);
+    }
+    if is(mode, b"serial") {
+        return serial_of(slots);
+    }
+    None
+}
+
+// The run of so many slots as the word says, by workers in threads.
+fn free_of(word: &str) -> Option<Form>
+    ensures value { result ≡ free_of word.now }
     ensures few { IfSome result HasFewSlots }
 {
     let slots = count(word.as_bytes(), MOST_SLOTS)?;
-    Some(Form::Run(slots))
+    Some(Form::Free(slots))
+}
+
+// The run of so many slots as the word says, all nodes together.
+fn serial_of(word: &str) -> Option<Form>
+    ensures value { result ≡ serial_of word.now }
+    ensures few { IfSome result HasFewSlots }
+{
+    let slots = count(word.as_bytes(), MOST_SLOTS)?;
+    Some(Form::Serial(slots))
 }
 
 // The play in a run of so many slots as the word says.
