@@ -76,7 +76,7 @@ impl Tried {
 fn agrees<R: Threads + Wait + Sync + AllocGlobal>(rt: &R, case: &Case) -> Result<bool> {
     let mut all = answers_to(rt, case, &case.words)?;
     if let [command, slots] = case.words.as_slice() {
-        if command == "run" {
+        if command.as_str() == "run" {
             let mut words = Vec::new(rt.alloc());
             words.push(command.clone()?)?;
             words.push(slots.clone()?)?;
