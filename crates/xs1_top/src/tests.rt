@@ -8,7 +8,7 @@ use std::alloc::{AllocError, Global};
 use std::sync::Wait;
 use std::sync::atomic::{AtomicBool, Ordering};
 use std::test::Fail;
-use std::thread::Threads;
+use std::thread::{Threads, yield_now};
 use xs_edge::{
     CountingSource, FailingSink, FailingSource, Gate, ListSink, ListSource, OpenGate, Sink, Source,
 };
@@ -69,6 +69,7 @@ impl Meeting {
                 self.met.store(true, Ordering::SeqCst);
                 return;
             }
+            yield_now();
         }
     }
 }
