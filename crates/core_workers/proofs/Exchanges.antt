@@ -109,7 +109,7 @@ none_changes o = record { end = refl; link = refl; table = refl; rest = refl; pu
 same_clock : (clock slot : Slot) (old new : List Outgoing) → clock ≡ slot → AllZip (Published slot) old new → AllZip (Published clock) old new
 same_clock clock slot old new is all = subst (λ t. AllZip (Published t) old new) (sym is) all
 
-pub all_handed : (old new : List Incoming) → AllZip Looked old new → AllByRecursion (λ (i : Incoming). i.hand ≡ None) new
+all_handed : (old new : List Incoming) → AllZip Looked old new → AllByRecursion (λ (i : Incoming). i.hand ≡ None) new
 all_handed [] [] all = tt
 all_handed [] (y ∷ new) all = absurd all
 all_handed (x ∷ old) [] all = tt

@@ -1,5 +1,5 @@
 -- What a node makes of what it is handed, and what a look at a log leaves.
-use Rattle.std.proofs.Common.{◌≡◌, ◌<◌, ◌≤◌, Option, Some, None, List, get_or, set, slice_get, refl, sym, ap, ◌∙◌, subst, arith}
+use Rattle.std.proofs.Common.{◌≡◌, ◌≤◌, Option, Some, None, List, get_or, set, slice_get, sym, ap, ◌∙◌, subst, arith}
 use Rattle.std.proofs.lemmas.Option.{slice_get_within, get_or_from_slice_get}
 use Rattle.xs_base.specs.Numbers.{Slot, LinkNumber}
 use Rattle.xs_base.specs.declared.entry.Entry.{Entry}
@@ -14,7 +14,6 @@ use Rattle.ahead_limits.specs.Horizon.{HorizonRec, seen_to}
 use Rattle.node_runners.specs.Runner.{RunnerRec}
 use Rattle.plan_cells.specs.declared.ends.Hand.{Hand}
 use Rattle.plan_cells.specs.declared.ends.Incoming.{Incoming}
-use Rattle.plan_cells.specs.Ends.{CellsRec, IsIncoming}
 use Rattle.core_workers.specs.Worker.{IsInHand, IsHeard, StaysIncoming}
 use Rattle.core_workers.specs.Steps.{HearsAt}
 use Rattle.core_workers.proofs.Passes.{slice_get-set_same, slice_get-set_other}
@@ -86,19 +85,3 @@ stays_unread old new end link table same = record {
 pub found_is : (plan run : PlanRec) (link number : LinkNumber) (seen from to : Slot) (entries : List Entry) → run ≡ plan → number ≡ link → from ≡ seen → from ≤ to
     → entries ≡ between (carried_at run number) from to → entries ≡ history plan link seen to
 found_is plan run link number seen from to entries p l s on is = is ∙ between_is_history run number from to on ∙ (λ i. history (p i) (l i) (s i) to)
-
--- ---- A wait for news
-
-module _ (cells : CellsRec) (h : HorizonRec) (old : Incoming) (fit : IsIncoming cells old) (none : old.hand ≡ None) (heard : IsHeard cells.plan h old)
-    (new : Incoming) (end : new.end ≡ old.end) (link : new.link ≡ old.link) where
-  seen_all : heard.seen.seen ≡ old.r.end.got
-  seen_all = at_none cells.plan old.link heard.seen.seen old.r.end.got old.hand none heard.in_hand
-
-  -- what was read is in hand
-  pub heard_news : (from : Slot) (hand : Hand) → from ≡ old.r.end.got → from < hand.to → hand.batch.entries ≡ between (carried_at old.r.end.run old.r.end.number) from hand.to
-      → new.r.end.got ≡ hand.to → new.hand ≡ Some hand → IsHeard cells.plan h new
-  heard_news from hand since on are got is =
-      let seen = heard.seen.seen in
-      let entries = found_is cells.plan old.r.end.run old.link old.r.end.number seen from hand.to hand.batch.entries fit.run fit.number (since ∙ sym seen_all) (omega (arith, on)) are in
-      let there : IsInHand cells.plan old.link seen new.r.end.got (Some hand) = (omega (arith, seen_all, since, on, got), sym got, entries ∙ ap (λ t. history cells.plan old.link seen t) (sym got)) in
-      heard_by cells.plan h h old new refl heard end link (subst (λ (x : Option Hand). IsInHand cells.plan old.link seen new.r.end.got x) (sym is) there)

@@ -1,5 +1,5 @@
--- A worker's whole run: what turns, waits and a stop leave, one after the other.
-use Rattle.std.proofs.Common.{◌≡◌, ◌≤◌, Some, None, List, [], ◌∷◌, refl, sym, ap, ◌∙◌, subst, arith}
+-- A worker's whole run: what turns and a stop leave, one after the other.
+use Rattle.std.proofs.Common.{◌≡◌, List, [], ◌∷◌, refl, sym, ap, ◌∙◌, subst, arith}
 use Rattle.std.specs.List.{All, AllByRecursion, AllZip}
 use Rattle.std.proofs.lemmas.List.Elements.{All-from_recursion, recursion_from_All}
 use Rattle.xs_base.specs.Numbers.{LinkNumber}
@@ -10,17 +10,14 @@ use Rattle.link_logs.specs.Logs.{WriteRec}
 use Rattle.node_runners.specs.Runner.{RunnerRec}
 use Rattle.plan_cells.specs.declared.ends.Outgoing.{Outgoing}
 use Rattle.plan_cells.specs.declared.ends.Incoming.{Incoming}
-use Rattle.plan_cells.specs.declared.ends.Ends.{Ends}
-use Rattle.plan_cells.specs.Ends.{CellsRec}
-use Rattle.core_workers.specs.Worker.{WorkerRec, Listens, Tells, IsWorker, IsOpen, StaysIncoming, StaysOutgoing, Stays, HasNotRun, IsLeast, Closes, KeepsAllElse, shut_links, closed_with}
+use Rattle.core_workers.specs.Worker.{WorkerRec, IsOpen, StaysIncoming, StaysOutgoing, Stays, HasNotRun, IsLeast, Closes, KeepsAllElse, shut_links, closed_with}
 use Rattle.core_workers.specs.Run.{KeepsOutgoing, Keeps, IsClosedFor, IsStopped}
-use Rattle.core_workers.specs.Steps.{Waits}
 use Rattle.core_workers.proofs.Passes.{all_zip_refl, all_zip_then, all_zip_weaker}
 use Rattle.core_workers.proofs.Handing.{stays_unread}
 
 -- ---- One end
 
-pub same_reader : (i : Incoming) → StaysIncoming i i
+same_reader : (i : Incoming) → StaysIncoming i i
 same_reader i = stays_unread i i refl refl refl refl
 
 reader_then : (a b c : Incoming) → StaysIncoming a b → StaysIncoming b c → StaysIncoming a c
@@ -103,32 +100,6 @@ turn_keeps a b s = record {
   clock = s.clock;
   incoming = s.incoming;
   outgoing = all_zip_weaker StaysOutgoing KeepsOutgoing writer_told a.ends.outgoing.items b.ends.outgoing.items s.outgoing;
-}
-
-pub wait_keeps : (a b : WorkerRec) → Waits a b → Keeps a b
-wait_keeps a b s =
-    let clock : b.runner.clock ≡ a.runner.clock = ap (λ (r : RunnerRec). r.clock) s.runner in
-    let writers : b.ends.outgoing.items ≡ a.ends.outgoing.items = λ i. (s.outgoing i).items in
-    record {
-      cells = s.cells;
-      plan = ap (λ (r : RunnerRec). r.plan) s.runner;
-      node = ap (λ (r : RunnerRec). r.node) s.runner;
-      limit = ap (λ (r : RunnerRec). r.horizon.limit) s.runner;
-      clock = omega (arith, clock);
-      incoming = s.incoming;
-      outgoing = subst (λ (os : List Outgoing). AllZip KeepsOutgoing a.ends.outgoing.items os) (sym writers) (all_zip_refl KeepsOutgoing same_writer a.ends.outgoing.items);
-    }
-
-pub wait_open : (a b : WorkerRec) → Waits a b → All IsOpen a.ends.outgoing.items → All IsOpen b.ends.outgoing.items
-wait_open a b s are = subst (λ (os : List Outgoing). All IsOpen os) (sym (λ i. (s.outgoing i).items)) are
-
-pub waited_worker : (cells : CellsRec) (runner : RunnerRec) (before after : Ends) → ((r : RunnerRec) → Listens cells r before.incoming.items → Listens cells r after.incoming.items) → after.outgoing ≡ before.outgoing
-    → IsWorker (record { cells = cells; runner = runner; ends = before }) → IsWorker (record { cells = cells; runner = runner; ends = after })
-waited_worker cells runner before after listens same is = record {
-  plan_is = is.plan_is;
-  of_plan = is.of_plan;
-  listens = listens runner is.listens;
-  tells = subst (λ (os : List Outgoing). Tells cells runner os) (sym (λ i. (same i).items)) is.tells;
 }
 
 -- ---- A stop

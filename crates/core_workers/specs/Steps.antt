@@ -1,10 +1,8 @@
 -- The parts of a worker's turn, link by link.
 use Rattle.std.specs.Prelude.{◌≡◌, ◌≢◌, min, Option, Some, None, List, [], length, slice_get, slice_index}
-use Rattle.std.specs.List.{AllZip}
 use Rattle.xs_base.specs.Numbers.{EndNumber, LinkNumber}
 use Rattle.node_runners.specs.Runner.{RunnerRec}
-use Rattle.plan_cells.specs.declared.ends.Incoming.{Incoming}
-use Rattle.core_workers.specs.Worker.{WorkerRec, StaysIncoming, IsLeast}
+use Rattle.core_workers.specs.Worker.{IsLeast}
 
 -- what a node has heard at one link end changes, and nothing else of it
 pub record HearsAt (end : EndNumber) (before after : RunnerRec) : Type 0 where
@@ -25,16 +23,3 @@ IsLeastOf (Some link) links = IsLeast link links
 abbrev pub lesser_of : Option LinkNumber → LinkNumber → LinkNumber
 lesser_of None link = link
 lesser_of (Some other) link = min other link
-
--- ---- A wait for news
-
--- all that was read of a link was handed to the node
-abbrev pub HasNoneInHand : Incoming → Type 0
-HasNoneInHand i = i.hand ≡ None
-
--- only the ends that read change
-pub record Waits (before after : WorkerRec) : Type 0 where
-  pub cells : after.cells ≡ before.cells
-  pub runner : after.runner ≡ before.runner
-  pub incoming : AllZip StaysIncoming before.ends.incoming.items after.ends.incoming.items
-  pub outgoing : after.ends.outgoing ≡ before.ends.outgoing

@@ -9,7 +9,6 @@ mod finished;
 mod gathered;
 mod hear;
 mod lanes;
-mod news;
 mod sent;
 mod tell;
 #[cfg(test)]

@@ -1,28 +1,21 @@
 //! `Worker`, a node that runs ahead of the others on a thread of its own, and `Part`, what is left of it.
 ghost use Rattle.std.specs.Prelude.{◌≡◌, ◌≢◌, All};
-ghost use Rattle.std.specs.List.{AllByRecursion, AllZip};
+ghost use Rattle.std.specs.List.{AllZip};
 ghost use Rattle.plan_cells.specs.Ends.{AreNewEnds};
 ghost use Rattle.node_runners.specs.Runner.{new_runner};
 
 use crate::ended::Ended;
 use crate::exchange::take_turn;
 use crate::lanes::Lanes;
-use crate::news::wait_for;
 use crate::tell::close_all;
 use crate::turn::Turn;
 use known_value::Known;
 use link_logs::Cause;
 use node_runners::NodeRunner;
 use plan_cells::{Ends, PlanCells};
-use std::alloc::AllocError;
 use std::marker::Model;
 use std::sync::Wait;
-use std::thread::yield_now;
 use xs_edge::Gate;
-
-// How often a worker whose node is blocked takes one more turn before it sleeps. Across a link with a delay of a slot or two the other node
-// is only a few slots of work away, and a sleep costs more than these looks.
-const MOST_LOOKS: u32 = 64;
 
 /// A node that runs ahead of the others, and the ends by which it reads and writes the cells of its links. Contracts see a `WorkerRec` of
 /// `Rattle.core_workers.specs.Worker`. See docs/LOOKAHEAD.md.
@@ -69,7 +62,6 @@ impl Model for Part {
 impl<'a> Worker<'a> {
     ghost use Rattle.core_workers.specs.Worker.{IsWorker, IsOpen, Stays, Exchanged, Answers, Closes, KeepsAllElse};
     ghost use Rattle.core_workers.specs.Run.{Keeps, EndsWith};
-    ghost use Rattle.core_workers.specs.Steps.{HasNoneInHand, Waits};
     ghost use Rattle.core_workers.specs.declared.turn.Turn.TheVariants as turn;
 
     /// A worker of the node at a position of the plan of these lanes, with the ends that are the node's. Nothing was run, read or
@@ -114,18 +106,10 @@ impl<'a> Worker<'a> {
         ensures keeps { Keeps self.old self.new }
         ensures ended { EndsWith result self.new }
     {
-        let mut looks = 0;
         for _ in rt.forever() {
             match self.turn(rt, gate) {
-                Turn::Ran { .. } => looks = 0,
-                Turn::Blocked { .. } if looks < MOST_LOOKS => {
-                    looks += 1;
-                    yield_now();
-                }
-                Turn::Blocked { end, .. } => match self.wait(rt, end) {
-                    Ok(()) => {}
-                    Err(_) => return self.give_up(rt),
-                },
+                Turn::Ran { .. } => {}
+                Turn::Blocked { end, .. } => self.wait(rt, end),
                 Turn::Finished => return Ended::Finished,
                 Turn::Stopped { link } => {
                     self.stop(rt, Cause::Neighbour { link });
@@ -137,14 +121,14 @@ impl<'a> Worker<'a> {
         unreachable!()
     }
 
-    // Waits for news of the link that comes to a link end; nothing may be in hand. The error is want of memory.
-    fn wait<R: Wait>(&mut self, rt: &R, end: u8) -> Result<(), AllocError>
-        requires none_in_hand { AllByRecursion HasNoneInHand self.old.ends.incoming.items }
-        ensures keeps { IsWorker self.new }
-        ensures waits { Waits self.old self.new }
-    {
+    // Waits for news of the link that comes to a link end.
+    fn wait<R: Wait>(&self, rt: &R, end: u8) {
         let lanes = self.lanes;
-        wait_for(rt, &lanes.cells, end, &mut self.ends)
+        for reader in &self.ends.incoming {
+            if reader.end == end {
+                lanes.cells.cell(reader.link).await_news(rt, &reader.r);
+            }
+        }
     }
 
     // Closes the logs that leave the node, which are open, for want of memory.

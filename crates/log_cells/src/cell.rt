@@ -14,13 +14,20 @@ use link_logs::{Cause, Got, Log, Story};
 use std::alloc::{AllocError, Global};
 use std::marker::Model;
 use std::sync::Wait;
+use std::sync::atomic::{AtomicBool, Ordering};
+use std::thread::yield_now;
 use xs_base::Batch;
+
+// How often an end that waits for news looks for them before it sleeps.
+const MOST_LOOKS: u32 = 64;
 
 /// The log of a directed link, which its two ends use by turns, each from a thread of its own. Contracts see a `CellRec` of
 /// `Rattle.log_cells.specs.Ends`. See docs/LOOKAHEAD.md.
 #[derive(Drop)]
 pub struct Cell<S: Story> {
     table: Board<S>,
+    // Whether the end that reads may be asleep: only then a publish has to wake it. Nothing else hangs on it.
+    asleep: AtomicBool,
 }
 
 impl<S: Story> Model for Cell<S> {
@@ -58,8 +65,10 @@ pub fn make_cell<S: Story + Drop>(
     let r = ReadEnd {
         seat: read_seat,
         end: read_end,
+        heard: 0,
     };
-    Ok((Cell { table }, w, r))
+    let asleep = AtomicBool::new(false);
+    Ok((Cell { table, asleep }, w, r))
 }
 
 impl<S: Story> Cell<S> {
@@ -88,6 +97,7 @@ impl<S: Story> Cell<S> {
         let answer = steps::append(top, &mut w.seat, &mut w.end, upto, batch);
         steps::give_written(top, &mut w.seat, &w.end);
         steps::raise(top, &mut w.seat, &w.end);
+        self.wake();
         answer
     }
 
@@ -105,10 +115,12 @@ impl<S: Story> Cell<S> {
         ensures err { OnErr result (r.new.end ≡ r.old.end) }
     {
         let top = &self.table.shared;
+        let news = steps::news(top);
         steps::claim_to_read(rt, top, &mut r.seat, &r.end);
         match steps::take(top, &mut r.seat, &mut r.end) {
             Ok(found) => {
                 steps::give_taken(top, &mut r.seat, &r.end);
+                r.heard = heard_after(r.heard, news, &found);
                 Ok(found)
             }
             Err(error) => {
@@ -131,10 +143,12 @@ impl<S: Story> Cell<S> {
         steps::close(top, &mut w.seat, &mut w.end, cause);
         steps::give_written(top, &mut w.seat, &w.end);
         steps::raise(top, &mut w.seat, &w.end);
+        self.wake();
     }
 
-    /// Polls until there is something, and sleeps in between. It never answers `Nothing`. An end that had found its log closed finds it
-    /// closed again. The error is want of memory: the end has then read no more than before, and may have looked.
+    /// Polls until there is something, and waits for news in between: it looks for them a number of times, and then sleeps. It never
+    /// answers `Nothing`. An end that had found its log closed finds it closed again. The error is want of memory: the end has then read
+    /// no more than before, and may have looked.
     pub fn wait_news<R: Wait>(&self, rt: &R, r: &mut ReadEnd<S>) -> Result<Got, AllocError>
         requires cell { ReadsOf r.old self.now }
         ensures stays { StaysReader r.old r.new }
@@ -145,23 +159,44 @@ impl<S: Story> Cell<S> {
         ensures err { OnErr result (r.new.end ≡ having_looked r.old.end r.new.end.looks) }
     {
         for _ in rt.forever() {
-            let seen = self.news();
+            self.await_news(rt, r);
             match self.poll(rt, r)? {
-                Got::Nothing { published: _ } => self.sleep(rt, seen),
+                Got::Nothing { published: _ } => {}
                 got => return Ok(got),
             }
         }
         unreachable!()
     }
 
-    // How often the news were raised, in its low 32 bits.
-    pub(crate) fn news(&self) -> u32 {
-        steps::news(&self.table.shared)
+    /// Waits until a poll may find something: it looks for news a number of times, without the turn, and then sleeps until there are. It
+    /// returns at once where there were news since the end last found nothing, and where it has found its log closed. What there is, a
+    /// poll tells. The end has to be this cell's.
+    pub fn await_news<R: Wait>(&self, rt: &R, r: &ReadEnd<S>)
+        requires cell { ReadsOf r.now self.now }
+    {
+        let top = &self.table.shared;
+        for _ in 0..MOST_LOOKS {
+            if r.is_shut() || steps::news(top) != r.heard {
+                return;
+            }
+            yield_now();
+        }
+        self.sleep(rt, r.heard);
     }
 
-    // Sleeps until the news are raised, unless they were raised since so many were seen.
-    pub(crate) fn sleep<R: Wait>(&self, rt: &R, seen: u32) {
-        steps::sleep(rt, &self.table.shared, seen);
+    // Sleeps until the news are raised, unless they were raised since so many were heard.
+    pub(crate) fn sleep<R: Wait>(&self, rt: &R, heard: u32) {
+        // Who raises the news and does not see this has raised them before the sleep begins, which then ends at once.
+        self.asleep.store(true, Ordering::SeqCst);
+        steps::sleep(rt, &self.table.shared, heard);
+        self.asleep.store(false, Ordering::SeqCst);
+    }
+
+    // Wakes the end that reads, where it may be asleep.
+    fn wake(&self) {
+        if self.asleep.load(Ordering::SeqCst) {
+            steps::wake(&self.table.shared);
+        }
     }
 }
 
@@ -179,15 +214,21 @@ impl<S: Story + Drop> Cell<S> {
         ensures own { result.entries ≡ between (S.entries_at result.run result.number) 0 result.published }
     {
         let WriteEnd { mut seat, end: _ } = w;
-        let ReadEnd {
-            seat: other,
-            end: _,
-        } = r;
-        let Cell { table } = self;
+        let ReadEnd { seat: other, .. } = r;
+        let Cell { table, .. } = self;
         table.shared.join_seat::<TwoEnds>(&mut seat, other);
         let log = log_at_home(table, seat);
         let _ = log.entries();
         log
+    }
+}
+
+// How often an end has heard of news after a poll, before which they had been raised so often: what it found may go on, so that only where
+// it found nothing all news are heard.
+fn heard_after(heard: u32, news: u32, found: &Got) -> u32 {
+    match found {
+        Got::Nothing { .. } => news,
+        Got::Entries { .. } | Got::Closed => heard,
     }
 }
 

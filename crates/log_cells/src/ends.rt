@@ -47,6 +47,8 @@ impl<S: Story> WriteEnd<S> {
 pub struct ReadEnd<S: Story> {
     pub(crate) seat: Place<S>,
     pub(crate) end: link_logs::ReadEnd<S>,
+    // How often the news had been raised before it last found nothing, in the low 32 bits.
+    pub(crate) heard: u32,
 }
 
 impl<S: Story> Model for ReadEnd<S> {

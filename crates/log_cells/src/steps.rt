@@ -174,7 +174,7 @@ pub fn sleep<S: Story, R: Wait>(rt: &R, top: &Top<S>, seen: u32)
     top.park(rt, NEWS, seen);
 }
 
-// Raises the news, and wakes who sleeps on them.
+// Raises the news.
 pub fn raise<S: Story>(top: &Top<S>, seat: &mut Place<S>, end: &WriteEnd<S>)
     requires table { (seat.old.table_id ≡ top.now.table_id) × IsSized top.now.table_id }
     requires writer { seat.old.me ≡ writer_at end.now (refused_of seat.old.me.0) }
@@ -182,5 +182,11 @@ pub fn raise<S: Story>(top: &Top<S>, seat: &mut Place<S>, end: &WriteEnd<S>)
     ensures same { seat.new.me ≡ seat.old.me }
 {
     top.fetch_add::<Raise>(seat, NEWS, 1);
+}
+
+// Wakes who sleeps on the news.
+pub fn wake<S: Story>(top: &Top<S>)
+    requires table { IsSized top.now.table_id }
+{
     top.wake_one(NEWS);
 }

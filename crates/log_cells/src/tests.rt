@@ -67,7 +67,10 @@ fn a_closed_log_is_read_to_its_end_and_comes_home(rt: HostRuntime) -> Result<(),
     );
     assert!(rt; matches!(cell.wait_news(&rt, &mut r)?, Got::Closed));
     assert!(rt; matches!(cell.poll(&rt, &mut r)?, Got::Closed));
-    assert!(rt; r.got() == 3 && r.looks() == 3 && r.is_shut());
+    // Nothing comes any more, and nobody waits for it.
+    cell.await_news(&rt, &r);
+    assert!(rt; matches!(cell.wait_news(&rt, &mut r)?, Got::Closed));
+    assert!(rt; r.got() == 3 && r.looks() == 4 && r.is_shut());
     let log = cell.done(w, r);
     assert!(rt; log.published() == 3 && log.entries().is_empty());
     Ok(())
@@ -75,14 +78,28 @@ fn a_closed_log_is_read_to_its_end_and_comes_home(rt: HostRuntime) -> Result<(),
 
 #[test]
 fn who_saw_the_news_before_does_not_sleep(rt: HostRuntime) -> Result<(), AllocError> {
-    let (cell, mut w, _r) = make_cell(rt.alloc(), Silence)?;
+    let (cell, mut w, mut r) = make_cell(rt.alloc(), Silence)?;
     let mut batch = Batch::new(rt.alloc());
-    let seen = cell.news();
     cell.publish(&rt, &mut w, 5, &mut batch)?;
-    cell.sleep(&rt, seen);
-    let seen = cell.news();
+    cell.sleep(&rt, r.heard);
+    let _ = cell.poll(&rt, &mut r)?;
+    let _ = cell.poll(&rt, &mut r)?;
     cell.end(&rt, &mut w, Cause::Memory);
-    cell.sleep(&rt, seen);
+    cell.sleep(&rt, r.heard);
+    Ok(())
+}
+
+#[test]
+fn who_has_not_found_nothing_does_not_wait(rt: HostRuntime) -> Result<(), AllocError> {
+    let (cell, mut w, mut r) = make_cell(rt.alloc(), Silence)?;
+    let mut batch = Batch::new(rt.alloc());
+    cell.publish(&rt, &mut w, 5, &mut batch)?;
+    cell.end(&rt, &mut w, Cause::Memory);
+    cell.await_news(&rt, &r);
+    assert!(rt; matches!(cell.poll(&rt, &mut r)?, Got::Entries { .. }));
+    // The log was closed before this poll, which did not say so.
+    cell.await_news(&rt, &r);
+    assert!(rt; matches!(cell.poll(&rt, &mut r)?, Got::Closed));
     Ok(())
 }
 

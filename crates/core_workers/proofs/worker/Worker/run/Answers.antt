@@ -2,8 +2,7 @@ use Rattle.std.proofs.Common.{subst}
 use Rattle.link_logs.specs.declared.answers.Cause.TheVariants as cause
 use Rattle.core_workers.specs.declared.turn.Turn.{Turn}
 use Rattle.core_workers.specs.Worker.{Answers}
-use Rattle.core_workers.proofs.Exchanges.{all_handed}
-use Rattle.core_workers.proofs.Running.{keeps_all, keeps_then, turn_keeps, wait_keeps, wait_open, stop_keeps, stopped_by}
+use Rattle.core_workers.proofs.Running.{keeps_all, keeps_then, turn_keeps, stop_keeps, stopped_by}
 use Rattle.core_workers.proofs.worker.Worker.run.Goals as goal
 
 pub loop-init : goal.loop-init
@@ -15,30 +14,11 @@ loop-preserved-in-Ran g c = record {
   still_open = c.turn.ensures.open;
 }
 
-pub loop-preserved-then-looks-lt-MOST_LOOKS : goal.loop-preserved-then-looks-lt-MOST_LOOKS
-loop-preserved-then-looks-lt-MOST_LOOKS g c = record {
+pub loop-preserved : goal.loop-preserved
+loop-preserved g c = record {
   keeps = keeps_then c.args.self.now c.loop.self c.turn.new.self c.loop.invariant.keeps (turn_keeps c.loop.self c.turn.new.self c.turn.ensures.stays);
   still_open = c.turn.ensures.open;
 }
-
-pub wait-requires : goal.wait-requires
-wait-requires g c =
-    let exchanged = c.turn.ensures.exchanged (λ is. cc (c.in-Blocked-2.is, is)) in
-    record { none_in_hand = all_handed c.loop.self.ends.incoming.items c.turn.new.self.ends.incoming.items exchanged.looked }
-
-pub loop-preserved : goal.loop-preserved
-loop-preserved g c =
-    let turned = keeps_then c.args.self.now c.loop.self c.turn.new.self c.loop.invariant.keeps (turn_keeps c.loop.self c.turn.new.self c.turn.ensures.stays) in
-    record {
-      keeps = keeps_then c.args.self.now c.turn.new.self c.wait.new.self turned (wait_keeps c.turn.new.self c.wait.new.self c.wait.ensures.waits);
-      still_open = wait_open c.turn.new.self c.wait.new.self c.wait.ensures.waits c.turn.ensures.open;
-    }
-
-pub returns-in-Err-clause-keeps : goal.returns-in-Err-clause-keeps
-returns-in-Err-clause-keeps g c =
-    let turned = keeps_then c.args.self.now c.loop.self c.turn.new.self c.loop.invariant.keeps (turn_keeps c.loop.self c.turn.new.self c.turn.ensures.stays) in
-    let waited = keeps_then c.args.self.now c.turn.new.self c.wait.new.self turned (wait_keeps c.turn.new.self c.wait.new.self c.wait.ensures.waits) in
-    keeps_then c.args.self.now c.wait.new.self c.give_up.new.self waited c.give_up.ensures.keeps
 
 pub returns-in-Finished-clause-keeps : goal.returns-in-Finished-clause-keeps
 returns-in-Finished-clause-keeps g c =
@@ -57,4 +37,4 @@ returns-in-Stopped-clause-ended g c =
 pub returns-in-Memory-clause-keeps : goal.returns-in-Memory-clause-keeps
 returns-in-Memory-clause-keeps g c =
     let turned = keeps_then c.args.self.now c.loop.self c.turn.new.self c.loop.invariant.keeps (turn_keeps c.loop.self c.turn.new.self c.turn.ensures.stays) in
-    keeps_then c.args.self.now c.turn.new.self c.give_up-in-Memory.new.self turned c.give_up-in-Memory.ensures.keeps
+    keeps_then c.args.self.now c.turn.new.self c.give_up.new.self turned c.give_up.ensures.keeps
