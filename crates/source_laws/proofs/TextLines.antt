@@ -15,7 +15,7 @@ no_return : (b : ℕ) → is_allowed b ≡ true → (b == 13) ≡ false
 no_return b h = grind (arith, nat_tests)
 
 -- a line of allowed bytes, with its end
-lines_of-line : (line rest : List ℕ) → all_allowed line ≡ true → lines_of (line ++ (10 ∷ rest)) ≡ line ∷ lines_of rest
+pub lines_of-line : (line rest : List ℕ) → all_allowed line ≡ true → lines_of (line ++ (10 ∷ rest)) ≡ line ∷ lines_of rest
 unfolding lines_of
 lines_of-line [] rest h = refl
 lines_of-line (b ∷ line) rest h =
@@ -23,7 +23,8 @@ lines_of-line (b ∷ line) rest h =
     let f : is_dropped_return b (line ++ (10 ∷ rest)) ≡ false = ap (λ t. t && begins_with 10 (line ++ (10 ∷ rest))) (no_return b p.0) in
     cond-false _ _ _ (no_feed b p.0) ∙ (cond-false _ _ _ f ∙ ap (put_in_front b) (lines_of-line line rest p.1))
 
-lines_of-none : lines_of [] ≡ []
+-- a text of no bytes has no line
+pub lines_of-none : lines_of [] ≡ []
 unfolding lines_of
 lines_of-none = refl
 

@@ -1,0 +1,17 @@
+pub mod HexWords
+pub mod PlainWords
+pub mod NumbersRead
+pub mod FormsRead
+pub mod TextRead
+pub mod SourceRead
+pub mod LinesRead
+pub mod Counted
+pub mod Taken
+pub mod Ring
+pub mod States
+pub mod FrameSteps
+pub mod SectionSteps
+pub mod PlanRead
+pub mod WayRead
+pub mod FrameWhole
+pub mod FrameRead

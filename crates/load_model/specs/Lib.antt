@@ -1,0 +1,3 @@
+pub mod Load
+pub mod Made
+pub mod Worked

@@ -1,0 +1,37 @@
+//! Numbers in the words of a command. See docs/OUTPUT.md.
+#![tactic(auto)]
+
+ghost use Rattle.std.specs.Prelude.{◌≡◌, ◌≤◌, IfSome};
+ghost use Rattle.std.specs.List.{list_all};
+ghost use Rattle.std.specs.Char.{is_ascii_digit};
+ghost use Rattle.xs_text.specs.Tokens.{is_run};
+ghost use Rattle.word_numbers.specs.Decimal.{decimal_up_to};
+
+use xs_text::number;
+
+// The most digits of a number.
+const MOST_DIGITS: usize = 10;
+
+/// The value of one to ten decimal digits, leading zeros included, if it is at most the limit. None comes exactly where the word is
+/// something else or its value is greater. See docs/OUTPUT.md.
+pub fn decimal_up_to(limit: u32, word: &[u8]) -> Option<u32>
+    ensures value { result ≡ decimal_up_to limit word.now }
+    ensures limit { IfSome result (λ n. n ≤ limit) }
+{
+    if word.len() > MOST_DIGITS || !is_decimal(word) {
+        return None;
+    }
+    number(word, limit)
+}
+
+fn is_decimal(word: &[u8]) -> bool
+    ensures { result ≡ is_run is_ascii_digit word.now }
+{
+    !word.is_empty() && all_digits(word)
+}
+
+fn all_digits(bytes: &[u8]) -> bool
+    ensures { result ≡ list_all is_ascii_digit bytes.now }
+{
+    bytes.iter().all(|b| b.is_ascii_digit())
+}
