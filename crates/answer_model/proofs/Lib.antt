@@ -1,2 +1,3 @@
 pub mod Computes
 mod Statuses
+pub mod Numbers

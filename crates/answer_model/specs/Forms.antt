@@ -1,14 +1,9 @@
 -- The forms of the program's words: the table, the usage line beside it, which forms read the input, and which may wait for others.
-use Rattle.std.specs.Prelude.{ℕ, nat_le, Bool, true, false, if◌then◌else◌, Option, Some, None, option_and_then, List, [], ◌∷◌, length, codes}
-use Rattle.std.specs.Char.{is_ascii_digit}
+use Rattle.std.specs.Prelude.{ℕ, Bool, true, false, if◌then◌else◌, Option, Some, None, option_and_then, List, [], ◌∷◌, codes}
 use Rattle.xs_instructions.specs.Image.{same_name}
-use Rattle.xs_text.specs.Numbers.{at_most, value_in}
+use Rattle.word_numbers.specs.Decimal.{decimal_up_to}
 use Rattle.answer_model.specs.declared.Form.{Form}
-use Rattle.answer_model.specs.declared.Form.TheVariants.{Free, Serial, Play, Check}
-
--- one to ten decimal digits, of a value of at most a limit
-abbrev pub decimal_up_to : ℕ → List ℕ → Option ℕ
-decimal_up_to limit word = if nat_le (length word) 10 then at_most limit (value_in 10 is_ascii_digit word) else None
+use Rattle.answer_model.specs.declared.Form.TheVariants.{Free, Serial, Play, Make, Check}
 
 abbrev pub most_slots : ℕ
 most_slots = 1000000
@@ -23,11 +18,18 @@ serial_of word = option_and_then (λ slots. Some (Serial slots)) (decimal_up_to 
 abbrev pub play_of : List ℕ → Option Form
 play_of word = option_and_then (λ slots. Some (Play slots)) (decimal_up_to most_slots word)
 
+abbrev pub greatest_number : ℕ
+greatest_number = 4294967295
+
+-- the load of the number that the word says
+abbrev pub make_of : List ℕ → Option Form
+make_of word = option_and_then (λ number. Some (Make number)) (decimal_up_to greatest_number word)
+
 -- the form of two words
 abbrev pub form_of_two : List ℕ → List ℕ → Option Form
-form_of_two command slots =
-    if same_name (codes "run") command then free_of slots
-    else (if same_name (codes "play") command then play_of slots else None)
+form_of_two command word =
+    if same_name (codes "run") command then free_of word
+    else (if same_name (codes "play") command then play_of word else (if same_name (codes "make") command then make_of word else None))
 
 -- the form of a run with a mode
 abbrev pub form_of_mode : List ℕ → List ℕ → Option Form
@@ -35,7 +37,7 @@ form_of_mode slots mode =
     if same_name (codes "free") mode then free_of slots
     else (if same_name (codes "serial") mode then serial_of slots else None)
 
--- the form of the words, if they have one: `check`, `play SLOTS`, `run SLOTS` and `run SLOTS free`, which are the same, or `run SLOTS serial`
+-- the form of the words, if they have one: `check`, `play SLOTS`, `make NUMBER`, `run SLOTS` and `run SLOTS free`, which are the same, or `run SLOTS serial`
 unfoldable pub form_of_words : List (List ℕ) → Option Form
 form_of_words (a ∷ []) = if same_name (codes "check") a then Some Check else None
 form_of_words (a ∷ n ∷ []) = form_of_two a n
@@ -50,6 +52,7 @@ abbrev pub reads_input : Form → Bool
 reads_input (Free slots) = true
 reads_input (Serial slots) = true
 reads_input (Play slots) = true
+reads_input (Make number) = false
 reads_input Check = true
 
 -- whether words of this form, or of none, ask for the input
@@ -62,6 +65,7 @@ abbrev pub may_wait : Form → Bool
 may_wait (Free slots) = true
 may_wait (Serial slots) = false
 may_wait (Play slots) = false
+may_wait (Make number) = false
 may_wait Check = false
 
 -- whether words of this form, or of none, may wait

@@ -1,5 +1,7 @@
 pub mod CheckForm
 pub mod Forms
+pub mod MakeForm
+pub mod Loads
 pub mod OnSystem
 pub mod PlayForm
 pub mod Refusals

@@ -2,12 +2,13 @@
 use Rattle.std.specs.Prelude.{ℕ, ◌+◌, min, if◌then◌else◌, Option, Some, None, List, length}
 use Rattle.system_model.specs.System.{longest_input}
 use Rattle.answer_model.specs.declared.Form.{Form}
-use Rattle.answer_model.specs.declared.Form.TheVariants.{Free, Serial, Play, Check}
+use Rattle.answer_model.specs.declared.Form.TheVariants.{Free, Serial, Play, Make, Check}
 use Rattle.answer_model.specs.declared.Answer.{Answer}
 use Rattle.answer_model.specs.declared.Status.TheVariants as status
 use Rattle.answer_model.specs.Forms.{form_of_words, usage_text, asks_for_input}
 use Rattle.answer_model.specs.RunForm.{run_answer}
 use Rattle.answer_model.specs.PlayForm.{play_answer}
+use Rattle.answer_model.specs.MakeForm.{made_answer}
 use Rattle.answer_model.specs.CheckForm.{check_answer}
 
 -- what a form answers to the bytes of the input
@@ -15,6 +16,7 @@ abbrev pub answer_by : Form → List ℕ → Answer
 answer_by (Free slots) input = run_answer slots input
 answer_by (Serial slots) input = run_answer slots input
 answer_by (Play slots) input = play_answer slots input
+answer_by (Make number) input = made_answer number
 answer_by Check input = check_answer input
 
 abbrev pub usage_answer : Answer

@@ -1,8 +1,9 @@
 -- Answers worked out by hand: what the program writes for small systems.
-use Rattle.std.specs.Prelude.{ℕ, ◌≡◌, List, [], ◌∷◌, ◌++◌, codes}
+use Rattle.std.specs.Prelude.{ℕ, ◌≡◌, Some, List, [], ◌∷◌, ◌++◌, codes}
 use Rattle.answer_model.specs.declared.Answer.{Answer}
 use Rattle.answer_model.specs.declared.Status.TheVariants.{Done, Usage, SystemFault, SourceFault}
-use Rattle.answer_model.specs.Forms.{usage_text}
+use Rattle.answer_model.specs.declared.Form.TheVariants.{Make}
+use Rattle.answer_model.specs.Forms.{form_of_words, usage_text}
 use Rattle.answer_model.specs.Top.{answer}
 
 -- node 0 with this source
@@ -47,6 +48,10 @@ pub record WorkedAnswers : Type 0 where
   pub other_case : answer (codes "run" ∷ codes "5" ∷ codes "Serial" ∷ []) (lone []) ≡ no_usage
   pub free : answer (codes "run" ∷ codes "20" ∷ codes "free" ∷ []) (lone sum_source) ≡ done (codes "n0 mem 0x00010000 0x0000000c\nend 20\n")
   pub free_without_slots : answer (codes "run" ∷ codes "free" ∷ []) (lone []) ≡ no_usage
+  pub no_number : answer (codes "make" ∷ []) (lone []) ≡ no_usage
+  pub number_too_great : answer (codes "make" ∷ codes "4294967296" ∷ []) (lone []) ≡ no_usage
+  pub number_of_eleven_digits : answer (codes "make" ∷ codes "00000000001" ∷ []) (lone []) ≡ no_usage
+  pub greatest : form_of_words (codes "make" ∷ codes "4294967295" ∷ []) ≡ Some (Make 4294967295)
   pub not_built_yet : answer (codes "run" ∷ codes "20" ∷ codes "rounds" ∷ []) (lone []) ≡ no_usage
   pub too_many_slots : answer (run_for (codes "1000001")) (lone []) ≡ no_usage
   pub eleven_digits : answer (run_for (codes "00000000020")) (lone []) ≡ no_usage

@@ -1,6 +1,5 @@
 -- Answers to `play SLOTS`, worked out by hand.
 use Rattle.std.specs.Prelude.{ℕ, ◌≡◌, List, [], ◌∷◌, ◌++◌, codes}
-use Rattle.answer_model.specs.declared.Answer.{Answer}
 use Rattle.answer_model.specs.Top.{answer}
 use Rattle.answer_model.specs.Worked.{lone, done, no_usage, frame_refused, source_refused}
 use Rattle.answer_model.specs.WorkedPairs.{joined_pair, sender_source, receiver_source}

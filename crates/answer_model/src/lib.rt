@@ -3,6 +3,7 @@
 #![tactic(auto)]
 
 ghost use Rattle.std.specs.Prelude.{◌≡◌};
+ghost use Rattle.answer_model.specs.Loads.{LoadsAreMade};
 ghost use Rattle.answer_model.specs.StatusNumber.{number_of_status, WorkedStatuses};
 ghost use Rattle.answer_model.specs.SystemStatuses.{SystemStatuses};
 ghost use Rattle.answer_model.specs.Worked.{WorkedAnswers, WorkedChecks};
@@ -12,6 +13,7 @@ ghost use Rattle.answer_model.specs.WorkedPins.{WorkedPins};
 ghost use Rattle.answer_model.specs.WorkedPlays.{WorkedPlays};
 ghost use Rattle.answer_model.specs.WorkedPrograms.{WorkedPrograms, WorkedCalls};
 
+use load_laws::loads_are_accepted;
 use xs_base::Text;
 
 /// The forms of the command words. See docs/OUTPUT.md.
@@ -23,6 +25,8 @@ pub enum Form {
     Serial(u32),
     /// `play SLOTS`: the steps of the system's schedule one by one, in a run of so many slots.
     Play(u32),
+    /// `make NUMBER`: what the load of the number comes to.
+    Make(u32),
     /// `check`: the source of each node as its image gives it.
     Check,
 }
@@ -68,6 +72,13 @@ pub struct Answer {
 pub fn statuses_of_systems()
     ensures { SystemStatuses }
 {}
+
+/// To `make NUMBER` the line of the number's load is answered, whatever the number: no load is refused. See docs/LOADS.md.
+pub fn loads_are_made()
+    ensures { LoadsAreMade }
+{
+    loads_are_accepted();
+}
 
 /// The definitions give what was worked out by hand.
 pub fn worked_answers()

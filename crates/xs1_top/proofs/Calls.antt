@@ -5,7 +5,7 @@ use Rattle.std.proofs.Math.Seq.{drop-append_seam}
 use Rattle.std.specs.Io.KnownBytes.{Appends, Consumes}
 use Rattle.xs_edge.specs.Edge.{AppendsPart}
 use Rattle.answer_model.specs.declared.Form.{Form}
-use Rattle.answer_model.specs.declared.Form.TheVariants.{Free, Serial, Play, Check}
+use Rattle.answer_model.specs.declared.Form.TheVariants.{Free, Serial, Play, Make, Check}
 use Rattle.answer_model.specs.declared.Answer.{Answer}
 use Rattle.answer_model.specs.declared.Status.{Status}
 use Rattle.answer_model.specs.declared.Status.TheVariants as status
@@ -24,6 +24,7 @@ answer_by-taken : (form : Form) (input : List ℕ) → answer_by form (take (tak
 answer_by-taken (Free slots) input = ap (answer_to (run_text slots)) (system_of-taken input)
 answer_by-taken (Serial slots) input = ap (answer_to (run_text slots)) (system_of-taken input)
 answer_by-taken (Play slots) input = ap (answer_to (played_text slots)) (system_of-taken input)
+answer_by-taken (Make number) input = refl
 answer_by-taken Check input = ap (answer_to check_text) (system_of-taken input)
 
 -- the answer to the words and an input that the source may have

@@ -9,7 +9,7 @@ ghost use Rattle.xs1_top.specs.Reads.{ReadsAtMost};
 
 use crate::respond::{finish, respond};
 use crate::words::{form_of_words, usage_line};
-use crate::{check, play, run};
+use crate::{check, make, play, run};
 pub use answer_model::Status;
 use answer_model::{Answer, Form};
 use std::alloc::{AllocError, Global};
@@ -21,7 +21,8 @@ use xs_edge::{Gate, Sink, Source};
 /// answers to it is written. `run SLOTS` and `run SLOTS free` run the system that the input stands for, each node on a worker of its
 /// own that passes `gate` before each of its turns, `run SLOTS serial` runs it all nodes together, and all three answer with the
 /// trace; `play SLOTS` takes the steps of its schedule one by one, in a run of so many slots, and answers with what each
-/// leaves and publishes; `check` runs nothing and answers with each node's source as its image gives it. `words` are the
+/// leaves and publishes; `make NUMBER` runs the load of the number for 60,000 slots, all nodes together, and answers with the line of
+/// what it came to; `check` runs nothing and answers with each node's source as its image gives it. `words` are the
 /// program's, without its name. Nothing is written before all is done, and writing takes no memory. See docs/OUTPUT.md.
 ///
 /// With words of no form, or of one that asks for no input, nothing is read. Of an input no more than 4,194,305 bytes are
@@ -33,7 +34,7 @@ use xs_edge::{Gate, Sink, Source};
 /// The statuses, of which `Status::number` gives the number; the definition of each form says which of `Done`,
 /// `SystemFault`, `SourceFault` and `ScriptFault` it answers, and `statuses_of_systems` of answer_model where:
 ///
-/// - `Done`: the text of the answer was written, as the trace, or the text of `play` or of `check`.
+/// - `Done`: the text of the answer was written, as the trace, or the text of `play`, of `make` or of `check`.
 /// - `Memory`: memory was wanting. Nothing was written.
 /// - `Usage`: the words are of no form. The usage line was written.
 /// - `SystemFault`, `SourceFault`, `ScriptFault`: the frame, a node's source, or the pin script is refused, each where
@@ -146,6 +147,7 @@ fn answer_plainly(alloc: Global, form: Form, input: &[u8]) -> Result<Answer, All
         Form::Free(_) => unreachable!(),
         Form::Serial(slots) => run::answer_serially(alloc, slots, input),
         Form::Play(slots) => play::answer(alloc, slots, input),
+        Form::Make(number) => make::answer(alloc, number),
         Form::Check => check::answer(alloc, input),
     }
 }

@@ -6,6 +6,7 @@ mod call;
 mod check;
 mod counted;
 mod input;
+mod make;
 mod on_system;
 mod output;
 mod play;

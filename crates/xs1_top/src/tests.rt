@@ -4,6 +4,7 @@
 use crate::words::form_of_words;
 use crate::{top, top_counted, top_plain};
 use answer_model::{Form, Status};
+use load_maker::make_system;
 use std::alloc::{AllocError, Global};
 use std::sync::Wait;
 use std::sync::atomic::{AtomicBool, Ordering};
@@ -255,5 +256,61 @@ fn reads_a_short_input_and_its_end(rt: HostRuntime) -> Result<(), Fail> {
     let ended = top_counted(&rt, rt.alloc(), &words, &mut source, &mut sink, &OpenGate);
     assert_eq!(rt; ended, Status::Done);
     assert_eq!(rt; source.reads(), 2);
+    Ok(())
+}
+
+// What is written for `make NUMBER`, from a source of which no read succeeds, since nothing is read.
+fn made<R: Threads + Wait + Sync>(
+    rt: &R,
+    alloc: Global,
+    number: &str,
+) -> Result<ListSink, AllocError> {
+    let mut source = FailingSource::new(Vec::new(alloc), 0);
+    let mut sink = ListSink::with_room(alloc, 256)?;
+    let _ended = call(rt, alloc, &["make", number], &mut source, &mut sink)?;
+    Ok(sink)
+}
+
+#[test]
+fn tells_what_a_load_comes_to(rt: HostRuntime) -> Result<(), Fail> {
+    for (number, text) in [
+        (
+            "1",
+            b"made 1 nodes 3 tokens 4800 credits 4800 events 3000\n".as_slice(),
+        ),
+        (
+            "14",
+            b"made 14 nodes 16 tokens 25600 credits 25600 events 16000\n".as_slice(),
+        ),
+        (
+            "4294967295",
+            b"made 4294967295 nodes 2 tokens 3200 credits 3200 events 2000\n".as_slice(),
+        ),
+    ] {
+        let sink = made(&rt, rt.alloc(), number)?;
+        assert_eq!(rt; sink.bytes(), text);
+    }
+    Ok(())
+}
+
+// What is written for these words to the load of number 1.
+fn run_of_load<R: Threads + Wait + Sync>(
+    rt: &R,
+    alloc: Global,
+    words: &[&str],
+) -> Result<ListSink, AllocError> {
+    let load = make_system(alloc, 1)?;
+    let mut source = ListSource::new(load.bytes().to_vec(alloc)?);
+    let mut sink = ListSink::with_room(alloc, 131_072)?;
+    let _ended = call(rt, alloc, words, &mut source, &mut sink)?;
+    Ok(sink)
+}
+
+#[test]
+fn a_load_writes_the_same_by_either_drive(rt: HostRuntime) -> Result<(), Fail> {
+    let free = run_of_load(&rt, rt.alloc(), &["run", "60000"])?;
+    let serial = run_of_load(&rt, rt.alloc(), &["run", "60000", "serial"])?;
+    assert!(rt; serial.bytes().ends_with(b"end 60000\n"));
+    assert!(rt; free.bytes() == serial.bytes());
     Ok(())
 }
