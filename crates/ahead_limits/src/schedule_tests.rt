@@ -13,19 +13,17 @@ fn node(alloc: Global, number: u8) -> NodePlan
     requires { number < 100 }
     ensures number { result.number ≡ number }
     ensures id { result.id ≡ number }
+    ensures edition { result.edition ≡ 1 }
     ensures ways { result.ways ≡ replicate 16 0 }
+    ensures nets { result.nets ≡ replicate 8 0 }
 {
-    NodePlan {
-        number,
-        id: number as u16,
-        image: Image::of(
-            Vec::new(alloc),
-            Vec::new(alloc),
-            0x0001_0000,
-            Symbols::of_source(alloc, b""),
-        ),
-        ways: [0; 16],
-    }
+    let image = Image::of(
+        Vec::new(alloc),
+        Vec::new(alloc),
+        0x0001_0000,
+        Symbols::of_source(alloc, b""),
+    );
+    NodePlan::plain(number, number as u16, image, [0; 16])
 }
 
 #[test]

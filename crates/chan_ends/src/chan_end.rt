@@ -20,6 +20,8 @@ use xs_base::numbers::{BUFFER_TOKENS, CHAN_END_KIND};
 #[derive(Drop)]
 pub(crate) struct ChanEnd {
     used: bool,
+    // The network that its packets take, 0 to 3.
+    net: u8,
     dest: Option<u32>,
     output: ArrayVec<Token, 8>,
     input: ArrayVec<Token, 8>,
@@ -30,7 +32,7 @@ impl Model for ChanEnd {
 
     ghost Value = { ChanRec };
 
-    ghost view = { λ end. record { used = end.used; dest = end.dest; output = end.output.items; input = end.input.items } };
+    ghost view = { λ end. record { used = end.used; net = end.net; dest = end.dest; output = end.output.items; input = end.input.items } };
 }
 
 impl Default for ChanEnd {
@@ -42,6 +44,7 @@ impl Default for ChanEnd {
     fn default() -> Self {
         ChanEnd {
             used: false,
+            net: 0,
             dest: None,
             output: ArrayVec::new(),
             input: ArrayVec::new(),
@@ -50,11 +53,12 @@ impl Default for ChanEnd {
 }
 
 impl ChanEnd {
-    /// Puts it in use, with no destination and empty buffers.
+    /// Puts it in use, with network 0, no destination and empty buffers.
     pub(crate) fn get(&mut self)
         ensures { self.new ≡ got_chan }
     {
         self.used = true;
+        self.net = 0;
         self.dest = None;
         self.output.clear();
         self.input.clear();
@@ -80,6 +84,12 @@ impl ChanEnd {
         ensures { result ≡ self.now.used }
     {
         self.used
+    }
+
+    pub(crate) fn net(&self) -> u8
+        ensures { result ≡ self.now.net }
+    {
+        self.net
     }
 
     pub(crate) fn dest(&self) -> Option<u32>

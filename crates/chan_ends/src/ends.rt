@@ -95,6 +95,15 @@ impl ChanEnds {
         self.ends[c as usize].used()
     }
 
+    /// The network that packets of channel end `c`, 0 to 31, take. It takes no memory.
+    pub fn net(&self, c: u8) -> u8
+        requires { c < CHAN_ENDS }
+        ensures value { result ≡ (chan_at self.now c).net }
+        ensures count { length self.now ≡ CHAN_ENDS }
+    {
+        self.ends[c as usize].net()
+    }
+
     /// The destination of channel end `c`, 0 to 31: `None` exactly where it has none.
     pub fn dest(&self, c: u8) -> Option<u32>
         requires { c < CHAN_ENDS }

@@ -23,13 +23,6 @@ arrives slot arrivals switch chans row after m counts credited at = record {
   credited = credited m.rec.links at.credited;
 }
 
--- the routes are known by the id, the ways and the gaps
-pub same_routes : (i j : ℕ) (w v g h : List ℕ) → i ≡ j → w ≡ v → g ≡ h → (λ (id : ℕ) (ways gaps : List ℕ). let r : Routes = record { id = id; ways = ways; gaps = gaps } in r) i w g ≡ (λ (id : ℕ) (ways gaps : List ℕ). let r : Routes = record { id = id; ways = ways; gaps = gaps } in r) j v h
-same_routes i j w v g h e f d =
-    ap (λ (x : ℕ). let r : Routes = record { id = x; ways = w; gaps = g } in r) e
-    ∙ ap (λ (y : List ℕ). let r : Routes = record { id = j; ways = y; gaps = g } in r) f
-    ∙ ap (λ (z : List ℕ). let r : Routes = record { id = j; ways = v; gaps = z } in r) d
-
 -- inputs and channel ends that stand for a node's are all that a node has of them
 parts_are : (rec : NodeRec) (inputs : List InputRec) (chans : List ChanRec) (links : List (Option LinkRec)) → inputs ≡ rec.inputs → chans ≡ rec.core.chans → record rec { links = links } ≡ with_parts rec inputs chans links
 parts_are rec inputs chans links i c =

@@ -6,7 +6,7 @@ use Rattle.core_step.specs.declared.node_core.Core.TheInside.{Inside}
 
 abbrev pub value_of : Inside → CoreValue
 value_of c = record {
-  fixed = record { code = c.program.code; routes = routes_of c.network };
+  fixed = record { edition = c.program.edition; code = c.program.code; routes = routes_of c.network };
   core = c.units;
   high = c.high;
   inputs = c.network.switch.inputs;

@@ -23,8 +23,8 @@ abbrev pub counts_with_gap : ℕ → Option EndCounts
 counts_with_gap gap = if gap == 0 then None else Some (fresh_counts gap)
 
 -- the network of a node as it starts, with the gaps of its link ends
-abbrev pub first_network : NodeId → List ℕ → List ℕ → NetworkRec
-first_network id ways gaps = record { switch = idle_switch id ways; links = map counts_with_gap gaps }
+abbrev pub first_network : NodeId → List ℕ → List ℕ → List ℕ → NetworkRec
+first_network id ways nets gaps = record { switch = idle_switch id ways nets; links = map counts_with_gap gaps }
 
 -- the network and the channel ends stand for a node at work in a slot, and so does what was emitted
 pub record NetworkStands (slot : Slot) (n : NetworkRec) (chans : List ChanRec) (out : Emitted) (m : AtWork) : Type 0 where

@@ -32,14 +32,14 @@ impl Model for Network {
 }
 
 impl Network {
-    /// The network of the node with this id as it starts. `gaps` has the gap of each link end in slots, 0 where there
-    /// is none.
-    pub(crate) fn new(id: u16, ways: [u8; 16], gaps: &[u32; 8]) -> Network
-        ensures { result ≡ first_network id ways gaps.now }
+    /// The network of the node with this id as it starts. `nets` has for each link end the network of its link, and `gaps`
+    /// its gap in slots, 0 where there is none.
+    pub(crate) fn new(id: u16, ways: [u8; 16], nets: [u8; 8], gaps: &[u32; 8]) -> Network
+        ensures { result ≡ first_network id ways nets gaps.now }
     {
         Network {
             links: links_with(gaps),
-            switch: Switch::new(id, ways),
+            switch: Switch::new(id, ways, nets),
         }
     }
 

@@ -54,9 +54,9 @@ impl Core {
         let code = Vec::from_slice(alloc, plan.image.code())?;
         let ram = Ram::new(alloc, plan.image.bytes())?;
         Ok(Core {
-            program: Program::new(plan.id, code),
+            program: Program::new(plan.id, plan.edition, code),
             units: Processor::first(plan.id, plan.image.entry(), plan.image.cp_at(), ram),
-            network: Network::new(plan.id, plan.ways, gaps),
+            network: Network::new(plan.id, plan.ways, plan.nets, gaps),
             high: 0,
         })
     }

@@ -14,17 +14,13 @@ fn boots_with_its_image(rt: HostRuntime) -> Result<(), Fail> {
     let mut bytes = Vec::new(rt.alloc());
     bytes.push(0x34)?;
     bytes.push(0x12)?;
-    let plan = NodePlan {
-        number: 0,
-        id: 0,
-        image: Image::of(
-            code,
-            bytes,
-            0x0001_0000,
-            Symbols::of_source(rt.alloc(), b""),
-        ),
-        ways: [0; 16],
-    };
+    let image = Image::of(
+        code,
+        bytes,
+        0x0001_0000,
+        Symbols::of_source(rt.alloc(), b""),
+    );
+    let plan = NodePlan::plain(0, 0, image, [0; 16]);
     let core = Core::boot(rt.alloc(), &plan, &NO_GAPS)?;
     assert!(rt; matches!(core.run_of(0), Run::Going));
     assert!(rt; matches!(core.run_of(1), Run::Free));
@@ -37,17 +33,13 @@ fn boots_with_its_image(rt: HostRuntime) -> Result<(), Fail> {
 
 #[test]
 fn halts_where_no_code_stands(rt: HostRuntime) -> Result<(), Fail> {
-    let plan = NodePlan {
-        number: 0,
-        id: 0,
-        image: Image::of(
-            Vec::new(rt.alloc()),
-            Vec::new(rt.alloc()),
-            0x0001_0000,
-            Symbols::of_source(rt.alloc(), b""),
-        ),
-        ways: [0; 16],
-    };
+    let image = Image::of(
+        Vec::new(rt.alloc()),
+        Vec::new(rt.alloc()),
+        0x0001_0000,
+        Symbols::of_source(rt.alloc(), b""),
+    );
+    let plan = NodePlan::plain(0, 0, image, [0; 16]);
     let mut core = Core::boot(rt.alloc(), &plan, &NO_GAPS)?;
     let arrivals = Arrivals {
         tokens: [None; 8],
@@ -82,17 +74,13 @@ fn sends_a_packet(rt: HostRuntime) -> Result<(), Fail> {
     code.push(Instr::Resources(ResIns::OutctImm(0, 1)))?;
     code.push(Instr::Threads(ThreadIns::Freet))?;
     let bytes = Vec::from_slice(rt.alloc(), &[0x02, 0x01, 0x05, 0x00])?;
-    let plan = NodePlan {
-        number: 0,
-        id: 3,
-        image: Image::of(
-            code,
-            bytes,
-            0x0001_0004,
-            Symbols::of_source(rt.alloc(), b""),
-        ),
-        ways: [1; 16],
-    };
+    let image = Image::of(
+        code,
+        bytes,
+        0x0001_0004,
+        Symbols::of_source(rt.alloc(), b""),
+    );
+    let plan = NodePlan::plain(0, 3, image, [1; 16]);
     let mut core = Core::boot(rt.alloc(), &plan, &FOUR_SLOTS)?;
     let arrivals = Arrivals {
         tokens: [None; 8],
@@ -151,17 +139,13 @@ fn waits_for_lock_0(run: Run) -> bool {
 // 67. It owns the lock in slot 71, after thread 1 released it.
 #[test]
 fn lock_is_for_one_thread_at_a_time(rt: HostRuntime) -> Result<(), Fail> {
-    let plan = NodePlan {
-        number: 0,
-        id: 0,
-        image: Image::of(
-            Vec::from_slice(rt.alloc(), &LOCK_CODE)?,
-            Vec::from_slice(rt.alloc(), &LOCK_DATA)?,
-            0x0001_0008,
-            Symbols::of_source(rt.alloc(), b""),
-        ),
-        ways: [0; 16],
-    };
+    let image = Image::of(
+        Vec::from_slice(rt.alloc(), &LOCK_CODE)?,
+        Vec::from_slice(rt.alloc(), &LOCK_DATA)?,
+        0x0001_0008,
+        Symbols::of_source(rt.alloc(), b""),
+    );
+    let plan = NodePlan::plain(0, 0, image, [0; 16]);
     let mut core = Core::boot(rt.alloc(), &plan, &NO_GAPS)?;
     let arrivals = Arrivals {
         tokens: [None; 8],

@@ -11,7 +11,8 @@ use Rattle.core_units.specs.declared.units.Units.TheInside.{Inside}
 
 -- the core record
 abbrev pub units_of : Inside → CoreRec
-units_of u = record (core_with u.threads u.slots u.ram) {
+units_of u = record (core_with u.threads u.slots.last u.ram) {
+  slots = u.slots;
   chans = u.chans;
   timers = u.timers;
   clocks = u.clocks;

@@ -23,7 +23,7 @@ use xs_model::{Entry0, Run, Thread};
 pub struct Units {
     /// The threads, by number.
     pub threads: [Thread; 8],
-    /// The slots in which they issued last.
+    /// The slots in which they issued last, and that in which the core divided last.
     pub slots: Slots,
     /// The memory.
     pub ram: Ram,

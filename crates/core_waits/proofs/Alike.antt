@@ -8,7 +8,7 @@ use Rattle.xs_model.specs.declared.status.TheConstants.{EEBLE, IEBLE}
 use Rattle.xs_model.specs.declared.thread.Run.{Run}
 use Rattle.xs_model.specs.declared.thread.Run.TheVariants.{Free, Unstarted, AtSync, Going, Paused, Halted}
 use Rattle.xs_model.specs.declared.thread.Wait.{Wait}
-use Rattle.xs_model.specs.declared.thread.Wait.TheVariants.{Room, Tokens, PortFull, PortEmpty, PortIdle, Timer, Lock, Slaves, Choice}
+use Rattle.xs_model.specs.declared.thread.Wait.TheVariants.{Room, Tokens, PortFull, PortEmpty, PortIdle, Timer, Lock, Slaves, Choice, Divider}
 use Rattle.xs_model.specs.Status.{has_bits}
 use Rattle.xs_model.specs.Record.{CoreRec, TimerRec, EnablingRec, thread_of, unused_timer}
 use Rattle.xs_model.specs.Time.{is_after, time_at, timer_holds}
@@ -17,7 +17,7 @@ use Rattle.xs_model.specs.Waits.{holds}
 use Rattle.xs_model.specs.Enabling.{gives_to}
 use Rattle.xs_model.specs.Choices.{first_of, first_ready, allowed_choice, choice_in_mode, choice, ready_in}
 use Rattle.xs_model.specs.Picks.{goes_or_holds, is_paused, is_able}
-use Rattle.core_waits.specs.Parts.{IsAtTime, AreAlike}
+use Rattle.core_waits.specs.Parts.{AreAlike}
 
 -- ---- Where no timer has a condition, and where the time is the same
 
@@ -31,24 +31,23 @@ no_condition [] none n = refl
 no_condition (timer ∷ timers) none zero = (none_of timer.after (list_any (λ t. t.after) timers) none).0
 no_condition (timer ∷ timers) none (suc n) = no_condition timers (none_of timer.after (list_any (λ t. t.after) timers) none).1 n
 
-pub alike-without : (timers : List TimerRec) (slot other : ℕ) → list_any (λ timer. timer.after) timers ≡ false → AreAlike timers slot other
+-- the conditions of timers hold alike
+abbrev pub TimersAlike : List TimerRec → ℕ → ℕ → Type 0
+TimersAlike timers slot other = (n : ℕ) → timer_holds slot (timer_at timers n) ≡ timer_holds other (timer_at timers n)
+
+pub alike-without : (timers : List TimerRec) (slot other : ℕ) → list_any (λ timer. timer.after) timers ≡ false → TimersAlike timers slot other
 alike-without timers slot other none n =
     let timer = slice_index_or timers n unused_timer in
     let its = no_condition timers none n in
     ap (λ after. not after || is_after timer.value (time_at slot)) its ∙ sym (ap (λ after. not after || is_after timer.value (time_at other)) its)
 
-pub alike-at : (timers : List TimerRec) (slot other : ℕ) → time_at slot ≡ time_at other → AreAlike timers slot other
+pub alike-at : (timers : List TimerRec) (slot other : ℕ) → time_at slot ≡ time_at other → TimersAlike timers slot other
 alike-at timers slot other same n =
     let timer = slice_index_or timers n unused_timer in
     ap (λ time. not timer.after || is_after timer.value time) same
 
--- where a timer has a condition the time is the same, and else it does not matter
-pub alike-for : (timers : List TimerRec) (timed : Bool) (slot other : ℕ) → timed ≡ list_any (λ timer. timer.after) timers → IsAtTime timed slot other → AreAlike timers slot other
-alike-for timers false slot other told is = alike-without timers slot other (sym told)
-alike-for timers true slot other told is = alike-at timers slot other is
-
 -- where the conditions of the same timers hold
-pub alike-ready : (timers : List TimerRec) (slot other : ℕ) → length timers ≡ 10 → ((n : ℕ) → n < 10 → timer_holds slot (timer_at timers n) ≡ timer_holds other (timer_at timers n)) → AreAlike timers slot other
+pub alike-ready : (timers : List TimerRec) (slot other : ℕ) → length timers ≡ 10 → ((n : ℕ) → n < 10 → timer_holds slot (timer_at timers n) ≡ timer_holds other (timer_at timers n)) → TimersAlike timers slot other
 alike-ready timers slot other ten same n = elim (cases_lt n 10) [
   | inl below ↦ same n below
   | inr beyond ↦ let it = get_or_past timers n unused_timer (omega (arith, ten, beyond)) in ap (timer_holds slot) it ∙ sym (ap (timer_holds other) it)
@@ -62,17 +61,18 @@ first_alike gives one other same n [] = refl
 first_alike gives one other same n (e ∷ rest) =
     ap₂ (λ ready later. if gives e && ready then Some e else later) (same n) (first_alike gives one other same (n + 1) rest)
 
-module _ (core : CoreRec) (slot other : ℕ) (alike : AreAlike core.timers slot other) where
+module _ (core : CoreRec) (slot other : ℕ) (alike : AreAlike core.timers core.slots.division slot other) where
   holds_alike : (wait : Wait) → holds core slot wait ≡ holds core other wait
   holds_alike (Room chan count) = refl
   holds_alike (Tokens chan count) = refl
   holds_alike (PortFull port) = refl
   holds_alike (PortEmpty port) = refl
   holds_alike (PortIdle port) = refl
-  holds_alike (Timer timer) = alike timer
+  holds_alike (Timer timer) = alike.timers timer
   holds_alike (Lock lock) = refl
   holds_alike (Slaves sync) = refl
   holds_alike Choice = refl
+  holds_alike Divider = alike.divider
 
   goes_alike : (run : Run) → goes_or_holds core slot run ≡ goes_or_holds core other run
   goes_alike Free = refl
@@ -87,7 +87,7 @@ module _ (core : CoreRec) (slot other : ℕ) (alike : AreAlike core.timers slot 
       ap (λ timer.
       first_of (first_ready (gives_to k interrupt) (ready_in core slot).chans 0 core.events.chans)
       (first_of timer (first_ready (gives_to k interrupt) (ready_in core slot).ports 0 core.events.ports)))
-      (first_alike (gives_to k interrupt) (ready_in core slot).timers (ready_in core other).timers alike 0 core.events.timers)
+      (first_alike (gives_to k interrupt) (ready_in core slot).timers (ready_in core other).timers alike.timers 0 core.events.timers)
 
   choice_alike : (k : ℕ) → choice core slot k ≡ choice core other k
   choice_alike k =

@@ -1,16 +1,16 @@
 //! The threads that may issue.
-ghost use Rattle.std.specs.Prelude.{◌≡◌, ℕ, ◌<◌, ◌&&◌, true, ◌↔◌, IfSome, is_some, slice_index_or};
+ghost use Rattle.std.specs.Prelude.{◌≡◌, ℕ, ◌<◌, ◌≤◌, ◌&&◌, true, ◌↔◌, IfSome, is_some, slice_index_or};
 ghost use Rattle.xs_base.specs.declared.numbers.TheConstants.{THREADS};
 ghost use Rattle.xs_model.specs.Masks.{in_mask};
 ghost use Rattle.xs_model.specs.Status.{no_status};
 ghost use Rattle.xs_model.specs.Threads.{fresh_thread};
-ghost use Rattle.xs_model.specs.Record.{CoreRec, EventsRec, thread_of};
+ghost use Rattle.xs_model.specs.Record.{CoreRec, SlotsRec, EventsRec, thread_of};
 ghost use Rattle.xs_model.specs.Waits.{holds};
 ghost use Rattle.xs_model.specs.Choices.{choice, choice_by, ready_in};
 ghost use Rattle.xs_model.specs.Picks.{goes_or_holds, is_paused};
 ghost use Rattle.sync_locks.specs.Syncs.{SyncsRec};
 ghost use Rattle.event_unit.specs.Ready.{AreReady, choice_of};
-ghost use Rattle.core_waits.specs.Parts.{HasParts, IsFor, AreAble, may_choose};
+ghost use Rattle.core_waits.specs.Parts.{HasParts, IsFor, AreAlike, AreAble, may_choose};
 
 use crate::slaves::all_in;
 use bitflags::Flags;
@@ -18,7 +18,7 @@ use buffered_ports::Ports;
 use chan_ends::ChanEnds;
 use event_unit::{Choice, Events, Ready};
 use sync_locks::Syncs;
-use thread_slots::{no_threads, with_able};
+use thread_slots::{Slots, no_threads, with_able};
 use timers_clocks::Timers;
 use xs_base::numbers::THREADS;
 use xs_model::{EEBLE, IEBLE, Run, Status, Thread, Wait};
@@ -33,12 +33,11 @@ const TAKES: Status = Status {
 pub struct Able {
     /// Bit k for thread k.
     pub threads: u8,
-    /// The slot in which it was found.
+    /// The slot in which it was found, the first for which it is known.
     pub slot: u32,
-    /// Whether it holds only while timers show what they show in that slot, since one of them has a condition; else it
-    /// holds in each slot.
-    pub timed: bool,
-    /// The timers whose condition holds in that slot, bit n for timer n.
+    /// The last slot for which it is known: up to it the conditions of timers hold alike, and the divider stays free or not.
+    pub until: u32,
+    /// The timers whose condition holds in the slot in which it was found, bit n for timer n.
     pub ready: u16,
 }
 
@@ -47,6 +46,7 @@ impl Able {
     /// those that are paused and may take an event or an interrupt. See docs/MACHINE.md.
     pub fn find(
         threads: &[Thread; 8],
+        slots: &Slots,
         chans: &ChanEnds,
         timers: &Timers,
         syncs: &Syncs,
@@ -54,41 +54,58 @@ impl Able {
         events: &Events,
         slot: u32,
     ) -> Able
-        ensures value { (core : CoreRec) → HasParts core threads.now chans.now timers.now syncs.now ports.now events.now → AreAble core result }
+        ensures value { (core : CoreRec) → HasParts core threads.now slots.now chans.now timers.now syncs.now ports.now events.now → AreAble core result }
         ensures now { IsFor result slot }
     {
-        let going = going(threads, chans, timers, syncs, ports, slot);
+        let going = going(threads, slots, chans, timers, syncs, ports, slot);
         let choosing = choosing(threads, chans, timers, ports, events, slot);
         Able {
             threads: going | choosing,
             slot,
-            timed: timers.has_conditions(),
+            until: known_until(slots, timers, slot),
             ready: timers.ready(slot),
         }
     }
 
-    /// Whether it holds in a slot.
+    /// Whether it is known for a slot.
     #[inline]
     pub fn is_for(&self, slot: u32) -> bool
         ensures value { (result ≡ true) ↔ IsFor self.now slot }
     {
-        !self.timed || Timers::time(self.slot) == Timers::time(slot)
+        self.slot <= slot && slot <= self.until
     }
 
-    /// The same for the time of another slot, if it holds there too: the conditions of the same timers hold there.
-    pub fn again(&self, timers: &Timers, slot: u32) -> Option<Able>
-        ensures value { (core : CoreRec) → core.timers ≡ timers.now → AreAble core self.now → IfSome result (AreAble core) }
+    /// The same from a later slot on, if it holds there too: the conditions of the same timers hold there, and the divider is
+    /// free there or not, as before.
+    pub fn again(&self, slots: &Slots, timers: &Timers, slot: u32) -> Option<Able>
+        ensures value { (core : CoreRec) → core.slots ≡ slots.now → core.timers ≡ timers.now → AreAble core self.now → IfSome result (AreAble core) }
         ensures now { IfSome result (λ able. IsFor able slot) }
     {
-        if !self.timed || timers.ready(slot) != self.ready {
+        if slot < self.slot || slots.divider_until(self.slot) < slot {
+            return None;
+        }
+        if timers.ready(slot) != self.ready {
             return None;
         }
         Some(Able {
             threads: self.threads,
             slot,
-            timed: true,
+            until: known_until(slots, timers, slot),
             ready: self.ready,
         })
+    }
+}
+
+// The last slot up to which what threads wait for of the slot alone holds as in this one.
+fn known_until(slots: &Slots, timers: &Timers, slot: u32) -> u32
+    ensures alike { (later : ℕ) → slot ≤ later → later ≤ result → AreAlike timers.now slots.now.division slot later }
+    ensures now { slot ≤ result }
+{
+    let until = slots.divider_until(slot);
+    if timers.has_conditions() {
+        until.min(Timers::time_until(slot))
+    } else {
+        until
     }
 }
 
@@ -127,13 +144,14 @@ pub fn ready(chans: &ChanEnds, timers: &Timers, ports: &Ports, slot: u32) -> Rea
 // The threads that go, or whose pause's condition holds.
 fn going(
     threads: &[Thread; 8],
+    slots: &Slots,
     chans: &ChanEnds,
     timers: &Timers,
     syncs: &Syncs,
     ports: &Ports,
     slot: u32,
 ) -> u8
-    ensures { (core : CoreRec) (events : EventsRec) → HasParts core threads.now chans.now timers.now syncs.now ports.now events →
+    ensures { (core : CoreRec) (events : EventsRec) → HasParts core threads.now slots.now chans.now timers.now syncs.now ports.now events →
         (k : ℕ) → k < THREADS → in_mask result k ≡ goes_or_holds core slot (thread_of core k).run }
 {
     let mut going = no_threads();
@@ -141,6 +159,7 @@ fn going(
         if goes(
             threads[k as usize].run,
             threads,
+            slots,
             chans,
             timers,
             syncs,
@@ -162,7 +181,7 @@ fn choosing(
     events: &Events,
     slot: u32,
 ) -> u8
-    ensures { (core : CoreRec) (syncs : SyncsRec) → HasParts core threads.now chans.now timers.now syncs ports.now events.now →
+    ensures { (core : CoreRec) (slots : SlotsRec) (syncs : SyncsRec) → HasParts core threads.now slots chans.now timers.now syncs ports.now events.now →
         (k : ℕ) → k < THREADS → in_mask result k ≡ (is_paused (thread_of core k).run && is_some (choice core slot k)) }
 {
     let may = allowing(threads);
@@ -210,18 +229,19 @@ fn statuses(threads: &[Thread; 8]) -> [Status; 8]
 fn goes(
     run: Run,
     threads: &[Thread; 8],
+    slots: &Slots,
     chans: &ChanEnds,
     timers: &Timers,
     syncs: &Syncs,
     ports: &Ports,
     slot: u32,
 ) -> bool
-    ensures { (core : CoreRec) (events : EventsRec) → HasParts core threads.now chans.now timers.now syncs.now ports.now events →
+    ensures { (core : CoreRec) (events : EventsRec) → HasParts core threads.now slots.now chans.now timers.now syncs.now ports.now events →
         result ≡ goes_or_holds core slot run }
 {
     match run {
         Run::Going => true,
-        Run::Paused(wait) => holds(wait, threads, chans, timers, syncs, ports, slot),
+        Run::Paused(wait) => holds(wait, threads, slots, chans, timers, syncs, ports, slot),
         _ => false,
     }
 }
@@ -230,13 +250,14 @@ fn goes(
 fn holds(
     wait: Wait,
     threads: &[Thread; 8],
+    slots: &Slots,
     chans: &ChanEnds,
     timers: &Timers,
     syncs: &Syncs,
     ports: &Ports,
     slot: u32,
 ) -> bool
-    ensures { (core : CoreRec) (events : EventsRec) → HasParts core threads.now chans.now timers.now syncs.now ports.now events →
+    ensures { (core : CoreRec) (events : EventsRec) → HasParts core threads.now slots.now chans.now timers.now syncs.now ports.now events →
         result ≡ holds core slot wait }
 {
     match wait {
@@ -249,5 +270,6 @@ fn holds(
         Wait::PortEmpty { port } => !ports.is_full(port),
         Wait::PortIdle { port } => ports.is_idle(port),
         Wait::Choice => false,
+        Wait::Divider => slots.divider_free(slot),
     }
 }

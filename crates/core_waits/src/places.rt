@@ -100,6 +100,6 @@ fn thing_of(wait: Wait) -> Option<Thing>
             Some(Thing::Port { port })
         }
         Wait::Timer { timer } => Some(Thing::Timer { timer }),
-        Wait::Lock { .. } | Wait::Slaves { .. } | Wait::Choice => None,
+        Wait::Lock { .. } | Wait::Slaves { .. } | Wait::Choice | Wait::Divider => None,
     }
 }

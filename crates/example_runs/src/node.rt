@@ -36,7 +36,7 @@ impl Node {
         let code = Vec::from_slice(alloc, plan.image.code())?;
         let ram = Ram::new(alloc, plan.image.bytes())?;
         Ok(Node {
-            program: Program::new(plan.id, code),
+            program: Program::new(plan.id, plan.edition, code),
             units: Processor::first(plan.id, plan.image.entry(), plan.image.cp_at(), ram),
             emissions: Emissions::new(),
         })

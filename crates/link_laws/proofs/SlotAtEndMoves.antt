@@ -56,7 +56,7 @@ module _ (routes : Routes) (slot : Slot) (e : EndNumber) (before : Option LinkRe
     -- ---- The step of an input, rule by rule
 
     module _ (i : InputNumber) where
-      head_so : (state : InputRec) (waiting : List Token) (m : AtWork) → waiting_at m.rec i ≡ waiting → At i m → At (suc i) (head_step i state waiting m)
+      head_so : (state : InputRec) (waiting : List Token) (m : AtWork) → waiting_at m.rec i ≡ waiting → At i m → At (suc i) (head_step routes i state waiting m)
       head_so state [] m waits h = later i m h
       head_so state (Byte b ∷ rest) m waits h = take i (Byte b) rest m waits h
       head_so state (Ctrl c ∷ rest) m waits h = take i (Ctrl c) rest m waits h
@@ -107,13 +107,13 @@ module _ (routes : Routes) (slot : Slot) (e : EndNumber) (before : Option LinkRe
       want_so : (dest : Dest) (m : AtWork) → At i m → At (suc i) (want_step routes slot i dest m)
       want_so dest m h = way_so dest (way_to routes.id routes.ways dest.node) m h
 
-      start_so : (id : Option Identifier) (m : AtWork) → At i m → At (suc i) (start_packet (want_step routes slot i) i id m)
-      start_so None m h = later i m h
-      start_so (Some id) m h = want_so (dest_of id) _ h
+      start_so : (net : ℕ) (id : Option Identifier) (m : AtWork) → At i m → At (suc i) (start_packet (want_step routes slot i) i net id m)
+      start_so net None m h = later i m h
+      start_so net (Some id) m h = want_so (dest_of id) _ h
 
       packet_so : (waiting : List Token) (m : AtWork) → At i m → At (suc i) (packet_step (want_step routes slot i) i waiting m)
       packet_so [] m h = later i m h
-      packet_so (t ∷ rest) m h = start_so (chan_of m.rec.core (chan_of_input i)).dest m h
+      packet_so (t ∷ rest) m h = let chan = chan_of m.rec.core (chan_of_input i) in start_so chan.net chan.dest m h
 
       step_so : (state : InputRec) (m : AtWork) → At i m → At (suc i) (step_at routes slot i state m)
       step_so Idle m h =
@@ -122,7 +122,7 @@ module _ (routes : Routes) (slot : Slot) (e : EndNumber) (before : Option LinkRe
           either (suc i) (is_link_input i) _ m (λ _. head_so (Head1 high) (waiting_at m.rec i) m refl h) (later i m h)
       step_so (Head2 high low) m h =
           either (suc i) (is_link_input i) _ m (λ _. head_so (Head2 high low) (waiting_at m.rec i) m refl h) (later i m h)
-      step_so (Want dest) m h = want_so dest m h
+      step_so (Want dest net) m h = want_so dest m h
       step_so (Local n) m h = local_so n (waiting_at m.rec i) m refl h
       step_so (Out end headers dest) m h = out_so end headers dest m h
       step_so Lost m h = lost_so (waiting_at m.rec i) m refl h

@@ -7,6 +7,7 @@ use Rattle.xs_instructions.specs.Image.{ImageRec}
 use Rattle.source_model.specs.Source.{Assembled, Image, assembled_lines}
 use Rattle.pin_scripts.specs.Pins.{Script, pins_from, pins_of}
 use Rattle.sys_plan.specs.declared.NodePlan.{NodePlan}
+use Rattle.sys_plan.specs.NodePlans.{plain_plan}
 use Rattle.system_model.specs.declared.frame_line.GivenNode.{GivenNode}
 use Rattle.system_model.specs.declared.frame_line.SectionKind.{SectionKind}
 use Rattle.system_model.specs.declared.frame_line.SectionKind.TheVariants.{Source, Pins}
@@ -74,7 +75,7 @@ no_lines_no_script numbers = refl
 module _ (bits : List BitRec) (image_at : ℕ → ImageRec) where
   -- a node's plan by its image
   abbrev pub node_plan : ℕ → NodePlan
-  node_plan i = record { number = i; id = i; image = image_at i; ways = ways_of bits i }
+  node_plan i = plain_plan i i (image_at i) (ways_of bits i)
 
   -- where each source has its image the nodes have these plans
   pub plans_are : (sections : List SectionText) (c : ℕ) → ((i : ℕ) → i < c → assembled_lines (section_lines sections (Source i)) ≡ Image (image_at i))

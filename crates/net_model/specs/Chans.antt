@@ -20,7 +20,7 @@ chan_named node id =
 abbrev pub free_chan : List ChanRec → ChanNumber → Option ChanNumber
 free_chan chans n = lowest_free (λ chan. chan.used) chans n
 
--- a channel end that was just got: its buffers are empty, and it has no destination
+-- a channel end that was just got: its buffers are empty, it has no destination, and its packets take network 0
 abbrev pub got_chan : ChanRec
 got_chan = record unused_chan { used = true }
 

@@ -20,9 +20,14 @@ use Rattle.net_model.specs.Links.{may_send}
 pub record Routes : Type 0 where
   pub id : NodeId
   pub ways : List ℕ  -- 16: for each bit of an id, the link ends that lead on, as a mask
+  pub nets : List ℕ  -- 8: for each link end the network of its link, 0 to 3, and 0 where there is no such link end
   pub gaps : List ℕ  -- 8: for each link end its gap in slots, 0 where there is no such link end
 
 -- ---- The inputs and what they hold
+
+-- the network of a link end's link
+abbrev pub net_of_end : Routes → EndNumber → ℕ
+net_of_end routes end = slice_index routes.nets end
 
 -- the first inputs are those of the link ends
 abbrev pub is_link_input : InputNumber → Bool
@@ -148,35 +153,36 @@ abbrev pub end_may_send : Routes → Slot → EndNumber → Option LinkRec → B
 end_may_send routes slot e None = false
 end_may_send routes slot e (Some link) = may_send (slice_index routes.gaps e) slot link
 
--- ---- Rule 1. An idle channel end at which tokens wait begins a packet: it wants to go to its destination, and goes
--- on at once by rule 3, which is given as `onward`. Where there is no destination, nothing begins.
+-- ---- Rule 1. An idle channel end at which tokens wait begins a packet: it wants to go to its destination by its network, and
+-- goes on at once by rule 3, which is given as `onward`. Where there is no destination, nothing begins.
 
-abbrev pub start_packet : (Dest → AtWork → AtWork) → InputNumber → Option Identifier → AtWork → AtWork
-start_packet onward i None m = m
-start_packet onward i (Some id) m = onward (dest_of id) (to_state i (Want (dest_of id)) m)
+abbrev pub start_packet : (Dest → AtWork → AtWork) → InputNumber → ℕ → Option Identifier → AtWork → AtWork
+start_packet onward i net None m = m
+start_packet onward i net (Some id) m = onward (dest_of id) (to_state i (Want (dest_of id) net) m)
 
 abbrev pub packet_step : (Dest → AtWork → AtWork) → InputNumber → List Token → AtWork → AtWork
 packet_step onward i [] m = m
-packet_step onward i (t ∷ rest) m = start_packet onward i (chan_of m.rec.core (chan_of_input i)).dest m
+packet_step onward i (t ∷ rest) m =
+    let chan = chan_of m.rec.core (chan_of_input i) in start_packet onward i chan.net chan.dest m
 
 -- ---- Rule 2. A link end that is idle or within a header takes the token that waits: the three bytes of a header are
--- the high and the low byte of a node's id, and the number of a channel end there. A control token in their place is
--- dropped.
+-- the high and the low byte of a node's id, and the number of a channel end there. It wants to go there by the network of
+-- its link. A control token in the place of a header byte is dropped.
 
--- a link end's state after one more header byte
-abbrev pub after_header : InputRec → ℕ → InputRec
-after_header Idle b = Head1 b
-after_header (Head1 high) b = Head2 high b
-after_header (Head2 high low) b = Want (record { node = high * 256 + low; chan = b })
-after_header state b = state
+-- the state of a link end, whose link has this network, after one more header byte
+abbrev pub after_header : ℕ → InputRec → ℕ → InputRec
+after_header net Idle b = Head1 b
+after_header net (Head1 high) b = Head2 high b
+after_header net (Head2 high low) b = Want (record { node = high * 256 + low; chan = b }) net
+after_header net state b = state
 
-abbrev pub head_token : InputNumber → InputRec → Token → AtWork → AtWork
-head_token i state (Byte b) m = to_state i (after_header state b) (take_first i m)
-head_token i state (Ctrl c) m = take_first i m
+abbrev pub head_token : Routes → InputNumber → InputRec → Token → AtWork → AtWork
+head_token routes i state (Byte b) m = to_state i (after_header (net_of_end routes i) state b) (take_first i m)
+head_token routes i state (Ctrl c) m = take_first i m
 
-abbrev pub head_step : InputNumber → InputRec → List Token → AtWork → AtWork
-head_step i state [] m = m
-head_step i state (t ∷ rest) m = head_token i state t m
+abbrev pub head_step : Routes → InputNumber → InputRec → List Token → AtWork → AtWork
+head_step routes i state [] m = m
+head_step routes i state (t ∷ rest) m = head_token routes i state t m
 
 -- ---- Rule 3. An input that wants to go to a destination looks for the way there. It goes on at once by rule 4 where
 -- it holds a channel end of this node, and by rule 5 where it holds a link end; they are given as `onward`.
@@ -251,17 +257,17 @@ want_step routes slot i dest m = want_way routes slot i dest (way_to routes.id r
 
 abbrev pub idle_step : Routes → Slot → InputNumber → List Token → AtWork → AtWork
 idle_step routes slot i tokens m =
-    if is_link_input i then head_step i Idle tokens m else packet_step (want_step routes slot i) i tokens m
+    if is_link_input i then head_step routes i Idle tokens m else packet_step (want_step routes slot i) i tokens m
 
 -- only a link end has headers to take
-abbrev pub link_head_step : InputNumber → InputRec → AtWork → AtWork
-link_head_step i state m = if is_link_input i then head_step i state (waiting_at m.rec i) m else m
+abbrev pub link_head_step : Routes → InputNumber → InputRec → AtWork → AtWork
+link_head_step routes i state m = if is_link_input i then head_step routes i state (waiting_at m.rec i) m else m
 
 abbrev pub step_at : Routes → Slot → InputNumber → InputRec → AtWork → AtWork
 step_at routes slot i Idle m = idle_step routes slot i (waiting_at m.rec i) m
-step_at routes slot i (Head1 high) m = link_head_step i (Head1 high) m
-step_at routes slot i (Head2 high low) m = link_head_step i (Head2 high low) m
-step_at routes slot i (Want dest) m = want_step routes slot i dest m
+step_at routes slot i (Head1 high) m = link_head_step routes i (Head1 high) m
+step_at routes slot i (Head2 high low) m = link_head_step routes i (Head2 high low) m
+step_at routes slot i (Want dest net) m = want_step routes slot i dest m
 step_at routes slot i (Local n) m = local_step i n (waiting_at m.rec i) m
 step_at routes slot i (Out e headers dest) m = out_step routes slot i e headers dest m
 step_at routes slot i Lost m = lost_step i (waiting_at m.rec i) m

@@ -8,12 +8,12 @@ use Rattle.xs_model.specs.declared.thread.Thread.{Thread}
 use Rattle.xs_model.specs.declared.thread.Run.{Run}
 use Rattle.xs_model.specs.declared.thread.Run.TheVariants.{Free, Unstarted, AtSync, Going, Paused, Halted}
 use Rattle.xs_model.specs.declared.thread.Wait.{Wait}
-use Rattle.xs_model.specs.declared.thread.Wait.TheVariants.{Room, Tokens, PortFull, PortEmpty, PortIdle, Timer, Lock, Slaves, Choice}
+use Rattle.xs_model.specs.declared.thread.Wait.TheVariants.{Room, Tokens, PortFull, PortEmpty, PortIdle, Timer, Lock, Slaves, Choice, Divider}
 use Rattle.xs_model.specs.declared.thread.Outcome.{Outcome}
 use Rattle.xs_model.specs.declared.thread.Outcome.TheVariants as outcome
 use Rattle.xs_model.specs.Threads.{fresh_thread}
-use Rattle.xs_model.specs.Record.{CoreRec, thread_of, sync_of}
-use Rattle.xs_model.specs.Waits.{holds, is_in}
+use Rattle.xs_model.specs.Record.{CoreRec, SlotsRec, thread_of, sync_of}
+use Rattle.xs_model.specs.Waits.{holds, division_is_over, is_in}
 use Rattle.xs_model.specs.Choices.{choice_by, ready_in}
 use Rattle.xs_model.specs.Picks.{goes_or_holds, is_paused, is_able}
 use Rattle.xs_base.specs.declared.numbers.TheConstants.{THREADS}
@@ -60,12 +60,12 @@ same_able : (core : CoreRec) (slot k : ℕ) (one other : Thread) → GoAlike one
 same_able core slot k one other (inl same) = ap (able_as core slot k) same
 same_able core slot k one other (inr both) = goes_able core slot k one both.0 ∙ sym (goes_able core slot k other both.1)
 
--- a core with these threads, last issues and memory in place of its own
-abbrev with_these : CoreRec → List Thread → List (Option ℕ) → List ℕ → CoreRec
-with_these core threads last memory = record core { threads = threads; last = last; memory = memory }
+-- a core with these threads, last issues and division, and memory in place of its own
+abbrev with_these : CoreRec → List Thread → SlotsRec → List ℕ → CoreRec
+with_these core threads slots memory = record core { threads = threads; slots = slots; memory = memory }
 
-module _ (core : CoreRec) (threads : List Thread) (last : List (Option ℕ)) (memory : List ℕ) (alike : (k : ℕ) → GoAlike (thread_at threads k) (thread_at core.threads k)) where
-  holds_still : (slot : ℕ) (what : Wait) → holds (with_these core threads last memory) slot what ≡ holds core slot what
+module _ (core : CoreRec) (threads : List Thread) (slots : SlotsRec) (memory : List ℕ) (divided : slots.division ≡ core.slots.division) (alike : (k : ℕ) → GoAlike (thread_at threads k) (thread_at core.threads k)) where
+  holds_still : (slot : ℕ) (what : Wait) → holds (with_these core threads slots memory) slot what ≡ holds core slot what
   holds_still slot (Room chan count) = refl
   holds_still slot (Tokens chan count) = refl
   holds_still slot (PortFull port) = refl
@@ -78,8 +78,9 @@ module _ (core : CoreRec) (threads : List Thread) (last : List (Option ℕ)) (me
       (λ k. ap is_in (same_run (thread_at threads k) (thread_at core.threads k) (alike k)))
       (sync_of core sync).slaves
   holds_still slot Choice = refl
+  holds_still slot Divider = ap (λ division. division_is_over division slot) divided
 
-  goes_still : (slot : ℕ) (run : Run) → goes_or_holds (with_these core threads last memory) slot run ≡ goes_or_holds core slot run
+  goes_still : (slot : ℕ) (run : Run) → goes_or_holds (with_these core threads slots memory) slot run ≡ goes_or_holds core slot run
   goes_still slot Free = refl
   goes_still slot Unstarted = refl
   goes_still slot AtSync = refl
@@ -87,26 +88,26 @@ module _ (core : CoreRec) (threads : List Thread) (last : List (Option ℕ)) (me
   goes_still slot (Paused what) = holds_still slot what
   goes_still slot Halted = refl
 
-  able_still : (slot k : ℕ) → is_able (with_these core threads last memory) k slot ≡ is_able core k slot
+  able_still : (slot k : ℕ) → is_able (with_these core threads slots memory) k slot ≡ is_able core k slot
   able_still slot k =
       let th = thread_at threads k in
       ap (λ goes. goes || (is_paused th.run && is_some (choice_by k th.sr (ready_in core slot) core.events))) (goes_still slot th.run)
       ∙ same_able core slot k th (thread_at core.threads k) (alike k)
 
-  pub known_still : (able : Option Able) → IfSome able (AreAble core) → IfSome able (AreAble (with_these core threads last memory))
+  pub known_still : (able : Option Able) → IfSome able (AreAble core) → IfSome able (AreAble (with_these core threads slots memory))
   known_still None known = tt
-  known_still (Some able) known = record { at = λ slot k is below. known.at slot k is below ∙ sym (able_still slot k); ready = known.ready }
+  known_still (Some able) known = record { at = λ slot k is below. known.at slot k is below ∙ sym (able_still slot k); now = known.now; ready = known.ready }
 
 -- What is known stays true where thread k, read with any default, goes and does what it did; the memory may change.
-pub thread-set : (core : CoreRec) (k : ℕ) (th default : Thread) (memory : List ℕ) → k < THREADS → length core.threads ≡ THREADS → (thread_of core k).run ≡ Going → th.run ≡ (get_or core.threads k default).run → StaysKnown core (with_these core (slice_set core.threads k th) core.last memory)
+pub thread-set : (core : CoreRec) (k : ℕ) (th default : Thread) (memory : List ℕ) → k < THREADS → length core.threads ≡ THREADS → (thread_of core k).run ≡ Going → th.run ≡ (get_or core.threads k default).run → StaysKnown core (with_these core (slice_set core.threads k th) core.slots memory)
 thread-set core k th default memory below eight goes same able known =
     let there : get_or core.threads k default ≡ get_or core.threads k fresh_thread = get_or_default core.threads k default fresh_thread (omega (arith, eight)) in
     let its : th.run ≡ Going = same ∙ ap (λ (t : Thread). t.run) there ∙ goes in
-    known_still core (slice_set core.threads k th) core.last memory (set-alike core.threads k th its goes) able known
+    known_still core (slice_set core.threads k th) core.slots memory refl (set-alike core.threads k th its goes) able known
 
 -- and whatever the last issues are
-pub last-set : (core : CoreRec) (last : List (Option ℕ)) → StaysKnown core (record core { last = last })
-last-set core last able known = known_still core core.threads last core.memory (λ k. inl refl) able known
+pub last-set : (core : CoreRec) (slots : SlotsRec) → slots.division ≡ core.slots.division → StaysKnown core (record core { slots = slots })
+last-set core slots divided able known = known_still core core.threads slots core.memory divided (λ k. inl refl) able known
 
 -- what becomes of a thread after its row on words leaves what it does
 pub gone_on-run : (o : Outcome) (th : Thread) → (gone_on o th).run ≡ th.run

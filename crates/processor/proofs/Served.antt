@@ -4,7 +4,7 @@ use Rattle.std.proofs.Common.{◌≡◌, ℕ, ◌+◌, refl, ap, ap₂, sym, ◌
 use Rattle.xs_model.specs.declared.thread.Run.{Run}
 use Rattle.xs_model.specs.declared.thread.Run.TheVariants.{Free, Unstarted, AtSync, Going, Paused, Halted}
 use Rattle.xs_model.specs.declared.thread.Wait.{Wait}
-use Rattle.xs_model.specs.declared.thread.Wait.TheVariants.{Room, Tokens, PortFull, PortEmpty, PortIdle, Timer, Lock, Slaves, Choice}
+use Rattle.xs_model.specs.declared.thread.Wait.TheVariants.{Room, Tokens, PortFull, PortEmpty, PortIdle, Timer, Lock, Slaves, Choice, Divider}
 use Rattle.xs_model.specs.declared.status.TheConstants.{EEBLE, IEBLE}
 use Rattle.xs_model.specs.Status.{has_bits}
 use Rattle.xs_model.specs.Record.{CoreRec, PortRec, TransferRec, EnablingRec, thread_of}
@@ -46,6 +46,7 @@ module _ (core : CoreRec) (ports : List PortRec) (same : (p : ℕ) → ServesAs 
   holds_served slot (Lock lock) = refl
   holds_served slot (Slaves sync) = refl
   holds_served slot Choice = refl
+  holds_served slot Divider = refl
 
   goes_served : (slot : ℕ) (run : Run) → goes_or_holds (with_ports core ports) slot run ≡ goes_or_holds core slot run
   goes_served slot Free = refl
@@ -77,4 +78,4 @@ module _ (core : CoreRec) (ports : List PortRec) (same : (p : ℕ) → ServesAs 
 
   pub known_served : (able : Option Able) → IfSome able (AreAble core) → IfSome able (AreAble (with_ports core ports))
   known_served None known = tt
-  known_served (Some able) known = record { at = λ slot k is below. known.at slot k is below ∙ sym (able_served slot k); ready = known.ready }
+  known_served (Some able) known = record { at = λ slot k is below. known.at slot k is below ∙ sym (able_served slot k); now = known.now; ready = known.ready }

@@ -97,6 +97,7 @@ fn found_able(units: &Units, slot: u32) -> Able
 {
     Able::find(
         &units.threads,
+        &units.slots,
         &units.chans,
         &units.timers,
         &units.syncs,
@@ -112,7 +113,7 @@ fn able_again(units: &Units, known: Able, slot: u32) -> Option<Able>
     ensures value { IfSome result (AreAble units.now) }
     ensures now { IfSome result (λ able. IsFor able slot) }
 {
-    known.again(&units.timers, slot)
+    known.again(&units.slots, &units.timers, slot)
 }
 
 // What a thread takes in a slot.

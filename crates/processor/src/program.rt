@@ -7,11 +7,12 @@ ghost use Rattle.processor.specs.Program.{IsCode};
 use std::marker::Model;
 use xs_instructions::{Instr, instr_at};
 
-/// The id of a node, and the code that its core executes. Contracts see it as a `ProgramRec` of
+/// The id of a node, the edition of its system, and the code that its core executes. Contracts see it as a `ProgramRec` of
 /// `Rattle.processor.specs.Program`. See docs/MACHINE.md.
 #[derive(Drop)]
 pub struct Program {
     id: u16,
+    edition: u8,
     code: Vec<Instr>,
 }
 
@@ -20,18 +21,18 @@ impl Model for Program {
 
     ghost Value = { ProgramRec };
 
-    ghost view = { λ p. record { id = p.id; code = p.code.items } };
+    ghost view = { λ p. record { id = p.id; edition = p.edition; code = p.code.items } };
 
     ghost invariant = { λ p. IsCode p.code.items };
 }
 
 impl Program {
-    /// The program of the node with this id. It takes no memory.
-    pub fn new(id: u16, code: Vec<Instr>) -> Program
+    /// The program of the node with this id, of a system of this edition, 1 or 2. It takes no memory.
+    pub fn new(id: u16, edition: u8, code: Vec<Instr>) -> Program
         requires { IsCode code.items }
-        ensures value { result ≡ record { id = id; code = code.items } }
+        ensures value { result ≡ record { id = id; edition = edition; code = code.items } }
     {
-        Program { id, code }
+        Program { id, edition, code }
     }
 
     /// The id of the node.

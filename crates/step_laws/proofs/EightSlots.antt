@@ -14,14 +14,14 @@ use Rattle.step_laws.proofs.Turn.{Waits, waits_at_first, issues_or_waits}
 module _ (run : NodeRun) (k : ThreadNumber) (number : k < 8) where
   -- in n slots thread k did not issue
   WaitsAfter : ℕ → Type 0
-  WaitsAfter n = Waits (last_of run.rec.core k) k n (core_to_issue run n).last
+  WaitsAfter n = Waits (last_of run.rec.core k) k n (core_to_issue run n).slots.last
 
   waits_after_none : HasAllLastIssues run.rec.core → WaitsAfter 0
   unfolding WaitsAfter after_slots
   waits_after_none eight =
       let slot = run.slot + 0 in
       let same = (before_issue_keeps run.fixed run.rec slot (run.arrivals slot) (run.pins slot)).1 in
-      subst (Waits (last_of run.rec.core k) k 0) (sym same) (waits_at_first k run.rec.core.last number eight)
+      subst (Waits (last_of run.rec.core k) k 0) (sym same) (waits_at_first k run.rec.core.slots.last number eight)
 
   -- nothing else changes last issues from one slot's issue to the next one's
   waits_after_more : (n : ℕ) → IsEligibleAfter run k n → WaitsAfter n → IssuesAfter run k n ⊎ WaitsAfter (suc n)
@@ -59,7 +59,7 @@ eligible_issues run k eight number may =
 
 -- ---- A last issue for each thread
 
-by_keeps : (code : List Instr) (here : Setting) (core : CoreRec) (who : Option ThreadNumber) → length (issued_by code here core who).core.last ≡ length core.last
+by_keeps : (code : List Instr) (here : Setting) (core : CoreRec) (who : Option ThreadNumber) → length (issued_by code here core who).core.slots.last ≡ length core.slots.last
 by_keeps code here core None = refl
 by_keeps code here core (Some p) = let lasts : IssueLasts here.slot core (issued_by code here core (Some p)).core p = issue_lasts code here core p in lasts.as_many
 

@@ -36,7 +36,7 @@ pub data PortsIssued (k : ThreadNumber) (ports : List PortRec) : List PortRec �
   by_trap : (happened : List Happen) → length happened ≤ 2 → AllByRecursion (IsOf k) happened → PortsIssued k ports ports happened
 
 abbrev pub AfterIssue : CoreRec → Slot → ThreadNumber → Issued → Type 0
-AfterIssue core slot k i = LastsAfter core slot i.core.last × PortsIssued k core.ports i.core.ports i.happened
+AfterIssue core slot k i = LastsAfter core slot i.core.slots.last × PortsIssued k core.ports i.core.ports i.happened
 
 by_effect : (core after : CoreRec) (slot : Slot) (k : ThreadNumber) (happened : List Happen) → After core slot after happened → AfterIssue core slot k (record { core = after; happened = happened })
 by_effect core after slot k happened h = (h.0, by_row after.ports happened h.1)
@@ -82,20 +82,20 @@ then_places : (slot : Slot) (old mid new : List (Option Slot)) (i : ℕ) → IsS
 then_places slot old mid new i h (inl same) = elim h [ inl before ↦ inl (same ∙ before) | inr is ↦ inr (same ∙ is) ]
 then_places slot old mid new i h (inr is) = inr is
 
-after_places : (core : CoreRec) (slot : Slot) (lasts : List (Option Slot)) (i : ℕ) → LastsAfter core slot lasts → IsSameOr slot core.last lasts i
+after_places : (core : CoreRec) (slot : Slot) (lasts : List (Option Slot)) (i : ℕ) → LastsAfter core slot lasts → IsSameOr slot core.slots.last lasts i
 after_places core slot lasts i as_before = inl refl
-after_places core slot lasts i (with_got j free) = set_places slot core.last j i
+after_places core slot lasts i (with_got j free) = set_places slot core.slots.last j i
 
-after_length : (core : CoreRec) (slot : Slot) (lasts : List (Option Slot)) → LastsAfter core slot lasts → length lasts ≡ length core.last
+after_length : (core : CoreRec) (slot : Slot) (lasts : List (Option Slot)) → LastsAfter core slot lasts → length lasts ≡ length core.slots.last
 after_length core slot lasts as_before = refl
-after_length core slot lasts (with_got j free) = length-set core.last j (Some slot)
+after_length core slot lasts (with_got j free) = length-set core.slots.last j (Some slot)
 
 -- a thread that is not free keeps its last issue
 after_stays : (core : CoreRec) (slot : Slot) (lasts : List (Option Slot)) (k : ThreadNumber) → is_taken (thread_of core k).run ≡ true → LastsAfter core slot lasts → get_or lasts k None ≡ last_of core k
 after_stays core slot lasts k there as_before = refl
 after_stays core slot lasts k there (with_got j free) =
     let other : k ≢ j = λ e. both_ways _ free (ap (λ n. is_taken (thread_of core n).run) (sym e) ∙ there) in
-    get_or-set_other core.last j k (Some slot) None other
+    get_or-set_other core.slots.last j k (Some slot) None other
 
 -- a thread that goes, or is paused on what holds or with a choice, is not free
 there_if_able : (core : CoreRec) (slot : Slot) (run : Run) (chooses : Bool) → goes_or_holds core slot run || (is_paused run && chooses) ≡ true → is_taken run ≡ true
@@ -108,9 +108,9 @@ there_if_able core slot Halted chooses able = refl
 
 -- what the issue of one thread leaves of the last issues
 pub record IssueLasts (slot : Slot) (core after : CoreRec) (p : ThreadNumber) : Type 0 where
-  pub as_many : length after.last ≡ length core.last
-  pub places : (i : ℕ) → IsSameOr slot core.last after.last i
-  pub its : p < length core.last → last_of after p ≡ Some slot
+  pub as_many : length after.slots.last ≡ length core.slots.last
+  pub places : (i : ℕ) → IsSameOr slot core.slots.last after.slots.last i
+  pub its : p < length core.slots.last → last_of after p ≡ Some slot
   pub others : (k : ThreadNumber) → k ≢ p → is_able core k slot ≡ true → last_of after k ≡ last_of core k
 
 its_slot : (slot : Slot) (lasts after : List (Option Slot)) (p : ℕ) → p < length lasts → IsSameOr slot (slice_set lasts p (Some slot)) after p → get_or after p None ≡ Some slot
@@ -121,13 +121,13 @@ pub issue_lasts : (code : List Instr) (here : Setting) (core : CoreRec) (p : Thr
 issue_lasts code here core p =
     let begun = issue_begins core here.slot p in
     let after = (issued_by code here core (Some p)).core in
-    let does : LastsAfter begun here.slot after.last = (taken_after code here begun p (choice begun here.slot p)).0 in
+    let does : LastsAfter begun here.slot after.slots.last = (taken_after code here begun p (choice begun here.slot p)).0 in
     record {
-      as_many = after_length begun here.slot after.last does ∙ length-set core.last p (Some here.slot);
-      places = λ i. then_places here.slot core.last begun.last after.last i (set_places here.slot core.last p i) (after_places begun here.slot after.last i does);
-      its = λ within. its_slot here.slot core.last after.last p within (after_places begun here.slot after.last p does);
+      as_many = after_length begun here.slot after.slots.last does ∙ length-set core.slots.last p (Some here.slot);
+      places = λ i. then_places here.slot core.slots.last begun.slots.last after.slots.last i (set_places here.slot core.slots.last p i) (after_places begun here.slot after.slots.last i does);
+      its = λ within. its_slot here.slot core.slots.last after.slots.last p within (after_places begun here.slot after.slots.last p does);
       others = λ k other able.
           let same : thread_of begun k ≡ thread_of core k = get_or-set_other core.threads p k _ fresh_thread other in
           let there : is_taken (thread_of begun k).run ≡ true = ap (λ th. is_taken th.run) same ∙ there_if_able core here.slot (thread_of core k).run (is_some (choice core here.slot k)) able in
-          after_stays begun here.slot after.last k there does ∙ get_or-set_other core.last p k (Some here.slot) None other;
+          after_stays begun here.slot after.slots.last k there does ∙ get_or-set_other core.slots.last p k (Some here.slot) None other;
     }

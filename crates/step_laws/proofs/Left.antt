@@ -21,7 +21,7 @@ use Rattle.step_laws.proofs.PinsAfter.{PinsAfter, pins_stay, restart}
 -- where a core is left, its threads and their last issues are as they were, and so is what its ports drive
 abbrev pub Keeps : CoreRec → Option CoreRec → Type 0
 Keeps core None = Unit {0}
-Keeps core (Some after) = (after.threads ≡ core.threads) × (after.last ≡ core.last) × PinsAfter core.ports after.ports []
+Keeps core (Some after) = (after.threads ≡ core.threads) × (after.slots.last ≡ core.slots.last) × PinsAfter core.ports after.ports []
 
 module _ (core : CoreRec) where
   -- one core or another

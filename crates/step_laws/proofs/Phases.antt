@@ -19,14 +19,14 @@ use Rattle.xs_model.specs.Ports.{edges_from}
 use Rattle.xs_model.specs.AtWork.{AtWork, slot_begins, it_happens}
 use Rattle.net_model.specs.Ways.{Way, Here, Behind, way_to}
 use Rattle.net_model.specs.Links.{arrive}
-use Rattle.net_model.specs.Switch.{Routes, is_link_input, chan_of_input, to_state, waiting_at, state_at, chan_is_held, link_at, free_end, take_first, end_may_send, ends_packet, after_token, loses, put_into, send, start_packet, packet_step, after_header, head_step, hold_end, is_pause, local_step, out_token, out_step, lost_step, want_way, want_step, step_at, moves_from}
+use Rattle.net_model.specs.Switch.{Routes, is_link_input, chan_of_input, to_state, waiting_at, state_at, chan_is_held, link_at, free_end, take_first, end_may_send, ends_packet, after_token, loses, put_into, send, start_packet, packet_step, after_header, net_of_end, head_step, hold_end, is_pause, local_step, out_token, out_step, lost_step, want_way, want_step, step_at, moves_from}
 use Rattle.step_model.specs.Fixed.{Fixed}
 use Rattle.step_model.specs.Step.{ports_step, before_issue}
 use Rattle.step_laws.specs.Shape.{HoldsWhatIsThere}
 
 -- a core with the threads of another, their last issues and its ports
 abbrev pub KeepsCore : CoreRec → CoreRec → Type 0
-KeepsCore core after = (after.threads ≡ core.threads) × (after.last ≡ core.last) × (after.ports ≡ core.ports)
+KeepsCore core after = (after.threads ≡ core.threads) × (after.slots.last ≡ core.slots.last) × (after.ports ≡ core.ports)
 
 abbrev pub Held : List InputRec → Type 0
 Held inputs = AllByRecursion HoldsWhatIsThere inputs
@@ -46,14 +46,14 @@ left_holds : (ends : Bool) (state : InputRec) → HoldsWhatIsThere state → Hol
 left_holds true state h = tt
 left_holds false state h = h
 
-header_holds : (state : InputRec) (b : ℕ) → HoldsWhatIsThere state → HoldsWhatIsThere (after_header state b)
-header_holds Idle b h = tt
-header_holds (Head1 high) b h = tt
-header_holds (Head2 high low) b h = tt
-header_holds (Want dest) b h = tt
-header_holds (Local chan) b h = h
-header_holds (Out end headers dest) b h = tt
-header_holds Lost b h = tt
+header_holds : (net : ℕ) (state : InputRec) (b : ℕ) → HoldsWhatIsThere state → HoldsWhatIsThere (after_header net state b)
+header_holds net Idle b h = tt
+header_holds net (Head1 high) b h = tt
+header_holds net (Head2 high low) b h = tt
+header_holds net (Want dest its) b h = tt
+header_holds net (Local chan) b h = h
+header_holds net (Out end headers dest) b h = tt
+header_holds net Lost b h = tt
 
 -- What happens at the switch: a token comes to a channel end, which is there where S holds; or a packet is lost.
 module _ (S : Type 0) where
@@ -111,11 +111,12 @@ module _ (S : Type 0) where
     token_still : (i : InputNumber) (state : InputRec) (t : Token) (m : AtWork) → (S → HoldsWhatIsThere state) → Still m → Still (after_token i state t m)
     token_still i state t m new h = state_still i _ m (λ s. left_holds (ends_packet t) state (new s)) h
 
-    head_still : (i : InputNumber) (state : InputRec) (waiting : List Token) (m : AtWork) → HoldsWhatIsThere state → Still m → Still (head_step i state waiting m)
-    head_still i state [] m is h = h
-    head_still i state (Byte b ∷ rest) m is h =
-        state_still i (after_header state b) (take_first i m) (λ s. header_holds state b is) (take_still i m h)
-    head_still i state (Ctrl c ∷ rest) m is h = take_still i m h
+    head_still : (routes : Routes) (i : InputNumber) (state : InputRec) (waiting : List Token) (m : AtWork) → HoldsWhatIsThere state → Still m → Still (head_step routes i state waiting m)
+    head_still routes i state [] m is h = h
+    head_still routes i state (Byte b ∷ rest) m is h =
+        let net = net_of_end routes i in
+        state_still i (after_header net state b) (take_first i m) (λ s. header_holds net state b is) (take_still i m h)
+    head_still routes i state (Ctrl c ∷ rest) m is h = take_still i m h
 
     local_moved : (i : InputNumber) (n : ChanNumber) (waiting : List Token) (m : AtWork) → (S → n < CHAN_ENDS) → Still m → Moved (local_step i n waiting m)
     local_moved i n [] m is h = moved m h
@@ -167,22 +168,24 @@ module _ (S : Type 0) where
       want_moved : (dest : Dest) (m : AtWork) → Still m → Moved (want_step routes slot i dest m)
       want_moved dest m h = way_moved dest (way_to routes.id routes.ways dest.node) m h
 
-      start_moved : (dest : Option Identifier) (m : AtWork) → Still m → Moved (start_packet (want_step routes slot i) i dest m)
-      start_moved None m h = moved m h
-      start_moved (Some id) m h = want_moved (dest_of id) (to_state i (Want (dest_of id)) m) (state_still i (Want (dest_of id)) m (λ s. tt) h)
+      start_moved : (net : ℕ) (dest : Option Identifier) (m : AtWork) → Still m → Moved (start_packet (want_step routes slot i) i net dest m)
+      start_moved net None m h = moved m h
+      start_moved net (Some id) m h =
+          want_moved (dest_of id) (to_state i (Want (dest_of id) net) m) (state_still i (Want (dest_of id) net) m (λ s. tt) h)
 
       packet_moved : (waiting : List Token) (m : AtWork) → Still m → Moved (packet_step (want_step routes slot i) i waiting m)
       packet_moved [] m h = moved m h
-      packet_moved (t ∷ rest) m h = start_moved (chan_of m.rec.core (chan_of_input i)).dest m h
+      packet_moved (t ∷ rest) m h =
+          let chan = chan_of m.rec.core (chan_of_input i) in start_moved chan.net chan.dest m h
 
       step_moved : (state : InputRec) (m : AtWork) → (S → HoldsWhatIsThere state) → Still m → Moved (step_at routes slot i state m)
       step_moved Idle m is h =
-          either (is_link_input i) _ _ (moved (head_step i Idle (waiting_at m.rec i) m) (head_still i Idle (waiting_at m.rec i) m tt h)) (packet_moved (waiting_at m.rec i) m h)
+          either (is_link_input i) _ _ (moved (head_step routes i Idle (waiting_at m.rec i) m) (head_still routes i Idle (waiting_at m.rec i) m tt h)) (packet_moved (waiting_at m.rec i) m h)
       step_moved (Head1 high) m is h =
-          either (is_link_input i) _ m (moved (head_step i (Head1 high) (waiting_at m.rec i) m) (head_still i (Head1 high) (waiting_at m.rec i) m tt h)) (moved m h)
+          either (is_link_input i) _ m (moved (head_step routes i (Head1 high) (waiting_at m.rec i) m) (head_still routes i (Head1 high) (waiting_at m.rec i) m tt h)) (moved m h)
       step_moved (Head2 high low) m is h =
-          either (is_link_input i) _ m (moved (head_step i (Head2 high low) (waiting_at m.rec i) m) (head_still i (Head2 high low) (waiting_at m.rec i) m tt h)) (moved m h)
-      step_moved (Want dest) m is h = want_moved dest m h
+          either (is_link_input i) _ m (moved (head_step routes i (Head2 high low) (waiting_at m.rec i) m) (head_still routes i (Head2 high low) (waiting_at m.rec i) m tt h)) (moved m h)
+      step_moved (Want dest net) m is h = want_moved dest m h
       step_moved (Local n) m is h = local_moved i n (waiting_at m.rec i) m is h
       step_moved (Out e headers dest) m is h = moved (out_step routes slot i e headers dest m) (out_still e headers dest m h)
       step_moved Lost m is h = moved (lost_step i (waiting_at m.rec i) m) (lost_still i (waiting_at m.rec i) m h)
@@ -208,7 +211,7 @@ before_issue_went fixed rec slot arrivals pins =
 
 -- a node at work that has the threads of a core, and their last issues
 abbrev pub Keeps : CoreRec → AtWork → Type 0
-Keeps core m = (m.rec.core.threads ≡ core.threads) × (m.rec.core.last ≡ core.last)
+Keeps core m = (m.rec.core.threads ≡ core.threads) × (m.rec.core.slots.last ≡ core.slots.last)
 
 pub before_issue_keeps : (fixed : Fixed) (rec : NodeRec) (slot : Slot) (arrivals : Arrivals) (pins : PinView) → Keeps rec.core (before_issue fixed rec slot arrivals pins)
 before_issue_keeps fixed rec slot arrivals pins =

@@ -45,12 +45,12 @@ use Rattle.step_laws.proofs.PortActs.{ActsWell, in_mode_well, set_clock_well, se
 
 -- last issues after something in a slot: those of the core, or with the slot for a thread that was free
 pub data LastsAfter (core : CoreRec) (slot : Slot) : List (Option Slot) → Type 0 where
-  as_before : LastsAfter core slot core.last
-  with_got : (j : ThreadNumber) → is_taken (thread_of core j).run ≡ false → LastsAfter core slot (slice_set core.last j (Some slot))
+  as_before : LastsAfter core slot core.slots.last
+  with_got : (j : ThreadNumber) → is_taken (thread_of core j).run ≡ false → LastsAfter core slot (slice_set core.slots.last j (Some slot))
 
 -- both, and what happened
 abbrev pub After : CoreRec → Slot → CoreRec → List Happen → Type 0
-After core slot after happened = LastsAfter core slot after.last × PinsAfter core.ports after.ports happened
+After core slot after happened = LastsAfter core slot after.slots.last × PinsAfter core.ports after.ports happened
 
 -- where an effect has a core
 abbrev pub EffectAfter : CoreRec → Slot → Effect → Type 0
@@ -60,7 +60,7 @@ EffectAfter core slot (Trap number value) = Unit {0}
 EffectAfter core slot (Gone after happened) = After core slot after happened
 
 module _ (here : Setting) (core : CoreRec) (k : ThreadNumber) where
-  stays : LastsAfter core here.slot core.last × PinsAfter core.ports core.ports []
+  stays : LastsAfter core here.slot core.slots.last × PinsAfter core.ports core.ports []
   stays = (as_before, pins_stay)
 
   -- an effect or another

@@ -102,9 +102,9 @@ best_is_thread : (may : ThreadNumber → Bool) (lasts : List (Option Slot)) (bes
 best_is_thread may lasts None eight h = tt
 best_is_thread may lasts (Some best) eight (p, b) = omega (arith, b.number, b.within, eight)
 
-picked_is_thread : (core : CoreRec) (slot : Slot) → length core.last ≡ THREADS → IsThread (picked core slot)
+picked_is_thread : (core : CoreRec) (slot : Slot) → length core.slots.last ≡ THREADS → IsThread (picked core slot)
 picked_is_thread core slot eight =
-    best_is_thread (λ j. eligible core j slot) core.last (best_from (λ j. eligible core j slot) 0 core.last) eight (best_is_best (λ j. eligible core j slot) 0 core.last)
+    best_is_thread (λ j. eligible core j slot) core.slots.last (best_from (λ j. eligible core j slot) 0 core.slots.last) eight (best_is_best (λ j. eligible core j slot) 0 core.slots.last)
 
 module _ (code : List Instr) (here : Setting) (core : CoreRec) where
   by_tells : (p : PortNumber) (who : Option ThreadNumber) → let i = issued_by code here core who in Tells here.slot p (port_of core p).driven i.happened (port_of i.core p).driven

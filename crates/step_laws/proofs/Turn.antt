@@ -66,7 +66,7 @@ first_is_below lasts k p other first = elim (cases_lt p k) [
 
 module _ (code : List Instr) (here : Setting) (core : CoreRec) (first : Option Slot) (k : ThreadNumber) (n : ℕ) where
   -- another thread issues, that is at place p of those that may be picked
-  waits_longer : (p : ThreadNumber) → p ≢ k → p < 8 → IsFirst core.last p k → is_able core k here.slot ≡ true → is_rested (last_of core k) here.slot ≡ true → Waits first k n core.last → Waits first k (suc n) (issued_by code here core (Some p)).core.last
+  waits_longer : (p : ThreadNumber) → p ≢ k → p < 8 → IsFirst core.slots.last p k → is_able core k here.slot ≡ true → is_rested (last_of core k) here.slot ≡ true → Waits first k n core.slots.last → Waits first k (suc n) (issued_by code here core (Some p)).core.slots.last
   waits_longer p other number before able rested waits =
       let r = rank first in
       let after = (issued_by code here core (Some p)).core in
@@ -74,9 +74,9 @@ module _ (code : List Instr) (here : Setting) (core : CoreRec) (first : Option S
       let same : rank (last_of core k) ≡ r = ap rank waits.stays in
       let low : r ≤ here.slot = omega (arith, rank_if_rested (last_of core k) here.slot rested) in
       let its : rank (last_of after p) ≡ suc here.slot = ap rank (lasts.its (omega (arith, waits.eight))) in
-      let was : rank (last_of core p) < bound r k p = subst (λ r. rank (last_of core p) < bound r k p) same (first_is_below core.last k p other before) in
-      let fewer : count_below (bound r k) after.last < count_below (bound r k) core.last =
-      count_falls (bound r k) core.last after.last p lasts.as_many (λ i. past_bound r k here.slot core.last after.last i low (lasts.places i)) (omega (arith, waits.eight)) was (omega (arith, bound_most r k p))
+      let was : rank (last_of core p) < bound r k p = subst (λ r. rank (last_of core p) < bound r k p) same (first_is_below core.slots.last k p other before) in
+      let fewer : count_below (bound r k) after.slots.last < count_below (bound r k) core.slots.last =
+      count_falls (bound r k) core.slots.last after.slots.last p lasts.as_many (λ i. past_bound r k here.slot core.slots.last after.slots.last i low (lasts.places i)) (omega (arith, waits.eight)) was (omega (arith, bound_most r k p))
       in
       record {
         eight = lasts.as_many ∙ waits.eight;
@@ -84,7 +84,7 @@ module _ (code : List Instr) (here : Setting) (core : CoreRec) (first : Option S
         few = omega (arith, waits.few);
       }
 
-  by_best : k < 8 → eligible core k here.slot ≡ true → Waits first k n core.last → (best : Option (ThreadNumber × Option Slot)) → IsBest (λ j. eligible core j here.slot) 0 core.last best → (number_of_best best ≡ Some k) ⊎ Waits first k (suc n) (issued_by code here core (number_of_best best)).core.last
+  by_best : k < 8 → eligible core k here.slot ≡ true → Waits first k n core.slots.last → (best : Option (ThreadNumber × Option Slot)) → IsBest (λ j. eligible core j here.slot) 0 core.slots.last best → (number_of_best best ≡ Some k) ⊎ Waits first k (suc n) (issued_by code here core (number_of_best best)).core.slots.last
   by_best number may waits None none =
       let zero_k : 0 + k ≡ k = omega arith in
       absurd (both_ways _ (none k (omega (arith, waits.eight))) (ap (λ j. eligible core j here.slot) zero_k ∙ may))
@@ -92,12 +92,12 @@ module _ (code : List Instr) (here : Setting) (core : CoreRec) (first : Option S
       let zero_k : 0 + k ≡ k = omega arith in
       let place : p ≡ best.0 = omega (arith, b.number) in
       let parts : (is_able core k here.slot ≡ true) × (is_rested (last_of core k) here.slot ≡ true) = and_parts _ _ may in
-      let before : IsFirst core.last best.0 k = subst (λ p. IsFirst core.last p k) place (b.first k (omega (arith, waits.eight)) (ap (λ j. eligible core j here.slot) zero_k ∙ may)) in
+      let before : IsFirst core.slots.last best.0 k = subst (λ p. IsFirst core.slots.last p k) place (b.first k (omega (arith, waits.eight)) (ap (λ j. eligible core j here.slot) zero_k ∙ may)) in
       elim (cases_eq best.0 k) [
         | inl same ↦ inl (ap Some same)
         | inr other ↦ inr (waits_longer best.0 other (omega (arith, b.within, waits.eight)) before parts.0 parts.1 waits)
       ]
 
-  pub issues_or_waits : k < 8 → eligible core k here.slot ≡ true → Waits first k n core.last → (picked core here.slot ≡ Some k) ⊎ Waits first k (suc n) (issued code here core).core.last
+  pub issues_or_waits : k < 8 → eligible core k here.slot ≡ true → Waits first k n core.slots.last → (picked core here.slot ≡ Some k) ⊎ Waits first k (suc n) (issued code here core).core.slots.last
   issues_or_waits number may waits =
-      by_best number may waits (best_from (λ j. eligible core j here.slot) 0 core.last) (best_is_best (λ j. eligible core j here.slot) 0 core.last)
+      by_best number may waits (best_from (λ j. eligible core j here.slot) 0 core.slots.last) (best_is_best (λ j. eligible core j here.slot) 0 core.slots.last)

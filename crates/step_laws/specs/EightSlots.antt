@@ -38,7 +38,7 @@ IssuesAfter run k n = picked (core_to_issue run n) (run.slot + n) ≡ Some k
 
 -- a core notes for each thread the slot of its last issue, or never
 abbrev pub HasAllLastIssues : CoreRec → Type 0
-HasAllLastIssues core = length core.last ≡ THREADS
+HasAllLastIssues core = length core.slots.last ≡ THREADS
 
 -- whatever code the threads run, whatever comes from outside, and whatever the other threads do
 abbrev pub EligibleIssues : Type 0

@@ -19,7 +19,7 @@ HoldsWhatIsThere _ = Unit {0}
 pub record HasShape (rec : NodeRec) : Type 0 where
   pub ports : length rec.core.ports ≡ PORTS
   -- one thread has one last issue
-  pub threads : length rec.core.last ≡ THREADS
+  pub threads : length rec.core.slots.last ≡ THREADS
   pub held : AllByRecursion HoldsWhatIsThere rec.inputs
 
 -- so every node starts, whatever link ends it has, and so every slot leaves it

@@ -10,7 +10,11 @@ use Rattle.step_model.specs.Fixed.{Fixed}
 
 -- what a step uses of a node's plan, with the gaps of its link ends
 abbrev pub fixed_of : NodePlan → List ℕ → Fixed
-fixed_of plan gaps = record { code = plan.image.code; routes = record { id = plan.id; ways = plan.ways; gaps = gaps } }
+fixed_of plan gaps = record {
+  edition = plan.edition;
+  code = plan.image.code;
+  routes = record { id = plan.id; ways = plan.ways; nets = plan.nets; gaps = gaps };
+}
 
 -- the link end with this gap as it starts; a gap of 0 says that it is not there
 abbrev pub link_with_gap : ℕ → Option LinkRec

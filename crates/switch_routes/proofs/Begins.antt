@@ -14,7 +14,7 @@ use Rattle.switch_routes.specs.Work.{Begun, Stands, GoesBy}
 
 -- a switch as the work has it
 abbrev pub switch_at : Work → SwitchRec
-switch_at w = record { id = w.ways.id; ways = w.ways.ends; inputs = w.inputs.now }
+switch_at w = record { id = w.ways.id; ways = w.ways.ends; nets = w.ways.nets; inputs = w.inputs.now }
 
 -- what it begins with
 abbrev pub begun_at : Work → List Event → AtWork → Begun

@@ -108,10 +108,10 @@ module _ (i j : ℕ) (other : j ≢ i) where
   spares-lost [] m = same-itself j m
   spares-lost (t ∷ ts) m = spares-then_state _ m (take_first i m) (spares-take m)
 
-  spares-head : (state : InputRec) (ts : List Token) (m : AtWork) → SameAt j m (head_step i state ts m)
-  spares-head state [] m = same-itself j m
-  spares-head state (Byte b ∷ ts) m = spares-then_state _ m (take_first i m) (spares-take m)
-  spares-head state (Ctrl c ∷ ts) m = spares-take m
+  spares-head : (routes : Routes) (state : InputRec) (ts : List Token) (m : AtWork) → SameAt j m (head_step routes i state ts m)
+  spares-head routes state [] m = same-itself j m
+  spares-head routes state (Byte b ∷ ts) m = spares-then_state _ m (take_first i m) (spares-take m)
+  spares-head routes state (Ctrl c ∷ ts) m = spares-take m
 
   spares-token : (slot e headers : ℕ) (dest : Dest) (ts : List Token) (m : AtWork) → SameAt j m (out_token slot i e headers dest ts m)
   spares-token slot e headers dest [] m = same-itself j m
@@ -143,21 +143,22 @@ module _ (i j : ℕ) (other : j ≢ i) where
   spares-want : (routes : Routes) (slot : ℕ) (dest : Dest) (m : AtWork) → SameAt j m (want_step routes slot i dest m)
   spares-want routes slot dest m = spares-way routes slot dest (way_to routes.id routes.ways dest.node) m
 
-  spares-start : (routes : Routes) (slot : ℕ) (dest : Option ℕ) (m : AtWork) → SameAt j m (start_packet (want_step routes slot i) i dest m)
-  spares-start routes slot None m = same-itself j m
-  spares-start routes slot (Some id) m =
-      same-then j m (to_state i (Want (dest_of id)) m) _ (spares-state (Want (dest_of id)) m) (spares-want routes slot (dest_of id) (to_state i (Want (dest_of id)) m))
+  spares-start : (routes : Routes) (slot net : ℕ) (dest : Option ℕ) (m : AtWork) → SameAt j m (start_packet (want_step routes slot i) i net dest m)
+  spares-start routes slot net None m = same-itself j m
+  spares-start routes slot net (Some id) m =
+      same-then j m (to_state i (Want (dest_of id) net) m) _ (spares-state (Want (dest_of id) net) m) (spares-want routes slot (dest_of id) (to_state i (Want (dest_of id) net) m))
 
   spares-packet : (routes : Routes) (slot : ℕ) (ts : List Token) (m : AtWork) → SameAt j m (packet_step (want_step routes slot i) i ts m)
   spares-packet routes slot [] m = same-itself j m
-  spares-packet routes slot (t ∷ ts) m = spares-start routes slot (chan_of m.rec.core (i - 8)).dest m
+  spares-packet routes slot (t ∷ ts) m =
+      spares-start routes slot (chan_of m.rec.core (i - 8)).net (chan_of m.rec.core (i - 8)).dest m
 
   spares-at : (routes : Routes) (slot : ℕ) (state : InputRec) (m : AtWork) → SameAt j m (step_at routes slot i state m)
   spares-at routes slot Idle m =
-      same-cond j m _ _ (ltb i 8) (spares-head Idle (waiting_at m.rec i) m) (spares-packet routes slot (waiting_at m.rec i) m)
-  spares-at routes slot (Head1 high) m = same-cond j m _ m (ltb i 8) (spares-head (Head1 high) (waiting_at m.rec i) m) (same-itself j m)
-  spares-at routes slot (Head2 high low) m = same-cond j m _ m (ltb i 8) (spares-head (Head2 high low) (waiting_at m.rec i) m) (same-itself j m)
-  spares-at routes slot (Want dest) m = spares-want routes slot dest m
+      same-cond j m _ _ (ltb i 8) (spares-head routes Idle (waiting_at m.rec i) m) (spares-packet routes slot (waiting_at m.rec i) m)
+  spares-at routes slot (Head1 high) m = same-cond j m _ m (ltb i 8) (spares-head routes (Head1 high) (waiting_at m.rec i) m) (same-itself j m)
+  spares-at routes slot (Head2 high low) m = same-cond j m _ m (ltb i 8) (spares-head routes (Head2 high low) (waiting_at m.rec i) m) (same-itself j m)
+  spares-at routes slot (Want dest net) m = spares-want routes slot dest m
   spares-at routes slot (Local n) m = spares-local n (waiting_at m.rec i) m
   spares-at routes slot (Out e headers dest) m = spares-out routes slot e headers dest m
   spares-at routes slot Lost m = spares-lost (waiting_at m.rec i) m

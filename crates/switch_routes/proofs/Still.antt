@@ -20,10 +20,10 @@ same-both false m = refl
 module _ (routes : Routes) (slot i : ℕ) (m : AtWork) (none : waiting_at m.rec i ≡ []) where
   still-at : (state : InputRec) → acts_alone state ≡ false → step_at routes slot i state m ≡ m
   still-at Idle is =
-      ap (λ (ts : List Token). cond (ltb i 8) (head_step i Idle ts m) (packet_step (want_step routes slot i) i ts m)) none ∙ same-both (ltb i 8) m
-  still-at (Head1 high) is = ap (λ (ts : List Token). cond (ltb i 8) (head_step i (Head1 high) ts m) m) none ∙ same-both (ltb i 8) m
-  still-at (Head2 high low) is = ap (λ (ts : List Token). cond (ltb i 8) (head_step i (Head2 high low) ts m) m) none ∙ same-both (ltb i 8) m
-  still-at (Want dest) is = absurd (true≢false is)
+      ap (λ (ts : List Token). cond (ltb i 8) (head_step routes i Idle ts m) (packet_step (want_step routes slot i) i ts m)) none ∙ same-both (ltb i 8) m
+  still-at (Head1 high) is = ap (λ (ts : List Token). cond (ltb i 8) (head_step routes i (Head1 high) ts m) m) none ∙ same-both (ltb i 8) m
+  still-at (Head2 high low) is = ap (λ (ts : List Token). cond (ltb i 8) (head_step routes i (Head2 high low) ts m) m) none ∙ same-both (ltb i 8) m
+  still-at (Want dest net) is = absurd (true≢false is)
   still-at (Local n) is = ap (λ (ts : List Token). local_step i n ts m) none
   still-at (Out e headers dest) is =
       ap (λ (b : Bool). cond (end_may_send routes slot e (link_at m.rec e)) (cond b (to_state i (Out e (headers + 1) dest) (send slot e (Byte (header_byte dest headers)) m)) (out_token slot i e headers dest (waiting_at m.rec i) m)) m) is

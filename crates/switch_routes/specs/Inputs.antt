@@ -13,7 +13,7 @@ abbrev pub state_of : Input → InputRec
 state_of input.Idle = Idle
 state_of (input.Head1 high) = Head1 high
 state_of (input.Head2 high low) = Head2 high low
-state_of (input.Want dest) = Want dest
+state_of (input.Want dest net) = Want dest net
 state_of (input.Local chan) = Local chan
 state_of (input.Out end headers dest) = Out end headers dest
 state_of input.Lost = Lost

@@ -9,7 +9,7 @@ use Rattle.switch_routes.specs.Rows.{buffer_of, counts_at, waiting_in}
 
 -- whether an input in this state acts though no token waits there: it looks for a way, or sends a header
 abbrev pub acts_alone : InputRec → Bool
-acts_alone (Want dest) = true
+acts_alone (Want dest net) = true
 acts_alone (Out end headers dest) = nat_lt headers HEADER_BYTES
 acts_alone _ = false
 

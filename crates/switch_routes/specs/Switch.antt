@@ -9,19 +9,21 @@ use Rattle.net_model.specs.Switch.{Routes}
 use Rattle.link_ends.specs.Counts.{EndCounts}
 use Rattle.switch_routes.specs.Rows.{AllCountsOf, CreditedBy, end_gaps}
 
--- the id of the switch's node, for each bit of an id the link ends that lead on, as a mask, and the inputs' states
+-- the id of the switch's node, for each bit of an id the link ends that lead on, as a mask, for each link end the network of
+-- its link, and the inputs' states
 pub record SwitchRec : Type 0 where
   pub id : NodeId
   pub ways : List ℕ  -- 16
+  pub nets : List ℕ  -- 8
   pub inputs : List InputRec  -- 40
 
 -- every input is idle
-abbrev pub idle_switch : NodeId → List ℕ → SwitchRec
-idle_switch id ways = record { id = id; ways = ways; inputs = replicate 40 Idle }
+abbrev pub idle_switch : NodeId → List ℕ → List ℕ → SwitchRec
+idle_switch id ways nets = record { id = id; ways = ways; nets = nets; inputs = replicate 40 Idle }
 
 -- what a switch knows of its node's plan: the gaps are those of its link ends
 abbrev pub known_routes : SwitchRec → List (Option EndCounts) → Routes
-known_routes switch row = record { id = switch.id; ways = switch.ways; gaps = end_gaps row }
+known_routes switch row = record { id = switch.id; ways = switch.ways; nets = switch.nets; gaps = end_gaps row }
 
 -- a switch, channel ends and a row of link ends stand for a node's record in a slot
 pub record StandsIn (slot : Slot) (switch : SwitchRec) (ends : List ChanRec) (row : List (Option EndCounts)) (rec : NodeRec) : Type 0 where

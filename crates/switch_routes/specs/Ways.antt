@@ -13,4 +13,4 @@ way_of (way.Behind ends) = Behind ends
 
 -- what the definitions know of the node
 abbrev pub routes_with : Ways → List ℕ → Routes
-routes_with ways gaps = record { id = ways.id; ways = ways.ends; gaps = gaps }
+routes_with ways gaps = record { id = ways.id; ways = ways.ends; nets = ways.nets; gaps = gaps }

@@ -20,8 +20,8 @@ pub(crate) enum Input {
     Head1 { high: u8 },
     /// A link end's, after both bytes of a node's id.
     Head2 { high: u8, low: u8 },
-    /// Its packet wants to go to a destination.
-    Want { dest: Dest },
+    /// Its packet wants to go to a destination by a network.
+    Want { dest: Dest, net: u8 },
     /// It holds a channel end of its node, 0 to 31.
     Local { chan: u8 },
     /// It holds a link end, 0 to 7, by which so many header bytes, 0 to 3, went out.

@@ -25,14 +25,17 @@ pub(crate) struct Held {
 impl Work<'_> {
     /// A link end's input that is idle or in a header takes the token that waits. A control token is dropped.
     pub(crate) fn head_step(&mut self, input: u8, state: Input)
-        requires input { input < INPUTS }
+        requires link_end { input < LINK_ENDS }
         requires fits { InputFits state }
-        ensures { GoesBy 0 (λ begun m. head_step input (state_of state) (waiting_at m.rec input) m) self.old self.new }
+        ensures { GoesBy 0 (λ begun m. head_step begun.routes input (state_of state) (waiting_at m.rec input) m) self.old self.new }
     {
         if let Some(token) = self.first_waiting(input) {
             self.take_first(input);
             match token {
-                Token::Byte(byte) => self.set(input, after_header(state, byte)),
+                Token::Byte(byte) => {
+                    let net = self.ways.net_of_end(input);
+                    self.set(input, after_header(state, byte, net));
+                }
                 Token::Ctrl(_) => {}
             }
         }
@@ -145,10 +148,10 @@ impl Work<'_> {
     }
 }
 
-// A link end's state after one more header byte.
-fn after_header(state: Input, byte: u8) -> Input
+// The state of a link end, whose link has this network, after one more header byte.
+fn after_header(state: Input, byte: u8, net: u8) -> Input
     requires fits { InputFits state }
-    ensures value { state_of result ≡ after_header (state_of state) byte }
+    ensures value { state_of result ≡ after_header net (state_of state) byte }
     ensures fits { InputFits result }
 {
     match state {
@@ -159,6 +162,7 @@ fn after_header(state: Input, byte: u8) -> Input
                 node: u16::from(high) * 256 + u16::from(low),
                 chan: byte,
             },
+            net,
         },
         other => other,
     }

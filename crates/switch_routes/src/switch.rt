@@ -40,14 +40,16 @@ impl Model for Switch {
 
 impl Switch {
     /// The switch of the node with this id, where every input is idle. `ways` has for each bit of an id, from the
-    /// lowest, the link ends that lead to the ids that differ in it as the highest bit: bit 0 for link end 0.
-    pub fn new(node: u16, ways: [u8; 16]) -> Switch
-        ensures value { result ≡ idle_switch node ways }
+    /// lowest, the link ends that lead to the ids that differ in it as the highest bit: bit 0 for link end 0. `nets` has for each
+    /// link end the network of its link.
+    pub fn new(node: u16, ways: [u8; 16], nets: [u8; 8]) -> Switch
+        ensures value { result ≡ idle_switch node ways nets }
     {
         Switch {
             ways: Ways {
                 id: node,
                 ends: ways,
+                nets,
             },
             inputs: Inputs::new(),
         }
@@ -70,6 +72,7 @@ impl Switch {
             ≡ with_parts m.rec self.new.inputs chans.new (moves (known_routes self.old links.old) slot m).rec.links }
         ensures id { self.new.id ≡ self.old.id }
         ensures ways { self.new.ways ≡ self.old.ways }
+        ensures nets { self.new.nets ≡ self.old.nets }
         ensures gaps { end_gaps links.new ≡ end_gaps links.old }
         ensures sent { SentBy slot links.old → SentBy slot links.new }
         ensures events { length out.new.events ≤ length out.old.events + SWITCH_EVENTS }

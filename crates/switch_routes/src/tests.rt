@@ -35,7 +35,7 @@ impl Node {
         let mut ways = [0; 16];
         ways[0] = 1;
         Node {
-            switch: Switch::new(id, ways),
+            switch: Switch::new(id, ways, [0; 8]),
             chans,
             links,
             out: Emissions::new(),
@@ -136,7 +136,7 @@ impl Hub {
         let mut ways = [0; 16];
         ways[0] = 0b0010_1100;
         Hub {
-            switch: Switch::new(0, ways),
+            switch: Switch::new(0, ways, [0; 8]),
             chans,
             links,
             out: Emissions::new(),

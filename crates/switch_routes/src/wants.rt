@@ -29,7 +29,7 @@ impl Work<'_> {
             Input::Idle => self.idle_step(input),
             Input::Head1 { .. } => self.link_head_step(input, state),
             Input::Head2 { .. } => self.link_head_step(input, state),
-            Input::Want { dest } => self.want_step(input, dest),
+            Input::Want { dest, .. } => self.want_step(input, dest),
             Input::Local { chan } => self.local_step(input, chan),
             Input::Out { end, headers, dest } => self.out_step(input, Held { end, headers, dest }),
             Input::Lost => self.lost_step(input),
@@ -53,7 +53,7 @@ impl Work<'_> {
     fn link_head_step(&mut self, input: u8, state: Input)
         requires input { input < INPUTS }
         requires fits { InputFits state }
-        ensures { GoesBy 0 (λ begun. link_head_step input (state_of state)) self.old self.new }
+        ensures { GoesBy 0 (λ begun. link_head_step begun.routes input (state_of state)) self.old self.new }
     {
         if input < LINK_ENDS {
             self.head_step(input, state);
@@ -72,16 +72,18 @@ impl Work<'_> {
         }
     }
 
-    // A packet to the channel end's destination begins, if it has one.
+    // A packet to the channel end's destination begins, if it has one, by its network.
     fn start_packet(&mut self, input: u8)
         requires input { input < INPUTS }
         requires chan_end { LINK_ENDS ≤ input }
         requires room { HasRoom self.old }
-        ensures { GoesBy 1 (λ begun m. start_packet (want_step begun.routes begun.slot input) input (chan_of m.rec.core (chan_of_input input)).dest m) self.old self.new }
+        ensures { GoesBy 1 (λ begun m. start_packet (want_step begun.routes begun.slot input) input (chan_of m.rec.core (chan_of_input input)).net
+            (chan_of m.rec.core (chan_of_input input)).dest m) self.old self.new }
     {
         if let Some(id) = self.chans.dest(input - LINK_ENDS) {
             let dest = Dest::of_id(id);
-            self.set(input, Input::Want { dest });
+            let net = self.chans.net(input - LINK_ENDS);
+            self.set(input, Input::Want { dest, net });
             self.want_step(input, dest);
         }
     }

@@ -1,1 +1,2 @@
+pub mod NodePlans
 pub mod Plan

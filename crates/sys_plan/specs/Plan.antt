@@ -1,5 +1,5 @@
 -- The plan of a system: its nodes, the links between them, the script of its pins, and the steps of its schedule.
-use Rattle.std.specs.Prelude.{ℕ, ◌≡◌, ◌≢◌, ◌+◌, ◌<◌, ◌≤◌, Bool, ◌&&◌, ◌==◌, if◌then◌else◌, Option, Some, None, IsSome, List, [], ◌∷◌, length, map, slice_index}
+use Rattle.std.specs.Prelude.{ℕ, ◌≡◌, ◌≢◌, ◌+◌, ◌<◌, ◌≤◌, Bool, ◌&&◌, ◌==◌, if◌then◌else◌, Option, Some, None, IsSome, List, [], ◌∷◌, length, map, replicate, slice_index}
 use Rattle.std.specs.List.{AllByRecursion}
 use Rattle.std.specs.Int.{bit_at}
 use Rattle.pin_scripts.specs.declared.line.PinLine.{PinLine}
@@ -129,6 +129,9 @@ pub record IsPlan (plan : PlanRec) : Type 0 where
   pub few_links : length plan.links ≤ 48
   pub numbers : AllByRecursion (λ (node : NodePlan). node.number < 100) plan.nodes
   pub order : AreAscending (node_numbers plan)
+  -- every node is of edition 1, and every link of network 0
+  pub editions : AllByRecursion (λ (node : NodePlan). node.edition ≡ 1) plan.nodes
+  pub nets : AllByRecursion (λ (node : NodePlan). node.nets ≡ replicate 8 0) plan.nodes
   pub ids : AreDistinct (map (λ (node : NodePlan). node.id) plan.nodes)
   pub links : AllByRecursion (IsLink (length plan.nodes)) plan.links
   -- no link end belongs to two links

@@ -2,6 +2,9 @@
 //! docs/SYSTEM_TEXT.md, docs/PINS.md and docs/LOOKAHEAD.md.
 #![tactic(auto)]
 
+ghost use Rattle.std.specs.Prelude.{◌≡◌};
+ghost use Rattle.sys_plan.specs.NodePlans.{plain_plan};
+
 mod system_plan;
 #[cfg(test)]
 mod tests;
@@ -9,14 +12,33 @@ mod tests;
 pub use system_plan::Plan;
 use xs_instructions::Image;
 
-/// A node: its number, which names it in texts (0 to 99), its id on the network, its image, and for each bit of an
-/// id the link ends that lead to nodes whose id differs there first, as a mask.
+/// A node: its number, which names it in texts (0 to 99), the edition of its system, its id on the network, its image, for
+/// each bit of an id the link ends that lead to nodes whose id differs there first, as a mask, and for each link end the
+/// network of its link, 0 where it has none.
 #[derive(Drop)]
 pub struct NodePlan {
     pub number: u8,
+    pub edition: u8,
     pub id: u16,
     pub image: Image,
     pub ways: [u8; 16],
+    pub nets: [u8; 8],
+}
+
+impl NodePlan {
+    /// A node of edition 1, where every link is of network 0.
+    pub fn plain(number: u8, id: u16, image: Image, ways: [u8; 16]) -> NodePlan
+        ensures value { result ≡ plain_plan number id image ways }
+    {
+        NodePlan {
+            number,
+            edition: 1,
+            id,
+            image,
+            ways,
+            nets: [0; 8],
+        }
+    }
 }
 
 /// A link: it joins link end `a_end` of the node at position `a` to link end `b_end` of the node at position `b`, in

@@ -11,6 +11,7 @@ use Rattle.pin_scripts.specs.Pins as pins
 use Rattle.sys_plan.specs.Plan.{PlanRec}
 use Rattle.sys_plan.specs.declared.LinkPlan.{LinkPlan}
 use Rattle.sys_plan.specs.declared.NodePlan.{NodePlan}
+use Rattle.sys_plan.specs.NodePlans.{plain_plan}
 use Rattle.sys_plan.specs.declared.Step.{Step}
 use Rattle.sys_plan.specs.declared.Step.TheVariants as step
 use Rattle.system_model.specs.declared.SysKind.{SysKind}
@@ -67,7 +68,7 @@ pub record SourceFault : Type 0 where
 
 -- a node's plan by what its source stands for, or the refusal of its source
 abbrev pub planned : List BitRec → GivenNode → Assembled → Result NodePlan SourceFault
-planned bits node (Image image) = Ok (record { number = node.number; id = node.id; image = image; ways = ways_of bits node.number })
+planned bits node (Image image) = Ok (plain_plan node.number node.id image (ways_of bits node.number))
 planned bits node (Fault line kind) = Err (record { node = node.number; line = line; kind = kind })
 
 -- a node's plan before those of the nodes after it, or the first refusal

@@ -1,6 +1,6 @@
 -- The plan of a frame that is accepted keeps what every plan keeps.
 use Rattle.std.proofs.Common.{◌≡◌, ℕ, suc, ◌+◌, ◌<◌, ◌≤◌, true, List, [], ◌∷◌, length, map, Result, Ok, Err, refl, ap, sym, ◌∙◌, subst, arith}
-use Rattle.std.specs.Prelude.{◌≢◌, Bool, ◌&&◌, false}
+use Rattle.std.specs.Prelude.{◌≢◌, Bool, ◌&&◌, false, replicate}
 use Rattle.std.specs.List.{AllByRecursion}
 use Rattle.source_model.specs.Source.{Assembled, Image, Fault, assembled_lines}
 use Rattle.pin_scripts.specs.declared.line.PinLine.{PinLine}
@@ -8,6 +8,7 @@ use Rattle.pin_scripts.specs.Script.{IsScript, IsOfNodes}
 use Rattle.sys_plan.specs.Plan.{PlanRec, IsPlan, IsLink, NamesWhatIsThere, AllWaysLead, WaysLead, AreDistinct, AreAscending, places_of}
 use Rattle.sys_plan.specs.declared.LinkPlan.{LinkPlan}
 use Rattle.sys_plan.specs.declared.NodePlan.{NodePlan}
+use Rattle.sys_plan.specs.NodePlans.{plain_plan}
 use Rattle.sys_plan.specs.declared.Step.{Step}
 use Rattle.system_model.specs.declared.frame_line.EndName.{EndName}
 use Rattle.system_model.specs.declared.frame_line.GivenNode.{GivenNode}
@@ -29,6 +30,8 @@ record PlanOf (bits : List BitRec) (node : GivenNode) (plan : NodePlan) : Type 0
   pub number : plan.number ≡ node.number
   pub id : plan.id ≡ node.id
   pub ways : plan.ways ≡ ways_of bits node.number
+  pub edition : plan.edition ≡ 1
+  pub nets : plan.nets ≡ replicate 8 0
 
 abbrev PlansOf : List BitRec → List GivenNode → List NodePlan → Type 0
 PlansOf bits [] [] = Unit {0}
@@ -39,9 +42,9 @@ PlansOf bits (node ∷ nodes) (plan ∷ plans) = PlanOf bits node plan × PlansO
 plan_of_one : (bits : List BitRec) (node : GivenNode) (source : Assembled) (plan : NodePlan) → planned bits node source ≡ Ok plan → PlanOf bits node plan
 plan_of_one bits node (Fault line kind) plan e = absurd cc
 plan_of_one bits node (Image image) plan e =
-    let made : NodePlan = record { number = node.number; id = node.id; image = image; ways = ways_of bits node.number } in
+    let made : NodePlan = plain_plan node.number node.id image (ways_of bits node.number) in
     let same : made ≡ plan = cc in
-    subst (PlanOf bits node) same (record { number = refl; id = refl; ways = refl })
+    subst (PlanOf bits node) same (record { number = refl; id = refl; ways = refl; edition = refl; nets = refl })
 
 plans_by : (bits : List BitRec) (node : GivenNode) (nodes : List GivenNode) (first : Result NodePlan SourceFault) (rest : Result (List NodePlan) SourceFault) (plans : List NodePlan) →
     ((plan : NodePlan) → first ≡ Ok plan → PlanOf bits node plan) → ((later : List NodePlan) → rest ≡ Ok later → PlansOf bits nodes later) →
@@ -90,6 +93,14 @@ numbers_kept bits [] [] k h = tt
 numbers_kept bits [] (plan ∷ plans) k h = absurd k
 numbers_kept bits (node ∷ nodes) [] k h = absurd k
 numbers_kept bits (node ∷ nodes) (plan ∷ plans) k h = (omega (arith, k.0.number, h.0), numbers_kept bits nodes plans k.1 h.1)
+
+-- what is so of the plan of any node is so of each of them
+each_kept : (P : NodePlan → Type 0) (bits : List BitRec) → ((node : GivenNode) (plan : NodePlan) → PlanOf bits node plan → P plan) →
+    (nodes : List GivenNode) (plans : List NodePlan) → PlansOf bits nodes plans → AllByRecursion P plans
+each_kept P bits of [] [] k = tt
+each_kept P bits of [] (plan ∷ plans) k = absurd k
+each_kept P bits of (node ∷ nodes) [] k = absurd k
+each_kept P bits of (node ∷ nodes) (plan ∷ plans) k = (of node plan k.0, each_kept P bits of nodes plans k.1)
 
 -- where the ways of each node lead out, those of its plan do
 ways_kept : (plan : PlanRec) (bits : List BitRec) (place : ℕ → ℕ) → ((number : ℕ) → WaysLead plan (place number) (ways_of bits number)) →
@@ -204,6 +215,8 @@ kept_plan nodes links bits lines plans script k p s = record {
   few_links = omega (arith, k.few_links, as_many_links nodes links);
   numbers = numbers_kept bits nodes plans p k.numbers;
   order = subst AreAscending (same_numbers bits nodes plans p) k.order;
+  editions = each_kept (λ (plan : NodePlan). plan.edition ≡ 1) bits (λ node plan of. of.edition) nodes plans p;
+  nets = each_kept (λ (plan : NodePlan). plan.nets ≡ replicate 8 0) bits (λ node plan of. of.nets) nodes plans p;
   ids = subst (λ ids. AreDistinct ids) (same_ids bits nodes plans p) k.ids;
   links = links_kept nodes (length plans) links (as_many bits nodes plans p) k.links;
   places = places_kept nodes links k.links k.ends;

@@ -32,12 +32,10 @@ fn node_plan(alloc: Global, frame: &Frame, node: GivenNode) -> Result<NodePlan, 
     ensures { GivesNode (planned frame.now.bits node (assembled_lines (section_lines frame.now.sections (SectionKind.Source node.number)))) result }
 {
     match assemble(alloc, frame.section(SectionKind::Source(node.number))) {
-        Ok(image) => Ok(NodePlan {
-            number: node.number,
-            id: node.id,
-            image,
-            ways: ways_of(frame.bits(), node.number),
-        }),
+        Ok(image) => {
+            let ways = ways_of(frame.bits(), node.number);
+            Ok(NodePlan::plain(node.number, node.id, image, ways))
+        }
         Err(AsmError::Fault { line, kind }) => Err(SystemError::Source {
             node: node.number,
             line,

@@ -1,9 +1,12 @@
-//! Which thread issues in a slot: the last issues of eight threads, and the pick among those that may issue.
+//! Which thread issues in a slot: the last issues of eight threads, and the pick among those that may issue. And whether the
+//! divider that they share is free.
 //! See docs/MACHINE.md.
 #![tactic(auto)]
 
 ghost use Rattle.std.specs.Prelude.{◌≡◌, ◌≢◌, ◌<◌, ◌≤◌, ◌↔◌, ℕ, Bool, true, false, List, Option, Some, None, length, replicate, slice_index_or, slice_set, IfSome};
 ghost use Rattle.xs_base.specs.declared.numbers.TheConstants.{THREADS};
+ghost use Rattle.xs_model.specs.Record.{never_divided};
+ghost use Rattle.xs_model.specs.Waits.{division_is_over};
 ghost use Rattle.xs_model.specs.Picks.{is_rested, is_earlier, pick};
 ghost use Rattle.xs_model.specs.Masks.{in_mask};
 ghost use Rattle.thread_slots.specs.Able.{may_pick};
@@ -11,38 +14,43 @@ ghost use Rattle.thread_slots.specs.Turns.{IsLeast};
 
 use std::marker::Model;
 use xs_base::numbers::THREADS;
+use xs_model::DIVISION_SLOTS;
 
-/// In which slot each of a core's eight threads issued last, or that it never did. Contracts see the list of the
-/// eight last issues, by thread number. See docs/MACHINE.md.
+/// In which slot each of a core's eight threads issued last, or that it never did, and in which slot the core divided last.
+/// Contracts see a `SlotsRec` of `Rattle.xs_model.specs.Record`. See docs/MACHINE.md.
 #[derive(Clone, Copy, Drop)]
 pub struct Slots {
     // Each thread's turn: eight times the first slot in which it is rested, 0 where it never issued, plus its number.
     // So of any threads the one to pick has the least turn, and where that one is not rested, none of them is.
     turns: [u64; 8],
+    // The slot of the core's last division.
+    division: Option<u32>,
 }
 
 impl Model for Slots {
-    ghost use Rattle.std.specs.Prelude.{List, Option, ℕ, map};
+    ghost use Rattle.std.specs.Prelude.{map};
+    ghost use Rattle.xs_model.specs.Record.{SlotsRec};
     ghost use Rattle.thread_slots.specs.Turns.{last_in, turns_from, turns_again, AreTurns};
 
-    ghost Value = { List (Option ℕ) };
+    ghost Value = { SlotsRec };
 
-    ghost view = { λ slots. map last_in slots.turns };
+    ghost view = { λ slots. record { last = map last_in slots.turns; division = slots.division } };
 
     ghost invariant = { λ slots. AreTurns slots.turns };
 
-    ghost inverse = { λ issues. record { turns = turns_from 0 issues } };
+    ghost inverse = { λ slots. record { turns = turns_from 0 slots.last; division = slots.division } };
 
-    ghost inverse_ok = { λ slots are i. record { turns = turns_again slots.turns are i } };
+    ghost inverse_ok = { λ slots are i. record { turns = turns_again slots.turns are i; division = slots.division } };
 }
 
 impl Slots {
-    /// The last issues at the start: no thread ever issued.
+    /// The last issues at the start: no thread ever issued, and the core never divided.
     pub fn new() -> Slots
-        ensures never { result ≡ replicate 8 None }
+        ensures never { result ≡ never_divided (replicate 8 None) }
     {
         Slots {
             turns: [0, 1, 2, 3, 4, 5, 6, 7],
+            division: None,
         }
     }
 
@@ -50,8 +58,8 @@ impl Slots {
     #[inline]
     pub fn mark_issue(&mut self, th: u8, slot: u32)
         requires { th < THREADS }
-        ensures marked { self.new ≡ slice_set self.old th (Some slot) }
-        ensures threads { length self.new ≡ THREADS }
+        ensures marked { self.new ≡ record self.old { last = slice_set self.old.last th (Some slot) } }
+        ensures threads { length self.new.last ≡ THREADS }
     {
         self.turns[th as usize] = 8 * (u64::from(slot) + 4) + u64::from(th);
     }
@@ -60,8 +68,8 @@ impl Slots {
     #[inline]
     pub fn last(&self, th: u8) -> Option<u32>
         requires { th < THREADS }
-        ensures value { result ≡ slice_index_or self.now th None }
-        ensures threads { length self.now ≡ THREADS }
+        ensures value { result ≡ slice_index_or self.now.last th None }
+        ensures threads { length self.now.last ≡ THREADS }
     {
         let rested = self.turns[th as usize] / 8;
         if rested == 0 {
@@ -78,14 +86,14 @@ impl Slots {
     /// last three slots before this one or later. See docs/MACHINE.md.
     #[inline]
     pub fn pick(&self, able: u8, slot: u32) -> Option<u8>
-        ensures value { (may : ℕ → Bool) → ((k : ℕ) → k < THREADS → may k ≡ may_pick able self.now slot k) → result ≡ pick may self.now }
-        ensures none { result ≡ None ↔ ((k : ℕ) → k < THREADS → may_pick able self.now slot k ≡ false) }
+        ensures value { (may : ℕ → Bool) → ((k : ℕ) → k < THREADS → may k ≡ may_pick able self.now.last slot k) → result ≡ pick may self.now.last }
+        ensures none { result ≡ None ↔ ((k : ℕ) → k < THREADS → may_pick able self.now.last slot k ≡ false) }
         ensures within { IfSome result (λ k. k < THREADS) }
         ensures able { IfSome result (λ k. in_mask able k ≡ true) }
-        ensures rested { IfSome result (λ k. is_rested (slice_index_or self.now k None) slot ≡ true) }
-        ensures least { IfSome result (λ k. (j : ℕ) → j < THREADS → may_pick able self.now slot j ≡ true → is_earlier (slice_index_or self.now j None) (slice_index_or self.now k None) ≡ false) }
-        ensures lowest { IfSome result (λ k. (j : ℕ) → j < k → may_pick able self.now slot j ≡ true → is_earlier (slice_index_or self.now k None) (slice_index_or self.now j None) ≡ true) }
-        ensures threads { length self.now ≡ THREADS }
+        ensures rested { IfSome result (λ k. is_rested (slice_index_or self.now.last k None) slot ≡ true) }
+        ensures least { IfSome result (λ k. (j : ℕ) → j < THREADS → may_pick able self.now.last slot j ≡ true → is_earlier (slice_index_or self.now.last j None) (slice_index_or self.now.last k None) ≡ false) }
+        ensures lowest { IfSome result (λ k. (j : ℕ) → j < k → may_pick able self.now.last slot j ≡ true → is_earlier (slice_index_or self.now.last k None) (slice_index_or self.now.last j None) ≡ true) }
+        ensures threads { length self.now.last ≡ THREADS }
     {
         let turn = least_turn(&self.turns, able);
         if turn / 8 <= u64::from(slot) {
@@ -93,6 +101,40 @@ impl Slots {
         } else {
             None
         }
+    }
+
+    /// Whether the core's divider is free in a slot: false exactly where the core divided last in this slot, in one of the 31
+    /// before it, or in a later one. It takes no memory. See docs/MACHINE.md.
+    #[inline]
+    pub fn divider_free(&self, slot: u32) -> bool
+        ensures value { result ≡ division_is_over self.now.division slot }
+    {
+        match self.division {
+            None => true,
+            Some(division) => slot >= DIVISION_SLOTS && division <= slot - DIVISION_SLOTS,
+        }
+    }
+
+    /// The last slot up to which the divider stays free, or stays not free, as it is in this slot. It takes no memory.
+    #[inline]
+    pub fn divider_until(&self, slot: u32) -> u32
+        ensures alike { (later : ℕ) → slot ≤ later → later ≤ result → division_is_over self.now.division later ≡ division_is_over self.now.division slot }
+        ensures now { slot ≤ result }
+    {
+        match self.division {
+            Some(division) if !self.divider_free(slot) => {
+                division.saturating_add(DIVISION_SLOTS - 1)
+            }
+            _ => u32::MAX,
+        }
+    }
+
+    /// Notes that the core divides in a slot. No instruction does so yet. It takes no memory.
+    #[inline]
+    pub fn take_divider(&mut self, slot: u32)
+        ensures taken { self.new ≡ record self.old { division = Some slot } }
+    {
+        self.division = Some(slot);
     }
 }
 

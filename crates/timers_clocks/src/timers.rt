@@ -158,6 +158,14 @@ impl Timers {
         conditions::time(slot)
     }
 
+    /// The last slot in which timers show what they show in this one.
+    pub fn time_until(slot: u32) -> u32
+        ensures same { (later : ℕ) → slot ≤ later → later ≤ result → time_at later ≡ time_at slot }
+        ensures now { slot ≤ result }
+    {
+        slot - slot % 4 + 3
+    }
+
     /// The value of the condition of timer `n`, 0 to 9.
     pub fn value(&self, n: u8) -> u32
         requires { n < TIMERS }

@@ -10,7 +10,7 @@ use Rattle.xs_model.specs.declared.thread.Wait.TheVariants.{Room, Tokens}
 use Rattle.xs_model.specs.declared.event.Event.{Event}
 use Rattle.xs_model.specs.declared.event.Happen.TheVariants as happen
 use Rattle.xs_model.specs.declared.outside.Arrivals.{Arrivals}
-use Rattle.xs_model.specs.Record.{NodeRec, ChanRec, LinkRec, InputRec, Idle, Head1, Local, Out, first_node, unused_chan, thread_of, chan_of}
+use Rattle.xs_model.specs.Record.{NodeRec, ChanRec, LinkRec, InputRec, Idle, Head1, Local, Out, first_node, unused_chan, thread_of, chan_of, never_divided}
 use Rattle.xs_model.specs.Dests.{dest_of}
 use Rattle.xs_model.specs.Outside.{emitted_events, in_slot, low_pins}
 use Rattle.xs_instructions.specs.declared.instr.Instr.{Instr}
@@ -28,7 +28,7 @@ use Rattle.worked_machine.specs.Slots.{no_arrivals, idle, start, first, start_as
 
 -- node 3, with this code
 abbrev pub node_3 : List Instr → Fixed
-node_3 code = record { code = code; routes = record { id = 3; ways = replicate 16 1; gaps = 4 ∷ replicate 7 0 } }
+node_3 code = record { edition = 1; code = code; routes = record { id = 3; ways = replicate 16 1; nets = replicate 8 0; gaps = 4 ∷ replicate 7 0 } }
 
 abbrev pub quiet_slot : List Instr → NodeRec → ℕ → Stepped
 quiet_slot code rec slot = node_step (node_3 code) rec slot no_arrivals low_pins
@@ -156,7 +156,7 @@ pub record WorkedOutct : Type 0 where
   -- 8 wait: the thread pauses at the instruction, and the buffer stays
   pub pauses : thread_of waits_for_room.core 0 ≡ record own_word { run = Paused (Room 0 1) }
   pub keeps : (chan_of waits_for_room.core 0).output ≡ eight_bytes
-  pub is_issue : waits_for_room.core.last ≡ Some 1 ∷ replicate 7 None
+  pub is_issue : waits_for_room.core.slots.last ≡ Some 1 ∷ replicate 7 None
   pub still_full : quiet_slot (outct_end ∷ []) waits_for_room 2 ≡ idle waits_for_room
   -- in slot 4 one goes out by the link end; the thread is rested in slot 5
   pub one_out : (chan_of (after_from (outct_end ∷ []) full_node 1 4).core 0).output ≡ replicate 7 (Byte 9)
@@ -181,7 +181,7 @@ pub record WorkedChkct : Type 0 where
   pub not_in_use : events_in_1 chkct_end (with_chan_0 (start_as own_word) unused_chan) ≡ traps_in_1 4 own_id
   -- none came: the thread pauses at the instruction, and waits in vain
   pub pauses : quiet_slot (chkct_end ∷ []) (tokens_came []) 1 ≡ idle (record (with_chan_0 (start_as (record own_word { run = Paused (Tokens 0 1) })) got_chan) {
-    core = record (with_chan_0 (start_as (record own_word { run = Paused (Tokens 0 1) })) got_chan).core { last = Some 1 ∷ replicate 7 None };
+    core = record (with_chan_0 (start_as (record own_word { run = Paused (Tokens 0 1) })) got_chan).core { slots = never_divided (Some 1 ∷ replicate 7 None) };
   })
   pub waits : quiet_slot (chkct_end ∷ []) (after_from (chkct_end ∷ []) (tokens_came []) 1 1) 5 ≡ idle (after_from (chkct_end ∷ []) (tokens_came []) 1 1)
 

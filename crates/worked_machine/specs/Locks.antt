@@ -10,7 +10,7 @@ use Rattle.xs_model.specs.declared.event.Event.{Event}
 use Rattle.xs_model.specs.declared.event.Happen.TheVariants as happen
 use Rattle.xs_model.specs.Outside.{in_slot}
 use Rattle.xs_model.specs.Picks.{eligible, picked}
-use Rattle.xs_model.specs.Record.{NodeRec, ChanRec, InputRec, Idle, Local, LockRec, unused_chan, unused_sync, unused_lock, thread_of, lock_of}
+use Rattle.xs_model.specs.Record.{NodeRec, ChanRec, InputRec, Idle, Local, LockRec, unused_chan, unused_sync, unused_lock, thread_of, lock_of, never_divided}
 use Rattle.xs_instructions.specs.declared.instr.Instr.{Instr}
 use Rattle.xs_instructions.specs.declared.instr.Instr.TheVariants.{Words, Resources}
 use Rattle.xs_instructions.specs.declared.instr.WordIns.TheVariants as words
@@ -127,7 +127,7 @@ waiter = record (with_three 0x005 0 0) { pc = 0x00040004; run = Paused (Lock 0) 
 abbrev pub two_wait : NodeRec
 two_wait = record start {
   core = record (team (with_three 0x005 0 0 ∷ waiter ∷ waiter ∷ replicate 5 (other Free)) (replicate 7 unused_sync)
-      (owned_by 0 ∷ replicate 3 unused_lock)).core { last = None ∷ Some 40 ∷ Some 41 ∷ replicate 5 None };
+      (owned_by 0 ∷ replicate 3 unused_lock)).core { slots = never_divided (None ∷ Some 40 ∷ Some 41 ∷ replicate 5 None) };
 }
 
 -- a node before one of these slots

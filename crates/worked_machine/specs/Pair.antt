@@ -44,7 +44,7 @@ abbrev pub without_chan : NodeRec
 without_chan = node_of_parts (replicate 32 unused_chan) (Some fresh_link ∷ replicate 7 None)
 
 abbrev pub routes_at : ℕ → Routes
-routes_at id = record { id = id; ways = 1 ∷ replicate 15 0; gaps = 4 ∷ replicate 7 0 }
+routes_at id = record { id = id; ways = 1 ∷ replicate 15 0; nets = replicate 8 0; gaps = 4 ∷ replicate 7 0 }
 
 -- the token that was sent in a slot, if one was
 abbrev pub token_of_slot : ℕ → List (ℕ × Token) → Option Token

@@ -34,7 +34,7 @@ pub record WorkedWays : Type 0 where
 -- ---- Node 1: to even ids by link end 0, to ids of which bit 1 differs by link ends 1 and 2
 
 abbrev pub routes : Routes
-routes = record { id = 1; ways = 1 ∷ 6 ∷ replicate 14 0; gaps = 4 ∷ 4 ∷ 9 ∷ replicate 5 0 }
+routes = record { id = 1; ways = 1 ∷ 6 ∷ replicate 14 0; nets = replicate 8 0; gaps = 4 ∷ 4 ∷ 9 ∷ replicate 5 0 }
 
 -- link ends 0 to 2 with these tokens in their buffers; three channel ends
 abbrev pub node : List Token → List Token → List Token → List ChanRec → NodeRec
@@ -70,7 +70,7 @@ pub record WorkedTwoEnds : Type 0 where
   -- the first takes the lower link end, the second the other one, and the third waits
   pub lower : state_at (in_100 three_to_3).rec 8 ≡ Out 1 1 (to 3 0)
   pub upper : state_at (in_100 three_to_3).rec 9 ≡ Out 2 1 (to 3 1)
-  pub third_waits : state_at (in_100 three_to_3).rec 10 ≡ Want (to 3 2)
+  pub third_waits : state_at (in_100 three_to_3).rec 10 ≡ Want (to 3 2) 0
   pub both_headers : (in_100 three_to_3).tokens ≡ three_tokens None (Some (Byte 0)) (Some (Byte 0))
   -- what waits at them is not touched
   pub byte_waits : (chan_of (in_100 three_to_3).rec.core 0).output ≡ Byte 7 ∷ []
@@ -89,7 +89,7 @@ pub record WorkedTwoEnds : Type 0 where
 
 -- both packets want to go on
 abbrev pub both_want : NodeRec
-both_want = with_state (with_state (node (Byte 7 ∷ []) (Byte 8 ∷ []) [] no_chans) 0 (Want (to 3 5))) 1 (Want (to 0 6))
+both_want = with_state (with_state (node (Byte 7 ∷ []) (Byte 8 ∷ []) [] no_chans) 0 (Want (to 3 5) 0)) 1 (Want (to 0 6) 0)
 
 -- both headers are out; a byte waits at each, and END behind one of them
 abbrev pub both_under_way : NodeRec
@@ -97,7 +97,7 @@ both_under_way = with_state (with_state (node (Byte 7 ∷ Ctrl 1 ∷ []) (Byte 8
 
 -- a packet to node 0, which came by link end 0
 abbrev pub goes_back : NodeRec
-goes_back = with_state (node (Byte 7 ∷ []) [] [] no_chans) 0 (Want (to 0 4))
+goes_back = with_state (node (Byte 7 ∷ []) [] [] no_chans) 0 (Want (to 0 4) 0)
 
 abbrev pub back_under_way : NodeRec
 back_under_way = with_state (node (Ctrl 1 ∷ []) [] [] no_chans) 0 (Out 0 3 (to 0 4))
@@ -124,15 +124,15 @@ pub record WorkedRouter : Type 0 where
   pub turns_credit : (in_100 back_under_way).credits ≡ true ∷ replicate 7 false
   pub turns_over : state_at (in_100 back_under_way).rec 0 ≡ Idle
   -- both want link end 0: the packet by link end 0 is first, and that of link end 1 waits
-  pub first_holds : state_at (in_100 (with_state goes_back 1 (Want (to 0 6)))).rec 0 ≡ Out 0 1 (to 0 4)
-  pub second_waits : state_at (in_100 (with_state goes_back 1 (Want (to 0 6)))).rec 1 ≡ Want (to 0 6)
+  pub first_holds : state_at (in_100 (with_state goes_back 1 (Want (to 0 6) 0))).rec 0 ≡ Out 0 1 (to 0 4)
+  pub second_waits : state_at (in_100 (with_state goes_back 1 (Want (to 0 6) 0))).rec 1 ≡ Want (to 0 6) 0
 
 -- ---- Channel ends that are held, and ones that are not there
 
 -- a packet by link end 0 wants channel end 0, which channel end 1 holds; PAUSE ends the packet of channel end 1
 abbrev pub wants_held : NodeRec
 wants_held =
-    with_state (with_state (node (Ctrl 1 ∷ []) [] [] (got_chan ∷ sends (Ctrl 2 ∷ []) (chan_id 1 0) ∷ unused_chan ∷ [])) 0 (Want (to 1 0))) 9 (Local 0)
+    with_state (with_state (node (Ctrl 1 ∷ []) [] [] (got_chan ∷ sends (Ctrl 2 ∷ []) (chan_id 1 0) ∷ unused_chan ∷ [])) 0 (Want (to 1 0) 0)) 9 (Local 0)
 
 abbrev pub before_freed : NodeRec
 before_freed = (in_100 wants_held).rec
@@ -156,7 +156,7 @@ want_255 = switched routes 101 (in_100 header_of_255).rec
 
 pub record WorkedMissing : Type 0 where
   -- it waits in slot 100, in which the packet of the other one ends, after its turn
-  pub waits : state_at before_freed 0 ≡ Want (to 1 0)
+  pub waits : state_at before_freed 0 ≡ Want (to 1 0) 0
   pub other_over : state_at before_freed 9 ≡ Idle
   pub may_be_freed : freed_chan (chan_is_busy before_freed 0) (chan_of before_freed.core 0) ≡ Some unused_chan
   -- in slot 101 the channel end is not in use any more: the packet is lost, and its END is dropped a slot later
@@ -169,13 +169,13 @@ pub record WorkedMissing : Type 0 where
   -- had it not been freed, END would have come there
   pub else_delivered : (switched routes 101 before_freed).happened ≡ happen.Chan 0 (Ctrl 1) ∷ []
   -- channel end 255: its header is as any other's, and its packet is lost at its node
-  pub header_taken : state_at (in_100 header_of_255).rec 0 ≡ Want (to 1 255)
+  pub header_taken : state_at (in_100 header_of_255).rec 0 ≡ Want (to 1 255) 0
   pub no_such_chan : want_255.happened ≡ happen.Lost 0x0001ff02 ∷ []
   pub rest_waits : want_255.credits ≡ replicate 8 false
   -- on its way the number is a byte of the header
   pub number_out : (in_100 (with_state (node [] [] [] no_chans) 0 (Out 1 2 (to 3 255)))).tokens ≡ three_tokens None (Some (Byte 255)) None
   -- a packet for a node to which no link end leads: bit 2 differs
-  pub no_way : (in_100 (with_state (node (Byte 7 ∷ []) [] [] no_chans) 0 (Want (to 5 0)))).happened ≡ happen.Lost 0x00050002 ∷ []
+  pub no_way : (in_100 (with_state (node (Byte 7 ∷ []) [] [] no_chans) 0 (Want (to 5 0) 0))).happened ≡ happen.Lost 0x00050002 ∷ []
 
 -- routes over several link ends
 pub record WorkedRoutes : Type 0 where

@@ -8,7 +8,7 @@ use Rattle.xs_model.specs.declared.event.Happen.TheVariants as happen
 use Rattle.xs_model.specs.declared.outside.Arrivals.{Arrivals}
 use Rattle.xs_model.specs.declared.outside.PinView.{PinView}
 use Rattle.xs_model.specs.Threads.{first_thread}
-use Rattle.xs_model.specs.Record.{NodeRec, first_node, free_thread, thread_of, with_thread}
+use Rattle.xs_model.specs.Record.{NodeRec, first_node, free_thread, thread_of, with_thread, never_divided}
 use Rattle.xs_model.specs.Syncs.{with_slave}
 use Rattle.xs_model.specs.Outside.{emitted_events, in_slot, low_pins}
 use Rattle.xs_instructions.specs.declared.instr.Instr.{Instr}
@@ -21,7 +21,7 @@ use Rattle.step_model.specs.Step.{Stepped, node_step}
 
 -- a node of this code, with no network
 abbrev pub node_of_code : List Instr → Fixed
-node_of_code code = record { code = code; routes = record { id = 0; ways = replicate 16 0; gaps = replicate 8 0 } }
+node_of_code code = record { edition = 1; code = code; routes = record { id = 0; ways = replicate 16 0; nets = replicate 8 0; gaps = replicate 8 0 } }
 
 -- nothing comes from outside
 abbrev pub no_arrivals : Arrivals
@@ -75,18 +75,18 @@ constants = Words (words.Ldc 0 5) ∷ Words (words.Ldc 11 65535) ∷ []
 
 pub record WorkedIssues : Type 0 where
   pub threads : (after_slots constants start 1).core.threads ≡ record first { r = 5 ∷ replicate 11 0; pc = 0x00040004 } ∷ replicate 7 free_thread
-  pub last : (after_slots constants start 1).core.last ≡ Some 0 ∷ replicate 7 None
+  pub last : (after_slots constants start 1).core.slots.last ≡ Some 0 ∷ replicate 7 None
   pub no_event : events_of constants start 0 ≡ []
   pub rests_in_slot_1 : slot_of constants (after_slots constants start 1) 1 ≡ idle (after_slots constants start 1)
   pub rests_in_slot_2 : slot_of constants (after_slots constants start 2) 2 ≡ idle (after_slots constants start 1)
   pub rests_in_slot_3 : slot_of constants (after_slots constants start 3) 3 ≡ idle (after_slots constants start 1)
   pub next : thread_after constants start 5 ≡ record first { r = 5 ∷ 0 ∷ 0 ∷ 0 ∷ 0 ∷ 0 ∷ 0 ∷ 0 ∷ 0 ∷ 0 ∷ 0 ∷ 65535 ∷ []; pc = 0x00040008 }
-  pub last_next : (after_slots constants start 5).core.last ≡ Some 4 ∷ replicate 7 None
+  pub last_next : (after_slots constants start 5).core.slots.last ≡ Some 4 ∷ replicate 7 None
   -- two threads that go issue in turn, thread 0 first
-  pub two_threads : (after_slots constants (start_two first) 2).core.last ≡ Some 0 ∷ Some 1 ∷ replicate 6 None
+  pub two_threads : (after_slots constants (start_two first) 2).core.slots.last ≡ Some 0 ∷ Some 1 ∷ replicate 6 None
   pub second_thread : thread_of (after_slots constants (start_two first) 2).core 1 ≡ record first { r = 5 ∷ replicate 11 0; pc = 0x00040004 }
   -- from slot 4 on again: thread 0 has waited longer
-  pub turns : (after_slots constants (start_two first) 5).core.last ≡ Some 4 ∷ Some 1 ∷ replicate 6 None
+  pub turns : (after_slots constants (start_two first) 5).core.slots.last ≡ Some 4 ∷ Some 1 ∷ replicate 6 None
   -- a pause that holds ends with the issue: no token is wanted
   pub pause_over : thread_after constants (start_as (record first { run = Paused (Tokens 0 0) })) 1 ≡ record first { r = 5 ∷ replicate 11 0; pc = 0x00040004 }
   -- a token is wanted and none is there; an event is wanted and none comes
@@ -127,13 +127,13 @@ abbrev pub dp_at : ℕ → Thread
 dp_at at = record first { dp = at }
 
 pub record WorkedTraps : Type 0 where
-  pub no_code : after_slots [] start 1 ≡ record (start_as (halted first 2 0x00040000)) { core = record (start_as (halted first 2 0x00040000)).core { last = Some 0 ∷ replicate 7 None } }
+  pub no_code : after_slots [] start 1 ≡ record (start_as (halted first 2 0x00040000)) { core = record (start_as (halted first 2 0x00040000)).core { slots = never_divided (Some 0 ∷ replicate 7 None) } }
   pub no_code_events : (slot_of [] start 0).emitted ≡ emitted_events (trap_and_halt 2 0x00040000)
   pub halted_stays : slot_of [] (after_slots [] start 4) 4 ≡ idle (after_slots [] start 1)
   -- 0xfffffffc + 4 is 0
   pub bad_load : thread_after load_at_1 (start_as (dp_at 0xfffffffc)) 1 ≡ halted (dp_at 0xfffffffc) 5 0
   pub bad_load_events : events_of load_at_1 (start_as (dp_at 0xfffffffc)) 0 ≡ trap_and_halt 5 0
-  pub bad_store : after_slots store_at_1 (start_as (dp_at 0x0001fffc)) 1 ≡ record (start_as (halted (dp_at 0x0001fffc) 5 0x00020000)) { core = record (start_as (halted (dp_at 0x0001fffc) 5 0x00020000)).core { last = Some 0 ∷ replicate 7 None } }
+  pub bad_store : after_slots store_at_1 (start_as (dp_at 0x0001fffc)) 1 ≡ record (start_as (halted (dp_at 0x0001fffc) 5 0x00020000)) { core = record (start_as (halted (dp_at 0x0001fffc) 5 0x00020000)).core { slots = never_divided (Some 0 ∷ replicate 7 None) } }
   pub bad_store_events : events_of store_at_1 (start_as (dp_at 0x0001fffc)) 0 ≡ trap_and_halt 5 0x00020000
   pub unaligned : events_of load_at_1 (start_as (dp_at 0x00010002)) 0 ≡ trap_and_halt 5 0x00010006
   pub below : events_of store_at_1 (start_as (dp_at 0x0000fff8)) 0 ≡ trap_and_halt 5 0x0000fffc

@@ -108,29 +108,29 @@ pub record WorkedSteps : Type 0 where
   -- a header: a control token is dropped, the third byte makes the destination whole, and no more is taken in that slot
   pub ctrl_in_header : state_at (from_link (Head1 7) (Ctrl 1 ∷ []) []).rec 0 ≡ Head1 7
   pub ctrl_dropped : (from_link (Head1 7) (Ctrl 1 ∷ []) []).credits ≡ one_credit
-  pub third_byte : state_at (from_link (Head2 2 1) (Byte 9 ∷ Ctrl 1 ∷ []) []).rec 0 ≡ Want (to 513 9)
+  pub third_byte : state_at (from_link (Head2 2 1) (Byte 9 ∷ Ctrl 1 ∷ []) []).rec 0 ≡ Want (to 513 9) 0
   -- only a link end takes header bytes, and a channel end with no destination begins no packet
   pub no_header : state_at (from_chan (Head1 7) (sends (Byte 5 ∷ []) (chan_id 1 0))).rec 8 ≡ Head1 7
   pub no_dest : state_at (from_chan Idle (record got_chan { output = Byte 5 ∷ [] })).rec 8 ≡ Idle
   pub no_dest_none : (from_chan Idle (record got_chan { output = Byte 5 ∷ [] })).happened ≡ []
   -- where a packet wants to go: there is no channel end 32, channel end 0 takes END at once, no link end leads to node
   -- 4, and a packet may go back by the link end that it came by
-  pub chan_32 : (from_link (Want (to 1 32)) (Ctrl 1 ∷ []) []).happened ≡ happen.Lost (chan_id 1 32) ∷ []
-  pub chan_32_waits : (from_link (Want (to 1 32)) (Ctrl 1 ∷ []) []).credits ≡ no_credits
-  pub at_once : (from_link (Want (to 1 0)) (Ctrl 1 ∷ []) []).happened ≡ happen.Chan 0 (Ctrl 1) ∷ []
-  pub no_way : state_at (from_link (Want (to 4 0)) (Ctrl 1 ∷ []) []).rec 0 ≡ Lost
-  pub way_back : (from_link (Want (to 0 0)) (Ctrl 1 ∷ []) []).tokens ≡ one_token (Byte 0)
+  pub chan_32 : (from_link (Want (to 1 32) 0) (Ctrl 1 ∷ []) []).happened ≡ happen.Lost (chan_id 1 32) ∷ []
+  pub chan_32_waits : (from_link (Want (to 1 32) 0) (Ctrl 1 ∷ []) []).credits ≡ no_credits
+  pub at_once : (from_link (Want (to 1 0) 0) (Ctrl 1 ∷ []) []).happened ≡ happen.Chan 0 (Ctrl 1) ∷ []
+  pub no_way : state_at (from_link (Want (to 4 0) 0) (Ctrl 1 ∷ []) []).rec 0 ≡ Lost
+  pub way_back : (from_link (Want (to 0 0) 0) (Ctrl 1 ∷ []) []).tokens ≡ one_token (Byte 0)
   -- END leaves in slot 100 where the gap is over, and the channel end that waits holds the link end in that slot; else
   -- it waits on
   pub end_leaves : (from_holder 96).tokens ≡ one_token (Ctrl 1)
   pub next_holds : state_at (from_holder 96).rec 9 ≡ Out 0 0 (to 1 5)
-  pub next_waits : state_at (from_holder 97).rec 9 ≡ Want (to 1 5)
+  pub next_waits : state_at (from_holder 97).rec 9 ≡ Want (to 1 5) 0
   -- two channel ends to the other node: the first one holds the link end
   pub first_out : state_at (from_two (Byte 1 ∷ []) (chan_id 0 0) (Byte 2 ∷ []) (chan_id 0 1)).rec 8 ≡ Out 0 1 (to 0 0)
-  pub second_waits : state_at (from_two (Byte 1 ∷ []) (chan_id 0 0) (Byte 2 ∷ []) (chan_id 0 1)).rec 9 ≡ Want (to 0 1)
+  pub second_waits : state_at (from_two (Byte 1 ∷ []) (chan_id 0 0) (Byte 2 ∷ []) (chan_id 0 1)).rec 9 ≡ Want (to 0 1) 0
   -- two channel ends to one of their own node: the second one waits, unless the first one's packet ends in this slot
   pub first_near : (from_two (Byte 1 ∷ []) (chan_id 1 0) (Byte 2 ∷ []) (chan_id 1 0)).happened ≡ happen.Chan 0 (Byte 1) ∷ []
-  pub second_near : state_at (from_two (Byte 1 ∷ []) (chan_id 1 0) (Byte 2 ∷ []) (chan_id 1 0)).rec 9 ≡ Want (to 1 0)
+  pub second_near : state_at (from_two (Byte 1 ∷ []) (chan_id 1 0) (Byte 2 ∷ []) (chan_id 1 0)).rec 9 ≡ Want (to 1 0) 0
   pub both_near : (from_two (Ctrl 1 ∷ Byte 4 ∷ []) (chan_id 1 0) (Byte 2 ∷ []) (chan_id 1 0)).happened ≡ happen.Chan 0 (Ctrl 1) ∷ happen.Chan 0 (Byte 2) ∷ []
   pub first_ended : state_at (from_two (Ctrl 1 ∷ Byte 4 ∷ []) (chan_id 1 0) (Byte 2 ∷ []) (chan_id 1 0)).rec 8 ≡ Idle
   pub second_holds : state_at (from_two (Ctrl 1 ∷ Byte 4 ∷ []) (chan_id 1 0) (Byte 2 ∷ []) (chan_id 1 0)).rec 9 ≡ Local 0
@@ -163,7 +163,7 @@ last_chan_node chan buffer =
 
 -- slot 100 at node 1 as such a node: a packet for a destination came by the link end, or a token waits at the channel end
 abbrev pub to_last : ℕ → AtWork
-to_last dest = switched (routes_at 1) 100 (with_state (last_chan_node got_chan (Ctrl 1 ∷ [])) 0 (Want (dest_of dest)))
+to_last dest = switched (routes_at 1) 100 (with_state (last_chan_node got_chan (Ctrl 1 ∷ [])) 0 (Want (dest_of dest) 0))
 
 abbrev pub from_last : ℕ → AtWork
 from_last dest = switched (routes_at 1) 100 (last_chan_node (sends (Ctrl 1 ∷ []) dest) [])
@@ -181,7 +181,7 @@ pub record WorkedLastChan : Type 0 where
   pub in_its_buffer : (chan_of (to_last 0x00011f02).rec.core 31).input ≡ Ctrl 1 ∷ []
   pub lost : (to_last 0x00011e02).happened ≡ happen.Lost 0x00011e02 ∷ []
   pub lost_after : (to_last 0x00012002).happened ≡ happen.Lost 0x00012002 ∷ []
-  pub lost_unused : (from_link (Want (dest_of 0x00011f02)) (Ctrl 1 ∷ []) []).happened ≡ happen.Lost 0x00011f02 ∷ []
+  pub lost_unused : (from_link (Want (dest_of 0x00011f02) 0) (Ctrl 1 ∷ []) []).happened ≡ happen.Lost 0x00011f02 ∷ []
   -- its own token goes by the last input of the switch: to the other node, and to itself
   pub goes_out : state_at (from_last 0x00000002).rec 39 ≡ Out 0 1 (dest_of 0x00000002)
   pub header_out : (from_last 0x00000002).tokens ≡ one_token (Byte 0)

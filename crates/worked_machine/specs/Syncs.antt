@@ -6,7 +6,7 @@ use Rattle.xs_model.specs.declared.thread.Run.{Run}
 use Rattle.xs_model.specs.declared.thread.Run.TheVariants.{Free, Unstarted, AtSync, Going, Paused, Halted}
 use Rattle.xs_model.specs.declared.thread.Wait.TheVariants.{Slaves, Choice}
 use Rattle.xs_model.specs.Memory.{load_word}
-use Rattle.xs_model.specs.Record.{NodeRec, SyncRec, unused_sync, thread_of, sync_of}
+use Rattle.xs_model.specs.Record.{NodeRec, SyncRec, unused_sync, thread_of, sync_of, never_divided}
 use Rattle.xs_instructions.specs.declared.instr.Instr.{Instr}
 use Rattle.xs_instructions.specs.declared.instr.Instr.TheVariants.{Words, Memory, Threads, Resources}
 use Rattle.xs_instructions.specs.declared.instr.WordIns.TheVariants as words
@@ -42,7 +42,7 @@ all_but six = replicate 6 (sync_of_thread 5) ++ six ∷ []
 abbrev pub thread_1_next : Thread → List SyncRec → NodeRec
 thread_1_next one syncs = record start {
   core = record (team (with_three 1 7 0 ∷ one ∷ replicate 6 (other Halted)) syncs three_locks).core {
-    last = Some 9 ∷ replicate 7 None;
+    slots = never_divided (Some 9 ∷ replicate 7 None);
   };
 }
 

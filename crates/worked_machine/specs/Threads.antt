@@ -6,7 +6,7 @@ use Rattle.xs_model.specs.declared.thread.Run.{Run}
 use Rattle.xs_model.specs.declared.thread.Run.TheVariants.{Free, Unstarted, AtSync, Going, Paused, Halted}
 use Rattle.xs_model.specs.declared.thread.Wait.TheVariants.{Choice}
 use Rattle.xs_model.specs.declared.event.Happen.TheVariants as happen
-use Rattle.xs_model.specs.Record.{NodeRec, SyncRec, LockRec, unused_chan, unused_timer, unused_sync, unused_lock, thread_of, with_thread, with_last}
+use Rattle.xs_model.specs.Record.{NodeRec, SyncRec, LockRec, unused_chan, unused_timer, unused_sync, unused_lock, thread_of, with_thread, with_last, never_divided}
 use Rattle.xs_model.specs.Outside.{emitted_events, in_slot}
 use Rattle.xs_instructions.specs.declared.instr.Instr.{Instr}
 use Rattle.xs_instructions.specs.declared.instr.Instr.TheVariants.{Threads, Resources}
@@ -102,7 +102,7 @@ in_10 ins rec = slot_of (ins ∷ []) rec 10
 
 -- nothing happened, the node is this one, and these are the last issues
 abbrev pub leaves : List (Option Slot) → NodeRec → Stepped
-leaves last rec = idle (record rec { core = record rec.core { last = last } })
+leaves last rec = idle (record rec { core = record rec.core { slots = never_divided last } })
 
 -- thread 0 alone issued, or thread 3 or 7 was got too
 abbrev pub by_0 : List (Option Slot)
@@ -319,7 +319,7 @@ abbrev pub got_by : Thread → Thread → NodeRec
 got_by mine three = record start {
   core = record start.core {
     threads = mine ∷ other Free ∷ starter ∷ three ∷ replicate 4 (other Free);
-    last = None ∷ None ∷ Some 7 ∷ replicate 5 None;
+    slots = never_divided (None ∷ None ∷ Some 7 ∷ replicate 5 None);
   };
 }
 

@@ -38,13 +38,13 @@ last_node = node_of_parts (got_chan ∷ got_chan ∷ replicate 30 unused_chan) (
 -- ids 0 and 1 differ from 3 in bit 1 as the highest: link end 0 of the first node leads there, and link end 1 of the
 -- middle one
 abbrev pub first_routes : Routes
-first_routes = record { id = 0; ways = 0 ∷ 1 ∷ replicate 14 0; gaps = 4 ∷ replicate 7 0 }
+first_routes = record { id = 0; ways = 0 ∷ 1 ∷ replicate 14 0; nets = replicate 8 0; gaps = 4 ∷ replicate 7 0 }
 
 abbrev pub middle_routes : Routes
-middle_routes = record { id = 1; ways = 0 ∷ 2 ∷ replicate 14 0; gaps = 4 ∷ 4 ∷ replicate 6 0 }
+middle_routes = record { id = 1; ways = 0 ∷ 2 ∷ replicate 14 0; nets = replicate 8 0; gaps = 4 ∷ 4 ∷ replicate 6 0 }
 
 abbrev pub last_routes : Routes
-last_routes = record { id = 3; ways = replicate 16 0; gaps = 4 ∷ replicate 7 0 }
+last_routes = record { id = 3; ways = replicate 16 0; nets = replicate 8 0; gaps = 4 ∷ replicate 7 0 }
 
 abbrev pub two_tokens : ℕ → List (ℕ × Token) → List (ℕ × Token) → List (Option Token)
 two_tokens slot zeroth other = token_of_slot slot zeroth ∷ token_of_slot slot other ∷ replicate 6 None

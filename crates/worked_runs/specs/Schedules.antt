@@ -2,6 +2,7 @@
 use Rattle.std.specs.Prelude.{ℕ, ◌≡◌, List, [], ◌∷◌, ◌++◌, replicate}
 use Rattle.xs_base.specs.Numbers.{Slot}
 use Rattle.sys_plan.specs.declared.NodePlan.{NodePlan}
+use Rattle.sys_plan.specs.NodePlans.{plain_plan}
 use Rattle.sys_plan.specs.declared.LinkPlan.{LinkPlan}
 use Rattle.sys_plan.specs.declared.Step.{Step}
 use Rattle.sys_plan.specs.declared.Step.TheVariants.{Take, Run, Send}
@@ -10,7 +11,7 @@ use Rattle.ahead_limits.specs.Schedule.{ScheduleRec, numbers}
 
 -- a node with no code and no ways, whose number is its id
 abbrev pub idle_node : ℕ → NodePlan
-idle_node id = record { number = id; id = id; image = record { code = []; bytes = []; cp_at = 0x00010000; symbols = [] }; ways = replicate 16 0 }
+idle_node id = plain_plan id id (record { code = []; bytes = []; cp_at = 0x00010000; symbols = [] }) (replicate 16 0)
 
 -- two nodes, and a link with a delay of 5 between their link ends 0
 abbrev pub pair : List Step → PlanRec

@@ -14,17 +14,14 @@ use Rattle.xs_instructions.specs.declared.instr.MemIns.TheVariants as memory
 use Rattle.xs_instructions.specs.declared.instr.ThreadIns.TheVariants as threads
 use Rattle.xs_instructions.specs.declared.instr.ResIns.TheVariants as resources
 use Rattle.sys_plan.specs.declared.NodePlan.{NodePlan}
+use Rattle.sys_plan.specs.NodePlans.{plain_plan}
 use Rattle.sys_plan.specs.Plan.{PlanRec}
 use Rattle.serial_model.specs.Serial.{SystemRec, pins_at, sent_by, serial, history}
 
 -- a node whose number is its id, with this code and these bytes of data, that knows no way
 abbrev pub plain_node : ℕ → List Instr → List ℕ → NodePlan
-plain_node id code bytes = record {
-  number = id;
-  id = id;
-  image = record { code = code; bytes = bytes; cp_at = 0x00010000; symbols = [] };
-  ways = replicate 16 0;
-}
+plain_node id code bytes =
+    plain_plan id id (record { code = code; bytes = bytes; cp_at = 0x00010000; symbols = [] }) (replicate 16 0)
 
 -- the pc of each node's thread 0
 abbrev pub pcs : SystemRec → List ℕ

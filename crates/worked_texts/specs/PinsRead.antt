@@ -4,6 +4,7 @@ use Rattle.source_model.specs.declared.AsmKind.TheVariants as asm
 use Rattle.pin_scripts.specs.declared.line.PinLine.{PinLine}
 use Rattle.pin_scripts.specs.declared.pin_error.PinKind.{PinKind}
 use Rattle.pin_scripts.specs.declared.pin_error.PinKind.TheVariants.{BadLine, SlotFalls, NoSuchPort, ValueTooWide, NoSuchNode, PinGivenTwice}
+use Rattle.sys_plan.specs.NodePlans.{plain_plan}
 use Rattle.sys_plan.specs.Plan.{PlanRec}
 use Rattle.system_model.specs.declared.SysKind.TheVariants as sys
 use Rattle.system_model.specs.System.{Plan, Frame, Source, Pins, system_of}
@@ -27,8 +28,8 @@ empty_sources = codes "source 7\nend\nsource 3\nend\n"
 abbrev pub scripted : List PinLine → PlanRec
 scripted script = record {
   nodes =
-      record { number = 3; id = 0; image = empty_image; ways = replicate 16 0 }
-      ∷ record { number = 7; id = 1; image = empty_image; ways = replicate 16 0 }
+      plain_plan 3 0 empty_image (replicate 16 0)
+      ∷ plain_plan 7 1 empty_image (replicate 16 0)
       ∷ [];
   links = [];
   script = script;

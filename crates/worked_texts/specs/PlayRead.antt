@@ -2,6 +2,7 @@
 use Rattle.std.specs.Prelude.{ℕ, ◌≡◌, List, [], ◌∷◌, ◌++◌, codes, replicate}
 use Rattle.source_model.specs.declared.AsmKind.TheVariants as asm
 use Rattle.pin_scripts.specs.declared.pin_error.PinKind.TheVariants as pins
+use Rattle.sys_plan.specs.NodePlans.{plain_plan}
 use Rattle.sys_plan.specs.Plan.{PlanRec}
 use Rattle.sys_plan.specs.declared.Step.{Step}
 use Rattle.sys_plan.specs.declared.Step.TheVariants.{Take, Run, Send}
@@ -174,8 +175,8 @@ steps_of_schedule = Take 1 0 ∷ Run 0 16 ∷ Run 1 1 ∷ Send 0 0 ∷ Run 0 100
 abbrev pub scheduled : List Step → PlanRec
 scheduled steps = record {
   nodes =
-      record { number = 3; id = 0; image = empty_image; ways = replicate 16 0 }
-      ∷ record { number = 7; id = 1; image = empty_image; ways = replicate 16 0 }
+      plain_plan 3 0 empty_image (replicate 16 0)
+      ∷ plain_plan 7 1 empty_image (replicate 16 0)
       ∷ [];
   links = record { a = 1; a_end = 0; b = 0; b_end = 0; delay = 5; gap = 4 } ∷ [];
   script = [];

@@ -3,6 +3,7 @@ use Rattle.std.specs.Prelude.{ℕ, ◌≡◌, true, None, List, [], ◌∷◌, �
 use Rattle.std.specs.List.{flat_map}
 use Rattle.xs_text.specs.Lines.{lines_of}
 use Rattle.xs_instructions.specs.Image.{ImageRec}
+use Rattle.sys_plan.specs.NodePlans.{plain_plan}
 use Rattle.sys_plan.specs.Plan.{PlanRec}
 use Rattle.system_model.specs.declared.SysKind.{SysKind}
 use Rattle.system_model.specs.declared.SysKind.TheVariants.{FirstLine, BadLine, GivenTwice, IdTwice, LinkEndTwice, LinkToItself, NumberOutOfRange, NodeWithoutSource, SectionNotEnded, TooLong, BitTwice, NoSuchNode, TooMany}
@@ -325,8 +326,8 @@ empty_image = record { code = []; bytes = []; cp_at = 65536; symbols = [] }
 abbrev pub plan_of_3_and_7 : PlanRec
 plan_of_3_and_7 = record {
   nodes =
-      record { number = 3; id = 0; image = empty_image; ways = 1 ∷ replicate 15 0 }
-      ∷ record { number = 7; id = 1; image = empty_image; ways = replicate 15 0 ++ 1 ∷ [] }
+      plain_plan 3 0 empty_image (1 ∷ replicate 15 0)
+      ∷ plain_plan 7 1 empty_image (replicate 15 0 ++ 1 ∷ [])
       ∷ [];
   links = record { a = 1; a_end = 0; b = 0; b_end = 0; delay = 5; gap = 4 } ∷ [];
   script = [];
@@ -342,9 +343,9 @@ line_of_three =
 abbrev pub plan_of_three : PlanRec
 plan_of_three = record {
   nodes =
-      record { number = 2; id = 3; image = empty_image; ways = replicate 16 0 }
-      ∷ record { number = 5; id = 1; image = empty_image; ways = 8 ∷ 18 ∷ replicate 14 0 }
-      ∷ record { number = 9; id = 0; image = empty_image; ways = 0 ∷ 1 ∷ replicate 14 0 }
+      plain_plan 2 3 empty_image (replicate 16 0)
+      ∷ plain_plan 5 1 empty_image (8 ∷ 18 ∷ replicate 14 0)
+      ∷ plain_plan 9 0 empty_image (0 ∷ 1 ∷ replicate 14 0)
       ∷ [];
   links =
       record { a = 1; a_end = 1; b = 0; b_end = 6; delay = 7; gap = 4 }
@@ -363,8 +364,8 @@ eight_between =
 abbrev pub plan_of_eight : PlanRec
 plan_of_eight = record {
   nodes =
-      record { number = 3; id = 0; image = empty_image; ways = 128 ∷ replicate 7 0 ++ 8 ∷ replicate 7 0 }
-      ∷ record { number = 7; id = 1; image = empty_image; ways = 255 ∷ replicate 15 0 }
+      plain_plan 3 0 empty_image (128 ∷ replicate 7 0 ++ 8 ∷ replicate 7 0)
+      ∷ plain_plan 7 1 empty_image (255 ∷ replicate 15 0)
       ∷ [];
   links =
       map (λ end. record { a = 0; a_end = end; b = 1; b_end = end; delay = 5; gap = 4 }) (0 ∷ 1 ∷ 2 ∷ 3 ∷ 4 ∷ 5 ∷ 6 ∷ 7 ∷ []);
@@ -376,8 +377,8 @@ plan_of_eight = record {
 abbrev pub plan_of_0_and_99 : PlanRec
 plan_of_0_and_99 = record {
   nodes =
-      record { number = 0; id = 65535; image = empty_image; ways = replicate 16 0 }
-      ∷ record { number = 99; id = 0; image = empty_image; ways = replicate 16 0 }
+      plain_plan 0 65535 empty_image (replicate 16 0)
+      ∷ plain_plan 99 0 empty_image (replicate 16 0)
       ∷ [];
   links = [];
   script = [];

@@ -58,4 +58,4 @@ pick may last = number_of_best (best_from may 0 last)
 
 -- the thread that issues in a slot
 abbrev pub picked : CoreRec → Slot → Option ThreadNumber
-picked core slot = pick (λ k. eligible core k slot) core.last
+picked core slot = pick (λ k. eligible core k slot) core.slots.last

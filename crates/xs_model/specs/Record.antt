@@ -11,15 +11,17 @@ use Rattle.xs_model.specs.declared.thread.Run.TheVariants.{Free}
 use Rattle.xs_model.specs.Threads.{fresh_thread, first_thread}
 use Rattle.xs_model.specs.Memory.{first_memory}
 
--- a channel end: whether it is in use, where it sends to, and the tokens that wait in its two buffers
+-- a channel end: whether it is in use, the network that its packets take, where it sends to, and the tokens that wait in its
+-- two buffers
 pub record ChanRec : Type 0 where
   pub used : Bool
+  pub net : ℕ  -- 0 to 3
   pub dest : Option Identifier
   pub output : List Token
   pub input : List Token
 
 abbrev pub unused_chan : ChanRec
-unused_chan = record { used = false; dest = None; output = []; input = [] }
+unused_chan = record { used = false; net = 0; dest = None; output = []; input = [] }
 
 -- a timer: whether it is in use, the value of its condition, and whether it has the condition
 pub record TimerRec : Type 0 where
@@ -135,7 +137,7 @@ pub data InputRec : Type 0 where
   Idle : InputRec
   Head1 : (high : ℕ) → InputRec
   Head2 : (high low : ℕ) → InputRec
-  Want : (dest : Dest) → InputRec
+  Want : (dest : Dest) (net : ℕ) → InputRec
   Local : (chan : ChanNumber) → InputRec
   Out : (end : EndNumber) (headers : ℕ) (dest : Dest) → InputRec
   Lost : InputRec
@@ -147,10 +149,19 @@ pub record LinkRec : Type 0 where
   pub sent : List Slot
   pub credited : List Slot
 
+-- when each thread issued last, and when the core divided last
+pub record SlotsRec : Type 0 where
+  pub last : List (Option Slot)  -- 8: the slot of the thread's last issue, or never
+  pub division : Option Slot  -- the slot of the core's last division, or never
+
+-- threads that issued last in these slots, on a core that never divided
+abbrev pub never_divided : List (Option Slot) → SlotsRec
+never_divided last = record { last = last; division = None }
+
 -- what the core itself keeps, by unit: lists of fixed length
 pub record CoreRec : Type 0 where
   pub threads : List Thread  -- 8
-  pub last : List (Option Slot)  -- 8: the slot of the thread's last issue, or never
+  pub slots : SlotsRec
   pub memory : List ℕ  -- 65,536 bytes
   pub chans : List ChanRec  -- 32
   pub timers : List TimerRec  -- 10
@@ -170,11 +181,11 @@ pub record NodeRec : Type 0 where
 abbrev pub free_thread : Thread
 free_thread = record fresh_thread { run = Free }
 
--- a core with these threads, last issues and memory, and all else as at the start
+-- a core with these threads, last issues and memory, and all else as at the start: it never divided
 abbrev pub core_with : List Thread → List (Option Slot) → List ℕ → CoreRec
 core_with threads last memory = record {
   threads = threads;
-  last = last;
+  slots = never_divided last;
   memory = memory;
   chans = replicate 32 unused_chan;
   timers = replicate 10 unused_timer;
@@ -202,7 +213,7 @@ thread_of core k = slice_index_or core.threads k fresh_thread
 
 -- the slot of a thread's last issue, or never
 abbrev pub last_of : CoreRec → ThreadNumber → Option Slot
-last_of core k = slice_index_or core.last k None
+last_of core k = slice_index_or core.slots.last k None
 
 abbrev pub chan_of : CoreRec → ChanNumber → ChanRec
 chan_of core n = slice_index_or core.chans n unused_chan
@@ -231,7 +242,7 @@ with_run core k run = with_thread core k (record (thread_of core k) { run = run 
 
 -- a slot is a thread's last issue now
 abbrev pub with_last : CoreRec → ThreadNumber → Slot → CoreRec
-with_last core k slot = record core { last = slice_set core.last k (Some slot) }
+with_last core k slot = record core { slots = record core.slots { last = slice_set core.slots.last k (Some slot) } }
 
 abbrev pub with_chan : CoreRec → ChanNumber → ChanRec → CoreRec
 with_chan core c chan = record core { chans = slice_set core.chans c chan }

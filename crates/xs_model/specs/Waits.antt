@@ -9,8 +9,9 @@ use Rattle.xs_model.specs.declared.thread.Run.{Run}
 use Rattle.xs_model.specs.declared.thread.Run.TheVariants.{Unstarted, AtSync, Paused}
 use Rattle.xs_model.specs.declared.thread.Thing.{Thing}
 use Rattle.xs_model.specs.declared.thread.Thing.TheVariants as thing
+use Rattle.xs_model.specs.declared.thread.TheConstants.{DIVISION_SLOTS}
 use Rattle.xs_model.specs.declared.thread.Wait.{Wait}
-use Rattle.xs_model.specs.declared.thread.Wait.TheVariants.{Room, Tokens, PortFull, PortEmpty, PortIdle, Timer, Lock, Slaves, Choice}
+use Rattle.xs_model.specs.declared.thread.Wait.TheVariants.{Room, Tokens, PortFull, PortEmpty, PortIdle, Timer, Lock, Slaves, Choice, Divider}
 use Rattle.xs_model.specs.declared.resource.Resource.{Resource}
 use Rattle.xs_model.specs.declared.resource.Resource.TheVariants as resource
 use Rattle.xs_model.specs.Time.{timer_holds}
@@ -39,6 +40,12 @@ is_in _ = false
 abbrev pub all_in : CoreRec → ℕ → Bool
 all_in core n = list_all (λ k. is_in (thread_of core k).run) (sync_of core n).slaves
 
+-- whether the core's divider is free in a slot, by the slot of the core's last division: it was 32 slots before or earlier, or
+-- never
+abbrev pub division_is_over : Option Slot → Slot → Bool
+division_is_over None slot = true
+division_is_over (Some division) slot = nat_le (division + DIVISION_SLOTS) slot
+
 -- whether what pauses a thread holds
 abbrev pub holds : CoreRec → Slot → Wait → Bool
 holds core slot (Room chan count) = has_room count (chan_of core chan).output
@@ -50,6 +57,7 @@ holds core slot (Timer timer) = timer_holds slot (timer_of core timer)
 holds core slot (Lock lock) = is_none (lock_of core lock).owner
 holds core slot (Slaves sync) = all_in core sync
 holds core slot Choice = false
+holds core slot Divider = division_is_over core.slots.division slot
 
 -- at which thing a thread waits, where at most one may wait there: the three waits on a port are at one thing
 abbrev pub thing_of : Wait → Option Thing
@@ -62,6 +70,7 @@ thing_of (Timer timer) = Some (thing.Timer timer)
 thing_of (Lock lock) = None
 thing_of (Slaves sync) = None
 thing_of Choice = None
+thing_of Divider = None
 
 abbrev pub is_same_thing : Thing → Thing → Bool
 is_same_thing (thing.Output a) (thing.Output b) = a == b

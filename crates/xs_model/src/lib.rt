@@ -20,5 +20,5 @@ pub use outside::{Arrivals, PinView};
 pub use pins::PinChange;
 pub use resource::{Res, Resource};
 pub use status::{EEBLE, FAST, IEBLE, INENB, ININT, INK, SETTABLE, STATUS_BITS, Status, WAITING};
-pub use thread::{Entry0, Outcome, Run, Thing, Thread, Wait};
+pub use thread::{DIVISION_SLOTS, Entry0, Outcome, Run, Thing, Thread, Wait};
 pub use xs_base::Token;

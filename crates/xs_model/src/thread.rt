@@ -5,6 +5,9 @@ use crate::status::Status;
 use bitflags::Flags;
 use xs_base::numbers::MEMORY_START;
 
+/// How many slots from a division on, that one with it, the core's divider is not free.
+pub const DIVISION_SLOTS: u32 = 32;
+
 /// What a paused thread waits for.
 #[derive(Clone, Copy)]
 pub enum Wait {
@@ -26,6 +29,8 @@ pub enum Wait {
     Slaves { sync: u8 },
     /// An event or an interrupt, and nothing else.
     Choice,
+    /// The core's divider is free.
+    Divider,
 }
 
 /// What at most one thread of a core may wait at.

@@ -24,7 +24,7 @@ module _ (core : CoreRec) (slot : ℕ) (threads : List Thread) (events : EventsR
       ap₂ (λ (ths : List Thread) (evs : EventsRec). choice_by k (slice_index_or ths k fresh_thread).sr (ready_in core slot) evs) (sym its_threads) (sym its_events)
 
 pub returns-then-may-eq0 : goal.returns-then-may-eq0
-returns-then-may-eq0 c = λ core syncs parts k below.
+returns-then-may-eq0 c = λ core slots syncs parts k below.
     let slot = c.args.slot in
     let none : in_mask c.allowing-may.result k ≡ false = ap (λ mask. in_mask mask k) c.if-may-eq0.true ∙ in_none k in
     in_none k
@@ -32,7 +32,7 @@ returns-then-may-eq0 c = λ core syncs parts k below.
     ∙ among core slot c.args.threads.now c.args.events.now parts.threads parts.events k c.allowing-may.result (c.allowing-may.ensures k below)
 
 pub returns : goal.returns
-returns c = λ core syncs parts k below.
+returns c = λ core slots syncs parts k below.
     let slot = c.args.slot in
     let wakes =
     c.wake_mask.ensures.value (ready_in core slot) (c.ready.ensures.value core parts.chans parts.timers parts.ports) k below

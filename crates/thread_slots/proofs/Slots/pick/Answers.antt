@@ -1,13 +1,14 @@
-use Rattle.std.proofs.Common.{◌%◌, subst, arith}
+use Rattle.std.proofs.Common.{◌%◌, ap, subst, arith}
 use Rattle.std.proofs.lemmas.List.{length-map}
+use Rattle.xs_model.specs.Record.{SlotsRec}
 use Rattle.thread_slots.specs.Turns.{last_in}
 use Rattle.thread_slots.proofs.Picked.{best_of_least, none_of_least, IsPicked, picked, none_picked}
 use Rattle.thread_slots.proofs.Slots.pick.Goals as goal
 use Rattle.thread_slots.proofs.Slots.pick.Goals.{Then-turn-from}
 
-its : (c : Then-turn-from) → IsPicked c.args.able c.args.slot c.args.self.now (c.least_turn-turn.result % 8)
+its : (c : Then-turn-from) → IsPicked c.args.able c.args.slot c.args.self.now.last (c.least_turn-turn.result % 8)
 its c =
-    subst (λ lasts. IsPicked c.args.able c.args.slot lasts (c.least_turn-turn.result % 8)) c.self.view_is (picked _ _ _ _ (omega (arith, c.self.invariant.threads, length-map c.self.inside.turns last_in)) (best_of_least c.args.able c.args.slot c.least_turn-turn.result c.self.inside.turns c.self.invariant c.least_turn-turn.ensures (omega arith) (omega arith)))
+    subst (λ lasts. IsPicked c.args.able c.args.slot lasts (c.least_turn-turn.result % 8)) (ap (λ (slots : SlotsRec). slots.last) c.self.view_is) (picked _ _ _ _ (omega (arith, c.self.invariant.threads, length-map c.self.inside.turns last_in)) (best_of_least c.args.able c.args.slot c.least_turn-turn.result c.self.inside.turns c.self.invariant c.least_turn-turn.ensures (omega arith) (omega arith)))
 
 pub returns-then-turn-from-clause-value : goal.returns-then-turn-from-clause-value
 returns-then-turn-from-clause-value c = (its c).value

@@ -20,7 +20,7 @@ returns-clause-sent c = λ sent.
 -- the switch moves by the routes that were known before anything arrived
 its_routes : (c : After-moves) → known_routes c.self.inside.switch c.take_in.new.links ≡ routes_of c.args.self.now
 its_routes c =
-    ap (λ (gaps : List ℕ). let r : Routes = record { id = c.self.inside.switch.id; ways = c.self.inside.switch.ways; gaps = gaps } in r) c.take_in.ensures.gaps
+    ap (λ (gaps : List ℕ). let r : Routes = record { id = c.self.inside.switch.id; ways = c.self.inside.switch.ways; nets = c.self.inside.switch.nets; gaps = gaps } in r) c.take_in.ensures.gaps
     ∙ ap routes_of c.self.view_is
 
 pub returns-clause-brings : goal.returns-clause-brings

@@ -9,8 +9,8 @@ use Rattle.core_step.proofs.node_core.Core.boot.Goals as goal
 pub returns-clause-fixed : goal.returns-clause-fixed
 returns-clause-fixed c =
     let plan = c.args.plan.now in
-    let routes : routes_of c.new-3.result ≡ record { id = plan.id; ways = plan.ways; gaps = c.args.gaps.now } =
-    ap routes_of c.new-3.ensures ∙ ap (λ (gaps : List ℕ). let r : Routes = record { id = plan.id; ways = plan.ways; gaps = gaps } in r) (gaps_of_start c.args.gaps.now)
+    let routes : routes_of c.new-3.result ≡ record { id = plan.id; ways = plan.ways; nets = plan.nets; gaps = c.args.gaps.now } =
+    ap routes_of c.new-3.ensures ∙ ap (λ (gaps : List ℕ). let r : Routes = record { id = plan.id; ways = plan.ways; nets = plan.nets; gaps = gaps } in r) (gaps_of_start c.args.gaps.now)
     in
     grind (arith, common_steps, routes)
 
