@@ -1,6 +1,7 @@
+//! The rows on words, at the edges of their operands.
 ghost use Rattle.xs_instructions.specs.Instr.{WordsInRange};
 
-use super::*;
+use alu_unit::alu;
 use core_state::{Outcome, Thread};
 use std::process::Abort;
 use xs_instructions::WordIns;
@@ -15,10 +16,11 @@ fn one(rt: &impl Abort, ins: WordIns, cases: &[((u32, u32), u32)])
         thread.r[1] = 34;
         thread.r[2] = *x;
         thread.r[3] = *y;
-        let outcome = alu(&mut thread, ins);
-        assert!(rt; matches!(outcome, Outcome::Done), "{x} and {y}");
-        assert_eq!(rt; thread.r[0], *want, "{x} and {y}");
-        assert_eq!(rt; thread.r[1], 34);
+        let done = matches!(alu(&mut thread, ins), Outcome::Done);
+        assert!(rt;
+            done && thread.r[0] == *want && thread.r[1] == 34,
+            "{x} and {y}"
+        );
     }
 }
 
@@ -30,10 +32,11 @@ fn two(rt: &impl Abort, ins: WordIns, cases: &[([u32; 6], [u32; 2])])
         let mut thread = Thread::fresh();
         let [a, b, c, d, e, f] = *before;
         thread.r = [a, b, c, d, e, f, 0, 0, 0, 0, 0, 0];
-        let outcome = alu(&mut thread, ins);
-        assert!(rt; matches!(outcome, Outcome::Done), "{c} and {d}");
-        assert_eq!(rt; thread.r[0], after[0], "{c} and {d}");
-        assert_eq!(rt; thread.r[1], after[1], "{c} and {d}");
+        let done = matches!(alu(&mut thread, ins), Outcome::Done);
+        assert!(rt;
+            done && thread.r[0] == after[0] && thread.r[1] == after[1],
+            "{c} and {d}"
+        );
     }
 }
 
@@ -44,15 +47,17 @@ fn traps(rt: &impl Abort, ins: WordIns, cases: &[[u32; 3]])
     for [x, y, v] in cases {
         let mut thread = Thread::fresh();
         thread.r = [17, 34, *x, *y, *v, 0, 0, 0, 0, 0, 0, 0];
-        match alu(&mut thread, ins) {
-            Outcome::Trap { et, ed } => {
-                assert_eq!(rt; et, ARITHMETIC);
-                assert_eq!(rt; ed, 0);
+        let trapped = matches!(
+            alu(&mut thread, ins),
+            Outcome::Trap {
+                et: ARITHMETIC,
+                ed: 0
             }
-            _ => assert!(rt; false, "{x} and {y}"),
-        }
-        assert_eq!(rt; thread.r[0], 17);
-        assert_eq!(rt; thread.r[1], 34);
+        );
+        assert!(rt;
+            trapped && thread.r[0] == 17 && thread.r[1] == 34,
+            "{x} and {y}"
+        );
     }
 }
 

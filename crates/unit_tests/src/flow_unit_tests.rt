@@ -1,7 +1,7 @@
-//! What no clause says: that rows are done, and that a row that traps leaves all as it was.
-use crate::flow;
+//! The rows on memory, flow of control and the kernel: that they are done, and that one that traps leaves all as it was.
 use core_memory::Ram;
 use core_state::{Entry0, Outcome, Status, Thread};
+use flow_unit::flow;
 use std::test::Fail;
 use xs_instructions::{FlowIns, Instr, KernelIns, MemIns};
 
@@ -37,13 +37,10 @@ fn words_halves_and_bytes_are_loaded(rt: HostRuntime) -> Result<(), Fail> {
         (MemIns::LdawSp(0, 1), 0x0002_0000),
     ];
     for (ins, word) in rows {
-        assert_eq!(rt;
-            trap_of(flow(&mut thread, 0, &mut ram, Instr::Memory(ins))),
-            None
-        );
-        assert_eq!(rt; thread.r[0], word);
+        let trap = trap_of(flow(&mut thread, 0, &mut ram, Instr::Memory(ins)));
+        assert!(rt; trap == None && thread.r[0] == word, "{word}");
     }
-    assert_eq!(rt; thread.pc, 0x0004_0018);
+    assert!(rt; thread.pc == 0x0004_0018);
     Ok(())
 }
 
@@ -59,13 +56,13 @@ fn a_function_is_called_entered_and_left(rt: HostRuntime) -> Result<(), Fail> {
         (FlowIns::Retsp(3), 0x0004_0004, 0x0001_fffc),
     ];
     for (ins, pc, sp) in rows {
-        assert_eq!(rt;
-            trap_of(flow(&mut thread, 0, &mut ram, Instr::Flow(ins))),
-            None
+        let trap = trap_of(flow(&mut thread, 0, &mut ram, Instr::Flow(ins)));
+        assert!(rt;
+            trap == None && thread.pc == pc && thread.sp == sp,
+            "{pc:x}"
         );
-        assert_eq!(rt; [thread.pc, thread.sp], [pc, sp]);
     }
-    assert_eq!(rt; ram.load32(0x0001_fffc)?, 0x0004_0004);
+    assert!(rt; ram.load32(0x0001_fffc)? == 0x0004_0004);
     Ok(())
 }
 
@@ -80,21 +77,17 @@ fn the_kernels_stack_is_entered_and_left(rt: HostRuntime) -> Result<(), Fail> {
         (KernelIns::Krestsp(2), 0x0001_fffc),
     ];
     for (ins, sp) in rows {
-        assert_eq!(rt;
-            trap_of(flow(&mut thread, 5, &mut ram, Instr::Kernel(ins))),
-            None
-        );
-        assert_eq!(rt; thread.sp, sp);
+        let trap = trap_of(flow(&mut thread, 5, &mut ram, Instr::Kernel(ins)));
+        assert!(rt; trap == None && thread.sp == sp, "{sp:x}");
     }
-    assert_eq!(rt; [thread.r[11], thread.ksp], [5, 0x0001_8000]);
-    assert_eq!(rt; ram.load32(0x0001_8000)?, 0x0001_fffc);
+    let words = [thread.r[11], thread.ksp, ram.load32(0x0001_8000)?];
     let call = flow(
         &mut thread,
         5,
         &mut ram,
         Instr::Kernel(KernelIns::KcallImm(9)),
     );
-    assert_eq!(rt; trap_of(call), Some((15, 9)));
+    assert!(rt; words == [5, 0x0001_8000, 0x0001_fffc] && trap_of(call) == Some((15, 9)));
     Ok(())
 }
 
@@ -110,13 +103,10 @@ fn status_bits_are_set_and_cleared(rt: HostRuntime) -> Result<(), Fail> {
     ];
     for (ins, before, after) in rows {
         thread.sr = Status { bits: before };
-        assert_eq!(rt;
-            trap_of(flow(&mut thread, 0, &mut ram, Instr::Kernel(ins))),
-            None
-        );
-        assert_eq!(rt; thread.sr.bits, after);
+        let trap = trap_of(flow(&mut thread, 0, &mut ram, Instr::Kernel(ins)));
+        assert!(rt; trap == None && thread.sr.bits == after, "{before:x}");
     }
-    assert_eq!(rt; thread.pc, 0x0004_0010);
+    assert!(rt; thread.pc == 0x0004_0010);
     Ok(())
 }
 
@@ -134,10 +124,17 @@ fn a_row_that_traps_changes_nothing(rt: HostRuntime) -> Result<(), Fail> {
         (Instr::Kernel(KernelIns::StwSpc), 0x0001_0006),
     ];
     for (ins, at) in rows {
-        assert_eq!(rt; trap_of(flow(&mut thread, 0, &mut ram, ins)), Some((5, at)));
-        let kept = [thread.sp, thread.ksp, thread.lr, thread.pc];
-        assert_eq!(rt; kept, [0x0001_0002, 0x0002_0000, 0, 0x0004_0000]);
-        assert_eq!(rt; ram.load32(0x0001_0000)?, 0x0403_0201);
+        let trap = trap_of(flow(&mut thread, 0, &mut ram, ins));
+        let kept = [
+            thread.sp,
+            thread.ksp,
+            thread.lr,
+            thread.pc,
+            ram.load32(0x0001_0000)?,
+        ];
+        assert!(rt;
+            trap == Some((5, at)) && kept == [0x0001_0002, 0x0002_0000, 0, 0x0004_0000, 0x0403_0201]
+        );
     }
     Ok(())
 }
