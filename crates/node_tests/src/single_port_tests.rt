@@ -4,8 +4,7 @@ ghost use Rattle.xs_base.specs.declared.numbers.TheConstants.{PORTS};
 ghost use Rattle.single_port.specs.Asks.{IsAsk};
 ghost use Rattle.single_port.specs.Keeps.{IsPlaced};
 
-use crate::{Ask, Port, Reply};
-use std::process::Abort;
+use single_port::{Ask, Port, Reply};
 use xs_model::modes::{BUFFERS, ON};
 
 // What is heard of a row.
@@ -64,27 +63,38 @@ fn a_timed_word_waits_for_its_time(rt: HostRuntime) {
     let mut port = Port::default();
     let _ = hear(&mut port, 16, Ask::Mode(ON));
     let _ = hear(&mut port, 16, Ask::Time(3));
-    assert_eq!(rt; hear(&mut port, 16, Ask::Out(0x1A)), Heard::Done);
-    assert_eq!(rt; four_falls(&mut port, 16), [99, 99, 0xA, 0xA]);
-    assert_eq!(rt; hear(&mut port, 16, Ask::Stamp), Heard::Got(3));
+    let out = hear(&mut port, 16, Ask::Out(0x1A));
+    let levels = four_falls(&mut port, 16);
+    let stamp = hear(&mut port, 16, Ask::Stamp);
+    assert!(rt; out == Heard::Done && levels == [99, 99, 0xA, 0xA] && stamp == Heard::Got(3));
 }
 
 #[test]
 fn a_byte_leaves_a_narrow_port_bit_by_bit(rt: HostRuntime) {
     let mut port = Port::default();
     let _ = hear(&mut port, 0, Ask::Mode(ON));
-    assert_eq!(rt; hear(&mut port, 0, Ask::Width(8)), Heard::Bad);
+    let too_wide = hear(&mut port, 0, Ask::Width(8));
     let _ = hear(&mut port, 0, Ask::Mode(BUFFERS));
-    assert_eq!(rt; hear(&mut port, 0, Ask::Width(8)), Heard::Done);
+    let wide = hear(&mut port, 0, Ask::Width(8));
     // 0xB2 is 0, 1, 0, 0, 1, 1, 0, 1, and 0x06 is 0, 1, 1, and then 0s.
-    assert_eq!(rt; hear(&mut port, 0, Ask::Out(0xB2)), Heard::Done);
-    assert_eq!(rt; four_falls(&mut port, 0), [0, 1, 0, 0]);
-    assert_eq!(rt; hear(&mut port, 0, Ask::Out(0x06)), Heard::Done);
-    assert_eq!(rt; hear(&mut port, 0, Ask::Sync), Heard::Pause);
-    assert_eq!(rt; four_falls(&mut port, 0), [1, 1, 0, 1]);
-    assert_eq!(rt; four_falls(&mut port, 0), [0, 1, 1, 0]);
-    assert_eq!(rt; four_falls(&mut port, 0), [0, 0, 0, 0]);
-    assert_eq!(rt; hear(&mut port, 0, Ask::Sync), Heard::Done);
+    let first = hear(&mut port, 0, Ask::Out(0xB2));
+    let levels = four_falls(&mut port, 0);
+    assert!(rt;
+        too_wide == Heard::Bad
+            && wide == Heard::Done
+            && first == Heard::Done
+            && levels == [0, 1, 0, 0]
+    );
+    let second = hear(&mut port, 0, Ask::Out(0x06));
+    let sync = hear(&mut port, 0, Ask::Sync);
+    let levels = [
+        four_falls(&mut port, 0),
+        four_falls(&mut port, 0),
+        four_falls(&mut port, 0),
+    ];
+    let done = hear(&mut port, 0, Ask::Sync);
+    assert!(rt; [second, sync, done] == [Heard::Done, Heard::Pause, Heard::Done]);
+    assert!(rt; levels == [[1, 1, 0, 1], [0, 1, 1, 0], [0, 0, 0, 0]]);
 }
 
 #[test]
@@ -94,21 +104,28 @@ fn a_byte_comes_in_by_two_beats(rt: HostRuntime) {
     let _ = hear(&mut port, 16, Ask::Mode(BUFFERS));
     let _ = hear(&mut port, 16, Ask::Width(8));
     rise(&mut port, 1);
-    assert_eq!(rt; hear(&mut port, 16, Ask::In), Heard::Pause);
+    let early = hear(&mut port, 16, Ask::In);
     rise(&mut port, 2);
-    assert!(rt; port.is_ready() && port.is_full());
+    assert!(rt; early == Heard::Pause && port.is_ready() && port.is_full());
     // A full register keeps what it has.
     rise(&mut port, 3);
     rise(&mut port, 4);
-    assert_eq!(rt; hear(&mut port, 16, Ask::In), Heard::Got(0x21));
     // A part is complete where its bits are there.
-    assert_eq!(rt; hear(&mut port, 16, Ask::InPart(6)), Heard::Bad);
-    assert_eq!(rt; hear(&mut port, 16, Ask::InPart(4)), Heard::Pause);
+    let heard = [
+        hear(&mut port, 16, Ask::In),
+        hear(&mut port, 16, Ask::InPart(6)),
+        hear(&mut port, 16, Ask::InPart(4)),
+    ];
+    assert!(rt; heard == [Heard::Got(0x21), Heard::Bad, Heard::Pause]);
     rise(&mut port, 9);
-    assert_eq!(rt; hear(&mut port, 16, Ask::InPart(4)), Heard::Got(9));
+    let part = hear(&mut port, 16, Ask::InPart(4));
     // A transfer that is cut short has the bits so far.
     rise(&mut port, 5);
-    assert_eq!(rt; hear(&mut port, 16, Ask::EndIn), Heard::Got(4));
-    assert_eq!(rt; hear(&mut port, 16, Ask::EndIn), Heard::Got(8));
-    assert_eq!(rt; hear(&mut port, 16, Ask::In), Heard::Got(5));
+    let heard = [
+        part,
+        hear(&mut port, 16, Ask::EndIn),
+        hear(&mut port, 16, Ask::EndIn),
+        hear(&mut port, 16, Ask::In),
+    ];
+    assert!(rt; heard == [Heard::Got(9), Heard::Got(4), Heard::Got(8), Heard::Got(5)]);
 }

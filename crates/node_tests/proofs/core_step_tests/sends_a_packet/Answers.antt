@@ -1,6 +1,6 @@
 use Rattle.std.proofs.Common.{ℕ, zero, suc, ◌<◌, arith, replicate}
 use Rattle.std.specs.Prelude.{slice_index}
-use Rattle.core_step.proofs.tests.sends_a_packet.Goals as goal
+use Rattle.node_tests.proofs.core_step_tests.sends_a_packet.Goals as goal
 
 some_gap : (end : ℕ) → end < 8 → 0 < slice_index (replicate 8 4) end
 some_gap zero h = omega arith

@@ -1,8 +1,8 @@
 //! Nodes whose switches move tokens, slot by slot.
 ghost use Rattle.std.specs.Prelude.{◌<◌};
 
-use super::*;
 use chan_ends::{ChanEnds, Put};
+use switch_routes::{LinkEnd, Links, Switch, Token};
 use trace_lines::Emissions;
 use xs_base::chan_id;
 use xs_model::{Arrivals, Happen};
@@ -13,7 +13,7 @@ const SLOTS: u8 = 40;
 
 const DELAY: u8 = 5;
 
-/// A node whose channel end 0 is in use, with link end 0.
+// A node whose channel end 0 is in use, with link end 0.
 #[derive(Drop)]
 struct Node {
     switch: Switch,
@@ -45,7 +45,7 @@ impl Node {
         }
     }
 
-    /// A slot, in which this comes to link end 0.
+    // A slot, in which this comes to link end 0.
     fn slot(&mut self, slot: u8, token: Option<Token>, credit: bool)
         requires { slot < 40 }
     {
@@ -88,33 +88,38 @@ fn a_packet_from_node_to_node(rt: HostRuntime) {
             second.slot(slot, first.tokens[then], first.credits[then]);
         }
         if slot == 12 {
-            assert_eq!(rt; first.chans.set_dest(0, chan_id(1, 0)), Ok(()));
-            assert_eq!(rt; first.chans.put(0, END), Put::Done);
+            let set = first.chans.set_dest(0, chan_id(1, 0));
+            assert!(rt; set == Ok(()) && first.chans.put(0, END) == Put::Done);
         }
-        assert_eq!(rt; first.switch.held(0), (13..25).contains(&slot));
+        assert!(rt;
+            first.switch.held(0) == (13..25).contains(&slot),
+            "slot {slot}"
+        );
     }
     let mut tokens = [None; 40];
     tokens[13] = Some(Token::Byte(0));
     tokens[17] = Some(Token::Byte(1));
     tokens[21] = Some(Token::Byte(0));
     tokens[25] = Some(END);
-    assert_eq!(rt; first.tokens, tokens);
     let mut credits = [false; 40];
     credits[18] = true;
     credits[22] = true;
     credits[26] = true;
     credits[30] = true;
-    assert_eq!(rt; second.credits, credits);
     let mut delivered = [None; 40];
     delivered[30] = Some(END);
-    assert_eq!(rt; second.delivered, delivered);
-    assert!(rt; first.links.end(0).is_some());
-    for end in 1..=255u8 {
-        assert!(rt; first.links.end(end).is_none());
+    assert!(rt;
+        first.tokens == tokens && second.credits == credits && second.delivered == delivered
+    );
+    for end in 0..=255u8 {
+        assert!(rt;
+            first.links.end(end).is_some() == (end == 0),
+            "link end {end}"
+        );
     }
 }
 
-/// Node 0 with channel ends 0 to 3 in use, and with link ends 2, 3 and 5, which lead to node 1.
+// Node 0 with channel ends 0 to 3 in use, and with link ends 2, 3 and 5, which lead to node 1.
 #[derive(Drop)]
 struct Hub {
     switch: Switch,
@@ -143,7 +148,7 @@ impl Hub {
         }
     }
 
-    /// A program sends a token by channel end `c` to the one with this identifier.
+    // A program sends a token by channel end `c` to the one with this identifier.
     fn send(&mut self, c: u8, dest: u32, token: Token)
         requires { c < 4 }
     {
@@ -151,7 +156,7 @@ impl Hub {
         let _ = self.chans.put(c, token);
     }
 
-    /// A slot: the tokens that were put into channel end 2, of which there are at most three.
+    // A slot: the tokens that were put into channel end 2, of which there are at most three.
     fn slot(&mut self, slot: u32) -> [Option<Token>; 3] {
         self.out.clear();
         self.switch
@@ -178,23 +183,25 @@ fn the_lowest_free_link_end_is_taken(rt: HostRuntime) {
     }
     let _ = hub.slot(0);
     let first = Some(Token::Byte(0));
-    assert_eq!(rt; hub.out.token(2), first);
-    assert_eq!(rt; hub.out.token(3), first);
-    assert_eq!(rt; hub.out.token(4), None);
-    assert_eq!(rt; hub.out.token(5), first);
+    let tokens = [
+        hub.out.token(2),
+        hub.out.token(3),
+        hub.out.token(4),
+        hub.out.token(5),
+    ];
     // The fourth packet waits for a link end.
-    assert_eq!(rt; hub.switch.held(3), true);
+    assert!(rt; tokens == [first, first, None, first] && hub.switch.held(3));
     hub.send(1, chan_id(1, 1), END);
     for slot in 1..17u32 {
         let _ = hub.slot(slot);
     }
     // In slot 16 the second packet's last token went out, and in the same slot link end 3 is held for the fourth, whose
     // header has to wait for the gap.
-    assert_eq!(rt; hub.out.token(3), Some(END));
+    let last = hub.out.token(3);
     for slot in 17..21u32 {
         let _ = hub.slot(slot);
     }
-    assert_eq!(rt; hub.out.token(3), first);
+    assert!(rt; last == Some(END) && hub.out.token(3) == first);
 }
 
 #[test]
@@ -203,20 +210,23 @@ fn what_one_input_gives_up_a_later_one_holds_in_the_same_slot(rt: HostRuntime) {
     hub.send(0, chan_id(0, 2), END);
     hub.send(1, chan_id(0, 2), Token::Byte(5));
     hub.send(3, chan_id(0, 2), Token::Byte(6));
-    assert_eq!(rt; hub.slot(0), [Some(END), Some(Token::Byte(5)), None]);
-    assert_eq!(rt; hub.switch.held(0), false);
-    assert_eq!(rt; hub.switch.held(1), true);
-    assert_eq!(rt; hub.switch.held(2), true);
+    let moved = hub.slot(0);
+    assert!(rt; moved == [Some(END), Some(Token::Byte(5)), None]);
+    assert!(rt; !hub.switch.held(0) && hub.switch.held(1) && hub.switch.held(2));
     // Channel end 2 is held on, though no token waits at channel end 1.
-    assert_eq!(rt; hub.slot(1), [None, None, None]);
-    assert_eq!(rt; hub.switch.held(2), true);
+    let moved = hub.slot(1);
+    let is_held = hub.switch.held(2);
     hub.send(1, chan_id(0, 2), Token::Ctrl(2));
     // PAUSE frees it, and is not put into it.
-    assert_eq!(rt; hub.slot(2), [Some(Token::Byte(6)), None, None]);
-    assert_eq!(rt; hub.switch.held(1), false);
+    let paused = hub.slot(2);
+    assert!(rt;
+        moved == [None; 3]
+            && is_held
+            && paused == [Some(Token::Byte(6)), None, None]
+            && !hub.switch.held(1)
+    );
     hub.send(3, chan_id(0, 2), END);
-    assert_eq!(rt; hub.slot(3), [Some(END), None, None]);
-    assert_eq!(rt; hub.switch.held(2), false);
+    assert!(rt; hub.slot(3) == [Some(END), None, None] && !hub.switch.held(2));
 }
 
 #[test]
@@ -238,7 +248,7 @@ fn two_senders_take_turns_by_packet(rt: HostRuntime) {
         [None, None, None],
     ];
     for slot in 0..7u32 {
-        assert_eq!(rt; hub.slot(slot), wanted[slot as usize], "in slot {slot}");
+        assert!(rt; hub.slot(slot) == wanted[slot as usize], "in slot {slot}");
     }
 }
 
@@ -246,7 +256,7 @@ fn two_senders_take_turns_by_packet(rt: HostRuntime) {
 fn a_channel_end_above_31_is_none(rt: HostRuntime) {
     let mut hub = Hub::new();
     hub.send(0, chan_id(0, 34), END);
-    assert_eq!(rt; hub.slot(0), [None, None, None]);
+    let moved = hub.slot(0);
     let lost = match hub.out.events() {
         [event] => match event.what {
             Happen::Lost { id } => id,
@@ -254,5 +264,5 @@ fn a_channel_end_above_31_is_none(rt: HostRuntime) {
         },
         _ => 0,
     };
-    assert_eq!(rt; lost, chan_id(0, 34));
+    assert!(rt; moved == [None; 3] && lost == chan_id(0, 34));
 }

@@ -1,10 +1,10 @@
-//! The calls in turn, by hand.
+//! Channel ends: calls in turn, by hand.
 ghost use Rattle.std.specs.Prelude.{◌<◌};
 
-use super::*;
+use chan_ends::{Bad, ChanEnds, Put, Take, Token};
 use std::process::Abort;
 
-/// A call on a channel end, and the answer that is wanted.
+// A call on a channel end, and the answer that is wanted.
 #[derive(Clone, Copy)]
 enum Call {
     Used(bool),
@@ -30,7 +30,7 @@ enum Call {
 
 const END: Token = Token::Ctrl(1);
 
-/// The calls on channel end 1, which is in use.
+// The calls on channel end 1, which is in use.
 const OF_USED: [Call; 38] = [
     Call::Used(true),
     Call::Dest(None),
@@ -72,7 +72,7 @@ const OF_USED: [Call; 38] = [
     Call::FirstIn(Some(Token::Byte(1))),
 ];
 
-/// What is taken from channel end 1, and what is seen there.
+// What is taken from channel end 1, and what is seen there.
 const OF_TAKES: [Call; 40] = [
     // Nothing is there.
     Call::Ready(0),
@@ -119,7 +119,7 @@ const OF_TAKES: [Call; 40] = [
     Call::TakeCtrl(Take::Got(1)),
 ];
 
-/// Words that are put into channel end 1.
+// Words that are put into channel end 1.
 const OF_WORDS: [Call; 20] = [
     Call::PutWord(1, Put::Bad),
     Call::Sending(0),
@@ -143,7 +143,7 @@ const OF_WORDS: [Call; 20] = [
     Call::Sending(0),
 ];
 
-/// The calls on channel end 2, which is not in use.
+// The calls on channel end 2, which is not in use.
 const OF_UNUSED: [Call; 11] = [
     Call::Used(false),
     Call::SetDest(0x00030102, Err(Bad)),
@@ -158,99 +158,105 @@ const OF_UNUSED: [Call; 11] = [
     Call::LookWord(Take::Bad),
 ];
 
-fn make(rt: &impl Abort, ends: &mut ChanEnds, c: u8, call: Call)
+// Whether a call on channel end `c` answers what is wanted.
+fn answers(ends: &mut ChanEnds, c: u8, call: Call) -> bool
     requires { c < 32 }
 {
     match call {
-        Call::Used(want) => assert_eq!(rt; ends.used(c), want),
-        Call::SetDest(id, want) => assert_eq!(rt; ends.set_dest(c, id), want),
-        Call::Dest(want) => assert_eq!(rt; ends.dest(c), want),
-        Call::Put(t, want) => assert_eq!(rt; ends.put(c, t), want),
-        Call::PutWord(w, want) => assert_eq!(rt; ends.put_word(c, w), want),
-        Call::FirstOut(want) => assert_eq!(rt; ends.first_out(c), want),
-        Call::PopOut(want) => assert_eq!(rt; ends.pop_out(c), want),
-        Call::PushIn(t, want) => assert_eq!(rt; ends.push_in(c, t), want),
-        Call::FirstIn(want) => assert_eq!(rt; ends.first_in(c), want),
-        Call::HasRoom(count, want) => assert_eq!(rt; ends.has_room(c, count), want),
-        Call::HasTokens(count, want) => assert_eq!(rt; ends.has_tokens(c, count), want),
-        Call::TakeWord(want) => assert_eq!(rt; ends.take_word(c), want),
-        Call::TakeByte(want) => assert_eq!(rt; ends.take_byte(c), want),
-        Call::TakeCtrl(want) => assert_eq!(rt; ends.take_ctrl(c), want),
-        Call::Check(v, want) => assert_eq!(rt; ends.check(c, v), want),
-        Call::Look(want) => assert_eq!(rt; ends.look(c), want),
-        Call::LookWord(want) => assert_eq!(rt; ends.look_word(c), want),
-        Call::Sending(want) => assert_eq!(rt; ends.sending(), want),
-        Call::Ready(want) => assert_eq!(rt; ends.ready(), want),
+        Call::Used(want) => ends.used(c) == want,
+        Call::SetDest(id, want) => ends.set_dest(c, id) == want,
+        Call::Dest(want) => ends.dest(c) == want,
+        Call::Put(t, want) => ends.put(c, t) == want,
+        Call::PutWord(w, want) => ends.put_word(c, w) == want,
+        Call::FirstOut(want) => ends.first_out(c) == want,
+        Call::PopOut(want) => ends.pop_out(c) == want,
+        Call::PushIn(t, want) => ends.push_in(c, t) == want,
+        Call::FirstIn(want) => ends.first_in(c) == want,
+        Call::HasRoom(count, want) => ends.has_room(c, count) == want,
+        Call::HasTokens(count, want) => ends.has_tokens(c, count) == want,
+        Call::TakeWord(want) => ends.take_word(c) == want,
+        Call::TakeByte(want) => ends.take_byte(c) == want,
+        Call::TakeCtrl(want) => ends.take_ctrl(c) == want,
+        Call::Check(v, want) => ends.check(c, v) == want,
+        Call::Look(want) => ends.look(c) == want,
+        Call::LookWord(want) => ends.look_word(c) == want,
+        Call::Sending(want) => ends.sending() == want,
+        Call::Ready(want) => ends.ready() == want,
     }
+}
+
+// Makes calls on channel end `c`, in turn.
+fn make(rt: &impl Abort, ends: &mut ChanEnds, c: u8, calls: &[Call])
+    requires { c < 32 }
+{
+    for (n, call) in calls.iter().enumerate() {
+        assert!(rt; answers(ends, c, *call), "call {n} on channel end {c}");
+    }
+}
+
+// The channel ends of node 3, with 0 and 1 in use.
+fn two_in_use(rt: &impl Abort) -> ChanEnds {
+    let mut ends = ChanEnds::new(3);
+    let got = [ends.alloc(), ends.alloc()];
+    assert!(rt; got == [Some(0), Some(1)]);
+    ends
 }
 
 #[test]
 fn calls_answer_in_turn(rt: HostRuntime) {
-    let mut ends = ChanEnds::new(3);
-    assert_eq!(rt; ends.alloc(), Some(0));
-    assert_eq!(rt; ends.alloc(), Some(1));
-    for call in OF_USED {
-        make(&rt, &mut ends, 1, call);
-    }
-    for call in OF_UNUSED {
-        make(&rt, &mut ends, 2, call);
-    }
-}
-
-#[test]
-fn tokens_and_words_are_taken_and_put(rt: HostRuntime) {
-    let mut ends = ChanEnds::new(3);
-    assert_eq!(rt; ends.alloc(), Some(0));
-    assert_eq!(rt; ends.alloc(), Some(1));
-    for call in OF_TAKES {
-        make(&rt, &mut ends, 1, call);
-    }
-    for call in OF_WORDS {
-        make(&rt, &mut ends, 1, call);
-    }
+    let mut ends = two_in_use(&rt);
+    make(&rt, &mut ends, 1, &OF_USED);
+    make(&rt, &mut ends, 2, &OF_UNUSED);
+    let mut ends = two_in_use(&rt);
+    make(&rt, &mut ends, 1, &OF_TAKES);
+    make(&rt, &mut ends, 1, &OF_WORDS);
 }
 
 #[test]
 fn freed_where_nothing_is_left_in_it(rt: HostRuntime) {
     let mut ends = ChanEnds::new(3);
-    assert_eq!(rt; ends.free(0, false), Err(Bad));
-    assert_eq!(rt; ends.alloc(), Some(0));
-    assert_eq!(rt; ends.set_dest(0, 0x00030102), Ok(()));
-    assert_eq!(rt; ends.free(0, true), Err(Bad));
-    assert_eq!(rt; ends.put(0, END), Put::Done);
-    assert_eq!(rt; ends.free(0, false), Err(Bad));
-    assert_eq!(rt; ends.pop_out(0), Some(END));
-    assert_eq!(rt; ends.push_in(0, END), true);
-    assert_eq!(rt; ends.free(0, false), Err(Bad));
-    assert_eq!(rt; ends.check(0, 1), Take::Got(1));
-    assert_eq!(rt; ends.free(0, false), Ok(()));
-    assert_eq!(rt; ends.used(0), false);
-    assert_eq!(rt; ends.alloc(), Some(0));
-    assert_eq!(rt; ends.dest(0), None);
+    let unused = ends.free(0, false);
+    let got = (ends.alloc(), ends.set_dest(0, 0x00030102));
+    let held = ends.free(0, true);
+    let put = ends.put(0, END);
+    let sending = ends.free(0, false);
+    assert!(rt;
+        got == (Some(0), Ok(())) && put == Put::Done && [unused, held, sending] == [Err(Bad); 3]
+    );
+    let popped = (ends.pop_out(0), ends.push_in(0, END), ends.free(0, false));
+    let checked = ends.check(0, 1);
+    let freed = (ends.free(0, false), ends.used(0));
+    assert!(rt;
+        popped == (Some(END), true, Err(Bad)) && checked == Take::Got(1) && freed == (Ok(()), false)
+    );
+    assert!(rt; ends.alloc() == Some(0));
+    assert!(rt; ends.dest(0) == None);
+}
+
+#[test]
+fn masks_tell_where_tokens_wait(rt: HostRuntime) {
+    let mut ends = two_in_use(&rt);
+    let set = ends.set_dest(1, 0x00030102);
+    let put = ends.put(1, END);
+    let pushed = [ends.push_in(0, END), ends.push_in(31, END)];
+    assert!(rt; set == Ok(()) && put == Put::Done && pushed == [true, true]);
+    assert!(rt; ends.sending() == 0x0000_0002 && ends.ready() == 0x8000_0001);
+    let checked = ends.check(0, 1);
+    let ready = ends.ready();
+    let popped = ends.pop_out(1);
+    assert!(rt;
+        checked == Take::Got(1)
+            && ready == 0x8000_0000
+            && popped == Some(END)
+            && ends.sending() == 0
+    );
 }
 
 #[test]
 fn thirty_two_are_there(rt: HostRuntime) {
     let mut ends = ChanEnds::new(3);
-    for c in 0..32 {
-        assert_eq!(rt; ends.alloc(), Some(c));
+    for c in 0..33 {
+        let want = if c < 32 { Some(c) } else { None };
+        assert!(rt; ends.alloc() == want);
     }
-    assert_eq!(rt; ends.alloc(), None);
-}
-
-#[test]
-fn masks_tell_where_tokens_wait(rt: HostRuntime) {
-    let mut ends = ChanEnds::new(3);
-    assert_eq!(rt; ends.alloc(), Some(0));
-    assert_eq!(rt; ends.alloc(), Some(1));
-    assert_eq!(rt; ends.set_dest(1, 0x00030102), Ok(()));
-    assert_eq!(rt; ends.put(1, END), Put::Done);
-    assert_eq!(rt; ends.push_in(0, END), true);
-    assert_eq!(rt; ends.push_in(31, END), true);
-    assert_eq!(rt; ends.sending(), 0x00000002);
-    assert_eq!(rt; ends.ready(), 0x80000001);
-    assert_eq!(rt; ends.check(0, 1), Take::Got(1));
-    assert_eq!(rt; ends.ready(), 0x80000000);
-    assert_eq!(rt; ends.pop_out(1), Some(END));
-    assert_eq!(rt; ends.sending(), 0);
 }

@@ -1,5 +1,5 @@
 use Rattle.core_step.specs.Core.{SlotsBefore}
-use Rattle.core_step.proofs.tests.lock_is_for_one_thread_at_a_time.Given as goal
+use Rattle.node_tests.proofs.core_step_tests.sends_a_packet.Given as goal
 
 -- the slots that the core keeps are before the next one
 abbrev pub invariant-loop-slot : goal.invariant-loop-slot
