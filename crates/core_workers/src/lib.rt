@@ -11,8 +11,6 @@ mod hear;
 mod lanes;
 mod sent;
 mod tell;
-#[cfg(test)]
-mod tests;
 mod turn;
 mod way;
 mod worker;

@@ -1,6 +1,6 @@
 //! A play of a plan without steps.
-use crate::drive_play;
 use pin_scripts::Script;
+use run_drive::drive_play;
 use std::sync::Arc;
 use std::test::Fail;
 use sys_plan::Plan;

@@ -4,7 +4,7 @@ ghost use Rattle.xs_base.specs.declared.entry.Entry.{Entry};
 ghost use Rattle.xs_base.specs.declared.entry.What.TheVariants.{Credit};
 ghost use Rattle.std.proofs.Common.{rules};
 
-use crate::{Cause, Got, Story, make_log};
+use link_logs::{Cause, Got, Story, make_log};
 use std::alloc::AllocError;
 use xs_base::{Batch, Entry, What};
 
@@ -31,8 +31,8 @@ impl Story for OneCredit {
 #[test]
 fn what_is_published_is_read(rt: HostRuntime) -> Result<(), AllocError> {
     let (mut log, mut w, mut r) = make_log(rt.alloc(), OneCredit)?;
-    assert!(rt; OneCredit.link() == 7);
-    assert!(rt; matches!(log.take(&mut r)?, Got::Nothing { published: 0 }));
+    let nothing = matches!(log.take(&mut r)?, Got::Nothing { published: 0 });
+    assert!(rt; nothing && OneCredit.link() == 7);
 
     let mut batch = Batch::new(rt.alloc());
     batch.reserve(1)?;
@@ -42,27 +42,30 @@ fn what_is_published_is_read(rt: HostRuntime) -> Result<(), AllocError> {
     };
     batch.add(credit);
     log.append(&mut w, 3, &mut batch)?;
-    assert!(rt; batch.entries().is_empty());
-    assert!(rt; w.published() == 3 && log.published() == 3 && log.entries() == [credit].as_slice());
-    if let Got::Entries { from, to, batch } = log.take(&mut r)? {
-        assert!(rt; from == 0 && to == 3 && batch.entries() == [credit].as_slice());
-    } else {
-        assert!(rt; false);
-    }
-    assert!(rt; r.got() == 3 && r.looks() == 2 && !r.is_shut());
+    assert!(rt;
+        batch.entries().is_empty()
+            && w.published() == 3
+            && log.published() == 3
+            && log.entries() == [credit].as_slice()
+    );
+    let is_read = match log.take(&mut r)? {
+        Got::Entries { from, to, batch } => {
+            from == 0 && to == 3 && batch.entries() == [credit].as_slice()
+        }
+        _ => false,
+    };
+    assert!(rt; is_read && r.got() == 3 && r.looks() == 2 && !r.is_shut());
 
     // Slots in which nothing is sent are published too.
     log.append(&mut w, 5, &mut batch)?;
-    if let Got::Entries { from, to, batch } = log.take(&mut r)? {
-        assert!(rt; from == 3 && to == 5 && batch.entries().is_empty());
-    } else {
-        assert!(rt; false);
-    }
-    assert!(rt; matches!(log.take(&mut r)?, Got::Nothing { published: 5 }));
-
+    let is_read = match log.take(&mut r)? {
+        Got::Entries { from, to, batch } => from == 3 && to == 5 && batch.entries().is_empty(),
+        _ => false,
+    };
+    let nothing = matches!(log.take(&mut r)?, Got::Nothing { published: 5 });
     log.close(&mut w, Cause::Neighbour { link: 4 });
-    assert!(rt; w.cause() == Some(Cause::Neighbour { link: 4 }));
-    assert!(rt; matches!(log.take(&mut r)?, Got::Closed));
-    assert!(rt; r.is_shut());
+    let is_closed = matches!(log.take(&mut r)?, Got::Closed);
+    let cause = Some(Cause::Neighbour { link: 4 });
+    assert!(rt; is_read && nothing && is_closed && w.cause() == cause && r.is_shut());
     Ok(())
 }
