@@ -5,10 +5,6 @@ mod horizon;
 mod laws;
 mod plan_horizon;
 mod schedule;
-#[cfg(test)]
-mod schedule_tests;
-#[cfg(test)]
-mod tests;
 
 pub use horizon::{Horizon, Seen};
 pub use laws::schedules_keep_their_bounds;

@@ -2,8 +2,6 @@
 #![tactic(auto)]
 
 mod rows;
-#[cfg(test)]
-mod tests;
 mod words;
 
 pub use rows::alu;

@@ -4,8 +4,6 @@
 mod marks;
 mod ports;
 mod slot;
-#[cfg(test)]
-mod tests;
 
 pub use ports::Ports;
 pub use single_port::{Answer, Ask, Reply};

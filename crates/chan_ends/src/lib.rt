@@ -5,8 +5,6 @@ mod answers;
 mod chan_end;
 mod ends;
 mod marks;
-#[cfg(test)]
-mod tests;
 
 pub use answers::{Bad, Put, Take};
 pub use ends::ChanEnds;

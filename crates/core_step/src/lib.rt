@@ -3,8 +3,6 @@
 
 mod network;
 mod node_core;
-#[cfg(test)]
-mod tests;
 
 pub use node_core::Core;
 pub use processor::BadAddress;

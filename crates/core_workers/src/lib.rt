@@ -10,8 +10,6 @@ mod gather;
 mod hear;
 mod lanes;
 mod tell;
-#[cfg(test)]
-mod tests;
 mod turn;
 mod way;
 mod worker;

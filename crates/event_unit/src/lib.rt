@@ -6,8 +6,6 @@ mod enabling;
 mod events;
 mod group;
 mod marks;
-#[cfg(test)]
-mod tests;
 
 pub use answers::{Choice, Ready};
 pub use events::Events;

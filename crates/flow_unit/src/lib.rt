@@ -12,8 +12,6 @@ mod address;
 mod control;
 mod kernel;
 mod memory;
-#[cfg(test)]
-mod tests;
 
 use core_memory::Ram;
 use core_state::{Outcome, Thread};

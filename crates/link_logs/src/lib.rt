@@ -5,8 +5,6 @@
 mod answers;
 mod log;
 mod story;
-#[cfg(test)]
-mod tests;
 
 pub use answers::{Cause, Got};
 pub use log::{Log, ReadEnd, WriteEnd, make_log};

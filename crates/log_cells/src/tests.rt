@@ -1,15 +1,11 @@
-//! A cell that its two ends use, by turns and from two threads.
-ghost use Rattle.std.specs.Prelude.{◌≡◌, List, [], None};
+//! The sleep of the end that reads, by itself: only in a race does a wait come to it with news that were raised before.
+ghost use Rattle.std.specs.Prelude.{List, []};
 ghost use Rattle.xs_base.specs.declared.entry.Entry.{Entry};
-ghost use Rattle.log_cells.specs.Ends.{WritesTo, ReadsOf};
 ghost use Rattle.std.proofs.Common.{rules};
 
-use crate::{Cell, ReadEnd, WriteEnd, make_cell};
-use link_logs::{Cause, Got, Story};
-use std::alloc::{AllocError, Global};
-use std::sync::Wait;
-use std::thread;
-use std::time::{Clock, Duration};
+use crate::make_cell;
+use link_logs::{Cause, Story};
+use std::alloc::AllocError;
 use xs_base::Batch;
 
 // A link that carries nothing.
@@ -33,50 +29,6 @@ impl Story for Silence {
 }
 
 #[test]
-fn what_is_published_is_polled_once(rt: HostRuntime) -> Result<(), AllocError> {
-    let (cell, mut w, mut r) = make_cell(rt.alloc(), Silence)?;
-    let mut batch = Batch::new(rt.alloc());
-    cell.publish(&rt, &mut w, 5, &mut batch)?;
-    assert!(rt; batch.entries().is_empty() && w.published() == 5 && w.cause().is_none());
-    if let Got::Entries { from, to, batch } = cell.poll(&rt, &mut r)? {
-        assert!(rt; from == 0 && to == 5 && batch.entries().is_empty());
-    } else {
-        assert!(rt; false);
-    }
-    assert!(rt; matches!(cell.poll(&rt, &mut r)?, Got::Nothing { published: 5 }));
-    assert!(rt; r.got() == 5 && r.looks() == 2 && !r.is_shut());
-    Ok(())
-}
-
-#[test]
-fn a_closed_log_is_read_to_its_end_and_comes_home(rt: HostRuntime) -> Result<(), AllocError> {
-    let (cell, mut w, mut r) = make_cell(rt.alloc(), Silence)?;
-    let mut batch = Batch::new(rt.alloc());
-    cell.publish(&rt, &mut w, 3, &mut batch)?;
-    cell.end(&rt, &mut w, Cause::Neighbour { link: 2 });
-    assert!(rt; w.cause() == Some(Cause::Neighbour { link: 2 }));
-    assert!(rt;
-        matches!(
-            cell.wait_news(&rt, &mut r)?,
-            Got::Entries {
-                from: 0,
-                to: 3,
-                batch: _
-            }
-        )
-    );
-    assert!(rt; matches!(cell.wait_news(&rt, &mut r)?, Got::Closed));
-    assert!(rt; matches!(cell.poll(&rt, &mut r)?, Got::Closed));
-    // Nothing comes any more, and nobody waits for it.
-    cell.await_news(&rt, &r);
-    assert!(rt; matches!(cell.wait_news(&rt, &mut r)?, Got::Closed));
-    assert!(rt; r.got() == 3 && r.looks() == 4 && r.is_shut());
-    let log = cell.done(w, r);
-    assert!(rt; log.published() == 3 && log.entries().is_empty());
-    Ok(())
-}
-
-#[test]
 fn who_saw_the_news_before_does_not_sleep(rt: HostRuntime) -> Result<(), AllocError> {
     let (cell, mut w, mut r) = make_cell(rt.alloc(), Silence)?;
     let mut batch = Batch::new(rt.alloc());
@@ -86,108 +38,5 @@ fn who_saw_the_news_before_does_not_sleep(rt: HostRuntime) -> Result<(), AllocEr
     let _ = cell.poll(&rt, &mut r)?;
     cell.end(&rt, &mut w, Cause::Memory);
     cell.sleep(&rt, r.heard);
-    Ok(())
-}
-
-#[test]
-fn who_has_not_found_nothing_does_not_wait(rt: HostRuntime) -> Result<(), AllocError> {
-    let (cell, mut w, mut r) = make_cell(rt.alloc(), Silence)?;
-    let mut batch = Batch::new(rt.alloc());
-    cell.publish(&rt, &mut w, 5, &mut batch)?;
-    cell.end(&rt, &mut w, Cause::Memory);
-    cell.await_news(&rt, &r);
-    assert!(rt; matches!(cell.poll(&rt, &mut r)?, Got::Entries { .. }));
-    // The log was closed before this poll, which did not say so.
-    cell.await_news(&rt, &r);
-    assert!(rt; matches!(cell.poll(&rt, &mut r)?, Got::Closed));
-    Ok(())
-}
-
-// Publishes up to slot 5 after a while, and then closes the log.
-fn publish_late<R: Wait + Clock>(
-    rt: &R,
-    alloc: Global,
-    cell: &Cell<Silence>,
-    mut w: WriteEnd<Silence>,
-) -> Result<(), AllocError>
-    requires cell { WritesTo w cell.now }
-    requires new { (w.end.published ≡ 0) × (w.end.cause ≡ None) }
-{
-    thread::sleep(rt, Duration::from_millis(30));
-    let mut batch = Batch::new(alloc);
-    cell.publish(rt, &mut w, 5, &mut batch)?;
-    thread::sleep(rt, Duration::from_millis(30));
-    cell.end(rt, &mut w, Cause::Memory);
-    Ok(())
-}
-
-// Publishes up to slot 5 after a while, and leaves the log open.
-fn publish_alone<R: Wait + Clock>(
-    rt: &R,
-    alloc: Global,
-    cell: &Cell<Silence>,
-    mut w: WriteEnd<Silence>,
-) -> Result<(), AllocError>
-    requires cell { WritesTo w cell.now }
-    requires new { (w.end.published ≡ 0) × (w.end.cause ≡ None) }
-{
-    thread::sleep(rt, Duration::from_millis(30));
-    let mut batch = Batch::new(alloc);
-    cell.publish(rt, &mut w, 5, &mut batch)
-}
-
-// How many slots were waited for, until the log was closed.
-fn hear<R: Wait>(rt: &R, cell: &Cell<Silence>, mut r: ReadEnd<Silence>) -> Result<u32, AllocError>
-    requires { ReadsOf r cell.now }
-{
-    for _ in rt.forever() {
-        if matches!(cell.wait_news(rt, &mut r)?, Got::Closed) {
-            break;
-        }
-    }
-    Ok(r.got())
-}
-
-// How many slots were read, once there was something to read.
-fn hear_once<R: Wait>(
-    rt: &R,
-    cell: &Cell<Silence>,
-    mut r: ReadEnd<Silence>,
-) -> Result<u32, AllocError>
-    requires { ReadsOf r cell.now }
-{
-    let news = cell.wait_news(rt, &mut r)?;
-    if matches!(news, Got::Closed) {
-        return Ok(0);
-    }
-    Ok(r.got())
-}
-
-// It would sleep for ever where only a close woke it.
-#[test]
-fn a_publish_alone_wakes_a_sleeper(rt: HostRuntime) -> Result<(), AllocError> {
-    let alloc = rt.alloc();
-    let (cell, w, r) = make_cell(alloc, Silence)?;
-    let (told, heard) = thread::join(
-        &rt,
-        || publish_alone(&rt, alloc, &cell, w),
-        || hear_once(&rt, &cell, r),
-    );
-    told?;
-    assert!(rt; heard? == 5);
-    Ok(())
-}
-
-#[test]
-fn a_sleeper_wakes_at_each_news(rt: HostRuntime) -> Result<(), AllocError> {
-    let alloc = rt.alloc();
-    let (cell, w, r) = make_cell(alloc, Silence)?;
-    let (told, heard) = thread::join(
-        &rt,
-        || publish_late(&rt, alloc, &cell, w),
-        || hear(&rt, &cell, r),
-    );
-    told?;
-    assert!(rt; heard? == 5);
     Ok(())
 }

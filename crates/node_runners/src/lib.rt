@@ -5,7 +5,5 @@ mod inlet;
 mod outlet;
 mod runner;
 mod starts;
-#[cfg(test)]
-mod tests;
 
 pub use runner::{NodeRunner, Ran};

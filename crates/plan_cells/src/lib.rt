@@ -5,8 +5,6 @@ mod cells;
 mod deal;
 mod ends;
 mod gather;
-#[cfg(test)]
-mod tests;
 mod way;
 
 pub use cells::PlanCells;

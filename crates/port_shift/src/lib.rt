@@ -2,7 +2,5 @@
 #![tactic(auto)]
 
 mod shift;
-#[cfg(test)]
-mod tests;
 
 pub use shift::Shift;

@@ -8,8 +8,6 @@ mod play;
 mod played;
 mod serial;
 mod stage;
-#[cfg(test)]
-mod tests;
 
 pub use error::DriveError;
 pub use free::drive_free;

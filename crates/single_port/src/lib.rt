@@ -9,8 +9,6 @@ mod port;
 mod rows;
 mod sampling;
 mod settings;
-#[cfg(test)]
-mod tests;
 mod transfer;
 
 pub use answers::{Answer, Ask, Reply};

@@ -6,8 +6,6 @@ mod inputs;
 mod links;
 mod steps;
 mod switch;
-#[cfg(test)]
-mod tests;
 mod wants;
 mod ways;
 mod work;

@@ -6,8 +6,6 @@ mod answers;
 mod lock;
 mod sync;
 mod syncs;
-#[cfg(test)]
-mod tests;
 
 pub use answers::{Bad, Claim};
 pub use syncs::Syncs;

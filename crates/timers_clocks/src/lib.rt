@@ -5,8 +5,6 @@ mod answers;
 mod block;
 mod clocks;
 mod conditions;
-#[cfg(test)]
-mod tests;
 mod timer;
 mod timers;
 

@@ -104,5 +104,3 @@ pub fn kret(thread: &mut Thread)
     thread.ed = thread.sed;
 }
 
-#[cfg(test)]
-mod tests;

@@ -6,7 +6,5 @@ mod here;
 mod node;
 mod seat;
 mod team;
-#[cfg(test)]
-mod tests;
 
 pub use team::run_workers;

@@ -1,6 +1,0 @@
-use Rattle.core_step.specs.Core.{SlotsBefore}
-use Rattle.core_step.proofs.tests.sends_a_packet.Given as goal
-
--- the slots that the core keeps are before the next one
-abbrev pub invariant-loop-slot : goal.invariant-loop-slot
-invariant-loop-slot g l = SlotsBefore l.core l.slot

@@ -1,5 +1,0 @@
-use Rattle.log_cells.specs.Ends.{ReadsOf}
-use Rattle.log_cells.proofs.tests.hear.Given as goal
-
-abbrev pub invariant-loop : goal.invariant-loop
-invariant-loop g l = ReadsOf l.r l.cell
