@@ -4,6 +4,7 @@ use Rattle.xs_instructions.specs.Image.{ImageRec}
 use Rattle.sys_plan.specs.declared.NodePlan.{NodePlan}
 use Rattle.sys_plan.specs.declared.LinkPlan.{LinkPlan}
 use Rattle.sys_plan.specs.declared.Step.{Step}
+use Rattle.sys_plan.specs.NodePlans.{plain_plan}
 use Rattle.sys_plan.specs.Plan.{PlanRec}
 
 abbrev pub empty_image : ImageRec
@@ -11,11 +12,11 @@ empty_image = record { code = []; bytes = []; cp_at = 0x10000; symbols = [] }
 
 -- node 0 with an image, and the same ways for each bit of an id
 abbrev pub loaded_node : ℕ → ImageRec → ℕ → NodePlan
-loaded_node id image way = record { number = 0; id = id; image = image; ways = replicate 16 way }
+loaded_node id image way = plain_plan 0 id image (replicate 16 way)
 
 -- a node with no code and no ways, whose id is its number
 abbrev pub bare_node : ℕ → NodePlan
-bare_node number = record { number = number; id = number; image = empty_image; ways = replicate 16 0 }
+bare_node number = plain_plan number number empty_image (replicate 16 0)
 
 -- link end 7 of a node is joined to link end 0 of the next one
 abbrev pub link_on : ℕ → ℕ → LinkPlan

@@ -27,12 +27,8 @@ pub fn loaded_node(
 {
     let code = Vec::from_slice(alloc, code)?;
     let bytes = Vec::from_slice(alloc, bytes)?;
-    Ok(NodePlan {
-        number: 0,
-        id,
-        image: Image::of(code, bytes, cp_at, Symbols::of_source(alloc, b"")),
-        ways: [way; 16],
-    })
+    let image = Image::of(code, bytes, cp_at, Symbols::of_source(alloc, b""));
+    Ok(NodePlan::plain(0, id, image, [way; 16]))
 }
 
 /// A node with no code and no ways, whose id is its number, 0 to 99. It takes no memory.
@@ -40,17 +36,13 @@ pub fn bare_node(alloc: Global, number: u8) -> NodePlan
     requires { number < 100 }
     ensures value { result ≡ plans.bare_node number }
 {
-    NodePlan {
-        number,
-        id: u16::from(number),
-        image: Image::of(
-            Vec::new(alloc),
-            Vec::new(alloc),
-            0x0001_0000,
-            Symbols::of_source(alloc, b""),
-        ),
-        ways: [0; 16],
-    }
+    let image = Image::of(
+        Vec::new(alloc),
+        Vec::new(alloc),
+        0x0001_0000,
+        Symbols::of_source(alloc, b""),
+    );
+    NodePlan::plain(number, u16::from(number), image, [0; 16])
 }
 
 // A link from link end 7 of the node at a position to link end 0 of the next one.
