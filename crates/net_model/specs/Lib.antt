@@ -3,8 +3,3 @@ pub mod Chans
 pub mod Links
 pub mod Switch
 pub mod Quiet
-pub mod Worked
-pub mod WorkedThree
-pub mod WorkedSteps
-pub mod WorkedChans
-pub mod WorkedRoutes
