@@ -2,4 +2,3 @@ pub mod Bound
 pub mod Horizon
 pub mod Kept
 pub mod Schedule
-pub mod Worked

@@ -1,6 +1,5 @@
 //! Laws of schedules.
 ghost use Rattle.ahead_limits.specs.Kept.{StepsKeepBounds, NoStepFalls, SchedulesKeepBounds};
-ghost use Rattle.ahead_limits.specs.Worked.{PairNumbers, RingNumbers};
 
 /// After any steps of any plan, in a run of so many slots: no node has run past the end of the run, nor past what is seen of a link
 /// that comes to it and the delay; no more is seen of a link than is published, and no more is published than the node has run that
@@ -9,10 +8,4 @@ pub fn schedules_keep_their_bounds()
     ensures step { StepsKeepBounds }
     ensures none_falls { NoStepFalls }
     ensures all { SchedulesKeepBounds }
-{}
-
-/// The definitions give the numbers that were worked out by hand for schedules of two nodes, and of three in a ring. It does nothing.
-pub fn worked_schedules()
-    ensures pair { PairNumbers }
-    ensures ring { RingNumbers }
 {}

@@ -11,5 +11,5 @@ mod schedule_tests;
 mod tests;
 
 pub use horizon::{Horizon, Seen};
-pub use laws::{schedules_keep_their_bounds, worked_schedules};
+pub use laws::schedules_keep_their_bounds;
 pub use schedule::Numbers;

@@ -1,3 +1,2 @@
 pub mod Load
 pub mod Made
-pub mod Worked

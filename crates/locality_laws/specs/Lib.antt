@@ -1,4 +1,3 @@
 pub mod Alone
 pub mod Locality
 pub mod Horizon
-pub mod Worked

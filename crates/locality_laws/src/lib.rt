@@ -4,7 +4,6 @@
 
 ghost use Rattle.locality_laws.specs.Locality.{StepNeedsArrivals, Locality, OutgoingLeaves};
 ghost use Rattle.locality_laws.specs.Horizon.{HistoriesGrow, HistoriesAreWhole, SlotsCarryFew, SeenArrives};
-ghost use Rattle.locality_laws.specs.Worked.{ReceiverAlone};
 
 /// For every plan, node and number of slots, and whatever lists tell of the directed links that come to the node what arrives
 /// before that slot: the node stepped alone by these lists has the record, the events and the histories of its outgoing links that
@@ -22,9 +21,4 @@ pub fn links_tell_ahead()
     ensures whole { HistoriesAreWhole }
     ensures few { SlotsCarryFew }
     ensures seen { SeenArrives }
-{}
-
-/// The definitions give what was worked out by hand for a node that is stepped alone.
-pub fn worked_receiver()
-    ensures alone { ReceiverAlone }
 {}

@@ -5,10 +5,8 @@
 mod system_plan;
 #[cfg(test)]
 mod tests;
-mod worked;
 
 pub use system_plan::Plan;
-pub use worked::worked_directions;
 use xs_instructions::Image;
 
 /// A node: its number, which names it in texts (0 to 99), its id on the network, its image, and for each bit of an

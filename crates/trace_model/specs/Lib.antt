@@ -1,6 +1,3 @@
 pub mod EventLines
 pub mod EventOrder
 pub mod Trace
-pub mod Worked
-pub mod WorkedLinks
-pub mod WorkedLines

@@ -1,0 +1,9 @@
+pub mod Directions
+pub mod Systems
+pub mod Receiver
+pub mod Schedules
+pub mod EventLines
+pub mod Traces
+pub mod LinkLines
+pub mod Plays
+pub mod Loads

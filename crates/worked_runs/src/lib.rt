@@ -1,0 +1,23 @@
+//! Facts of whole systems that were worked out by hand, which the definitions give: directed links, runs of two and three nodes, a
+//! node that is stepped alone, schedules, and the texts that are written of runs. Nothing stands on this crate.
+#![tactic(auto)]
+
+mod directions;
+mod event_lines;
+mod link_lines;
+mod loads;
+mod plays;
+mod receiver;
+mod schedules;
+mod systems;
+mod traces;
+
+pub use directions::worked_directions;
+pub use event_lines::worked_event_lines;
+pub use link_lines::worked_link_lines;
+pub use loads::worked_loads;
+pub use plays::worked_plays;
+pub use receiver::worked_receiver;
+pub use schedules::worked_schedules;
+pub use systems::worked_systems;
+pub use traces::worked_traces;
