@@ -1,4 +1,3 @@
-pub mod Computes
 pub mod Ports
 pub mod Slots
 pub mod Index

@@ -1,5 +1,4 @@
 pub mod Script
 pub mod Pins
-pub mod Worked
 pub mod Facts
 pub mod Shared

@@ -11,10 +11,8 @@ mod reader;
 mod script;
 #[cfg(test)]
 mod tests;
-mod worked;
 
 pub use line::{Change, PinForm, PinLine, PinSays};
 pub use pin_error::{PinError, PinKind};
 pub use reader::read_pins;
 pub use script::Script;
-pub use worked::worked_scripts;

@@ -5,6 +5,4 @@ pub mod Values
 pub mod Statement
 pub mod Layout
 pub mod Source
-pub mod WorkedSourceLines
 pub mod Canonical
-pub mod WorkedCanonical

@@ -1,12 +1,8 @@
 //! What a source text stands for: definitions, and the plain types that they speak of. See docs/ASSEMBLY.md.
 #![tactic(auto)]
 
-ghost use Rattle.source_model.specs.WorkedSourceLines.{WorkedBadBytes, WorkedUnknownNames, WorkedShapes, WorkedRanges, WorkedLabels, WorkedSizes, WorkedSections, WorkedPadding, WorkedOrder, WorkedOffsets, WorkedLimits};
-
-mod canonical;
 mod layout;
 
-pub use canonical::worked_canonical_texts;
 pub use layout::{Home, Layout, Place, Section, Width};
 
 /// Why a source is refused, in the order that decides within a line of several faults but for `LabelTwice` and
@@ -32,18 +28,3 @@ pub enum AsmKind {
     /// A9: more than 65,536 bytes.
     TooManyBytes,
 }
-
-/// The definitions give what was worked out by hand for sources. See docs/ASSEMBLY.md.
-pub fn worked_source_lines()
-    ensures bad_bytes { WorkedBadBytes }
-    ensures unknown_names { WorkedUnknownNames }
-    ensures shapes { WorkedShapes }
-    ensures ranges { WorkedRanges }
-    ensures labels { WorkedLabels }
-    ensures sizes { WorkedSizes }
-    ensures sections { WorkedSections }
-    ensures padding { WorkedPadding }
-    ensures order { WorkedOrder }
-    ensures offsets { WorkedOffsets }
-    ensures limits { WorkedLimits }
-{}

@@ -1,2 +1,1 @@
-pub mod Computes
 pub mod FirstFault

@@ -3,6 +3,3 @@ pub mod FrameLines
 pub mod Frame
 pub mod FirstFault
 pub mod System
-pub mod WorkedPlans
-pub mod WorkedPins
-pub mod WorkedPlay

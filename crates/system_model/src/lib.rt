@@ -2,10 +2,6 @@
 //! docs/SYSTEM_TEXT.md.
 #![tactic(auto)]
 
-ghost use Rattle.system_model.specs.WorkedPins.{WorkedPlansWithPins, WorkedPinRefusals};
-ghost use Rattle.system_model.specs.WorkedPlay.{WorkedSchedules, WorkedPlayRefusals};
-ghost use Rattle.system_model.specs.WorkedPlans.{WorkedRefusals, WorkedPlans, WorkedLength};
-
 mod first_fault;
 mod frame_line;
 
@@ -44,23 +40,3 @@ pub enum SysKind {
     /// S13: the 17th node, or the 49th link.
     TooMany,
 }
-
-/// The definitions give what was worked out by hand: the refusals of frames, the plans of those that are accepted, and how
-/// long an input may be.
-pub fn worked_systems_read()
-    ensures refusals { WorkedRefusals }
-    ensures systems { WorkedPlans }
-    ensures length { WorkedLength }
-{}
-
-/// The same of systems with a pin script.
-pub fn worked_pins_read()
-    ensures systems { WorkedPlansWithPins }
-    ensures refusals { WorkedPinRefusals }
-{}
-
-/// The same of systems with a schedule.
-pub fn worked_play_read()
-    ensures systems { WorkedSchedules }
-    ensures refusals { WorkedPlayRefusals }
-{}

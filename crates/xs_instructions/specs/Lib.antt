@@ -6,7 +6,6 @@ pub mod Find
 pub mod Kept
 pub mod Spelling
 pub mod Filled
-pub mod WorkedForms
 pub mod Table
 pub mod Code
 pub mod SourceHash

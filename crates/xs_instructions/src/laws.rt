@@ -6,12 +6,6 @@ ghost use Rattle.xs_instructions.specs.Instr.{InRange, label_of, labelled, value
 ghost use Rattle.xs_instructions.specs.declared.rows.Row.{Row};
 ghost use Rattle.xs_instructions.specs.Find.{find, build};
 ghost use Rattle.xs_instructions.specs.Spelling.{shapes};
-ghost use Rattle.xs_instructions.specs.WorkedForms.{WorkedForms};
-
-/// The table gives each row the name and the places that its printed form shows. See docs/INSTRUCTIONS.md.
-pub fn worked_forms()
-    ensures printed { WorkedForms }
-{}
 
 /// What an instruction is written as is read as this instruction: its row's name and the shapes of its form find its
 /// row, and its values build it. See docs/INSTRUCTIONS.md.

@@ -19,7 +19,7 @@ mod writing;
 pub use code::{MOST_CODE, instr_at};
 pub use image::Image;
 pub use instr::{FlowIns, Instr, KernelIns, MemIns, ResIns, ThreadIns, WordIns};
-pub use laws::{built_is_of_its_row, worked_forms, written_is_read};
+pub use laws::{built_is_of_its_row, written_is_read};
 pub use look_up::{find, known};
 pub use rows::{Part, ROWS, Row};
 pub use shape::{Form, Piece, Shape};

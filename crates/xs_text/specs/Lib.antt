@@ -1,6 +1,5 @@
 pub mod Bytes
 pub mod Lines
 pub mod Tokens
-pub mod Examples
 pub mod Numbers
 pub mod Words

@@ -2,7 +2,6 @@
 #![tactic(auto)]
 
 mod byte_tests;
-mod examples;
 mod line_reader;
 mod number_reader;
 #[cfg(test)]
