@@ -1,3 +1,2 @@
-pub mod Computes
 mod Statuses
 pub mod Numbers

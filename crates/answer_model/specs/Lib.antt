@@ -9,9 +9,3 @@ pub mod RunForm
 pub mod StatusNumber
 pub mod SystemStatuses
 pub mod Top
-pub mod Worked
-pub mod WorkedEdges
-pub mod WorkedPairs
-pub mod WorkedPins
-pub mod WorkedPlays
-pub mod WorkedPrograms

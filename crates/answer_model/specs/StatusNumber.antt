@@ -1,5 +1,5 @@
 -- The number that the program ends with.
-use Rattle.std.specs.Prelude.{ℕ, ◌≡◌}
+use Rattle.std.specs.Prelude.{ℕ}
 use Rattle.answer_model.specs.declared.Status.{Status}
 use Rattle.answer_model.specs.declared.Status.TheVariants.{Done, Memory, Usage, SystemFault, SourceFault, ScriptFault, ReadFault, WriteFault}
 
@@ -12,14 +12,3 @@ number_of_status SourceFault = 4
 number_of_status ScriptFault = 5
 number_of_status ReadFault = 6
 number_of_status WriteFault = 7
-
--- the numbers, as shells and scripts see them
-pub record WorkedStatuses : Type 0 where
-  pub done : number_of_status Done ≡ 0
-  pub memory : number_of_status Memory ≡ 1
-  pub usage : number_of_status Usage ≡ 2
-  pub system_fault : number_of_status SystemFault ≡ 3
-  pub source_fault : number_of_status SourceFault ≡ 4
-  pub script_fault : number_of_status ScriptFault ≡ 5
-  pub read_fault : number_of_status ReadFault ≡ 6
-  pub write_fault : number_of_status WriteFault ≡ 7

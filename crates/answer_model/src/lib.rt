@@ -4,14 +4,8 @@
 
 ghost use Rattle.std.specs.Prelude.{◌≡◌};
 ghost use Rattle.answer_model.specs.Loads.{LoadsAreMade};
-ghost use Rattle.answer_model.specs.StatusNumber.{number_of_status, WorkedStatuses};
+ghost use Rattle.answer_model.specs.StatusNumber.{number_of_status};
 ghost use Rattle.answer_model.specs.SystemStatuses.{SystemStatuses};
-ghost use Rattle.answer_model.specs.Worked.{WorkedAnswers, WorkedChecks};
-ghost use Rattle.answer_model.specs.WorkedEdges.{WorkedFrames, WorkedSources, WorkedRuns};
-ghost use Rattle.answer_model.specs.WorkedPairs.{WorkedPairs};
-ghost use Rattle.answer_model.specs.WorkedPins.{WorkedPins};
-ghost use Rattle.answer_model.specs.WorkedPlays.{WorkedPlays};
-ghost use Rattle.answer_model.specs.WorkedPrograms.{WorkedPrograms, WorkedCalls};
 
 use load_laws::loads_are_accepted;
 use xs_base::Text;
@@ -79,58 +73,3 @@ pub fn loads_are_made()
 {
     loads_are_accepted();
 }
-
-/// The definitions give what was worked out by hand.
-pub fn worked_answers()
-    ensures { WorkedAnswers }
-{}
-
-/// The same of `check`.
-pub fn worked_checks()
-    ensures { WorkedChecks }
-{}
-
-/// The same at the frame of a system text.
-pub fn worked_frames()
-    ensures { WorkedFrames }
-{}
-
-/// The same at a pin script.
-pub fn worked_pins()
-    ensures { WorkedPins }
-{}
-
-/// The same at the lines of a source.
-pub fn worked_sources()
-    ensures { WorkedSources }
-{}
-
-/// The same at runs.
-pub fn worked_runs()
-    ensures { WorkedRuns }
-{}
-
-/// The same at runs of two and of three nodes.
-pub fn worked_pairs()
-    ensures { WorkedPairs }
-{}
-
-/// The same of `play`.
-pub fn worked_plays()
-    ensures { WorkedPlays }
-{}
-
-/// The same at programs of one thread.
-pub fn worked_programs()
-    ensures { WorkedPrograms }
-{}
-
-/// The same at a program that calls itself.
-pub fn worked_calls()
-    ensures { WorkedCalls }
-{}
-
-/// The numbers of all statuses.
-pub fn worked_statuses()
-    ensures { WorkedStatuses }
-{}

@@ -1,0 +1,18 @@
+//! Answers of the program that were worked out by hand, which the definitions give. Nothing stands on this crate.
+#![tactic(auto)]
+
+mod answers;
+mod edges;
+mod pairs;
+mod pins;
+mod plays;
+mod programs;
+mod statuses;
+
+pub use answers::worked_answers;
+pub use edges::worked_edges;
+pub use pairs::worked_pairs;
+pub use pins::worked_pins;
+pub use plays::worked_plays;
+pub use programs::worked_programs;
+pub use statuses::worked_statuses;
