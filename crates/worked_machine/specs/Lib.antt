@@ -1,3 +1,4 @@
+pub mod Arithmetic
 pub mod Pair
 pub mod Three
 pub mod SwitchSteps

@@ -2,6 +2,7 @@
 //! instruction table, slots and ports. Nothing stands on this crate.
 #![tactic(auto)]
 
+mod arithmetic;
 mod chan_ends;
 mod channels;
 mod choices;
@@ -29,6 +30,7 @@ mod turns;
 mod waits;
 mod words;
 
+pub use arithmetic::worked_arithmetic;
 pub use chan_ends::worked_chan_ends;
 pub use channels::worked_channels;
 pub use choices::worked_choices;

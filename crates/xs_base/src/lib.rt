@@ -5,7 +5,6 @@
 mod batch;
 mod entry;
 mod ids;
-mod laws;
 pub mod numbers;
 #[cfg(test)]
 mod tests;
@@ -16,7 +15,6 @@ mod words;
 pub use batch::Batch;
 pub use entry::{Entry, What};
 pub use ids::{chan_id, port_id, port_named, port_of, port_width, res_id};
-pub use laws::worked_words;
 pub use text::Text;
 pub use token::Token;
 pub use words::{

@@ -1,6 +1,6 @@
 use Rattle.std.proofs.Common.{refl}
-use Rattle.xs_base.specs.Words.{reversed, leading_zeros}
-use Rattle.xs_base.proofs.laws.worked_words.Goals as goal
+use Rattle.worked_machine.proofs.Computes.{computes}
+use Rattle.worked_machine.proofs.arithmetic.worked_arithmetic.Goals as goal
 
 pub returns-clause-shifts : goal.returns-clause-shifts
 returns-clause-shifts c = record {
@@ -59,7 +59,7 @@ returns-clause-parts c = record {
 }
 
 pub returns-clause-orders : goal.returns-clause-orders
-unfolding reversed leading_zeros
+unfolding computes
 returns-clause-orders c = record {
   bitrev_of_0 = refl;
   bitrev_of_1 = refl;
