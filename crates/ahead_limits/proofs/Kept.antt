@@ -7,8 +7,9 @@ use Rattle.std.proofs.lemmas.Option.{none-some, same_Some}
 use Rattle.xs_base.specs.Numbers.{Slot, Position, EndNumber, LinkNumber}
 use Rattle.sys_plan.specs.declared.Step.{Step}
 use Rattle.sys_plan.specs.declared.Step.TheVariants.{Take, Run, Send}
-use Rattle.sys_plan.specs.Plan.{PlanRec, Direction, directions, incoming, outgoing, delay_of, link_ends}
-use Rattle.sys_plan.proofs.Routes.{leads-from}
+use Rattle.sys_plan.specs.Plan.{PlanRec, Arc, arcs, arc_count, incoming, outgoing, delay_of}
+use Rattle.sys_plan.specs.declared.system_plan.TheConstants.{ENDS}
+use Rattle.sys_plan.proofs.Routes.{leads-from, found-at-end-in}
 use Rattle.ahead_limits.specs.declared.horizon.Seen.{Seen}
 use Rattle.ahead_limits.specs.Horizon.{HorizonRec, may_run, lets_run, horizon_at}
 use Rattle.ahead_limits.specs.Schedule.{ScheduleRec, IsOfPlan, schedule_at_start, seen_of_link, horizon_of, clock_after, after_take, after_run, after_send, after_step, after_steps}
@@ -76,23 +77,11 @@ module _ (h : HorizonRec) where
   pub below_end : (end : EndNumber) (s : Seen) → slice_get h.ends end ≡ Some (Some s) → (clock : Slot) → may_run h clock ≡ true → clock < horizon_at s
   below_end end s at clock runs = all_below clock h.ends (and_parts (ltb clock h.limit) (list_all (lets_run clock) h.ends) runs).1 end s at
 
--- what is told of each link end, at one of them
-at_end : {X : Type 0} (f : ℕ → X) (end : ℕ) → end < 8 → slice_get (map f link_ends) end ≡ Some (f end)
-at_end f zero h = refl
-at_end f (suc zero) h = refl
-at_end f (suc (suc zero)) h = refl
-at_end f (suc (suc (suc zero))) h = refl
-at_end f (suc (suc (suc (suc zero)))) h = refl
-at_end f (suc (suc (suc (suc (suc zero))))) h = refl
-at_end f (suc (suc (suc (suc (suc (suc zero)))))) h = refl
-at_end f (suc (suc (suc (suc (suc (suc (suc zero))))))) h = refl
-at_end f (suc (suc (suc (suc (suc (suc (suc (suc n)))))))) h = absurd (omega (arith, h))
-
--- the horizon of a node tells of each link that comes to it
-pub link_at_end : (plan : PlanRec) (limit : Slot) (seen : List Slot) (n : Position) (end : EndNumber) (link : LinkNumber) → end < 8 → incoming plan n end ≡ Some link
+-- the horizon of a node tells of each arc that comes to it
+pub link_at_end : (plan : PlanRec) (limit : Slot) (seen : List Slot) (n : Position) (end : EndNumber) (link : LinkNumber) → end < ENDS → incoming plan n end ≡ Some link
     → slice_get (horizon_of plan limit seen n).ends end ≡ Some (Some (seen_of_link plan seen link))
 link_at_end plan limit seen n end link less at =
-    at_end (λ e. option_map (seen_of_link plan seen) (incoming plan n e)) end less ∙ ap (λ (o : Option ℕ). Some (option_map (seen_of_link plan seen) o)) at
+    found-at-end-in plan n (λ e. option_map (seen_of_link plan seen) (incoming plan n e)) end less ∙ ap (λ (o : Option ℕ). Some (option_map (seen_of_link plan seen) o)) at
 
 -- ---- A step
 
@@ -137,7 +126,7 @@ module _ (plan : PlanRec) (limit : Slot) where
         published = (none_falls s).published;
       }
 
-      not_past : (end link : ℕ) → end < 8 → incoming plan node end ≡ Some link → clock_after h count before ≤ get_or s.seen link 0 + delay_of plan link
+      not_past : (end link : ℕ) → end < ENDS → incoming plan node end ≡ Some link → clock_after h count before ≤ get_or s.seen link 0 + delay_of plan link
       not_past end link less at =
           clock_within h (horizon_at (seen_of_link plan s.seen link))
           (below_end h end (seen_of_link plan s.seen link) (link_at_end plan limit s.seen node end link less at)) count before (k.ahead node end link less at)
@@ -149,7 +138,7 @@ module _ (plan : PlanRec) (limit : Slot) where
         seen = k.seen;
         behind = λ l d at. omega (arith, k.behind l d at, run_falls.clocks d.from);
         ahead = λ n end l less at.
-            set_all (λ j clock. (end l : ℕ) → end < 8 → incoming plan j end ≡ Some l → clock ≤ get_or s.seen l 0 + delay_of plan l)
+            set_all (λ j clock. (end l : ℕ) → end < ENDS → incoming plan j end ≡ Some l → clock ≤ get_or s.seen l 0 + delay_of plan l)
             s.clocks node (clock_after h count before) k.ahead not_past n end l less at;
       }
 
@@ -157,12 +146,12 @@ module _ (plan : PlanRec) (limit : Slot) where
 
     module _ (node : Position) where
       abbrev Leaves : ℕ → Type 0
-      Leaves link = (d : Direction) × (slice_get (directions plan.links) link ≡ Some d) × (d.from ≡ node)
+      Leaves link = (d : Arc) × (slice_get (arcs plan) link ≡ Some d) × (d.from ≡ node)
 
       leaves : (end link : ℕ) → outgoing plan node end ≡ Some link → Leaves link
       leaves end link at =
           let l = leads-from plan node end link at in
-          (l.direction, l.here, l.from)
+          (l.arc, l.here, l.from)
 
       published_before : (link : ℕ) → Leaves link → get_or s.published link 0 ≤ get_or s.clocks node 0
       published_before link l = subst (λ n. get_or s.published link 0 ≤ get_or s.clocks n 0) l.2 (k.behind link l.0 l.1)
@@ -175,10 +164,10 @@ module _ (plan : PlanRec) (limit : Slot) where
         published = set_all (λ j n. get_or s.published j 0 ≤ n) s.published link (get_or s.clocks node 0) (none_falls s).published (published_before link (there link refl));
       }
 
-      by_it : (link : ℕ) → Leaves link → (d : Direction) → slice_get (directions plan.links) link ≡ Some d → get_or s.clocks node 0 ≤ get_or s.clocks d.from 0
+      by_it : (link : ℕ) → Leaves link → (d : Arc) → slice_get (arcs plan) link ≡ Some d → get_or s.clocks node 0 ≤ get_or s.clocks d.from 0
       by_it link l d at =
           let same : l.0 ≡ d = same_Some l.0 d (sym l.1 ∙ at) in
-          let from : node ≡ d.from = sym l.2 ∙ ap (λ (e : Direction). e.from) same in
+          let from : node ≡ d.from = sym l.2 ∙ ap (λ (e : Arc). e.from) same in
           subst (λ n. get_or s.clocks node 0 ≤ get_or s.clocks n 0) from (same_le (get_or s.clocks node 0))
 
       send_keeps : (o : Option ℕ) → ((link : ℕ) → o ≡ Some link → Leaves link) → IsOfPlan plan (after_send o (get_or s.clocks node 0) s)
@@ -188,7 +177,7 @@ module _ (plan : PlanRec) (limit : Slot) where
         lengths = of;
         within = k.within;
         seen = λ l. omega (arith, k.seen l, f.published l);
-        behind = set_all (λ j n. (d : Direction) → slice_get (directions plan.links) j ≡ Some d → n ≤ get_or s.clocks d.from 0)
+        behind = set_all (λ j n. (d : Arc) → slice_get (arcs plan) j ≡ Some d → n ≤ get_or s.clocks d.from 0)
             s.published link (get_or s.clocks node 0) k.behind (by_it link (there link refl));
         ahead = k.ahead;
       }
@@ -215,8 +204,8 @@ pub bounds_at_start : (plan : PlanRec) (limit : Slot) → KeepsBounds plan limit
 bounds_at_start plan limit = record {
   lengths = lengths_at_start plan;
   within = λ n. none_above (length plan.nodes) n limit;
-  seen = λ l. none_above (length (directions plan.links)) l _;
-  behind = λ l d at. none_above (length (directions plan.links)) l _;
+  seen = λ l. none_above (arc_count plan) l _;
+  behind = λ l d at. none_above (arc_count plan) l _;
   ahead = λ n end l less at. none_above (length plan.nodes) n _;
 }
 

@@ -8,12 +8,14 @@ use Rattle.serial_model.specs.Serial.{serial, history}
 use Rattle.locality_laws.specs.Locality.{node_in, events_in}
 use Rattle.ahead_limits.specs.declared.horizon.Seen.{Seen}
 use Rattle.ahead_limits.specs.Horizon.{HorizonRec, horizon_at}
+use Rattle.node_seats.specs.declared.pins.Pins.{Pins}
 use Rattle.node_seats.specs.declared.seat.Seat.{Seat}
 use Rattle.node_seats.specs.Seats.{IsSeat, Plays}
+use Rattle.node_seats.specs.Shown.{ArePins}
 use Rattle.node_runners.specs.Queue.{InletRec, no_inlet, inlet_at}
 use Rattle.node_runners.specs.Sent.{batch_at}
 
--- of a directed link this much was seen, and of that the entries that arrive from the clock on wait
+-- of an arc this much was seen, and of that the entries that arrive from the clock on wait
 pub record HearsLink (plan : PlanRec) (clock : Slot) (link : LinkNumber) (s : Seen) (inlet : InletRec) : Type 0 where
   pub delay : s.delay ≡ delay_of plan link
   pub inlet_delay : inlet.delay ≡ delay_of plan link
@@ -26,7 +28,7 @@ Hears plan clock None s inlet = (s ≡ None) × (inlet ≡ no_inlet)
 Hears plan clock (Some link) None inlet = ⊥
 Hears plan clock (Some link) (Some s) inlet = HearsLink plan clock link s inlet
 
--- the batch of a link end by which a directed link leaves has what it carried from the published slot on and before the clock
+-- the batch of a link end by which an arc leaves has what it carried from the published slot on and before the clock
 pub record Tells (plan : PlanRec) (clock : Slot) (link : LinkNumber) (end : EndNumber) (batches : List BatchRec) (published : List Slot) : Type 0 where
   pub there : end < length batches
   pub batch : (batch_at batches end).entries ≡ history plan link (slice_index published end) clock
@@ -49,9 +51,10 @@ pub record Sits (plan : PlanRec) (n : Position) (clock : Slot) (seat : Seat) : T
   pub ready : IsSeat clock seat
   pub plays : Plays plan clock n node seat (node_in (serial plan clock) n) (events_in (serial plan clock) n)
 
-pub record IsRunner (plan : PlanRec) (n : Position) (clock : Slot) (horizon : HorizonRec) (seat : Seat) (inlets : List InletRec) (batches : List BatchRec) (published : List Slot) : Type 0 where
+pub record IsRunner (plan : PlanRec) (n : Position) (clock : Slot) (horizon : HorizonRec) (seat : Seat) (pins : Pins) (inlets : List InletRec) (batches : List BatchRec) (published : List Slot) : Type 0 where
   pub plan_is : IsPlan plan
   pub within : clock ≤ horizon.limit
   pub small : horizon.limit < 2 ^ 32
   pub seat_is : Sits plan n clock seat
+  pub pins_are : ArePins plan n clock pins
   pub links : HasLinks plan n clock horizon inlets batches published

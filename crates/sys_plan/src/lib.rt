@@ -9,7 +9,7 @@ mod system_plan;
 #[cfg(test)]
 mod tests;
 
-pub use system_plan::Plan;
+pub use system_plan::{ENDS, Plan};
 use xs_instructions::Image;
 
 /// A node: its number, which names it in texts (0 to 99), the edition of its system, its id on the network, its image, for
