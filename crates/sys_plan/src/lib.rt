@@ -3,8 +3,6 @@
 #![tactic(auto)]
 
 mod system_plan;
-#[cfg(test)]
-mod tests;
 
 pub use system_plan::Plan;
 use xs_instructions::Image;

@@ -4,12 +4,24 @@
 #![tactic(auto)]
 
 #[cfg(test)]
+mod line_text;
+#[cfg(test)]
 mod pin_scripts;
 #[cfg(test)]
+mod sys_plan;
+#[cfg(test)]
+mod system_text;
+#[cfg(test)]
 mod trace_lines;
+#[cfg(test)]
+mod trace_merge;
+#[cfg(test)]
+mod xs_assembler;
 #[cfg(test)]
 mod xs_base;
 #[cfg(test)]
 mod xs_instructions;
+#[cfg(test)]
+mod xs_printer;
 #[cfg(test)]
 mod xs_text;
