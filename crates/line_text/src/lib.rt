@@ -4,8 +4,6 @@
 
 mod lines;
 mod numerals;
-#[cfg(test)]
-mod tests;
 mod traffic;
 
 pub use lines::line_of;

@@ -9,8 +9,6 @@ mod node_changes;
 mod pin_error;
 mod reader;
 mod script;
-#[cfg(test)]
-mod tests;
 
 pub use line::{Change, PinForm, PinLine, PinSays};
 pub use pin_error::{PinError, PinKind};

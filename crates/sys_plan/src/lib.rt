@@ -6,8 +6,6 @@ ghost use Rattle.std.specs.Prelude.{◌≡◌};
 ghost use Rattle.sys_plan.specs.NodePlans.{plain_plan};
 
 mod system_plan;
-#[cfg(test)]
-mod tests;
 
 pub use system_plan::{ENDS, Plan};
 use xs_instructions::Image;

@@ -14,8 +14,6 @@ mod step_lines;
 mod step_plans;
 mod system_error;
 mod system_reader;
-#[cfg(test)]
-mod tests;
 mod words;
 
 pub use pin_scripts::PinKind;

@@ -3,8 +3,6 @@
 
 mod emitted;
 mod kept;
-#[cfg(test)]
-mod tests;
 
 pub use emitted::Emissions;
 pub use kept::NodeEvents;

@@ -3,7 +3,5 @@
 #![tactic(auto)]
 
 mod order;
-#[cfg(test)]
-mod tests;
 
 pub use order::{Merged, merge};

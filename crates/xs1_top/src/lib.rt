@@ -13,8 +13,6 @@ mod play;
 mod refusals;
 mod respond;
 mod run;
-#[cfg(test)]
-mod tests;
 mod words;
 
 pub use answer_model::Status;

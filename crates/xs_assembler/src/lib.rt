@@ -13,8 +13,6 @@ mod operands;
 mod output;
 mod sofar;
 mod statement;
-#[cfg(test)]
-mod tests;
 mod tokens;
 mod values;
 

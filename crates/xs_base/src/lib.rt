@@ -6,8 +6,6 @@ mod batch;
 mod entry;
 mod ids;
 pub mod numbers;
-#[cfg(test)]
-mod tests;
 mod text;
 mod token;
 mod words;

@@ -13,8 +13,6 @@ mod counting;
 mod failing;
 mod lists;
 mod streams;
-#[cfg(test)]
-mod tests;
 
 pub use counted::{Counted, read_makes_one_call};
 pub use counting::CountingSource;

@@ -26,6 +26,3 @@ pub use shape::{Form, Piece, Shape};
 pub use symbols::{Symbols, is_reserved, same_name};
 pub use words::{fixed, register_number};
 pub use writing::spelling;
-
-#[cfg(test)]
-mod tests;

@@ -8,8 +8,6 @@ ghost use Rattle.source_laws.specs.TextStandsFor.{TextStandsFor};
 mod labels;
 mod sections;
 mod statement;
-#[cfg(test)]
-mod tests;
 
 use labels::first_labels;
 use sections::{append_code, append_constants, append_data};

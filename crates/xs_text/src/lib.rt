@@ -4,8 +4,6 @@
 mod byte_tests;
 mod line_reader;
 mod number_reader;
-#[cfg(test)]
-mod tests;
 mod token_reader;
 mod word_reader;
 

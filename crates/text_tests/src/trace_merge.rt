@@ -1,9 +1,9 @@
 //! Events of a few nodes as one list.
 
-use crate::merge;
 use std::alloc::{AllocError, Global};
 use std::test::Fail;
 use trace_lines::{Event, Happen, NodeEvents};
+use trace_merge::merge;
 
 // A node on which a thread halted in each of these slots.
 fn halted_in(alloc: Global, slots: &[u32]) -> Result<NodeEvents, AllocError> {
@@ -26,12 +26,11 @@ fn events_stand_by_slot_and_then_by_node(rt: HostRuntime) -> Result<(), Fail> {
     nodes.push(halted_in(alloc, &[])?)?;
     nodes.push(halted_in(alloc, &[3, 5, 5, 12])?)?;
     let merged = merge(alloc, &nodes)?;
-    let list = merged.list();
-    let order = [(2, 3), (0, 5), (2, 5), (2, 5), (0, 9), (2, 12)];
-    assert_eq!(rt; list.len(), order.len());
-    for (e, (node, slot)) in list.iter().zip(order) {
-        assert_eq!(rt; e.0, node);
-        assert_eq!(rt; e.1.slot, slot);
+    let mut order = Vec::new(alloc);
+    for (node, event) in merged.list() {
+        order.push((*node, event.slot))?;
     }
+    let expected = [(2, 3), (0, 5), (2, 5), (2, 5), (0, 9), (2, 12)];
+    assert_eq!(rt; order.as_slice(), expected.as_slice());
     Ok(())
 }

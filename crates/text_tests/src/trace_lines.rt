@@ -1,9 +1,10 @@
 //! Kept events and emissions at a few events.
 ghost use Rattle.std.specs.Prelude.{◌≡◌};
 ghost use Rattle.xs_model.specs.Events.{IsWithinCounts};
+ghost use Rattle.xs_model.specs.declared.event.Happen.TheVariants.{Halt};
 
-use crate::{Emissions, Event, Happen, NodeEvents};
 use std::test::Fail;
+use trace_lines::{Emissions, Event, Happen, NodeEvents};
 use xs_base::Token;
 
 fn trap() -> Event
@@ -20,23 +21,27 @@ fn trap() -> Event
     }
 }
 
-fn at(slot: u32, what: Happen) -> Event
-    ensures { result ≡ record { slot = slot; what = what } }
+fn halt(slot: u32) -> Event
+    ensures { result ≡ record { slot = slot; what = Halt 3 } }
 {
-    Event { slot, what }
+    Event {
+        slot,
+        what: Happen::Halt { thread: 3 },
+    }
 }
 
 #[test]
 fn events_are_kept_in_order(rt: HostRuntime) -> Result<(), Fail> {
     let mut kept = NodeEvents::new(rt.alloc());
-    assert_eq!(rt; kept.events().len(), 0);
+    let begins_empty = kept.events().is_empty();
     kept.reserve(2)?;
     kept.add(trap());
-    kept.add(at(9, Happen::Halt { thread: 3 }));
-    assert_eq!(rt; kept.events().len(), 2);
-    assert_eq!(rt; kept.events()[0].slot, 8);
-    assert_eq!(rt; kept.events()[1].slot, 9);
-    assert_eq!(rt; kept.more(), 0);
+    kept.add(halt(9));
+    assert!(rt;
+        begins_empty
+            && matches!(kept.events(), [a, b] if a.slot == 8 && b.slot == 9)
+            && kept.more() == 0
+    );
     Ok(())
 }
 
@@ -45,14 +50,14 @@ fn all_that_are_kept_have_room_and_the_rest_is_counted(rt: HostRuntime) -> Resul
     let mut kept = NodeEvents::new(rt.alloc());
     for slot in 0..262_146u32 {
         kept.reserve(1)?;
-        kept.add(at(slot, Happen::Halt { thread: 3 }));
+        kept.add(halt(slot));
     }
-    assert_eq!(rt; kept.events().len(), 262_144);
-    assert_eq!(rt; kept.events()[262_143].slot, 262_143);
-    assert_eq!(rt; kept.more(), 2);
+    let counted = kept.more();
     kept.reserve(usize::MAX)?;
     kept.add(trap());
-    assert_eq!(rt; kept.more(), 3);
+    let events = kept.events();
+    assert!(rt; events.len() == 262_144 && events[262_143].slot == 262_143);
+    assert_eq!(rt; (counted, kept.more()), (2, 3));
     Ok(())
 }
 
@@ -73,13 +78,12 @@ fn emissions_are_read_back_and_cleared(rt: HostRuntime) {
     emissions.add_event(trap());
     emissions.set_token(3, Token::Byte(7));
     emissions.set_credit(5);
-    assert_eq!(rt; emissions.events().len(), 1);
-    assert_eq!(rt; emissions.token(3), Some(Token::Byte(7)));
-    assert_eq!(rt; emissions.token(5), None);
-    assert!(rt; emissions.credit(5));
-    assert!(rt; !emissions.credit(3));
+    let tokens = [emissions.token(3), emissions.token(5)];
+    let credits = [emissions.credit(3), emissions.credit(5)];
+    let count = emissions.events().len();
+    assert!(rt; count == 1 && tokens == [Some(Token::Byte(7)), None] && credits == [false, true]);
     emissions.clear();
-    assert_eq!(rt; emissions.events().len(), 0);
-    assert_eq!(rt; emissions.token(3), None);
-    assert!(rt; !emissions.credit(5));
+    assert!(rt;
+        emissions.events().is_empty() && emissions.token(3).is_none() && !emissions.credit(5)
+    );
 }

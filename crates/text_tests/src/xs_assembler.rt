@@ -1,27 +1,27 @@
-use crate::AsmKind::{
+//! Sources that are refused, and what a few others stand for.
+ghost use Rattle.std.specs.Prelude.{◌<◌, ◌^◌, length};
+
+use std::alloc::Global;
+use std::test::Fail;
+use xs_assembler::AsmKind::{
     BadByte, DirectiveNotAllowed, LabelMissing, LabelTwice, NumberOutOfRange, TooManyBytes,
     TooManyInstructions, UnknownName, WrongOperands,
 };
-use crate::{AsmError, AsmKind, assemble};
-use std::alloc::Global;
-use std::process::Abort;
-use std::test::Fail;
+use xs_assembler::{AsmError, AsmKind, assemble};
 use xs_instructions::{FlowIns, Instr, KernelIns, MemIns, ResIns, ThreadIns, WordIns};
 
-// Asserts that the source is refused at the line for the kind.
-fn expect_fault(rt: &impl Abort, alloc: Global, text: &[u8], line: u32, kind: AsmKind) {
-    assert!(rt; text.len() <= u32::MAX as usize);
+// Whether the source is refused at the line for the kind.
+fn is_refused(alloc: Global, text: &[u8], line: u32, kind: AsmKind) -> bool
+    requires { length text.now < 2 ^ 32 }
+{
     match assemble(alloc, text) {
         Err(
             AsmError::Fault {
-                line: found,
+                line: at,
                 kind: why,
             },
-        ) => {
-            assert_eq!(rt; found, line);
-            assert_eq!(rt; why, kind);
-        }
-        _ => assert!(rt; false, "a fault is missing"),
+        ) => at == line && why == kind,
+        _ => false,
     }
 }
 
@@ -123,7 +123,10 @@ fn refused(rt: HostRuntime) {
         (b".data\n.space 65533\n.cp\n.byte 1", 4, TooManyBytes),
     ];
     for (text, line, kind) in table {
-        expect_fault(&rt, rt.alloc(), text, *line, *kind);
+        assert!(rt;
+            text.len() < 99 && is_refused(rt.alloc(), text, *line, *kind),
+            "{text:?} {line} {kind:?}"
+        );
     }
 }
 
@@ -138,28 +141,28 @@ fn repeated(alloc: Global, piece: &[u8], count: u32, end: &[u8]) -> Result<Vec<u
 }
 
 #[test]
-fn at_the_limits(rt: HostRuntime) -> Result<(), Fail> {
-    let text = repeated(
-        rt.alloc(),
-        b".align 1024\nnop\n",
-        16,
-        b".align 1023\nend:\n",
-    )?;
-    let text_end = repeated(rt.alloc(), b"nop\n", 16_385, b"")?;
-    if text.len() < 1_000 && text_end.len() < 100_000 {
-        let image = assemble(rt.alloc(), &text)?;
-        assert_eq!(rt; image.code().len(), 16_368);
-        expect_fault(&rt, rt.alloc(), &text_end, 16_385, TooManyInstructions);
-    }
+fn at_the_limits_of_code(rt: HostRuntime) -> Result<(), Fail> {
+    let alloc = rt.alloc();
+    let longest = repeated(alloc, b".align 1024\nnop\n", 16, b".align 1023\nend:\n")?;
+    let too_long = repeated(alloc, b"nop\n", 16_385, b"")?;
+    assert!(rt; longest.len() < 1_000 && too_long.len() < 100_000);
+    let image = assemble(alloc, &longest)?;
+    let refused = is_refused(alloc, &too_long, 16_385, TooManyInstructions);
+    assert!(rt; image.code().len() == 16_368 && refused);
+    Ok(())
+}
+
+#[test]
+fn at_the_limit_of_bytes(rt: HostRuntime) -> Result<(), Fail> {
     let image = assemble(
         rt.alloc(),
         b".data\n.space 65532\n.cp\n.byte 1, 2, 3, 4\nlast:",
     )?;
-    assert_eq!(rt; image.bytes().len(), 65_536);
-    assert_eq!(rt; image.cp_at(), 0x0001_fffc);
-    let (name, at) = image.symbol(0).ok_or("a label")?;
-    assert_eq!(rt; name, "last");
-    assert_eq!(rt; at, 0x0002_0000);
+    assert!(rt;
+        image.bytes().len() == 65_536
+            && image.cp_at() == 0x0001_fffc
+            && image.symbol(0) == Some(("last", 0x0002_0000))
+    );
     Ok(())
 }
 
@@ -168,16 +171,21 @@ fn code(rt: HostRuntime) -> Result<(), Fail> {
     let text =
         b"# from 3\n.globl gone\nmain : ldc r0, 0x3\nloop: sub r0, r0, r1\r\n bt r0, loop\nstw lr , dp [ x ]\n.align 3\nbu end\nend:\nadd: .word:\n.data\n.byte 1\n.align 4\nx:";
     let image = assemble(rt.alloc(), text)?;
-    let code = image.code();
-    assert_eq!(rt; code.len(), 7);
-    assert!(rt; matches!(code[0], Instr::Words(WordIns::Ldc(0, 3))));
-    assert!(rt; matches!(code[1], Instr::Words(WordIns::Sub(0, 0, 1))));
-    assert!(rt; matches!(code[2], Instr::Flow(FlowIns::Bt(0, 1))));
-    assert!(rt; matches!(code[3], Instr::Memory(MemIns::StwDp(15, 1))));
-    assert!(rt; matches!(code[4], Instr::Words(WordIns::Nop)));
-    assert!(rt; matches!(code[5], Instr::Words(WordIns::Nop)));
-    assert!(rt; matches!(code[6], Instr::Flow(FlowIns::Bu(7))));
-    for (k, expected, address) in [
+    assert!(rt;
+        matches!(
+            image.code(),
+            [
+                Instr::Words(WordIns::Ldc(0, 3)),
+                Instr::Words(WordIns::Sub(0, 0, 1)),
+                Instr::Flow(FlowIns::Bt(0, 1)),
+                Instr::Memory(MemIns::StwDp(15, 1)),
+                Instr::Words(WordIns::Nop),
+                Instr::Words(WordIns::Nop),
+                Instr::Flow(FlowIns::Bu(7)),
+            ]
+        )
+    );
+    for (k, name, address) in [
         (0, "main", 0x0004_0000),
         (1, "loop", 0x0004_0004),
         (2, "end", 0x0004_001c),
@@ -185,9 +193,7 @@ fn code(rt: HostRuntime) -> Result<(), Fail> {
         (4, ".word", 0x0004_001c),
         (5, "x", 0x0001_0004),
     ] {
-        let (name, at) = image.symbol(k).ok_or("a label")?;
-        assert_eq!(rt; name, expected);
-        assert_eq!(rt; at, address);
+        assert_eq!(rt; image.symbol(k), Some((name, address)));
     }
     Ok(())
 }
@@ -197,12 +203,17 @@ fn bytes(rt: HostRuntime) -> Result<(), Fail> {
     let text =
         b"getr r4, 2\noutct res[r4], 0b11\nldw r0, dp[z]\nfreet\n.data\nx: .word 0x12345678, - 5, x\n.short -32768, 65535\n.byte -128, 255, -0\ny: .cp\nz: .word z\n.space 2\n.byte 9";
     let image = assemble(rt.alloc(), text)?;
-    let code = image.code();
-    assert_eq!(rt; code.len(), 4);
-    assert!(rt; matches!(code[0], Instr::Resources(ResIns::Getr(4, 2))));
-    assert!(rt; matches!(code[1], Instr::Resources(ResIns::OutctImm(4, 3))));
-    assert!(rt; matches!(code[2], Instr::Memory(MemIns::LdwDp(0, 5))));
-    assert!(rt; matches!(code[3], Instr::Threads(ThreadIns::Freet)));
+    assert!(rt;
+        matches!(
+            image.code(),
+            [
+                Instr::Resources(ResIns::Getr(4, 2)),
+                Instr::Resources(ResIns::OutctImm(4, 3)),
+                Instr::Memory(MemIns::LdwDp(0, 5)),
+                Instr::Threads(ThreadIns::Freet),
+            ]
+        ) && image.cp_at() == 0x0001_0014
+    );
     assert_eq!(rt;
         image.bytes(),
         [
@@ -211,7 +222,6 @@ fn bytes(rt: HostRuntime) -> Result<(), Fail> {
         ]
         .as_slice()
     );
-    assert_eq!(rt; image.cp_at(), 0x0001_0014);
     Ok(())
 }
 
@@ -220,12 +230,17 @@ fn rows_of_one_thread(rt: HostRuntime) -> Result<(), Fail> {
     let text =
         b"lmul r0, r1, r2, r3, r4, r5\nldw r3, cp[z]\nldaw r0, r1[ - 2 ]\nbl end\nldw spc, sp[1]\nend:\n.data\n.byte 1\n.cp\n.word 0\nz: .byte 2";
     let image = assemble(rt.alloc(), text)?;
-    let code = image.code();
-    assert_eq!(rt; code.len(), 5);
-    assert!(rt; matches!(code[0], Instr::Words(WordIns::Lmul(0, 1, 2, 3, 4, 5))));
-    assert!(rt; matches!(code[1], Instr::Memory(MemIns::LdwCp(3, 1))));
-    assert!(rt; matches!(code[2], Instr::Memory(MemIns::LdawBackImm(0, 1, 2))));
-    assert!(rt; matches!(code[3], Instr::Flow(FlowIns::Bl(5))));
-    assert!(rt; matches!(code[4], Instr::Kernel(KernelIns::LdwSpc)));
+    assert!(rt;
+        matches!(
+            image.code(),
+            [
+                Instr::Words(WordIns::Lmul(0, 1, 2, 3, 4, 5)),
+                Instr::Memory(MemIns::LdwCp(3, 1)),
+                Instr::Memory(MemIns::LdawBackImm(0, 1, 2)),
+                Instr::Flow(FlowIns::Bl(5)),
+                Instr::Kernel(KernelIns::LdwSpc),
+            ]
+        )
+    );
     Ok(())
 }

@@ -1,28 +1,51 @@
-use super::*;
+//! Labels, images, and what becomes of a line's name, shapes and values.
+
 use std::alloc::{AllocError, Global};
 use std::test::Fail;
+use xs_instructions::{
+    Image, Instr, Piece, Shape, Symbols, ThreadIns, WordIns, find, fixed, is_reserved, known,
+    register_number, same_name, spelling,
+};
 
 #[test]
 fn looks_up_labels(rt: HostRuntime) -> Result<(), Fail> {
-    let mut labels = Symbols::of_source(rt.alloc(), b"main: table: .end:");
-    assert!(rt; labels.define(rt.alloc(), b"main", 0)?);
-    assert!(rt; labels.define(rt.alloc(), b"table", 0x0001_0000)?);
-    assert!(rt; labels.define(rt.alloc(), b".end", 0x0004_0010)?);
-    assert!(rt; !labels.define(rt.alloc(), b"main", 4)?);
-    assert_eq!(rt; labels.count(), 3);
+    let alloc = rt.alloc();
+    let mut labels = Symbols::of_source(alloc, b"main: table: .end:");
+    let defined = [
+        labels.define(alloc, b"main", 0)?,
+        labels.define(alloc, b"table", 0x0001_0000)?,
+        labels.define(alloc, b".end", 0x0004_0010)?,
+        labels.define(alloc, b"main", 4)?,
+    ];
+    assert!(rt; defined == [true, true, true, false] && labels.count() == 3);
     labels.set_address(0, 0x0004_0000);
-    assert_eq!(rt; labels.address(b"main"), Some(0x0004_0000));
-    assert_eq!(rt; labels.address(b"table"), Some(0x0001_0000));
-    assert_eq!(rt; labels.address(b".end"), Some(0x0004_0010));
-    assert_eq!(rt; labels.address(b"mai"), None);
-    assert_eq!(rt; labels.address(b"\xff"), None);
-    assert_eq!(rt; labels.number(b".end"), Some(2));
-    assert_eq!(rt; labels.number(b"end"), None);
-    assert_eq!(rt; labels.number(b"\xff"), None);
-    let (name, at) = labels.at(1).ok_or("a second label")?;
-    assert_eq!(rt; name, "table");
-    assert_eq!(rt; at, 0x0001_0000);
-    assert!(rt; labels.at(3).is_none());
+    let addresses = [
+        labels.address(b"main"),
+        labels.address(b"table"),
+        labels.address(b".end"),
+        labels.address(b"mai"),
+        labels.address(b"\xff"),
+    ];
+    let numbers = [
+        labels.number(b".end"),
+        labels.number(b"end"),
+        labels.number(b"\xff"),
+    ];
+    assert_eq!(rt;
+        addresses,
+        [
+            Some(0x0004_0000),
+            Some(0x0001_0000),
+            Some(0x0004_0010),
+            None,
+            None
+        ]
+    );
+    assert!(rt;
+        numbers == [Some(2), None, None]
+            && labels.at(1) == Some(("table", 0x0001_0000))
+            && labels.at(3).is_none()
+    );
     Ok(())
 }
 
@@ -36,21 +59,19 @@ fn begins_at_main(rt: HostRuntime) -> Result<(), Fail> {
     let mut labels = Symbols::of_source(rt.alloc(), b"");
     labels.define(rt.alloc(), b"main", 0x0004_0004)?;
     let image = Image::of(code, bytes, 0x0001_0004, labels);
-    assert_eq!(rt; image.entry(), 0x0004_0004);
+    let last = image.at(0x0004_0004);
     assert!(rt;
-        matches!(
-            image.at(0x0004_0004),
-            Some(Instr::Threads(ThreadIns::Freet))
-        )
+        image.entry() == 0x0004_0004
+            && matches!(last, Some(Instr::Threads(ThreadIns::Freet)))
+            && image.at(0x0004_0008).is_none()
+            && image.code().len() == 2
     );
-    assert!(rt; image.at(0x0004_0008).is_none());
-    assert_eq!(rt; image.code().len(), 2);
-    assert_eq!(rt; image.bytes(), [7].as_slice());
-    assert_eq!(rt; image.cp_at(), 0x0001_0004);
-    let (name, at) = image.symbol(0).ok_or("a label")?;
-    assert_eq!(rt; name, "main");
-    assert_eq!(rt; at, 0x0004_0004);
-    assert!(rt; image.symbol(1).is_none());
+    assert!(rt;
+        image.bytes() == [7].as_slice()
+            && image.cp_at() == 0x0001_0004
+            && image.symbol(0) == Some(("main", 0x0004_0004))
+            && image.symbol(1).is_none()
+    );
     Ok(())
 }
 
@@ -67,11 +88,12 @@ fn begins_at_the_code_without_main(rt: HostRuntime) -> Result<(), Fail> {
 }
 
 #[test]
-fn keeps_names_for_itself(rt: HostRuntime) {
-    assert!(rt; is_reserved(b"sp"));
-    assert!(rt; !is_reserved(b"main"));
-    assert!(rt; same_name(b"sp", b"sp"));
-    assert!(rt; !same_name(b"sp", b"SP"));
+fn knows_names(rt: HostRuntime) {
+    assert!(rt; is_reserved(b"sp") && !is_reserved(b"main"));
+    assert!(rt; same_name(b"sp", b"sp") && !same_name(b"sp", b"SP"));
+    assert!(rt; known(b"init") && !known(b"ini") && !known(b""));
+    assert!(rt; register_number(b"lr") == Some(15) && register_number(b"r12").is_none());
+    assert!(rt; fixed(b"-") == Some(15) && fixed(b"sr").is_none());
 }
 
 /// What becomes of a line with this name, these shapes and these values: the text of the instruction, in which places
@@ -320,13 +342,4 @@ fn finds_builds_and_spells(rt: HostRuntime) -> Result<(), Fail> {
         assert_eq!(rt; text.as_str(), case.expected);
     }
     Ok(())
-}
-
-#[test]
-fn knows_names(rt: HostRuntime) {
-    assert!(rt; known(b"init") && !known(b"ini") && !known(b""));
-    assert_eq!(rt; register_number(b"lr"), Some(15));
-    assert_eq!(rt; register_number(b"r12"), None);
-    assert_eq!(rt; fixed(b"-"), Some(15));
-    assert_eq!(rt; fixed(b"sr"), None);
 }

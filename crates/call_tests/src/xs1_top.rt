@@ -1,9 +1,8 @@
-//! Calls that succeed, and what the cases of case_runs cannot try: faults of the source and of the sink, the longest input, and
-//! that workers run at the same time.
+//! Calls with faults of the source and of the sink, with the longest input, with workers that run at the same time, and with
+//! long runs by both drives.
+ghost use Rattle.std.specs.Prelude.{◌≡◌, false, map, string_bytes, IfOk};
+ghost use Rattle.answer_model.specs.Forms.{form_may_wait, form_of_words};
 
-use crate::words::form_of_words;
-use crate::{top, top_counted, top_plain};
-use answer_model::{Form, Status};
 use load_maker::make_system;
 use std::alloc::{AllocError, Global};
 use std::sync::Wait;
@@ -13,6 +12,7 @@ use std::thread::{Threads, yield_now};
 use xs_edge::{
     CountingSource, FailingSink, FailingSource, Gate, ListSink, ListSource, OpenGate, Sink, Source,
 };
+use xs1_top::{Status, top, top_counted, top_plain};
 
 const SUM: &[u8] =
     b"xs1 1\nnode 0 id 0\nsource 0\nmain: ldc r0, 5\n  ldc r1, 7\n  add r2, r0, r1 // 12\n  stw r2, dp[0]\n  freet\nend\n";
@@ -26,13 +26,6 @@ const PAIR: &[u8] =
 
 const PAIR_FOR_40: &[u8] =
     b"30 n1 chan 0 ct 1\nlink 0:0>1:0 tokens 4 credits 0\nlink 1:0>0:0 tokens 0 credits 4\nn0 mem 0x00010000 0x00010002\nend 40\n";
-
-// A node that shifts the ten bits of 0x2aa out at a pin, one in 868 ticks of the reference clock.
-const BITS: &[u8] =
-    b"xs1 1\nnode 0 id 0\nsource 0\n  ldw r0, dp[0]\n  setc res[r0], 8\n  ldw r3, dp[1]\n  ldc r4, 10\n  ldc r5, 868\n  ldc r2, 100\n  bit: setpt res[r0], r2\n  outshr res[r0], r3\n  add r2, r2, r5\n  sub r4, r4, 1\n  bt r4, bit\n  freet\n  .data\n  .word 0x00010000, 0x2aa\nend\n";
-
-const BITS_FOR_35000: &[u8] =
-    b"402 n0 pin 1A 0x00000000\n3874 n0 pin 1A 0x00000001\n7346 n0 pin 1A 0x00000000\n10818 n0 pin 1A 0x00000001\n14290 n0 pin 1A 0x00000000\n17762 n0 pin 1A 0x00000001\n21234 n0 pin 1A 0x00000000\n24706 n0 pin 1A 0x00000001\n28178 n0 pin 1A 0x00000000\n31650 n0 pin 1A 0x00000001\nn0 mem 0x00010000 0x00010000\nn0 mem 0x00010004 0x000002aa\nend 35000\n";
 
 const LONGEST: usize = 4_194_304;
 
@@ -116,57 +109,31 @@ fn owned(alloc: Global, words: &[&str]) -> Result<Vec<String>, AllocError> {
     Ok(owned)
 }
 
-#[test]
-fn writes_the_trace_of_a_run(rt: HostRuntime) -> Result<(), Fail> {
-    let mut source = ListSource::new(SUM.to_vec(rt.alloc())?);
-    let mut sink = ListSink::with_room(rt.alloc(), 256)?;
-    let ended = call(&rt, rt.alloc(), &["run", "20"], &mut source, &mut sink)?;
-    assert_eq!(rt; ended, Status::Done);
-    assert_eq!(rt;
-        sink.bytes(),
-        b"n0 mem 0x00010000 0x0000000c\nend 20\n".as_slice()
-    );
-    Ok(())
-}
-
-#[test]
-fn writes_the_same_by_either_drive(rt: HostRuntime) -> Result<(), Fail> {
-    for words in [
-        ["run", "35000", "free"].as_slice(),
-        ["run", "35000"].as_slice(),
-        ["run", "35000", "serial"].as_slice(),
-    ] {
-        let mut source = ListSource::new(BITS.to_vec(rt.alloc())?);
-        let mut sink = ListSink::with_room(rt.alloc(), 512)?;
-        let ended = call(&rt, rt.alloc(), words, &mut source, &mut sink)?;
-        assert_eq!(rt; ended, Status::Done);
-        assert_eq!(rt; sink.bytes(), BITS_FOR_35000);
-    }
-    Ok(())
+// The words of a serial run of 40 slots, which waits for nobody.
+fn serial_words(alloc: Global) -> Result<Vec<String>, AllocError>
+    ensures { IfOk result (λ words. form_may_wait (form_of_words (map string_bytes words.items)) ≡ false) }
+{
+    let mut words = Vec::new(alloc);
+    words.push(String::from_str(alloc, "run")?)?;
+    words.push(String::from_str(alloc, "40")?)?;
+    words.push(String::from_str(alloc, "serial")?)?;
+    Ok(words)
 }
 
 // Nothing waits, so this call takes no runtime.
 #[test]
 fn writes_the_trace_of_a_serial_run(rt: HostRuntime) -> Result<(), Fail> {
-    let words = owned(rt.alloc(), &["run", "40", "serial"])?;
-    assert!(rt; matches!(form_of_words(&words), Some(Form::Serial(40))));
+    let words = serial_words(rt.alloc())?;
     let mut source = ListSource::new(PAIR.to_vec(rt.alloc())?);
     let mut sink = ListSink::with_room(rt.alloc(), 256)?;
     let ended = top_plain(rt.alloc(), &words, &mut source, &mut sink, &OpenGate);
-    assert_eq!(rt; ended, Status::Done);
-    assert_eq!(rt; sink.bytes(), PAIR_FOR_40);
+    assert!(rt; ended == Status::Done && sink.bytes() == PAIR_FOR_40);
     Ok(())
 }
 
 #[test]
-fn a_worker_comes_to_the_gate_while_the_first_is_held_back(rt: HostRuntime) -> Result<(), Fail> {
-    assert!(rt; meets(&rt, rt.alloc(), 0)?);
-    Ok(())
-}
-
-#[test]
-fn a_worker_comes_to_the_gate_while_the_second_is_held_back(rt: HostRuntime) -> Result<(), Fail> {
-    assert!(rt; meets(&rt, rt.alloc(), 1)?);
+fn a_worker_comes_to_the_gate_while_the_other_is_held_back(rt: HostRuntime) -> Result<(), Fail> {
+    assert!(rt; meets(&rt, rt.alloc(), 0)? && meets(&rt, rt.alloc(), 1)?);
     Ok(())
 }
 
@@ -175,8 +142,7 @@ fn writes_nothing_after_a_failed_read(rt: HostRuntime) -> Result<(), Fail> {
     let mut source = FailingSource::new(SUM.to_vec(rt.alloc())?, 30);
     let mut sink = ListSink::with_room(rt.alloc(), 256)?;
     let ended = call(&rt, rt.alloc(), &["run", "20"], &mut source, &mut sink)?;
-    assert_eq!(rt; ended, Status::ReadFault);
-    assert_eq!(rt; sink.bytes(), b"".as_slice());
+    assert!(rt; ended == Status::ReadFault && sink.bytes().is_empty());
     Ok(())
 }
 
@@ -185,8 +151,7 @@ fn writes_a_front_before_a_failed_write(rt: HostRuntime) -> Result<(), Fail> {
     let mut source = ListSource::new(SUM.to_vec(rt.alloc())?);
     let mut sink = FailingSink::new(rt.alloc(), 3)?;
     let ended = call(&rt, rt.alloc(), &["run", "20"], &mut source, &mut sink)?;
-    assert_eq!(rt; ended, Status::WriteFault);
-    assert_eq!(rt; sink.bytes(), b"n0 ".as_slice());
+    assert!(rt; ended == Status::WriteFault && sink.bytes() == b"n0 ".as_slice());
     Ok(())
 }
 
@@ -202,28 +167,21 @@ fn padded(alloc: Global, before: usize, after: usize) -> Result<Vec<u8>, AllocEr
 #[test]
 fn takes_the_longest_input_and_no_longer(rt: HostRuntime) -> Result<(), Fail> {
     let blank = LONGEST - EMPTY.len();
-    let rows = [
-        (blank, 0, Status::Done, b"end 0\n".as_slice()),
-        (0, blank, Status::Done, b"end 0\n".as_slice()),
-        (
-            blank + 1,
-            0,
-            Status::SystemFault,
-            b"system line 0: S10 input too long\n".as_slice(),
-        ),
-        (
-            0,
-            blank + 1,
-            Status::SystemFault,
-            b"system line 0: S10 input too long\n".as_slice(),
-        ),
-    ];
-    for (before, after, status, text) in rows {
+    let accepted = (Status::Done, b"end 0\n".as_slice());
+    let refused = (
+        Status::SystemFault,
+        b"system line 0: S10 input too long\n".as_slice(),
+    );
+    for (before, after, (status, text)) in [
+        (blank, 0, accepted),
+        (0, blank, accepted),
+        (blank + 1, 0, refused),
+        (0, blank + 1, refused),
+    ] {
         let mut source = ListSource::new(padded(rt.alloc(), before, after)?);
         let mut sink = ListSink::with_room(rt.alloc(), 256)?;
         let ended = call(&rt, rt.alloc(), &["run", "0"], &mut source, &mut sink)?;
-        assert_eq!(rt; ended, status);
-        assert_eq!(rt; sink.bytes(), text);
+        assert!(rt; ended == status && sink.bytes() == text);
     }
     Ok(())
 }
@@ -254,42 +212,20 @@ fn reads_a_short_input_and_its_end(rt: HostRuntime) -> Result<(), Fail> {
     let mut sink = ListSink::with_room(rt.alloc(), 256)?;
     let words = owned(rt.alloc(), &["run", "20"])?;
     let ended = top_counted(&rt, rt.alloc(), &words, &mut source, &mut sink, &OpenGate);
-    assert_eq!(rt; ended, Status::Done);
-    assert_eq!(rt; source.reads(), 2);
+    assert!(rt; ended == Status::Done && source.reads() == 2);
     Ok(())
 }
 
-// What is written for `make NUMBER`, from a source of which no read succeeds, since nothing is read.
-fn made<R: Threads + Wait + Sync>(
-    rt: &R,
-    alloc: Global,
-    number: &str,
-) -> Result<ListSink, AllocError> {
-    let mut source = FailingSource::new(Vec::new(alloc), 0);
-    let mut sink = ListSink::with_room(alloc, 256)?;
-    let _ended = call(rt, alloc, &["make", number], &mut source, &mut sink)?;
-    Ok(sink)
-}
-
+// Nothing is read, so it does no harm that no read succeeds.
 #[test]
 fn tells_what_a_load_comes_to(rt: HostRuntime) -> Result<(), Fail> {
-    for (number, text) in [
-        (
-            "1",
-            b"made 1 nodes 3 tokens 4800 credits 4800 events 3000\n".as_slice(),
-        ),
-        (
-            "14",
-            b"made 14 nodes 16 tokens 25600 credits 25600 events 16000\n".as_slice(),
-        ),
-        (
-            "4294967295",
-            b"made 4294967295 nodes 2 tokens 3200 credits 3200 events 2000\n".as_slice(),
-        ),
-    ] {
-        let sink = made(&rt, rt.alloc(), number)?;
-        assert_eq!(rt; sink.bytes(), text);
-    }
+    let mut source = FailingSource::new(Vec::new(rt.alloc()), 0);
+    let mut sink = ListSink::with_room(rt.alloc(), 256)?;
+    let ended = call(&rt, rt.alloc(), &["make", "1"], &mut source, &mut sink)?;
+    assert!(rt;
+        ended == Status::Done
+            && sink.bytes() == b"made 1 nodes 3 tokens 4800 credits 4800 events 3000\n".as_slice()
+    );
     Ok(())
 }
 
@@ -310,7 +246,6 @@ fn run_of_load<R: Threads + Wait + Sync>(
 fn a_load_writes_the_same_by_either_drive(rt: HostRuntime) -> Result<(), Fail> {
     let free = run_of_load(&rt, rt.alloc(), &["run", "60000"])?;
     let serial = run_of_load(&rt, rt.alloc(), &["run", "60000", "serial"])?;
-    assert!(rt; serial.bytes().ends_with(b"end 60000\n"));
-    assert!(rt; free.bytes() == serial.bytes());
+    assert!(rt; serial.bytes().ends_with(b"end 60000\n") && free.bytes() == serial.bytes());
     Ok(())
 }

@@ -1,38 +1,31 @@
 //! System texts that are read and some that are refused. The cases of case_runs try the others.
 
-use crate::{PinKind, SysKind, SystemError, read_system};
 use std::alloc::Global;
-use std::process::Abort;
 use std::test::Fail;
 use sys_plan::Step;
+use system_text::{PinKind, SysKind, SystemError, read_system};
 
 #[test]
 fn pair(rt: HostRuntime) -> Result<(), Fail> {
     let text =
         b"# a pair\r\n\n xs1\t1 // edition\nnode 007 id 0x1\nsource 0x7//x\nend:\nend # of it\nnode 3 id 00\nlink 0x7:0x0 03:00 delay 0x3e8 gap 1000\nbit 7 0xf 0x0#\nsource 3\nnop\nend\nbit 3 0 0";
     let plan = read_system(rt.alloc(), text)?;
-    let nodes = plan.nodes();
-    assert_eq!(rt; nodes.len(), 2);
-    assert_eq!(rt; nodes[0].number, 3);
-    assert_eq!(rt; nodes[0].id, 0);
-    assert_eq!(rt; nodes[0].image.code().len(), 1);
-    assert_eq!(rt;
-        nodes[0].ways,
-        [1, 0, 0, 0, 0, 0, 0, 0, 0, 0, 0, 0, 0, 0, 0, 0]
+    let [low, high] = plan.nodes() else {
+        return Err(Fail::from("two nodes"));
+    };
+    assert!(rt;
+        (low.number, low.id) == (3, 0)
+            && low.image.code().len() == 1
+            && low.ways == [1, 0, 0, 0, 0, 0, 0, 0, 0, 0, 0, 0, 0, 0, 0, 0]
     );
-    assert_eq!(rt; nodes[1].number, 7);
-    assert_eq!(rt; nodes[1].id, 1);
-    assert_eq!(rt; nodes[1].image.code().len(), 0);
-    assert_eq!(rt;
-        nodes[1].ways,
-        [0, 0, 0, 0, 0, 0, 0, 0, 0, 0, 0, 0, 0, 0, 0, 1]
+    assert!(rt;
+        (high.number, high.id) == (7, 1)
+            && high.image.code().is_empty()
+            && high.ways == [0, 0, 0, 0, 0, 0, 0, 0, 0, 0, 0, 0, 0, 0, 0, 1]
     );
-    let links = plan.links();
-    assert_eq!(rt; links.len(), 1);
-    assert_eq!(rt; links[0].a, 1);
-    assert_eq!(rt; links[0].b, 0);
-    assert_eq!(rt; links[0].delay, 1000);
-    assert_eq!(rt; links[0].gap, 1000);
+    assert!(rt;
+        matches!(plan.links(), [link] if (link.a, link.b) == (1, 0) && (link.delay, link.gap) == (1000, 1000))
+    );
     Ok(())
 }
 
@@ -41,19 +34,18 @@ fn three_in_a_line(rt: HostRuntime) -> Result<(), Fail> {
     let text =
         b"xs1 1\nnode 9 id 3\nnode 5 id 1\nnode 7 id 2\nlink 5:7 9:0 delay 1 gap 4\nlink 7:3 5:2 delay 2 gap 5\nbit 5 1 7 2\nsource 5\nend\nsource 9\nend\nsource 7\nend";
     let plan = read_system(rt.alloc(), text)?;
-    let nodes = plan.nodes();
-    assert_eq!(rt; nodes.len(), 3);
-    assert_eq!(rt; nodes[0].number, 5);
-    assert_eq!(rt;
-        nodes[0].ways,
-        [0, 132, 0, 0, 0, 0, 0, 0, 0, 0, 0, 0, 0, 0, 0, 0]
+    let [first, _, _] = plan.nodes() else {
+        return Err(Fail::from("three nodes"));
+    };
+    assert!(rt;
+        first.number == 5 && first.ways == [0, 132, 0, 0, 0, 0, 0, 0, 0, 0, 0, 0, 0, 0, 0, 0]
     );
-    let links = plan.links();
-    assert_eq!(rt; links.len(), 2);
-    assert_eq!(rt; (links[0].a, links[0].a_end), (0, 7));
-    assert_eq!(rt; (links[0].b, links[0].b_end), (2, 0));
-    assert_eq!(rt; (links[1].a, links[1].a_end), (1, 3));
-    assert_eq!(rt; (links[1].b, links[1].b_end), (0, 2));
+    let [a, b] = plan.links() else {
+        return Err(Fail::from("two links"));
+    };
+    assert!(rt;
+        (a.a, a.a_end, a.b, a.b_end) == (0, 7, 2, 0) && (b.a, b.a_end, b.b, b.b_end) == (1, 3, 0, 2)
+    );
     Ok(())
 }
 
@@ -62,12 +54,13 @@ fn pin_script_before_its_nodes(rt: HostRuntime) -> Result<(), Fail> {
     let text =
         b"xs1 1\npins # of both\n# slots\n5 3:4A 15\n\n  0x9 7:1B 1 // last\n end\nnode 7 id 1\nnode 3 id 0\nsource 7\nend\nsource 3\nend";
     let plan = read_system(rt.alloc(), text)?;
-    let lines = plan.script().lines();
-    assert_eq!(rt; lines.len(), 2);
-    assert_eq!(rt; (lines[0].slot, lines[0].node), (5, 3));
-    assert_eq!(rt; (lines[0].port, lines[0].value), (16, 15));
-    assert_eq!(rt; (lines[1].slot, lines[1].node), (9, 7));
-    assert_eq!(rt; (lines[1].port, lines[1].value), (1, 1));
+    let [a, b] = plan.script().lines() else {
+        return Err(Fail::from("two lines"));
+    };
+    assert!(rt;
+        (a.slot, a.node, a.port, a.value) == (5, 3, 16, 15)
+            && (b.slot, b.node, b.port, b.value) == (9, 7, 1, 1)
+    );
     Ok(())
 }
 
@@ -76,13 +69,26 @@ fn schedule_between_the_sources(rt: HostRuntime) -> Result<(), Fail> {
     let text =
         b"xs1 1\nnode 7 id 1\nnode 3 id 0\nlink 7:2 3:5 delay 5 gap 4\nsource 7\nend\nplay # it\nrun 007 0x10\n\n# nothing\nsend 7:0x2 // now\nrun 3\ntake\t3:5\n end # of it\nsource 3\nend";
     let plan = read_system(rt.alloc(), text)?;
-    let steps = plan.steps();
-    assert_eq!(rt; steps.len(), 4);
-    assert!(rt; matches!(&steps[0], Step::Run { node: 1, count: 16 }));
-    assert!(rt; matches!(&steps[1], Step::Send { node: 1, end: 2 }));
-    assert!(rt; matches!(&steps[2], Step::Run { node: 0, count: 1 }));
-    assert!(rt; matches!(&steps[3], Step::Take { node: 0, end: 5 }));
+    assert!(rt;
+        matches!(
+            plan.steps(),
+            [
+                Step::Run { node: 1, count: 16 },
+                Step::Send { node: 1, end: 2 },
+                Step::Run { node: 0, count: 1 },
+                Step::Take { node: 0, end: 5 },
+            ]
+        )
+    );
     Ok(())
+}
+
+// Whether the pin script is refused at the line for the kind.
+fn is_refused_script(alloc: Global, text: &[u8], at: u32, why: PinKind) -> bool {
+    match read_system(alloc, text) {
+        Err(SystemError::Pins { line, kind }) => line == at && kind == why,
+        _ => false,
+    }
 }
 
 #[test]
@@ -100,14 +106,19 @@ fn pin_script_refusals(rt: HostRuntime) {
         ),
         (b"xs1 1\npins\n\n1 0:4A 1\nend", 2, PinKind::NoSuchNode),
     ];
-    for (text, at, why) in cases {
-        match read_system(rt.alloc(), text) {
-            Err(SystemError::Pins { line, kind }) => {
-                assert_eq!(rt; kind, why);
-                assert_eq!(rt; line, at);
-            }
-            _ => assert!(rt; false, "the pin script is not refused"),
-        }
+    for (text, line, kind) in cases {
+        assert!(rt;
+            is_refused_script(rt.alloc(), text, line, kind),
+            "{line} {kind:?}"
+        );
+    }
+}
+
+// Whether the frame is refused at the line for the kind.
+fn is_refused_frame(alloc: Global, text: &[u8], at: u32, why: SysKind) -> bool {
+    match read_system(alloc, text) {
+        Err(SystemError::Frame { line, kind }) => line == at && kind == why,
+        _ => false,
     }
 }
 
@@ -170,16 +181,9 @@ fn refusals(rt: HostRuntime) {
         ),
     ];
     for (text, line, kind) in cases {
-        refused(&rt, rt.alloc(), text, line, kind);
-    }
-}
-
-fn refused(rt: &impl Abort, alloc: Global, text: &[u8], at: u32, why: SysKind) {
-    match read_system(alloc, text) {
-        Err(SystemError::Frame { line, kind }) => {
-            assert_eq!(rt; kind, why);
-            assert_eq!(rt; line, at);
-        }
-        _ => assert!(rt; false, "the frame is not refused"),
+        assert!(rt;
+            is_refused_frame(rt.alloc(), text, line, kind),
+            "{line} {kind:?}"
+        );
     }
 }

@@ -1,6 +1,8 @@
-use crate::print_image;
+//! The texts of three images.
+
 use std::test::Fail;
 use xs_instructions::{FlowIns, Image, Instr, MemIns, ResIns, Symbols, WordIns};
+use xs_printer::print_image;
 
 #[test]
 fn prints_an_image_without_anything(rt: HostRuntime) -> Result<(), Fail> {
