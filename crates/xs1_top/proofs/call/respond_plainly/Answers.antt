@@ -1,28 +1,10 @@
-use Rattle.answer_model.specs.declared.Status.TheVariants as status
+use Rattle.std.proofs.Common.{refl, sym, ◌∙◌}
 use Rattle.answer_model.specs.Top.{usage_answer}
-use Rattle.xs1_top.proofs.Calls.{no_form, Answers-given, AnswersInPart-given, comes, comes_written}
-use Rattle.xs1_top.proofs.call.top_plain.Goals as goal
+use Rattle.xs1_top.proofs.Calls.{no_form, nothing_read, usage-fits, finished_call, TookInput-none}
+use Rattle.xs1_top.proofs.call.respond_plainly.Goals as goal
 
-pub returns-in_default-clause-answered : goal.returns-in_default-clause-answered
-returns-in_default-clause-answered g c = λ whole.
-    Answers-given usage_answer _ _ _ _ _ _ (no_form _ _ c.in_default.ensures.value) c.usage_line.ensures c.finish.ensures.status (c.finish.ensures.whole whole) whole
-
-pub returns-in_default-clause-part : goal.returns-in_default-clause-part
-returns-in_default-clause-part g c = λ ended.
-    AnswersInPart-given usage_answer _ _ _ _ _ (no_form _ _ c.in_default.ensures.value) c.usage_line.ensures (c.finish.ensures.part ended)
-
-pub returns-in_default-clause-system_fault_given : goal.returns-in_default-clause-system_fault_given
-returns-in_default-clause-system_fault_given g c = λ whole.
-    comes usage_answer _ _ _ status.SystemFault (no_form _ _ c.in_default.ensures.value) c.finish.ensures.status whole
-
-pub returns-in_default-clause-source_fault_given : goal.returns-in_default-clause-source_fault_given
-returns-in_default-clause-source_fault_given g c = λ whole.
-    comes usage_answer _ _ _ status.SourceFault (no_form _ _ c.in_default.ensures.value) c.finish.ensures.status whole
-
-pub returns-in_default-clause-script_fault_given : goal.returns-in_default-clause-script_fault_given
-returns-in_default-clause-script_fault_given g c = λ whole.
-    comes usage_answer _ _ _ status.ScriptFault (no_form _ _ c.in_default.ensures.value) c.finish.ensures.status whole
-
-pub returns-in_default-clause-done_given : goal.returns-in_default-clause-done_given
-returns-in_default-clause-done_given g c = λ _ _ calm.
-    comes_written usage_answer _ _ _ status.Done (no_form _ _ c.in_default.ensures.value) c.finish.ensures.status (λ failed. calm (c.finish.ensures.fault failed))
+pub returns-in_default : goal.returns-in_default
+returns-in_default g c =
+    let none = sym c.in_default.is ∙ c.requires.of_words in
+    finished_call g.S.Source.left g.S.Source.faults g.S.Source.read_gives g.K.Sink.written g.K.Sink.faults _ _ _ _ _ _ usage_answer _
+    (TookInput-none _ _ none) (nothing_read g.S.Source.read_gives _) refl (λ _. refl) (no_form _ _ none) (usage-fits _ none) c.usage_line.ensures c.finish.ensures
