@@ -94,11 +94,11 @@ pub record IsGiven (script : List PinLine) (nodes : List NodeChangesRec) : Type 
   pub index : IsIndex script nodes
   pub of_nodes : IsOfNodes (numbers_of nodes) script
 
--- what reading a line returns, by its fault
+-- what reading a line returns, by its fault: a fault takes no memory, so that none may be wanting in its place
 abbrev pub TellsFault : Option PinKind → ℕ → Result (Unit {0}) PinError → Type 0
 TellsFault fault number (Ok u) = fault ≡ None
 TellsFault fault number (Err (errors.Fault line kind)) = (line ≡ number) × (fault ≡ Some kind)
-TellsFault fault number (Err errors.Memory) = Unit {0}
+TellsFault fault number (Err errors.Memory) = fault ≡ None
 
 -- what reading a text returns
 abbrev pub ReadsPins : PinsRead → Result (List PinLine) PinError → Type 0

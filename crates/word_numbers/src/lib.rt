@@ -2,12 +2,9 @@
 #![tactic(auto)]
 
 ghost use Rattle.std.specs.Prelude.{◌≡◌, ◌≤◌, IfSome};
-ghost use Rattle.std.specs.List.{list_all};
-ghost use Rattle.std.specs.Char.{is_ascii_digit};
-ghost use Rattle.xs_text.specs.Tokens.{is_run};
 ghost use Rattle.word_numbers.specs.Decimal.{decimal_up_to};
 
-use xs_text::number;
+use xs_text::{is_decimal, number};
 
 // The most digits of a number.
 const MOST_DIGITS: usize = 10;
@@ -22,16 +19,4 @@ pub fn decimal_up_to(limit: u32, word: &[u8]) -> Option<u32>
         return None;
     }
     number(word, limit)
-}
-
-fn is_decimal(word: &[u8]) -> bool
-    ensures { result ≡ is_run is_ascii_digit word.now }
-{
-    !word.is_empty() && all_digits(word)
-}
-
-fn all_digits(bytes: &[u8]) -> bool
-    ensures { result ≡ list_all is_ascii_digit bytes.now }
-{
-    bytes.iter().all(|b| b.is_ascii_digit())
 }

@@ -1,5 +1,5 @@
 -- One call of the program: what its clauses say once the text is written, or not written whole.
-use Rattle.std.proofs.Common.{◌≡◌, ℕ, ◌+◌, ◌≤◌, ◌⊎◌, Bool, true, false, min, if◌then◌else◌, List, [], length, take, drop, Option, Some, None, IfSome, refl, sym, ap, ◌∙◌, subst, arith, inl, inr}
+use Rattle.std.proofs.Common.{◌≡◌, ℕ, ◌+◌, ◌<◌, ◌≤◌, ◌⊎◌, Bool, true, false, min, if◌then◌else◌, List, [], length, take, drop, Option, Some, None, IfSome, refl, sym, ap, ◌∙◌, subst, arith, inl, inr}
 use Rattle.std.proofs.lemmas.List.{length-take}
 use Rattle.std.proofs.Math.Seq.{drop-append_seam}
 use Rattle.std.specs.Io.KnownBytes.{Appends, Consumes}
@@ -9,14 +9,19 @@ use Rattle.answer_model.specs.declared.Form.TheVariants.{Free, Serial, Play, Mak
 use Rattle.answer_model.specs.declared.Answer.{Answer}
 use Rattle.answer_model.specs.declared.Status.{Status}
 use Rattle.answer_model.specs.declared.Status.TheVariants as status
-use Rattle.system_model.specs.System.{longest_input}
-use Rattle.answer_model.specs.Forms.{form_of_words, asks_for_input}
+use Rattle.system_model.specs.System.{System, Plan, Frame, Source, Pins, longest_input, system_of}
+use Rattle.answer_model.specs.Forms.{form_of_words, asks_for_input, reads_input}
 use Rattle.answer_model.specs.OnSystem.{answer_to}
+use Rattle.sys_plan.specs.Plan.{PlanRec}
 use Rattle.answer_model.specs.RunForm.{run_text}
 use Rattle.answer_model.specs.PlayForm.{played_text}
 use Rattle.answer_model.specs.CheckForm.{check_text}
+use Rattle.load_model.specs.Load.{load_text}
+use Rattle.load_model.specs.Made.{made_text}
 use Rattle.answer_model.specs.Top.{answer, answer_by, answer_of_form, usage_answer, taken_by}
-use Rattle.xs1_top.specs.Call.{IsWhole, IsInput, Answers, AnswersInPart, TookInput, IsAnswerStatus, EndsWhere}
+use Rattle.xs1_top.specs.Call.{IsWhole, IsSilent, IsInput, Answers, AnswersInPart, TookInput, IsAnswerStatus, EndsWhere, Ends, Finishes}
+use Rattle.xs1_top.specs.Calls.{Calls}
+use Rattle.xs1_top.specs.Reads.{ReadGives, ReadsAtMost}
 use Rattle.xs1_top.proofs.Systems.{system_of-taken}
 
 -- what each form answers to the bytes taken is what it answers to the input
@@ -47,10 +52,6 @@ of_form words None bytes lent form a e front given same = (bytes, tt, given ∙ 
 of_form words (Some input) bytes lent form a e front given same =
     (input, refl, given ∙ (ap (answer_by form) (same ∙ front) ∙ (answer_by-taken form input ∙ answer-of words input (Some form) e)))
 
--- the status of an answer, or the text was not written whole
-abbrev pub Ends : Status → Status → Type 0
-Ends wanted ended = (ended ≡ wanted) ⊎ (ended ≡ status.WriteFault)
-
 whole_end : (wanted ended : Status) → Ends wanted ended → IsWhole ended → ended ≡ wanted
 whole_end wanted ended (inl e) h = e
 whole_end wanted ended (inr e) h = absurd (subst IsWhole e h)
@@ -59,18 +60,18 @@ written_end : (wanted ended : Status) → Ends wanted ended → ¬ (ended ≡ st
 written_end wanted ended (inl e) h = e
 written_end wanted ended (inr e) h = absurd (h e)
 
-pub Answers-given : (a : Answer) (words : List (List ℕ)) (left before after : Option (List ℕ)) (text : List ℕ) (ended : Status)
+Answers-given : (a : Answer) (words : List (List ℕ)) (left before after : Option (List ℕ)) (text : List ℕ) (ended : Status)
     → IsAnswer a words left → text ≡ a.text → Ends a.status ended → Appends before after text → IsWhole ended → Answers words left before after ended
 Answers-given a words left before after text ended (input, is_input, is) t ends wrote whole =
     (input, is_input, subst (Appends before after) (t ∙ ap (λ a. a.text) is) wrote, whole_end a.status ended ends whole ∙ ap (λ a. a.status) is)
 
-pub AnswersInPart-given : (a : Answer) (words : List (List ℕ)) (left before after : Option (List ℕ)) (text : List ℕ)
+AnswersInPart-given : (a : Answer) (words : List (List ℕ)) (left before after : Option (List ℕ)) (text : List ℕ)
     → IsAnswer a words left → text ≡ a.text → AppendsPart before after text → AnswersInPart words left before after
 AnswersInPart-given a words left before after text (input, is_input, is) t wrote =
     (input, is_input, subst (AppendsPart before after) (t ∙ ap (λ a. a.text) is) wrote)
 
 -- a status that came is the answer's
-pub came : (a : Answer) (words : List (List ℕ)) (left : Option (List ℕ)) (ended wanted : Status)
+came : (a : Answer) (words : List (List ℕ)) (left : Option (List ℕ)) (ended wanted : Status)
     → IsAnswer a words left → Ends a.status ended → IsWhole wanted → ended ≡ wanted → IsAnswerStatus wanted words left
 came a words None ended wanted is ends whole e = tt
 came a words (Some left) ended wanted (input, is_input, is) ends whole e =
@@ -83,12 +84,12 @@ ends_with a words (Some left) ended wanted (input, is_input, is) e = λ w.
     e ∙ (ap (λ a. a.status) is ∙ (ap (λ input. (answer words input).status) is_input ∙ w))
 
 -- and the answer's comes
-pub comes : (a : Answer) (words : List (List ℕ)) (left : Option (List ℕ)) (ended wanted : Status)
+comes : (a : Answer) (words : List (List ℕ)) (left : Option (List ℕ)) (ended wanted : Status)
     → IsAnswer a words left → Ends a.status ended → IsWhole ended → EndsWhere wanted words left ended
 comes a words left ended wanted is ends whole = ends_with a words left ended wanted is (whole_end a.status ended ends whole)
 
 -- also where it is only known that the text was written
-pub comes_written : (a : Answer) (words : List (List ℕ)) (left : Option (List ℕ)) (ended wanted : Status)
+comes_written : (a : Answer) (words : List (List ℕ)) (left : Option (List ℕ)) (ended wanted : Status)
     → IsAnswer a words left → Ends a.status ended → ¬ (ended ≡ status.WriteFault) → EndsWhere wanted words left ended
 comes_written a words left ended wanted is ends written = ends_with a words left ended wanted is (written_end a.status ended ends written)
 
@@ -106,3 +107,134 @@ TookInput-form words (Some input) (Some rest) bytes form e front took =
     sym (ap (λ form. drop (taken_by form input) input) (sym e) ∙ (ap (λ n. drop n input) count ∙ after))
 TookInput-form words (Some input) None bytes form e front took = absurd took
 TookInput-form words None after bytes form e front took = tt
+
+-- of no form nothing is taken
+pub TookInput-none : (words : List (List ℕ)) (left : Option (List ℕ)) → None ≡ form_of_words words → TookInput words left left
+TookInput-none words (Some input) none = ap (λ form. drop (taken_by form input) input) none
+TookInput-none words None none = tt
+
+pub nothing_read : {S : Type 0} (gives : ReadGives S) (source : S) → ReadsAtMost gives (longest_input + 1) source source
+nothing_read gives source = (0, omega arith, 0, source, (refl, refl), inl refl)
+
+-- what holds where the form does not ask for the input
+pub asks-form : {P : Type 0} (words : List (List ℕ)) (form : Form) → Some form ≡ form_of_words words → (reads_input form ≡ false → P) → asks_for_input (form_of_words words) ≡ false → P
+asks-form words form is held asks = held (ap asks_for_input is ∙ asks)
+
+-- The statuses of a form's answers
+
+abbrev pub IsFormStatus : Status → Type 0
+IsFormStatus status.Done = Unit {0}
+IsFormStatus status.SystemFault = Unit {0}
+IsFormStatus status.SourceFault = Unit {0}
+IsFormStatus status.ScriptFault = Unit {0}
+IsFormStatus _ = ⊥
+
+answer_to-status : (text_for : PlanRec → List ℕ) (system : System) → IsFormStatus (answer_to text_for system).status
+answer_to-status text_for (Plan plan) = tt
+answer_to-status text_for (Frame line kind) = tt
+answer_to-status text_for (Source node line kind) = tt
+answer_to-status text_for (Pins line kind) = tt
+
+pub answer_by-status : (form : Form) (input : List ℕ) → IsFormStatus (answer_by form input).status
+answer_by-status (Free slots) input = answer_to-status (run_text slots) (system_of input)
+answer_by-status (Serial slots) input = answer_to-status (run_text slots) (system_of input)
+answer_by-status (Play slots) input = answer_to-status (played_text slots) (system_of input)
+answer_by-status (Make number) input = answer_to-status (made_text number) (system_of (load_text number))
+answer_by-status Check input = answer_to-status check_text (system_of input)
+
+form_whole : (s : Status) → IsFormStatus s → IsWhole s
+form_whole status.Done h = tt
+form_whole status.SystemFault h = tt
+form_whole status.SourceFault h = tt
+form_whole status.ScriptFault h = tt
+form_whole status.Memory h = absurd h
+form_whole status.Usage h = absurd h
+form_whole status.ReadFault h = absurd h
+form_whole status.WriteFault h = absurd h
+
+-- The status is that of usage exactly where the words are of no form
+pub record FitsWords (words : List (List ℕ)) (wanted : Status) : Type 0 where
+  pub whole : IsWhole wanted
+  pub usage : wanted ≡ status.Usage → form_of_words words ≡ None
+  pub usage_given : form_of_words words ≡ None → wanted ≡ status.Usage
+
+pub usage-fits : (words : List (List ℕ)) → None ≡ form_of_words words → FitsWords words status.Usage
+usage-fits words none = record { whole = tt; usage = λ _. sym none; usage_given = λ _. refl }
+
+pub form-fits : (words : List (List ℕ)) (form : Form) (input : List ℕ) (a : Answer) → Some form ≡ form_of_words words → a ≡ answer_by form input → FitsWords words a.status
+form-fits words form input a is given =
+    let of_form : IsFormStatus a.status = subst (λ (b : Answer). IsFormStatus b.status) (sym given) (answer_by-status form input) in
+    record {
+      whole = form_whole a.status of_form;
+      usage = λ e. absurd (subst IsFormStatus e of_form);
+      usage_given = λ none. let apart : Some form ≡ None = is ∙ none in absurd cc;
+    }
+
+-- The whole call
+
+silent_apart : (s : Status) → IsSilent s → IsWhole s → ⊥
+silent_apart status.Done h w = h
+silent_apart status.Memory h w = w
+silent_apart status.Usage h w = h
+silent_apart status.SystemFault h w = h
+silent_apart status.SourceFault h w = h
+silent_apart status.ScriptFault h w = h
+silent_apart status.ReadFault h w = w
+silent_apart status.WriteFault h w = h
+
+ended_whole : (wanted ended : Status) → IsWhole wanted → ended ≡ wanted → IsWhole ended
+ended_whole wanted ended whole e = subst IsWhole (sym e) whole
+
+not_silent : (wanted ended : Status) → IsWhole wanted → Ends wanted ended → IsSilent ended → ⊥
+not_silent wanted ended whole (inl e) silent = silent_apart ended silent (ended_whole wanted ended whole e)
+not_silent wanted ended whole (inr e) silent = subst IsSilent e silent
+
+risen_shown : (faults faults_after : ℕ) (wanted ended : Status) → IsWhole wanted → Ends wanted ended → (IsWhole ended → faults_after ≡ faults) → faults < faults_after → ended ≡ status.WriteFault
+risen_shown faults faults_after wanted ended whole (inl e) calm rose =
+    let same : faults_after ≡ faults = calm (ended_whole wanted ended whole e) in
+    absurd (omega (arith, same, rose))
+risen_shown faults faults_after wanted ended whole (inr e) calm rose = e
+
+to_usage : (wanted ended : Status) → Ends wanted ended → wanted ≡ status.Usage → Ends status.Usage ended
+to_usage wanted ended (inl e) is = inl (e ∙ is)
+to_usage wanted ended (inr e) is = inr e
+
+from_usage : (wanted ended : Status) → Ends wanted ended → ended ≡ status.Usage → wanted ≡ status.Usage
+from_usage wanted ended (inl e) is = sym e ∙ is
+from_usage wanted ended (inr e) is = let apart : status.WriteFault ≡ status.Usage = sym e ∙ is in absurd cc
+
+-- an answer to the words was written, or not written whole, after the input was read that they ask for
+pub finished_call : {S K : Type 0} (left_in : S → Option (List ℕ)) (read_faults : S → ℕ) (read_gives : ReadGives S) (written_to : K → Option (List ℕ)) (write_faults : K → ℕ)
+    (words : List (List ℕ)) (source source_after : S) (sink sink_after : K) (ended : Status) (a : Answer) (text : List ℕ)
+    → TookInput words (left_in source) (left_in source_after)
+    → ReadsAtMost read_gives (longest_input + 1) source source_after
+    → read_faults source_after ≡ read_faults source
+    → (asks_for_input (form_of_words words) ≡ false → source_after ≡ source)
+    → IsAnswer a words (left_in source) → FitsWords words a.status → text ≡ a.text
+    → Finishes (written_to sink) (written_to sink_after) (write_faults sink) (write_faults sink_after) text a.status ended
+    → Calls left_in read_faults read_gives written_to write_faults words source source_after sink sink_after ended
+finished_call left_in read_faults read_gives written_to write_faults words source source_after sink sink_after ended a text took reads calm nothing is fits is_text finish =
+    let ends = finish.status in
+    let left = left_in source in
+    record {
+      answered = λ whole. Answers-given a words left _ _ text ended is is_text ends (finish.whole whole) whole;
+      part = λ failed. AnswersInPart-given a words left _ _ text is is_text (finish.part failed);
+      silent = λ silent. absurd (not_silent a.status ended fits.whole ends silent);
+      left = λ _. took;
+      reads = reads;
+      read_fault = λ e. absurd (not_silent a.status ended fits.whole ends (subst IsSilent (sym e) tt));
+      read_fault_shown = λ rose. absurd (omega (arith, rose, calm));
+      write_fault = finish.fault;
+      write_fault_shown = risen_shown _ _ a.status ended fits.whole ends finish.calm;
+      usage = λ e. fits.usage (from_usage a.status ended ends e);
+      usage_given = λ none. to_usage a.status ended ends (fits.usage_given none);
+      reads_nothing = nothing;
+      system_fault = came a words left ended status.SystemFault is ends tt;
+      system_fault_given = comes a words left ended status.SystemFault is ends;
+      source_fault = came a words left ended status.SourceFault is ends tt;
+      source_fault_given = comes a words left ended status.SourceFault is ends;
+      script_fault = came a words left ended status.ScriptFault is ends tt;
+      script_fault_given = comes a words left ended status.ScriptFault is ends;
+      done = came a words left ended status.Done is ends tt;
+      done_given = λ _ _ calm. comes_written a words left ended status.Done is ends (λ failed. calm (finish.fault failed));
+    }

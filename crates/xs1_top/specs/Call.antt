@@ -1,5 +1,5 @@
 -- What the program's one call does to its source and its sink, and the status that it ends with.
-use Rattle.std.specs.Prelude.{ℕ, ◌≡◌, ◌≤◌, Option, Some, None, IfSome, List, drop}
+use Rattle.std.specs.Prelude.{ℕ, ◌≡◌, ◌≤◌, ◌⊎◌, Option, Some, None, IfSome, List, drop}
 use Rattle.std.specs.Io.KnownBytes.{Appends}
 use Rattle.xs_edge.specs.Edge.{HasRisen, AppendsPart}
 use Rattle.answer_model.specs.declared.Form.{Form}
@@ -82,3 +82,15 @@ EndsWhere wanted words left ended = IfSome left (λ input. (answer words input).
 -- no fault was counted, and none could be: a count that stands at its last value, 2^64 - 1, tells nothing
 abbrev pub IsCalm : ℕ → ℕ → Type 0
 IsCalm before after = ¬ HasRisen before after
+
+-- the status that was to come, or the text was not written whole
+abbrev pub Ends : Status → Status → Type 0
+Ends wanted ended = (ended ≡ wanted) ⊎ (ended ≡ WriteFault)
+
+-- A text was written, or a front of it, and the call ended: what is written and how many writes have failed, before and after.
+pub record Finishes (before after : Option (List ℕ)) (faults faults_after : ℕ) (text : List ℕ) (wanted ended : Status) : Type 0 where
+  pub status : Ends wanted ended
+  pub whole : IsWhole ended → Appends before after text
+  pub calm : IsWhole ended → faults_after ≡ faults
+  pub part : ended ≡ WriteFault → AppendsPart before after text
+  pub fault : ended ≡ WriteFault → HasRisen faults faults_after

@@ -1,3 +1,5 @@
 pub mod Call
+pub mod Calls
+pub mod Input
 pub mod OnSystem
 pub mod Reads

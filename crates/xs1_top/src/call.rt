@@ -5,6 +5,7 @@ ghost use Rattle.system_model.specs.System.{longest_input};
 ghost use Rattle.answer_model.specs.Forms.{asks_for_input, form_may_wait, form_of_words, may_wait};
 ghost use Rattle.answer_model.specs.Top.{answer_by};
 ghost use Rattle.xs1_top.specs.Call.{IsWhole, IsRead, IsSilent, Answers, AnswersInPart, TookInput, IsAnswerStatus, EndsWhere, IsCalm};
+ghost use Rattle.xs1_top.specs.Calls.{Calls};
 ghost use Rattle.xs1_top.specs.Reads.{ReadsAtMost};
 
 use crate::respond::{finish, respond};
@@ -77,23 +78,23 @@ pub fn top<R: Threads + Wait + Sync, S: Source, K: Sink, G: Gate>(
     ensures done_given { result ≢ Status.Memory → IsCalm (S.faults source.old) (S.faults source.new) → IsCalm (K.faults sink.old) (K.faults sink.new)
         → EndsWhere Status.Done (map string_bytes words.now) (S.left source.old) result }
 {
-    let Some(Form::Free(slots)) = form_of_words(words) else {
-        return top_plain(alloc, words, source, sink, gate);
-    };
-    respond(
-        alloc,
-        words,
-        Form::Free(slots),
-        source,
-        sink,
-        |input| run::answer_freely(rt, alloc, slots, input, gate),
-    )
+    match form_of_words(words) {
+        Some(Form::Free(slots)) => respond(
+            alloc,
+            words,
+            Form::Free(slots),
+            source,
+            sink,
+            |input| run::answer_freely(rt, alloc, slots, input, gate),
+        ),
+        form => respond_plainly(alloc, words, form, source, sink),
+    }
 }
 
 /// What `top` does with words of a form that waits for nobody, and with words of no form: with all but `run SLOTS` and
 /// `run SLOTS free`. It returns. Nothing passes `gate`. See docs/OUTPUT.md.
 ///
-/// The statuses are those of `top`, and each comes as it does there.
+/// The statuses are those of `top`, and each comes as it does there: the fields of `Calls` are the clauses of `top`.
 pub fn top_plain<S: Source, K: Sink, G: Gate>(
     alloc: Global,
     words: &[String],
@@ -102,35 +103,24 @@ pub fn top_plain<S: Source, K: Sink, G: Gate>(
     gate: &G,
 ) -> Status
     requires plain { form_may_wait (form_of_words (map string_bytes words.now)) ≡ false }
-
-    // What is written and what is read.
-    ensures answered { IsWhole result → Answers (map string_bytes words.now) (S.left source.old) (K.written sink.old) (K.written sink.new) result }
-    ensures part { result ≡ Status.WriteFault → AnswersInPart (map string_bytes words.now) (S.left source.old) (K.written sink.old) (K.written sink.new) }
-    ensures silent { IsSilent result → sink.new ≡ sink.old }
-    ensures left { IsRead result → TookInput (map string_bytes words.now) (S.left source.old) (S.left source.new) }
-    ensures reads { ReadsAtMost S.read_gives (longest_input + 1) source.old source.new }
-
-    // Where reads and writes fail.
-    ensures read_fault { result ≡ Status.ReadFault → HasRisen (S.faults source.old) (S.faults source.new) }
-    ensures read_fault_shown { S.faults source.old < S.faults source.new → result ≡ Status.ReadFault }
-    ensures write_fault { result ≡ Status.WriteFault → HasRisen (K.faults sink.old) (K.faults sink.new) }
-    ensures write_fault_shown { K.faults sink.old < K.faults sink.new → result ≡ Status.WriteFault }
-
-    // When each of the other statuses comes.
-    ensures usage { result ≡ Status.Usage → form_of_words (map string_bytes words.now) ≡ None }
-    ensures usage_given { form_of_words (map string_bytes words.now) ≡ None → (result ≡ Status.Usage) ⊎ (result ≡ Status.WriteFault) }
-    ensures reads_nothing { asks_for_input (form_of_words (map string_bytes words.now)) ≡ false → source.new ≡ source.old }
-    ensures system_fault { result ≡ Status.SystemFault → IsAnswerStatus Status.SystemFault (map string_bytes words.now) (S.left source.old) }
-    ensures system_fault_given { IsWhole result → EndsWhere Status.SystemFault (map string_bytes words.now) (S.left source.old) result }
-    ensures source_fault { result ≡ Status.SourceFault → IsAnswerStatus Status.SourceFault (map string_bytes words.now) (S.left source.old) }
-    ensures source_fault_given { IsWhole result → EndsWhere Status.SourceFault (map string_bytes words.now) (S.left source.old) result }
-    ensures script_fault { result ≡ Status.ScriptFault → IsAnswerStatus Status.ScriptFault (map string_bytes words.now) (S.left source.old) }
-    ensures script_fault_given { IsWhole result → EndsWhere Status.ScriptFault (map string_bytes words.now) (S.left source.old) result }
-    ensures done { result ≡ Status.Done → IsAnswerStatus Status.Done (map string_bytes words.now) (S.left source.old) }
-    ensures done_given { result ≢ Status.Memory → IsCalm (S.faults source.old) (S.faults source.new) → IsCalm (K.faults sink.old) (K.faults sink.new)
-        → EndsWhere Status.Done (map string_bytes words.now) (S.left source.old) result }
+    ensures { Calls S.left S.faults S.read_gives K.written K.faults (map string_bytes words.now) source.old source.new sink.old sink.new result }
 {
-    let Some(form) = form_of_words(words) else {
+    respond_plainly(alloc, words, form_of_words(words), source, sink)
+}
+
+// What words do that have this form, which waits for nobody, or none.
+fn respond_plainly<S: Source, K: Sink>(
+    alloc: Global,
+    words: &[String],
+    form: Option<Form>,
+    source: &mut S,
+    sink: &mut K,
+) -> Status
+    requires of_words { form ≡ form_of_words (map string_bytes words.now) }
+    requires plain { form_may_wait form ≡ false }
+    ensures { Calls S.left S.faults S.read_gives K.written K.faults (map string_bytes words.now) source.old source.new sink.old sink.new result }
+{
+    let Some(form) = form else {
         return finish(sink, usage_line(), Status::Usage);
     };
     respond(alloc, words, form, source, sink, |input| {

@@ -1,11 +1,9 @@
 //! Reading the input whole, or as much of it as shows that it is too long.
-ghost use Rattle.std.specs.Prelude.{◌≡◌, ◌<◌, ◌≤◌, ◌+◌, false, Some, length, take, vec_len, IfOk, OnOk, IfSome, IsErrOf};
-ghost use Rattle.std.specs.Io.KnownBytes.{Consumes};
-ghost use Rattle.xs_edge.specs.Edge.{HasRisen};
+ghost use Rattle.std.specs.Prelude.{◌≡◌, ◌<◌, ◌≤◌, ◌+◌, false, Some, length, take, vec_len, IfOk, IfSome};
 ghost use Rattle.system_model.specs.System.{longest_input};
 ghost use Rattle.answer_model.specs.Forms.{reads_input};
 ghost use Rattle.answer_model.specs.Top.{taken_by};
-ghost use Rattle.xs1_top.specs.Reads.{ReadsAtMost};
+ghost use Rattle.xs1_top.specs.Input.{ReadsInput};
 
 use crate::words::reads_input;
 use answer_model::Form;
@@ -53,13 +51,9 @@ impl From<AllocError> for ReadError {
 /// than an input may have. `ReadError::Failed` comes only where the source's count of faults has risen, and
 /// `ReadError::Memory` where memory was wanting; the bytes taken till then are lost.
 pub fn read_for<S: Source>(alloc: Global, form: Form, source: &mut S) -> Result<Vec<u8>, ReadError>
-    ensures taken { IfOk result (λ bytes. Consumes (S.left source.old) (S.left source.new) bytes.items) }
+    ensures input { ReadsInput S.left S.faults S.read_gives source.old source.new result }
     ensures front { IfOk result (λ bytes. IfSome (S.left source.old) (λ left. bytes.items ≡ take (taken_by (Some form) left) left)) }
     ensures nothing { reads_input form ≡ false → source.new ≡ source.old }
-    ensures calm { OnOk result (S.faults source.new ≡ S.faults source.old) }
-    ensures failed { IsErrOf result ReadError.Failed → HasRisen (S.faults source.old) (S.faults source.new) }
-    ensures memory { IsErrOf result ReadError.Memory → S.faults source.new ≡ S.faults source.old }
-    ensures reads { ReadsAtMost S.read_gives (longest_input + 1) source.old source.new }
 {
     if !reads_input(form) {
         return Ok(Vec::new(alloc));
@@ -72,13 +66,9 @@ pub fn read_for<S: Source>(alloc: Global, form: Form, source: &mut S) -> Result<
 // `ReadError::Failed` comes only where the source's count of faults has risen, and `ReadError::Memory` where memory
 // was wanting; the bytes taken till then are lost.
 fn read_all<S: Source>(alloc: Global, source: &mut S) -> Result<Vec<u8>, ReadError>
-    ensures taken { IfOk result (λ bytes. Consumes (S.left source.old) (S.left source.new) bytes.items) }
+    ensures input { ReadsInput S.left S.faults S.read_gives source.old source.new result }
     ensures front { IfOk result (λ bytes. IfSome (S.left source.old) (λ left. bytes.items ≡ take (longest_input + 1) left)) }
     ensures within { IfOk result (λ bytes. vec_len bytes ≤ longest_input + 1) }
-    ensures calm { OnOk result (S.faults source.new ≡ S.faults source.old) }
-    ensures failed { IsErrOf result ReadError.Failed → HasRisen (S.faults source.old) (S.faults source.new) }
-    ensures memory { IsErrOf result ReadError.Memory → S.faults source.new ≡ S.faults source.old }
-    ensures reads { ReadsAtMost S.read_gives (longest_input + 1) source.old source.new }
 {
     let mut buffer = make_buffer(alloc)?;
     read_through(alloc, source, &mut buffer)
@@ -97,13 +87,9 @@ fn read_through<S: Source>(
     buffer: &mut [u8],
 ) -> Result<Vec<u8>, ReadError>
     requires { 0 < length buffer.old }
-    ensures taken { IfOk result (λ bytes. Consumes (S.left source.old) (S.left source.new) bytes.items) }
+    ensures input { ReadsInput S.left S.faults S.read_gives source.old source.new result }
     ensures front { IfOk result (λ bytes. IfSome (S.left source.old) (λ left. bytes.items ≡ take (longest_input + 1) left)) }
     ensures within { IfOk result (λ bytes. vec_len bytes ≤ longest_input + 1) }
-    ensures calm { OnOk result (S.faults source.new ≡ S.faults source.old) }
-    ensures failed { IsErrOf result ReadError.Failed → HasRisen (S.faults source.old) (S.faults source.new) }
-    ensures memory { IsErrOf result ReadError.Memory → S.faults source.new ≡ S.faults source.old }
-    ensures reads { ReadsAtMost S.read_gives (longest_input + 1) source.old source.new }
 {
     let mut bytes = Vec::new(alloc);
     while bytes.len() < MOST_TAKEN {

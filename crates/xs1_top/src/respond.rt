@@ -1,13 +1,10 @@
 //! What words of a form do, whatever answers for the form.
-ghost use Rattle.std.specs.Prelude.{ℕ, ◌≡◌, ◌≢◌, ◌<◌, ◌+◌, ◌⊎◌, List, Result, false, Some, None, IfOk, map, string_bytes};
+ghost use Rattle.std.specs.Prelude.{ℕ, ◌≡◌, List, Result, Some, IfOk, map, string_bytes};
 ghost use Rattle.std.specs.Fn.{FnOnceReturnsAt};
-ghost use Rattle.std.specs.Io.KnownBytes.{Appends};
-ghost use Rattle.xs_edge.specs.Edge.{HasRisen, AppendsPart};
-ghost use Rattle.system_model.specs.System.{longest_input};
-ghost use Rattle.answer_model.specs.Forms.{asks_for_input, form_of_words};
+ghost use Rattle.answer_model.specs.Forms.{form_of_words};
 ghost use Rattle.answer_model.specs.Top.{answer_by};
-ghost use Rattle.xs1_top.specs.Call.{IsWhole, IsRead, IsSilent, Answers, AnswersInPart, TookInput, IsAnswerStatus, EndsWhere, IsCalm};
-ghost use Rattle.xs1_top.specs.Reads.{ReadsAtMost};
+ghost use Rattle.xs1_top.specs.Call.{Finishes, IsWhole};
+ghost use Rattle.xs1_top.specs.Calls.{Calls};
 
 use crate::input::{ReadError, read_for};
 use crate::output::write_all;
@@ -15,8 +12,8 @@ use answer_model::{Answer, Form, Status};
 use std::alloc::{AllocError, Global};
 use xs_edge::{Sink, Source};
 
-/// What words of a form do: the input is read if the form asks for it, and what is answered to it is written. The clauses are those of
-/// `top`, and `answer` is what answers for the form.
+/// What words of a form do: the input is read if the form asks for it, and what is answered to it is written. `answer` is what answers
+/// for the form.
 pub fn respond<S: Source, K: Sink, F: FnOnce(&[u8]) -> Result<Answer, AllocError>>(
     alloc: Global,
     words: &[String],
@@ -29,32 +26,7 @@ pub fn respond<S: Source, K: Sink, F: FnOnce(&[u8]) -> Result<Answer, AllocError
     requires always { F.IsAlwaysCallable answer }
     requires answers { (input : List ℕ) (given : Result Answer AllocError) → FnOnceReturnsAt F.FnOnce answer input given → IfOk given (λ a. a ≡ answer_by form input) }
 
-    // What is written and what is read.
-    ensures answered { IsWhole result → Answers (map string_bytes words.now) (S.left source.old) (K.written sink.old) (K.written sink.new) result }
-    ensures part { result ≡ Status.WriteFault → AnswersInPart (map string_bytes words.now) (S.left source.old) (K.written sink.old) (K.written sink.new) }
-    ensures silent { IsSilent result → sink.new ≡ sink.old }
-    ensures left { IsRead result → TookInput (map string_bytes words.now) (S.left source.old) (S.left source.new) }
-    ensures reads { ReadsAtMost S.read_gives (longest_input + 1) source.old source.new }
-
-    // Where reads and writes fail.
-    ensures read_fault { result ≡ Status.ReadFault → HasRisen (S.faults source.old) (S.faults source.new) }
-    ensures read_fault_shown { S.faults source.old < S.faults source.new → result ≡ Status.ReadFault }
-    ensures write_fault { result ≡ Status.WriteFault → HasRisen (K.faults sink.old) (K.faults sink.new) }
-    ensures write_fault_shown { K.faults sink.old < K.faults sink.new → result ≡ Status.WriteFault }
-
-    // When each of the other statuses comes.
-    ensures usage { result ≡ Status.Usage → form_of_words (map string_bytes words.now) ≡ None }
-    ensures usage_given { form_of_words (map string_bytes words.now) ≡ None → (result ≡ Status.Usage) ⊎ (result ≡ Status.WriteFault) }
-    ensures reads_nothing { asks_for_input (form_of_words (map string_bytes words.now)) ≡ false → source.new ≡ source.old }
-    ensures system_fault { result ≡ Status.SystemFault → IsAnswerStatus Status.SystemFault (map string_bytes words.now) (S.left source.old) }
-    ensures system_fault_given { IsWhole result → EndsWhere Status.SystemFault (map string_bytes words.now) (S.left source.old) result }
-    ensures source_fault { result ≡ Status.SourceFault → IsAnswerStatus Status.SourceFault (map string_bytes words.now) (S.left source.old) }
-    ensures source_fault_given { IsWhole result → EndsWhere Status.SourceFault (map string_bytes words.now) (S.left source.old) result }
-    ensures script_fault { result ≡ Status.ScriptFault → IsAnswerStatus Status.ScriptFault (map string_bytes words.now) (S.left source.old) }
-    ensures script_fault_given { IsWhole result → EndsWhere Status.ScriptFault (map string_bytes words.now) (S.left source.old) result }
-    ensures done { result ≡ Status.Done → IsAnswerStatus Status.Done (map string_bytes words.now) (S.left source.old) }
-    ensures done_given { result ≢ Status.Memory → IsCalm (S.faults source.old) (S.faults source.new) → IsCalm (K.faults sink.old) (K.faults sink.new)
-        → EndsWhere Status.Done (map string_bytes words.now) (S.left source.old) result }
+    ensures { Calls S.left S.faults S.read_gives K.written K.faults (map string_bytes words.now) source.old source.new sink.old sink.new result }
 {
     let input = match read_for(alloc, form, source) {
         Ok(input) => input,
@@ -83,11 +55,7 @@ fn answer_with<F: FnOnce(&[u8]) -> Result<Answer, AllocError>>(
 /// Writes the text whole, and gives the status that the program ends with.
 pub fn finish<K: Sink>(sink: &mut K, text: &[u8], status: Status) -> Status
     requires { IsWhole status }
-    ensures status { (result ≡ status) ⊎ (result ≡ Status.WriteFault) }
-    ensures whole { IsWhole result → Appends (K.written sink.old) (K.written sink.new) text.now }
-    ensures calm { IsWhole result → K.faults sink.new ≡ K.faults sink.old }
-    ensures part { result ≡ Status.WriteFault → AppendsPart (K.written sink.old) (K.written sink.new) text.now }
-    ensures fault { result ≡ Status.WriteFault → HasRisen (K.faults sink.old) (K.faults sink.new) }
+    ensures { Finishes (K.written sink.old) (K.written sink.new) (K.faults sink.old) (K.faults sink.new) text.now status result }
 {
     match write_all(sink, text) {
         Ok(()) => status,

@@ -1,5 +1,5 @@
 -- Steps of the loops over the amounts of a statement.
-use Rattle.std.proofs.Common.{◌≡◌, ℕ, ◌+◌, ◌<◌, ◌≤◌, Bool, true, false, ◌||◌, List, [], ◌∷◌, ◌++◌, length, map, drop, get_or, Option, Some, None, option_map, refl, sym, ap, ◌∙◌, append_assoc}
+use Rattle.std.proofs.Common.{◌≡◌, ◌≢◌, ℕ, ◌+◌, ◌<◌, ◌≤◌, Bool, true, false, ◌||◌, List, [], ◌∷◌, ◌++◌, length, map, drop, get_or, Option, Some, None, option_map, refl, sym, ap, ◌∙◌, append_assoc}
 use Rattle.std.specs.Prelude.{option_and_then, option_to_list, is_none, if◌then◌else◌, Result, Ok, Err, IfOk}
 use Rattle.std.specs.List.{list_any}
 use Rattle.std.proofs.lemmas.List.{append-nil, drop_more, drop_all}
@@ -156,6 +156,35 @@ pub row_end : (whole : Sofar) (found : Found) (parts : List Part) (i : ℕ) (bef
 row_end whole found parts i before all h inv =
     sym (nothing_more whole found)
     ∙ (ap (λ l. after_found whole found (values_among l (map amount_of before))) (sym (drop_all i parts h)) ∙ inv)
+
+-- Where memory may be wanting
+
+abbrev values_of : Option (List ℕ × Bool) → List ℕ
+values_of None = []
+values_of (Some found) = found.0
+
+nothing_kept : (whole : Sofar) (values : List ℕ) (missing : Bool) (amounts : List Amount) (o : Option ℕ) (more : Option (List ℕ)) → joined whole values missing amounts (put_first o more) ≡ Some ([], false) → ⊥
+nothing_kept whole values missing amounts None more e = absurd cc
+nothing_kept whole values missing amounts (Some v) None e = absurd cc
+nothing_kept whole [] missing amounts (Some v) (Some more) e = let apart : v ∷ more ≡ [] = ap values_of e in absurd cc
+nothing_kept whole (value ∷ values) missing amounts (Some v) (Some more) e =
+    let apart : value ∷ (values ++ v ∷ more) ≡ [] = ap values_of e in absurd cc
+
+amounts_some : (whole : Sofar) (found : Found) (left amounts : List Amount) → left ≢ [] → after_found whole found left ≡ found_in whole amounts → amounts ≢ []
+unfolding all_some
+amounts_some whole found [] amounts some inv = absurd (some refl)
+amounts_some whole found (a ∷ left) (b ∷ amounts) some inv = λ none. absurd cc
+amounts_some whole found (a ∷ left) [] some inv = λ _. nothing_kept whole found.values.items found.label_missing (a ∷ left) (amount_value whole a) (values_in whole left) inv
+
+-- a row of which a value is put has values
+pub row_some : (whole : Sofar) (found : Found) (parts : List Part) (i : ℕ) (d : Part) (before : List Operand) (amounts : List Amount)
+    → i < length parts
+    → ((rest : List Part) → values_among (get_or parts i d ∷ rest) (map amount_of before) ≢ [])
+    → after_found whole found (values_among (drop i parts) (map amount_of before)) ≡ found_in whole amounts
+    → amounts ≢ []
+row_some whole found parts i d before amounts h some inv =
+    amounts_some whole found (values_among (get_or parts i d ∷ drop (i + 1) parts) (map amount_of before)) amounts (some (drop (i + 1) parts))
+    (ap (λ l. after_found whole found (values_among l (map amount_of before))) (sym (drop_more parts i d h)) ∙ inv)
 
 -- the instruction of the values
 

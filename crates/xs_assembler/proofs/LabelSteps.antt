@@ -1,5 +1,5 @@
 -- Steps of the loop that defines the labels of a line.
-use Rattle.std.proofs.Common.{◌≡◌, ℕ, Bool, ◌||◌, List, [], ◌∷◌, sym, ap, ◌∙◌}
+use Rattle.std.proofs.Common.{◌≡◌, ◌≢◌, ℕ, Bool, ◌||◌, List, [], ◌∷◌, sym, ap, ◌∙◌}
 use Rattle.std.specs.Prelude.{is_some}
 use Rattle.std.specs.List.{list_any}
 use Rattle.std.proofs.Math.Bool.{or-false, or_assoc}
@@ -45,3 +45,7 @@ twice_end place names old twice all e inv = sym (or-false twice) ∙ (ap (λ ns.
 
 pub any_end : (p : List ℕ → Bool) (names : List (List ℕ)) (some all : Bool) → names ≡ [] → (some || list_any p names) ≡ all → some ≡ all
 any_end p names some all e inv = sym (or-false some) ∙ (ap (λ ns. some || list_any p ns) (sym e) ∙ inv)
+
+-- a label at the front is one of the labels
+pub labels_some : (name : List ℕ) (before after : List (List ℕ)) → before ≡ name ∷ after → before ≢ []
+labels_some name before after is = λ none. let apart : name ∷ after ≡ [] = sym is ∙ none in absurd cc

@@ -9,3 +9,4 @@ pub mod Findings
 pub mod Output
 pub mod Assembles
 pub mod Passes
+pub mod Wants

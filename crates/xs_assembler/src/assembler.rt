@@ -1,4 +1,4 @@
-ghost use Rattle.std.specs.Prelude.{ℕ, ◌≡◌, ◌^◌, ◌<◌, ◌≤◌, List, None, Some, length, map, IfOk, IfErr, IfSome, OnOk};
+ghost use Rattle.std.specs.Prelude.{ℕ, ◌≡◌, ◌^◌, ◌<◌, ◌≤◌, List, None, Some, length, map, IfOk, IfErr, IfSome, IsErr, OnOk};
 ghost use Rattle.std.specs.List.{AllByRecursion};
 ghost use Rattle.xs_instructions.specs.Image.{ImageRec, IsImage, Symbol};
 ghost use Rattle.xs_instructions.specs.SourceHash.{source_key};
@@ -13,6 +13,7 @@ ghost use Rattle.xs_assembler.specs.Output.{Grows, HasLine, HasLines};
 ghost use Rattle.xs_assembler.specs.Passes.{source_lines, AreWithin, image_with};
 ghost use Rattle.xs_assembler.specs.Before.{before_of, IsNoted};
 ghost use Rattle.xs_assembler.specs.Sofar.{sofar_of};
+ghost use Rattle.xs_assembler.specs.Wants.{MayWant, MayWantNames};
 
 use crate::asm_error::AsmError;
 use crate::before::{Before, Noted};
@@ -60,12 +61,13 @@ fn read_whole(alloc: Global, text: &[u8]) -> Result<Sofar, AllocError>
     Ok(sofar)
 }
 
-// Notes a line.
+// Notes a line. Memory may be wanting only where it has labels.
 fn note_line(alloc: Global, sofar: &mut Sofar, bytes: &[u8]) -> Result<(), AllocError>
     requires before { AreWithin (2 ^ 50) sofar.old.layout }
     requires little { length bytes.now < 2 ^ 32 }
     ensures noted { OnOk result (sofar_of sofar.new ≡ after_line (sofar_of sofar.old) (line_of bytes.now)) }
     ensures keyed { sofar.new.names.key ≡ sofar.old.names.key }
+    ensures memory { IsErr result → MayWantNames (line_of bytes.now) }
 {
     sofar.note(alloc, bytes)
 }
@@ -92,7 +94,8 @@ fn read_output(alloc: Global, text: &[u8], whole: &Sofar) -> Result<Output, AsmE
     Ok(output)
 }
 
-// Notes a line, and puts what it adds, unless it has a fault, whose first kind it gives.
+// Notes a line, and puts what it adds, unless it has a fault, whose first kind it gives. Memory may be wanting only where the
+// line has no fault, or for the values of its statement.
 fn put_line(
     alloc: Global,
     whole: &Sofar,
@@ -107,6 +110,7 @@ fn put_line(
     ensures fault { IfOk result (λ kind. kind ≡ fault_of_line (sofar_of whole.now) (before_of whole.now.names.labels before.old) (line_of bytes.now)) }
     ensures noted { OnOk result (before_of whole.now.names.labels before.new ≡ after_line (before_of whole.now.names.labels before.old) (line_of bytes.now)) }
     ensures output { IfOk result (λ kind. kind ≡ None → HasLine (sofar_of whole.now) (before_of whole.now.names.labels before.old) (line_of bytes.now) output.old output.new) }
+    ensures memory { IsErr result → MayWant (sofar_of whole.now) (before_of whole.now.names.labels before.old) (line_of bytes.now) }
 {
     let layout = before.layout;
     let Some(noted) = before.note(&whole.names, bytes) else {

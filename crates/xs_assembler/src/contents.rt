@@ -1,4 +1,4 @@
-ghost use Rattle.std.specs.Prelude.{◌≡◌, ◌<◌, ◌≤◌, ◌^◌, ◌%◌, ℕ, [], ◌∷◌, true, false, None, IfOk, MatchOption, List, map, Option, option_map, option_and_then, if◌then◌else◌};
+ghost use Rattle.std.specs.Prelude.{◌≡◌, ◌≢◌, ◌<◌, ◌≤◌, ◌^◌, ◌%◌, ℕ, [], ◌∷◌, true, false, None, IfOk, IsErr, IsSome, MatchOption, List, map, Option, option_map, option_and_then, if◌then◌else◌};
 ghost use Rattle.xs_text.specs.Tokens.{tokens_of};
 ghost use Rattle.source_model.specs.Layout.{address_in};
 ghost use Rattle.source_model.specs.Operands.{operands_of, amount_of, amounts_of};
@@ -12,6 +12,7 @@ ghost use Rattle.xs_assembler.specs.Parts.{read_amount};
 ghost use Rattle.xs_assembler.specs.Statements.{says_of};
 ghost use Rattle.xs_assembler.specs.Sofar.{sofar_of};
 ghost use Rattle.xs_assembler.specs.Contents.{Resolves, after_found, found_in, found_of};
+ghost use Rattle.xs_assembler.specs.Wants.{HasValues};
 
 use crate::amount::Amount;
 use crate::layouts::section_start;
@@ -162,10 +163,11 @@ fn nothing_found(alloc: Global) -> Found
     }
 }
 
-// Puts the value of one amount more, or answers false where it is out of range.
+// Puts the value of one amount more, or answers false where it is out of range, and takes no memory then.
 fn put_amount(found: &mut Found, whole: &Sofar, amount: Amount) -> Result<bool, AllocError>
     requires { whole.now.layout.data_bytes < 2 ^ 62 }
-    ensures { IfOk result (λ fits. (rest : List model.Amount) → after_found (sofar_of whole.now) found.old (read_amount amount.entry ∷ rest) ≡ (if fits then after_found (sofar_of whole.now) found.new rest else None)) }
+    ensures put { IfOk result (λ fits. (rest : List model.Amount) → after_found (sofar_of whole.now) found.old (read_amount amount.entry ∷ rest) ≡ (if fits then after_found (sofar_of whole.now) found.new rest else None)) }
+    ensures memory { IsErr result → IsSome (amount_value (sofar_of whole.now) (read_amount amount.entry)) }
 {
     let Some(value) = amount_value(whole, amount) else {
         return Ok(false);
@@ -186,7 +188,8 @@ fn put_operand(
     operands: &mut Operands,
 ) -> Result<bool, AllocError>
     requires { whole.now.layout.data_bytes < 2 ^ 62 }
-    ensures { IfOk result (λ fits. (parts : List Part) → after_found (sofar_of whole.now) found.old (values_among (part ∷ parts) (map amount_of operands.old)) ≡ (if fits then after_found (sofar_of whole.now) found.new (values_among parts (map amount_of operands.new)) else None)) }
+    ensures put { IfOk result (λ fits. (parts : List Part) → after_found (sofar_of whole.now) found.old (values_among (part ∷ parts) (map amount_of operands.old)) ≡ (if fits then after_found (sofar_of whole.now) found.new (values_among parts (map amount_of operands.new)) else None)) }
+    ensures memory { (parts : List Part) → IsErr result → values_among (part ∷ parts) (map amount_of operands.old) ≢ [] }
 {
     let Some(operand) = operands.next_operand() else {
         return Ok(true);
@@ -197,7 +200,8 @@ fn put_operand(
     put_amount(found, whole, amount(operand))
 }
 
-// The values of the operands that are values of the row, None where one is out of range.
+// The values of the operands that are values of the row, None where one is out of range. Memory may be wanting only where
+// there are such operands.
 fn row_values(
     alloc: Global,
     whole: &Sofar,
@@ -205,7 +209,8 @@ fn row_values(
     text: &[u8],
 ) -> Result<Option<Found>, AllocError>
     requires { whole.now.layout.data_bytes < 2 ^ 62 }
-    ensures { IfOk result (λ found. option_map found_of found ≡ found_in (sofar_of whole.now) (amounts_of row (operands_of (tokens_of text.now)))) }
+    ensures values { IfOk result (λ found. option_map found_of found ≡ found_in (sofar_of whole.now) (amounts_of row (operands_of (tokens_of text.now)))) }
+    ensures memory { IsErr result → amounts_of row (operands_of (tokens_of text.now)) ≢ [] }
 {
     let mut found = nothing_found(alloc);
     let mut operands = Operands::new(text);
@@ -244,7 +249,8 @@ fn resolve_instruction(
     text: &[u8],
 ) -> Result<Option<Resolved>, AllocError>
     requires { whole.now.layout.data_bytes < 2 ^ 62 }
-    ensures { IfOk result (Resolves (sofar_of whole.now) (Instruction row (amounts_of row (operands_of (tokens_of text.now))))) }
+    ensures instruction { IfOk result (Resolves (sofar_of whole.now) (Instruction row (amounts_of row (operands_of (tokens_of text.now))))) }
+    ensures memory { IsErr result → amounts_of row (operands_of (tokens_of text.now)) ≢ [] }
 {
     let Some(found) = row_values(alloc, whole, row, text)? else {
         return Ok(None);
@@ -287,10 +293,11 @@ fn plain(content: Content) -> Resolved
     }
 }
 
-// What a statement adds, or None where a value is out of range.
+// What a statement adds, or None where a value is out of range. Memory may be wanting only for the values of the statement.
 pub fn resolve(alloc: Global, whole: &Sofar, says: Says) -> Result<Option<Resolved>, AllocError>
     requires { whole.now.layout.data_bytes < 2 ^ 62 }
-    ensures { IfOk result (Resolves (sofar_of whole.now) (says_of says.entry)) }
+    ensures resolved { IfOk result (Resolves (sofar_of whole.now) (says_of says.entry)) }
+    ensures memory { IsErr result → HasValues (says_of says.entry) }
 {
     match says {
         Says::NoEffect | Says::Unknown | Says::Misshapen => Ok(Some(plain(Content::Nothing))),

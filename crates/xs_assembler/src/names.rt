@@ -1,5 +1,6 @@
-ghost use Rattle.std.specs.Prelude.{◌≡◌, [], IsTrue, OnOk, is_some, length, take};
+ghost use Rattle.std.specs.Prelude.{◌≡◌, [], false, IsErr, IsTrue, OnOk, is_some, length, take};
 ghost use Rattle.xs_text.specs.Tokens.{is_name};
+ghost use Rattle.xs_instructions.specs.Image.{is_reserved};
 ghost use Rattle.xs_instructions.specs.SourceHash.{source_key};
 ghost use Rattle.source_model.specs.Layout.{define, place_of};
 ghost use Rattle.xs_assembler.specs.Names.{labels_at};
@@ -67,11 +68,12 @@ impl Names {
         }
     }
 
-    // Puts a label at the end, if its name may be a label's and has no place.
+    // Puts a label at the end, if its name may be a label's and has no place. A reserved name takes no memory.
     pub fn define(&mut self, alloc: Global, name: &[u8], place: Place) -> Result<(), AllocError>
         requires { IsTrue (is_name name.now) }
         ensures defined { OnOk result (self.new.labels ≡ define place name.now self.old.labels) }
         ensures keyed { self.new.key ≡ self.old.key }
+        ensures memory { IsErr result → is_reserved name.now ≡ false }
     {
         if is_reserved(name) {
             return Ok(());

@@ -1,9 +1,10 @@
-ghost use Rattle.std.specs.Prelude.{◌≡◌, ◌+◌, ◌<◌, ◌^◌, OnOk, IfOk};
+ghost use Rattle.std.specs.Prelude.{◌≡◌, ◌≢◌, ◌+◌, ◌<◌, ◌^◌, [], OnOk, IfOk, IsErr};
 ghost use Rattle.xs_text.specs.Tokens.{tokens_of};
 ghost use Rattle.xs_instructions.specs.SourceHash.{source_key};
 ghost use Rattle.source_model.specs.Statement.{labels_first, after_labels, line_of};
 ghost use Rattle.source_model.specs.Layout.{nothing_yet, section_length, added, after_line, define_all};
 ghost use Rattle.xs_assembler.specs.Sofar.{sofar_of};
+ghost use Rattle.xs_assembler.specs.Wants.{MayWantNames};
 
 use crate::layouts::{here, moved, no_lines};
 use crate::names::Names;
@@ -32,11 +33,12 @@ impl Sofar {
         }
     }
 
-    // Notes one line more.
+    // Notes one line more. Memory may be wanting only where it has labels.
     pub fn note(&mut self, alloc: Global, bytes: &[u8]) -> Result<(), AllocError>
         requires { section_length self.old.layout self.old.layout.section + added (section_length self.old.layout self.old.layout.section) (line_of bytes.now).statement.says < 2 ^ 64 }
         ensures noted { OnOk result (sofar_of self.new ≡ after_line (sofar_of self.old) (line_of bytes.now)) }
         ensures keyed { self.new.names.key ≡ self.old.names.key }
+        ensures memory { IsErr result → MayWantNames (line_of bytes.now) }
     {
         if !all_allowed(bytes) {
             return Ok(());
@@ -57,6 +59,7 @@ fn define_all<'a>(
     ensures rest { IfOk result (λ rest. tokens_of rest.now ≡ after_labels (tokens_of line.now)) }
     ensures defined { OnOk result (names.new.labels ≡ define_all place (labels_first (tokens_of line.now)) names.old.labels) }
     ensures keyed { names.new.key ≡ names.old.key }
+    ensures memory { IsErr result → labels_first (tokens_of line.now) ≢ [] }
 {
     let mut rest = line;
     while let Some((name, after)) = first_label(rest) {

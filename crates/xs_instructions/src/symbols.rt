@@ -1,4 +1,4 @@
-ghost use Rattle.std.specs.Prelude.{◌≡◌, [], ◌<◌, IsTrue, IfOk, IfSome, OnOk, OnErr, is_none, length, option_map};
+ghost use Rattle.std.specs.Prelude.{◌≡◌, [], ◌<◌, None, IsTrue, IfOk, IfSome, OnOk, OnErr, is_none, length, option_map};
 ghost use Rattle.xs_text.specs.Tokens.{is_name};
 ghost use Rattle.xs_instructions.specs.Image.{address_of, defined, is_reserved, number_of, symbol_at, symbol_of_pair, with_address};
 ghost use Rattle.xs_instructions.specs.SourceHash.{source_key};
@@ -38,14 +38,15 @@ impl Symbols {
         }
     }
 
-    /// Puts a label at the end, and says whether it did: a name that is defined stays as it is. The error is want of
-    /// memory, and changes nothing.
+    /// Puts a label at the end, and says whether it did: a name that is defined stays as it is, and takes no memory. The
+    /// error is want of memory, and changes nothing.
     pub fn define(&mut self, alloc: Global, name: &[u8], at: u32) -> Result<bool, AllocError>
         requires { IsTrue (is_name name.now) }
         ensures ok { OnOk result (self.new.labels ≡ defined name.now at self.old.labels) }
         ensures is_new { IfOk result (λ is_new. is_new ≡ is_none (address_of self.old.labels name.now)) }
         ensures keyed { self.new.key ≡ self.old.key }
         ensures err { OnErr result (self.new.labels ≡ self.old.labels) }
+        ensures memory { OnErr result (address_of self.old.labels name.now ≡ None) }
     {
         if self.address(name).is_some() {
             return Ok(false);

@@ -1,3 +1,4 @@
+//! Classes of bytes: which a text may hold, which are blank, and which a name begins with or has.
 ghost use Rattle.std.specs.Prelude.{◌≡◌};
 ghost use Rattle.xs_text.specs.Bytes.{is_allowed, all_allowed, is_blank, is_name_start, is_name_byte};
 

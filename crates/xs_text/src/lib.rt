@@ -10,5 +10,5 @@ mod word_reader;
 pub use byte_tests::{all_allowed, is_allowed};
 pub use line_reader::{Line, Lines};
 pub use number_reader::{is_plain_number, number, source_number};
-pub use token_reader::{Tok, TokKind, is_name, is_number, next_tok};
+pub use token_reader::{Tok, TokKind, is_decimal, is_name, is_number, next_tok};
 pub use word_reader::next_word;

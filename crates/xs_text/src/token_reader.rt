@@ -67,6 +67,7 @@ fn all_binary_digits(bytes: &[u8]) -> bool
     bytes.iter().all(|b| *b == b'0' || *b == b'1')
 }
 
+/// Whether the bytes are one or more decimal digits and nothing else.
 pub fn is_decimal(bytes: &[u8]) -> bool
     ensures { result ≡ is_run is_ascii_digit bytes.now }
 {

@@ -1,47 +1,13 @@
-use Rattle.answer_model.specs.declared.Status.TheVariants as status
-use Rattle.xs1_top.proofs.Calls.{of_form, Answers-given, AnswersInPart-given, came, comes, comes_written, TookInput-form}
+use Rattle.xs1_top.proofs.Calls.{of_form, asks-form, form-fits, finished_call, TookInput-form}
 use Rattle.xs1_top.proofs.respond.respond.Goals as goal
 
-pub returns-in-Ok-answer_with-clause-answered : goal.returns-in-Ok-answer_with-clause-answered
-returns-in-Ok-answer_with-clause-answered g c = λ whole.
-    Answers-given c.in-Ok-answer_with.answer _ _ _ _ _ _ (of_form _ _ c.in-Ok.input.items c.deref.result.now c.args.form c.in-Ok-answer_with.answer c.requires.of_words c.in-Ok.ensures.front c.in-Ok-answer_with.ensures c.deref.ensures.value) c.bytes.ensures.value c.finish.ensures.status (c.finish.ensures.whole whole) whole
-
-pub returns-in-Ok-answer_with-clause-part : goal.returns-in-Ok-answer_with-clause-part
-returns-in-Ok-answer_with-clause-part g c = λ ended.
-    AnswersInPart-given c.in-Ok-answer_with.answer _ _ _ _ _ (of_form _ _ c.in-Ok.input.items c.deref.result.now c.args.form c.in-Ok-answer_with.answer c.requires.of_words c.in-Ok.ensures.front c.in-Ok-answer_with.ensures c.deref.ensures.value) c.bytes.ensures.value (c.finish.ensures.part ended)
-
-pub returns-in-Ok-answer_with-clause-left : goal.returns-in-Ok-answer_with-clause-left
-returns-in-Ok-answer_with-clause-left g c = λ _.
-    TookInput-form _ _ _ c.in-Ok.input.items c.args.form c.requires.of_words c.in-Ok.ensures.front c.in-Ok.ensures.taken
-
-pub returns-in-Ok-answer_with-clause-system_fault : goal.returns-in-Ok-answer_with-clause-system_fault
-returns-in-Ok-answer_with-clause-system_fault g c = λ ended.
-    came c.in-Ok-answer_with.answer _ _ _ status.SystemFault (of_form _ _ c.in-Ok.input.items c.deref.result.now c.args.form c.in-Ok-answer_with.answer c.requires.of_words c.in-Ok.ensures.front c.in-Ok-answer_with.ensures c.deref.ensures.value) c.finish.ensures.status tt ended
-
-pub returns-in-Ok-answer_with-clause-system_fault_given : goal.returns-in-Ok-answer_with-clause-system_fault_given
-returns-in-Ok-answer_with-clause-system_fault_given g c = λ whole.
-    comes c.in-Ok-answer_with.answer _ _ _ status.SystemFault (of_form _ _ c.in-Ok.input.items c.deref.result.now c.args.form c.in-Ok-answer_with.answer c.requires.of_words c.in-Ok.ensures.front c.in-Ok-answer_with.ensures c.deref.ensures.value) c.finish.ensures.status whole
-
-pub returns-in-Ok-answer_with-clause-source_fault : goal.returns-in-Ok-answer_with-clause-source_fault
-returns-in-Ok-answer_with-clause-source_fault g c = λ ended.
-    came c.in-Ok-answer_with.answer _ _ _ status.SourceFault (of_form _ _ c.in-Ok.input.items c.deref.result.now c.args.form c.in-Ok-answer_with.answer c.requires.of_words c.in-Ok.ensures.front c.in-Ok-answer_with.ensures c.deref.ensures.value) c.finish.ensures.status tt ended
-
-pub returns-in-Ok-answer_with-clause-source_fault_given : goal.returns-in-Ok-answer_with-clause-source_fault_given
-returns-in-Ok-answer_with-clause-source_fault_given g c = λ whole.
-    comes c.in-Ok-answer_with.answer _ _ _ status.SourceFault (of_form _ _ c.in-Ok.input.items c.deref.result.now c.args.form c.in-Ok-answer_with.answer c.requires.of_words c.in-Ok.ensures.front c.in-Ok-answer_with.ensures c.deref.ensures.value) c.finish.ensures.status whole
-
-pub returns-in-Ok-answer_with-clause-script_fault : goal.returns-in-Ok-answer_with-clause-script_fault
-returns-in-Ok-answer_with-clause-script_fault g c = λ ended.
-    came c.in-Ok-answer_with.answer _ _ _ status.ScriptFault (of_form _ _ c.in-Ok.input.items c.deref.result.now c.args.form c.in-Ok-answer_with.answer c.requires.of_words c.in-Ok.ensures.front c.in-Ok-answer_with.ensures c.deref.ensures.value) c.finish.ensures.status tt ended
-
-pub returns-in-Ok-answer_with-clause-script_fault_given : goal.returns-in-Ok-answer_with-clause-script_fault_given
-returns-in-Ok-answer_with-clause-script_fault_given g c = λ whole.
-    comes c.in-Ok-answer_with.answer _ _ _ status.ScriptFault (of_form _ _ c.in-Ok.input.items c.deref.result.now c.args.form c.in-Ok-answer_with.answer c.requires.of_words c.in-Ok.ensures.front c.in-Ok-answer_with.ensures c.deref.ensures.value) c.finish.ensures.status whole
-
-pub returns-in-Ok-answer_with-clause-done : goal.returns-in-Ok-answer_with-clause-done
-returns-in-Ok-answer_with-clause-done g c = λ ended.
-    came c.in-Ok-answer_with.answer _ _ _ status.Done (of_form _ _ c.in-Ok.input.items c.deref.result.now c.args.form c.in-Ok-answer_with.answer c.requires.of_words c.in-Ok.ensures.front c.in-Ok-answer_with.ensures c.deref.ensures.value) c.finish.ensures.status tt ended
-
-pub returns-in-Ok-answer_with-clause-done_given : goal.returns-in-Ok-answer_with-clause-done_given
-returns-in-Ok-answer_with-clause-done_given g c = λ _ _ calm.
-    comes_written c.in-Ok-answer_with.answer _ _ _ status.Done (of_form _ _ c.in-Ok.input.items c.deref.result.now c.args.form c.in-Ok-answer_with.answer c.requires.of_words c.in-Ok.ensures.front c.in-Ok-answer_with.ensures c.deref.ensures.value) c.finish.ensures.status (λ failed. calm (c.finish.ensures.fault failed))
+pub returns-in-Ok-answer_with : goal.returns-in-Ok-answer_with
+returns-in-Ok-answer_with g c =
+    let a = c.in-Ok-answer_with.answer in
+    let input = c.in-Ok.input.items in
+    finished_call g.S.Source.left g.S.Source.faults g.S.Source.read_gives g.K.Sink.written g.K.Sink.faults _ _ _ _ _ _ a _
+    (TookInput-form _ _ _ input c.args.form c.requires.of_words c.in-Ok.ensures.front c.in-Ok.ensures.input.taken)
+    c.in-Ok.ensures.input.reads c.in-Ok.ensures.input.calm (asks-form _ c.args.form c.requires.of_words c.in-Ok.ensures.nothing)
+    (of_form _ _ input c.deref.result.now c.args.form a c.requires.of_words c.in-Ok.ensures.front c.in-Ok-answer_with.ensures c.deref.ensures.value)
+    (form-fits _ c.args.form _ a c.requires.of_words c.in-Ok-answer_with.ensures)
+    c.bytes.ensures.value c.finish.ensures

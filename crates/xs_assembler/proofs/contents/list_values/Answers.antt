@@ -9,13 +9,13 @@ pub returns-then-not-branch : goal.returns-then-not-branch
 returns-then-not-branch c =
     list_past (sofar_of c.args.whole.now) c.loop-left.found c.put_amount.new.found c.in_ok-put_amount.field-0 (read_amount c.in-Some-next_value.amount)
     (values_left c.args.list.width c.loop-left.left) (values_left c.args.list.width c.in-Some-next_value.rest) _
-    c.if-not-branch.true (ap (values_left c.args.list.width) c.in-Some.is ∙ c.in-Some-next_value.ensures.value) c.in_ok-put_amount.ensures c.loop-left.invariant
+    c.if-not-branch.true (ap (values_left c.args.list.width) c.in-Some.is ∙ c.in-Some-next_value.ensures.value) c.in_ok-put_amount.ensures.put c.loop-left.invariant
 
 pub loop-left-preserved : goal.loop-left-preserved
 loop-left-preserved c =
     list_next (sofar_of c.args.whole.now) c.loop-left.found c.put_amount.new.found c.in_ok-put_amount.field-0 (read_amount c.in-Some-next_value.amount)
     (values_left c.args.list.width c.loop-left.left) (values_left c.args.list.width c.in-Some-next_value.rest) _
-    c.if-not-branch.false (ap (values_left c.args.list.width) c.in-Some.is ∙ c.in-Some-next_value.ensures.value) c.in_ok-put_amount.ensures c.loop-left.invariant
+    c.if-not-branch.false (ap (values_left c.args.list.width) c.in-Some.is ∙ c.in-Some-next_value.ensures.value) c.in_ok-put_amount.ensures.put c.loop-left.invariant
 
 pub returns : goal.returns
 returns c = list_over (sofar_of c.args.whole.now) c.loop-left.found (values_left c.args.list.width c.loop-left.left) _ (ap (values_left c.args.list.width) c.in_default.is) c.loop-left.invariant

@@ -6,11 +6,11 @@ use Rattle.xs_assembler.proofs.Found.{amount_fits, amount_past, missing_now, not
 use Rattle.xs_assembler.proofs.contents.put_amount.Goals as goal
 use Rattle.xs_assembler.proofs.contents.put_amount.Goals.{then-is_missing, else-is_missing}
 
-pub returns-in_default : goal.returns-in_default
-returns-in_default c = amount_past (sofar_of c.args.whole.now) c.args.found.now c.args.found.now (read_amount c.args.amount) c.in_default.ensures
+pub returns-in_default-clause-put : goal.returns-in_default-clause-put
+returns-in_default-clause-put c = amount_past (sofar_of c.args.whole.now) c.args.found.now c.args.found.now (read_amount c.args.amount) c.in_default.ensures
 
-pub returns : goal.returns
-returns c =
+pub returns-clause-put : goal.returns-clause-put
+returns-clause-put c =
     let whole = sofar_of c.args.whole.now in
     let amount = read_amount c.args.amount in
     let new : Found = record { values = c.push.new.self; label_missing = c.if-is_missing.found.label_missing } in
