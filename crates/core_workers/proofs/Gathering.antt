@@ -6,10 +6,9 @@ use Rattle.std.proofs.lemmas.List.{length-map}
 use Rattle.std.proofs.lemmas.List.Elements.{recursion_from_All}
 use Rattle.xs_base.specs.Numbers.{Slot, LinkNumber, Position}
 use Rattle.sys_plan.specs.Plan.{PlanRec, IsPlan, directions}
-use Rattle.serial_model.specs.Serial.{serial, history}
-use Rattle.locality_laws.specs.Locality.{node_in, events_in}
-use Rattle.core_step.specs.Core.{CoreValue, StandsAt}
-use Rattle.trace_lines.specs.Kept.{KeptEvents, Keeps}
+use Rattle.serial_model.specs.Serial.{history}
+use Rattle.xs_base.specs.declared.entry.Entry.{Entry}
+use Rattle.trace_model.specs.Trace.{tokens_sent, credits_sent}
 use Rattle.link_logs.specs.Logs.{LogRec}
 use Rattle.plan_cells.specs.declared.ends.Ends.{Ends}
 use Rattle.plan_cells.specs.Ends.{CellsRec, leaving, coming, IsOutgoing, IsIncoming, AreEnds, IsLogOf, HasLeft}
@@ -18,7 +17,8 @@ use Rattle.plan_cells.proofs.AtEnds.{left_by}
 use Rattle.node_runners.specs.Runner.{RunnerRec}
 use Rattle.core_workers.specs.Worker.{WorkerRec, IsWorker}
 use Rattle.core_workers.specs.Run.{IsLeftAt, IsToldTo}
-use Rattle.core_workers.specs.Gathered.{HasRun, IsFull, IsGathered}
+use Rattle.finished_runs.specs.Limit.{Totals, HasRun, HasSent}
+use Rattle.core_workers.specs.Gathered.{IsFull, sent_in}
 
 abbrev pub runner_of : WorkerRec → RunnerRec
 runner_of part = part.runner
@@ -30,7 +30,7 @@ module _ (cells : CellsRec) (limit : Slot) (parts : List WorkerRec)
     (nodes : length parts ≡ length cells.plan.nodes)
     (workers : AllByRecursion IsWorker parts)
     (left : (n : Position) (part : WorkerRec) → slice_get parts n ≡ Some part → IsLeftAt cells limit n part) where
-  each_node : (n : Position) (runner : RunnerRec) → slice_get (map runner_of parts) n ≡ Some runner → HasRun cells.plan limit n runner
+  pub each_node : (n : Position) (runner : RunnerRec) → slice_get (map runner_of parts) n ≡ Some runner → HasRun cells.plan limit n runner
   each_node n runner here =
       let part = from_map runner_of parts n runner here in
       let w = all_at IsWorker parts n part.0 workers part.1 in
@@ -57,6 +57,9 @@ module _ (cells : CellsRec) (limit : Slot) (parts : List WorkerRec)
       let part = from_map ends_of parts n ends here in
       subst (AreEnds cells n) part.2 (own_ends n part.0 part.1)
 
+  pub all_nodes : length (map runner_of parts) ≡ length cells.plan.nodes
+  all_nodes = length-map parts runner_of ∙ nodes
+
   pub all_ends : length (map ends_of parts) ≡ length cells.plan.nodes
   all_ends = length-map parts ends_of ∙ nodes
 
@@ -81,35 +84,13 @@ module _ (cells : CellsRec) (limit : Slot) (parts : List WorkerRec)
           published = by.published ∙ all_at (IsToldTo limit) by.writer.ends.outgoing.items by.writer.place by.writer.end told by.writer.end_at;
         }
 
-    pub gathered : IsGathered cells.plan limit (map runner_of parts) logs
-    gathered = record {
-      nodes = length-map parts runner_of ∙ nodes;
-      each_node = each_node;
-      links = links;
-      each_link = each_link;
-    }
-
--- ---- What is read of it
-
-module _ (plan : PlanRec) (limit : Slot) (n : Position) (runner : RunnerRec) (has : HasRun plan limit n runner) where
-  abbrev Place : Type 0
-  Place = PlanRec × Slot × Position
-
-  same_place : ◌≡◌ {A = Place} (runner.plan, runner.clock, runner.node) (plan, limit, n)
-  same_place = λ i. (has.plan_is i, has.clock i, has.node i)
-
-  pub stands_there : (core : CoreValue) → StandsAt core (node_in (serial runner.plan runner.clock) runner.node) runner.clock → StandsAt core (node_in (serial plan limit) n) limit
-  stands_there core stands = subst (λ (p : Place). StandsAt core (node_in (serial p.0 p.1) p.2) p.1) same_place stands
-
-  pub keeps_there : (kept : KeptEvents) → Keeps kept (events_in (serial runner.plan runner.clock) runner.node) → Keeps kept (events_in (serial plan limit) n)
-  keeps_there kept keeps = subst (λ (p : Place). Keeps kept (events_in (serial p.0 p.1) p.2)) same_place keeps
-
-module _ (plan : PlanRec) (limit : Slot) (runners : List RunnerRec) (logs : List (LogRec PlanRec)) (is : IsGathered plan limit runners logs) where
-  pub node_at : (n : Position) (runner : RunnerRec) → n < length plan.nodes → runner ≡ get_or runners n runner → HasRun plan limit n runner
-  node_at n runner below here =
-      is.each_node n runner (slice_get-get_or runners n runner (omega (arith, below, is.nodes)) ∙ ap (λ (r : RunnerRec). Some r) (sym here))
-
-  pub carried : (link : LinkNumber) (log : LogRec PlanRec) → link < length (directions plan.links) → log ≡ get_or logs link log → log.entries ≡ history plan link 0 limit
-  carried link log below here =
-      let full = is.each_link link log (slice_get-get_or logs link log (omega (arith, below, is.links)) ∙ ap (λ (l : LogRec PlanRec). Some l) (sym here)) in
-      full.log_of.entries ∙ ap (history plan link 0) full.published
+    -- so the totals of all logs are those of all directed links
+    pub each_total : (link : LinkNumber) (sent : Totals) → slice_get (map sent_in logs) link ≡ Some sent → HasSent cells.plan limit link sent
+    each_total link sent here =
+        let log = from_map sent_in logs link sent here in
+        let full = each_link link log.0 log.1 in
+        let carried : log.0.entries ≡ history cells.plan link 0 limit = full.log_of.entries ∙ ap (history cells.plan link 0) full.published in
+        record {
+          tokens = ap (λ (t : Totals). t.0) (sym log.2) ∙ ap (λ (es : List Entry). tokens_sent es) carried;
+          credits = ap (λ (t : Totals). t.1) (sym log.2) ∙ ap (λ (es : List Entry). credits_sent es) carried;
+        }

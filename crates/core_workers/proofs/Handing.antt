@@ -5,8 +5,8 @@ use Rattle.xs_base.specs.Numbers.{Slot, LinkNumber}
 use Rattle.xs_base.specs.declared.entry.Entry.{Entry}
 use Rattle.sys_plan.specs.Plan.{PlanRec, delay_of}
 use Rattle.serial_model.specs.Serial.{history}
-use Rattle.run_plan.specs.Stories.{carried_at}
-use Rattle.run_plan.proofs.Stories.{between_is_history}
+use Rattle.plan_stories.specs.Stories.{carried_at}
+use Rattle.plan_stories.proofs.Stories.{between_is_history}
 use Rattle.link_logs.specs.Entries.{between}
 use Rattle.link_logs.specs.Logs.{ReadRec}
 use Rattle.ahead_limits.specs.declared.horizon.Seen.{Seen}

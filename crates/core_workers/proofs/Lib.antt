@@ -10,4 +10,3 @@ pub mod Starting
 pub mod Exchanges
 pub mod Running
 pub mod Gathering
-pub mod AtLimit

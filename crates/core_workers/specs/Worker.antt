@@ -4,7 +4,7 @@ use Rattle.std.specs.List.{AllByRecursion, AllZip}
 use Rattle.xs_base.specs.Numbers.{Slot, LinkNumber, EndNumber}
 use Rattle.sys_plan.specs.Plan.{PlanRec, IsPlan, incoming, delay_of}
 use Rattle.serial_model.specs.Serial.{history}
-use Rattle.run_plan.specs.Stories.{carried_at}
+use Rattle.plan_stories.specs.Stories.{carried_at}
 use Rattle.link_logs.specs.declared.answers.Cause.{Cause}
 use Rattle.link_logs.specs.declared.answers.Got.{Got}
 use Rattle.log_cells.specs.Ends.{LooksAt, one_more}

@@ -8,7 +8,7 @@ ghost use Rattle.core_workers.specs.Worker.{WorkerRec};
 ghost use Rattle.core_workers.specs.Run.{IsLeftAt};
 
 use crate::finished::Finished;
-use crate::gathered::Gathered;
+use crate::gather::gather;
 use crate::way::Way;
 use crate::worker::Part;
 use plan_cells::{Ends, PlanCells};
@@ -58,7 +58,7 @@ impl Lanes {
         requires at_limit { (n : Position) (part : WorkerRec) → slice_get parts.items n ≡ Some part → IsLeftAt self limit n part }
         ensures finished { IfOk result (λ f. f ≡ record { plan = self.plan; limit = limit; way = Way.Workers }) }
     {
-        let gathered = Gathered::of(alloc, self.cells, parts, limit)?;
-        Ok(Finished::of_workers(gathered))
+        let run = gather(alloc, self.cells, parts, limit)?;
+        Ok(Finished::of_workers(run))
     }
 }

@@ -6,10 +6,9 @@ mod advance;
 mod ended;
 mod exchange;
 mod finished;
-mod gathered;
+mod gather;
 mod hear;
 mod lanes;
-mod sent;
 mod tell;
 #[cfg(test)]
 mod tests;
@@ -19,6 +18,7 @@ mod worker;
 
 pub use ended::Ended;
 pub use finished::Finished;
+pub use finished_runs::FinishedRun;
 pub use lanes::Lanes;
 pub use node_runners::{NodeRunner, Ran};
 pub use turn::Turn;

@@ -4,7 +4,7 @@ ghost use Rattle.serial_model.specs.Serial.{serial};
 ghost use Rattle.load_model.specs.Made.{made_line, numbers_line, totals_text};
 
 use crate::totals::{all_events, all_sent};
-use core_workers::Finished;
+use finished_runs::FinishedRun;
 use itoa::Buffer;
 use std::alloc::{AllocError, Global};
 use sys_plan::Plan;
@@ -16,7 +16,7 @@ pub fn made(
     alloc: Global,
     number: u32,
     plan: &Plan,
-    finished: &Finished,
+    finished: &FinishedRun,
 ) -> Result<Text, AllocError>
     requires plan { finished.now.plan ≡ plan.now }
     ensures text { IfOk result (λ t. t ≡ made_line number plan.now (serial plan.now finished.now.limit)) }

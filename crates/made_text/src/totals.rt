@@ -5,13 +5,13 @@ ghost use Rattle.trace_lines.specs.Kept.{Keeps};
 ghost use Rattle.serial_model.specs.Serial.{serial};
 ghost use Rattle.load_model.specs.Made.{all_credits, all_events, all_tokens};
 
-use core_workers::Finished;
+use finished_runs::FinishedRun;
 use locality_laws::links_tell_ahead;
 use sys_plan::Plan;
 use trace_lines::NodeEvents;
 
 /// How many tokens, and how many credits, were sent on all directed links.
-pub(crate) fn all_sent(plan: &Plan, finished: &Finished) -> (u128, u128)
+pub(crate) fn all_sent(plan: &Plan, finished: &FinishedRun) -> (u128, u128)
     requires plan { finished.now.plan ≡ plan.now }
     ensures tokens { result.0 ≡ all_tokens plan.now (serial plan.now finished.now.limit) }
     ensures credits { result.1 ≡ all_credits plan.now (serial plan.now finished.now.limit) }
@@ -29,7 +29,7 @@ pub(crate) fn all_sent(plan: &Plan, finished: &Finished) -> (u128, u128)
 }
 
 /// How many events there were on all nodes, those too that are not kept.
-pub(crate) fn all_events(plan: &Plan, finished: &Finished) -> u128
+pub(crate) fn all_events(plan: &Plan, finished: &FinishedRun) -> u128
     requires plan { finished.now.plan ≡ plan.now }
     ensures events { result ≡ all_events plan.now (serial plan.now finished.now.limit) }
 {

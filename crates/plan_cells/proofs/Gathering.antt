@@ -11,8 +11,8 @@ use Rattle.sys_plan.specs.Plan.{PlanRec, Direction, directions}
 use Rattle.link_logs.specs.Logs.{LogRec}
 use Rattle.link_logs.specs.Entries.{between}
 use Rattle.log_cells.specs.Ends.{CellRec, WritesTo, ReadsOf}
-use Rattle.run_plan.specs.Stories.{carried_at}
-use Rattle.run_plan.proofs.Stories.{between_is_history}
+use Rattle.plan_stories.specs.Stories.{carried_at}
+use Rattle.plan_stories.proofs.Stories.{between_is_history}
 use Rattle.plan_cells.specs.declared.ends.Outgoing.{Outgoing}
 use Rattle.plan_cells.specs.declared.ends.Incoming.{Incoming}
 use Rattle.plan_cells.specs.declared.ends.Ends.{Ends}

@@ -12,7 +12,7 @@ use crate::ends::Ends;
 use crate::gather::logs_of;
 use link_logs::Log;
 use log_cells::Cell;
-use run_plan::PlanStory;
+use plan_stories::PlanStory;
 use std::alloc::{AllocError, Global};
 use std::marker::Model;
 use std::sync::Arc;
@@ -51,6 +51,13 @@ impl PlanCells {
         let cells = deal_all(alloc, plan, &mut all)?;
         let plan = Arc::try_clone(plan)?;
         Ok((PlanCells { plan, cells }, all))
+    }
+
+    /// The plan.
+    pub fn plan(&self) -> &Plan
+        ensures value { result.now ≡ self.now.plan }
+    {
+        &self.plan
     }
 
     /// The cell of the directed link with a number.

@@ -6,7 +6,7 @@ ghost use Rattle.plan_cells.specs.Inside.{AreCells, IsCellOf, AreDealt, Deals, h
 use crate::ends::{Ends, Incoming, Outgoing};
 use crate::way::way_of;
 use log_cells::{Cell, make_cell};
-use run_plan::PlanStory;
+use plan_stories::PlanStory;
 use std::alloc::{AllocError, Global};
 use std::sync::Arc;
 use sys_plan::Plan;

@@ -1,6 +1,6 @@
 //! The ends of cells that a node holds. See docs/LOOKAHEAD.md.
 use log_cells::{ReadEnd, WriteEnd};
-use run_plan::PlanStory;
+use plan_stories::PlanStory;
 use xs_base::Batch;
 
 /// What a node has read of a link that comes to it, and was not handed: the entries from the slot up to which it was handed all, on

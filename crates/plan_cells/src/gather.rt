@@ -12,7 +12,7 @@ use crate::ends::{Ends, Incoming, Outgoing};
 use crate::way::way_of;
 use link_logs::Log;
 use log_cells::Cell;
-use run_plan::PlanStory;
+use plan_stories::PlanStory;
 use std::alloc::{AllocError, Global};
 use sys_plan::Plan;
 

@@ -4,7 +4,7 @@ ghost use Rattle.sys_plan.specs.Plan.{directions};
 ghost use Rattle.run_drive.specs.Stages.{IsNewLane};
 
 use link_logs::{Log, ReadEnd, WriteEnd, make_log};
-use run_plan::PlanStory;
+use plan_stories::PlanStory;
 use std::alloc::{AllocError, Global};
 use std::sync::Arc;
 use sys_plan::Plan;

@@ -4,4 +4,3 @@ pub mod Due
 pub mod Systems
 pub mod Starts
 pub mod Arrivals
-pub mod Stories

@@ -6,4 +6,3 @@ pub mod Run
 pub mod Starts
 pub mod Machine
 pub mod Inside
-pub mod Stories

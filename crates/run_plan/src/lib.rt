@@ -5,10 +5,8 @@ mod incoming;
 mod machine;
 mod passes;
 mod station;
-mod story;
 mod track;
 mod wiring;
 
 pub use machine::SerialMachine;
-pub use story::PlanStory;
 pub use xs_base::Entry;

@@ -4,7 +4,7 @@ ghost use Rattle.trace_model.specs.Trace.{by_position};
 ghost use Rattle.serial_model.specs.Serial.{serial};
 
 use crate::node_lines::{append_halted_lines, append_memory_lines, append_more_line};
-use core_workers::Finished;
+use finished_runs::FinishedRun;
 use std::alloc::AllocError;
 use sys_plan::NodePlan;
 use xs_base::Text;
@@ -23,7 +23,7 @@ pub(crate) trait NodePiece {
         out: &mut Text,
         k: u8,
         node: &NodePlan,
-        finished: &Finished,
+        finished: &FinishedRun,
     ) -> Result<(), AllocError>
         requires position { k < length finished.now.plan.nodes }
         ensures { OnOk result (out.new ≡ out.old ++ piece (serial finished.now.plan finished.now.limit) k node.now) };
@@ -41,7 +41,7 @@ impl NodePiece for More {
         out: &mut Text,
         k: u8,
         node: &NodePlan,
-        finished: &Finished,
+        finished: &FinishedRun,
     ) -> Result<(), AllocError> {
         append_more_line(out, node.number, finished.events(k).more())
     }
@@ -59,7 +59,7 @@ impl NodePiece for Halted {
         out: &mut Text,
         k: u8,
         node: &NodePlan,
-        finished: &Finished,
+        finished: &FinishedRun,
     ) -> Result<(), AllocError> {
         append_halted_lines(out, node.number, finished.core(k))
     }
@@ -77,7 +77,7 @@ impl NodePiece for Memory {
         out: &mut Text,
         k: u8,
         node: &NodePlan,
-        finished: &Finished,
+        finished: &FinishedRun,
     ) -> Result<(), AllocError> {
         append_memory_lines(out, node.number, finished.core(k))
     }
@@ -87,7 +87,7 @@ impl NodePiece for Memory {
 pub(crate) fn append_by_node<P: NodePiece>(
     out: &mut Text,
     nodes: &[NodePlan],
-    finished: &Finished,
+    finished: &FinishedRun,
 ) -> Result<(), AllocError>
     requires nodes { nodes.now ≡ finished.now.plan.nodes }
     requires few { length nodes.now ≤ 16 }

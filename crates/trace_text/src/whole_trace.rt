@@ -7,7 +7,7 @@ ghost use Rattle.trace_model.specs.Trace.{by_position, event_lines, events_in_or
 use crate::by_node::{Halted, Memory, More, append_by_node};
 use crate::node_lines::{append_end_line, append_event_lines};
 use crate::traffic_lines::append_traffic_line;
-use core_workers::Finished;
+use finished_runs::FinishedRun;
 use locality_laws::links_tell_ahead;
 use std::alloc::{AllocError, Global};
 use sys_plan::{LinkPlan, NodePlan, Plan};
@@ -16,7 +16,7 @@ use xs_base::Text;
 
 /// The trace of a run of a plan that has come to its limit, whatever the way in which its nodes were run. The error is want of
 /// memory. See docs/OUTPUT.md.
-pub fn trace(alloc: Global, plan: &Plan, finished: Finished) -> Result<Text, AllocError>
+pub fn trace(alloc: Global, plan: &Plan, finished: FinishedRun) -> Result<Text, AllocError>
     requires plan { finished.plan ≡ plan.now }
     ensures text { IfOk result (λ t. t ≡ trace_text plan.now finished.limit) }
 {
@@ -35,7 +35,7 @@ fn append_events(
     out: &mut Text,
     alloc: Global,
     plan: &Plan,
-    finished: Finished,
+    finished: FinishedRun,
 ) -> Result<(), AllocError>
     requires plan { finished.plan ≡ plan.now }
     ensures { OnOk result (out.new ≡ out.old ++ event_lines plan.now.nodes (events_in_order (serial plan.now finished.limit))) }
@@ -47,7 +47,7 @@ fn append_events(
 }
 
 // The lines between those of the events and the last.
-fn append_rest(out: &mut Text, plan: &Plan, finished: &Finished) -> Result<(), AllocError>
+fn append_rest(out: &mut Text, plan: &Plan, finished: &FinishedRun) -> Result<(), AllocError>
     requires plan { finished.now.plan ≡ plan.now }
     ensures { OnOk result (out.new ≡ out.old ++ lines_after_events plan.now (serial plan.now finished.now.limit)) }
 {
@@ -59,7 +59,7 @@ fn append_rest(out: &mut Text, plan: &Plan, finished: &Finished) -> Result<(), A
 }
 
 // The line of each directed link: of each link forth, and back.
-fn append_links(out: &mut Text, plan: &Plan, finished: &Finished) -> Result<(), AllocError>
+fn append_links(out: &mut Text, plan: &Plan, finished: &FinishedRun) -> Result<(), AllocError>
     requires plan { finished.now.plan ≡ plan.now }
     ensures { OnOk result (out.new ≡ out.old ++ by_position (traffic_at plan.now.nodes (serial finished.now.plan finished.now.limit)) 0 (directions plan.now.links)) }
 {
@@ -77,7 +77,7 @@ fn append_traffic_at(
     k: u32,
     link: &LinkPlan,
     nodes: &[NodePlan],
-    finished: &Finished,
+    finished: &FinishedRun,
 ) -> Result<(), AllocError>
     requires number { 2 * k + 1 < length (directions finished.now.plan.links) }
     requires few { k < 48 }

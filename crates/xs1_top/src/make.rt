@@ -37,7 +37,7 @@ fn made_text(alloc: Global, number: u32, plan: Plan) -> Result<Text, AllocError>
 {
     let plan = Arc::new(alloc, plan)?;
     match drive_serial(alloc, &plan, MADE_SLOTS) {
-        Ok(finished) => made(alloc, number, &plan, &finished),
+        Ok(finished) => made(alloc, number, &plan, finished.run()),
         Err(DriveError::Memory) => Err(AllocError),
     }
 }

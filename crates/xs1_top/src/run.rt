@@ -60,7 +60,7 @@ fn free_trace<R: Threads + Wait + Sync, G: Gate>(
 {
     let plan = Arc::new(alloc, plan)?;
     match drive_free(rt, alloc, &plan, slots, gate) {
-        Ok(finished) => trace(alloc, &plan, finished),
+        Ok(finished) => trace(alloc, &plan, finished.into_run()),
         Err(DriveError::Memory) => Err(AllocError),
     }
 }
@@ -71,7 +71,7 @@ fn serial_trace(alloc: Global, plan: Plan, slots: u32) -> Result<Text, AllocErro
 {
     let plan = Arc::new(alloc, plan)?;
     match drive_serial(alloc, &plan, slots) {
-        Ok(finished) => trace(alloc, &plan, finished),
+        Ok(finished) => trace(alloc, &plan, finished.into_run()),
         Err(DriveError::Memory) => Err(AllocError),
     }
 }

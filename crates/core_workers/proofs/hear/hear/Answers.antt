@@ -3,7 +3,7 @@ use Rattle.link_logs.specs.declared.answers.Got.{Got}
 use Rattle.sys_plan.specs.Plan.{PlanRec}
 use Rattle.serial_model.specs.Serial.{history}
 use Rattle.link_logs.specs.Logs.{ReadRec}
-use Rattle.run_plan.specs.Stories.{carried_at}
+use Rattle.plan_stories.specs.Stories.{carried_at}
 use Rattle.log_cells.specs.Ends.{Gives}
 use Rattle.node_runners.specs.Runner.{RunnerRec}
 use Rattle.plan_cells.specs.declared.ends.Incoming.{Incoming}

@@ -9,7 +9,7 @@ use Rattle.serial_model.specs.Serial.{history}
 use Rattle.play_model.specs.Play.{PlayedStep}
 use Rattle.node_runners.specs.Runner.{RunnerRec}
 use Rattle.run_drive.specs.declared.lane.Lane.{Lane}
-use Rattle.run_plan.proofs.Stories.{between_is_history}
+use Rattle.plan_stories.proofs.Stories.{between_is_history}
 use Rattle.run_drive.proofs.Steps.{Goes, own_runner, own_lane, sent_then, send_goes}
 use Rattle.run_drive.proofs.stage.Stage.send.Goals as goal
 

@@ -14,7 +14,7 @@ use Rattle.ahead_limits.specs.Horizon.{HorizonRec, seen_at}
 use Rattle.node_runners.specs.Runner.{RunnerRec}
 use Rattle.run_drive.specs.declared.lane.Lane.{Lane}
 use Rattle.run_drive.specs.Stages.{seen_of}
-use Rattle.run_plan.proofs.Stories.{between_is_history}
+use Rattle.plan_stories.proofs.Stories.{between_is_history}
 use Rattle.run_drive.proofs.Steps.{Goes, own_runner, own_lane, own_seen, seen_here, seen_below, take_nothing, take_entries}
 use Rattle.run_drive.proofs.stage.Stage.take.Goals as goal
 

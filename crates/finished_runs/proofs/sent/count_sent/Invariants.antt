@@ -1,0 +1,10 @@
+use Rattle.std.proofs.Common.{◌≡◌, ◌+◌, ◌≤◌, take}
+use Rattle.trace_model.specs.Trace.{tokens_sent, credits_sent}
+use Rattle.finished_runs.proofs.sent.count_sent.Given as goal
+
+abbrev pub invariant-loop-e : goal.invariant-loop-e
+invariant-loop-e l = record {
+  tokens : l.tokens ≡ tokens_sent (take l.e-index l.history);
+  credits : l.credits ≡ credits_sent (take l.e-index l.history);
+  bound : l.tokens + l.credits ≤ l.e-index;
+}
