@@ -3,4 +3,5 @@ pub mod Through
 pub mod Due
 pub mod Systems
 pub mod Starts
+pub mod Steps
 pub mod Arrivals

@@ -6,18 +6,14 @@ use Rattle.std.proofs.lemmas.List.{take_more}
 use Rattle.sys_plan.specs.declared.NodePlan.{NodePlan}
 use Rattle.sys_plan.specs.declared.LinkPlan.{LinkPlan}
 use Rattle.sys_plan.specs.Plan.{PlanRec, Direction, IsPlan, IsLink, directions}
-use Rattle.serial_model.specs.Serial.{system_at_start, nodes_at_start, serial}
+use Rattle.serial_model.specs.Serial.{system_at_start, nodes_at_start}
 use Rattle.run_plan.specs.declared.track.Track.{Track}
 use Rattle.run_plan.specs.declared.station.Station.{Station}
 use Rattle.run_plan.specs.Stations.{IsStation}
 use Rattle.run_plan.specs.Passes.{IsReadyTrack, IsHeeded}
-use Rattle.run_plan.specs.Run.{AllServe, AllCarry, IsSystem, AreReady}
+use Rattle.run_plan.specs.Run.{AllServe, AllCarry, AreReady}
 use Rattle.run_plan.specs.Starts.{StartsHere, AllStart, track_at_start, tracks_at_start}
 use Rattle.run_plan.proofs.Systems.{play-length, carry-length}
-
-serial-start : (plan : PlanRec) → serial plan 0 ≡ system_at_start plan
-unfolding serial
-serial-start plan = refl
 
 -- the first nodes and the next one
 pub record Next (nodes : List NodePlan) (n : ℕ) : Type 0 where
@@ -81,14 +77,14 @@ start-heeded : (stations : List Station) (ds : List Direction) → AllByRecursio
 start-heeded stations [] = tt
 start-heeded stations (d ∷ ds) = (λ _. refl, start-heeded stations ds)
 
-pub run-start : (plan : PlanRec) (stations : List Station) (tracks : List Track) → IsPlan plan → AllStart plan 0 plan.nodes stations → tracks ≡ tracks_at_start (directions plan.links) → AreReady plan 0 stations tracks
+pub run-start : (plan : PlanRec) (stations : List Station) (tracks : List Track) → IsPlan plan → AllStart plan 0 plan.nodes stations → tracks ≡ tracks_at_start (directions plan.links) → AreReady plan 0 (system_at_start plan) stations tracks
 run-start plan stations tracks is all e =
     let ds = directions plan.links in
     let play = start-play plan 0 plan.nodes stations all in
     let count = play-length plan 0 0 plan.nodes stations (nodes_at_start plan 0 plan.nodes) (map (λ (node : NodePlan). []) plan.nodes) play in
     let links = carry-length ds (tracks_at_start ds) (map (λ (d : Direction). []) ds) (start-carry ds) in
-    subst (AreReady plan 0 stations) (sym e) (record {
-      system = subst (IsSystem plan 0 stations (tracks_at_start ds)) (sym (serial-start plan)) (record { serve = play; carry = start-carry ds });
+    subst (AreReady plan 0 (system_at_start plan) stations) (sym e) (record {
+      system = record { serve = play; carry = start-carry ds };
       stations = start-stations plan 0 (length (tracks_at_start ds)) plan.nodes stations (sym links) all;
       tracks = subst (λ (m : ℕ). AllByRecursion (IsReadyTrack 0 m) (tracks_at_start ds)) (sym count) (start-tracks (length plan.nodes) plan.links is.links);
       heeded = start-heeded stations ds;

@@ -1,4 +1,4 @@
--- The nodes and directed links at work, from slot to slot, are those of the serial machine.
+-- The nodes and directed links at work, from slot to slot, are those of the system that its step moves.
 use Rattle.std.proofs.Common.{◌≡◌, ℕ, zero, suc, ◌+◌, ◌<◌, false, Option, Some, None, List, [], ◌∷◌, ◌++◌, length, map, get_or, refl, sym, ap, ◌∙◌, subst, arith, add-one}
 use Rattle.std.specs.List.{AllByRecursion, AllZip}
 use Rattle.xs_base.specs.Batch.{BatchRec}
@@ -12,7 +12,7 @@ use Rattle.step_model.specs.Start.{fixed_of}
 use Rattle.step_model.specs.Step.{Stepped, node_step}
 use Rattle.trace_lines.specs.Kept.{Keeps}
 use Rattle.core_step.specs.Core.{StandsAt}
-use Rattle.serial_model.specs.Serial.{arriving, arriving_by, token_among, credit_among, arrivals_at, pins_at, steps_from, steps_of, sent_by, longer_histories, longer_events, system_step, serial}
+use Rattle.serial_model.specs.Serial.{arriving, arriving_by, token_among, credit_among, arrivals_at, pins_at, steps_from, steps_of, sent_by, longer_histories, longer_events, SystemRec, system_step}
 use Rattle.crossings.specs.declared.crossing.Crossing.{Crossing}
 use Rattle.run_plan.specs.declared.track.Track.{Track}
 use Rattle.run_plan.specs.declared.station.Station.{Station}
@@ -114,10 +114,6 @@ module _ (plan : PlanRec) (slot nodes_count : ℕ) where
       )
   all-carry steps stations stations_after given _ _ _ _ carry zip = absurd carry
 
-serial-next : (plan : PlanRec) (slot : ℕ) → serial plan (slot + 1) ≡ system_step plan slot (serial plan slot)
-unfolding serial
-serial-next plan slot = rw add-one refl
-
 -- ---- What stays, where room is made and where a node becomes due
 
 play-same : (plan : PlanRec) (slot n : ℕ) (nodes : List NodePlan) (stations : List Station) (recs : List NodeRec) (events : List (List Event)) (after : List Station) → AllServe plan slot n nodes stations recs events → AllZip SameNode stations after → AllServe plan slot n nodes after recs events
@@ -146,20 +142,19 @@ same-nodes stations after = zip-first SameButDue SameNode same-node stations aft
 
 -- ---- The next slot
 
--- the nodes and directed links after a slot are the serial machine's
-pub system-next : (plan : PlanRec) (slot count : ℕ) (stations stepped after : List Station) (tracks tracks_after : List Track) → IsSystem plan slot stations tracks (serial plan slot) → AllByRecursion (IsReadyTrack slot count) tracks → AllByRecursion (IsHeeded stations) tracks
-    → AllZip (StationSteps slot tracks) stations stepped → AllZip SameButDue stepped after → AllZip (Advances slot stepped after) tracks tracks_after → IsSystem plan (slot + 1) after tracks_after (serial plan (slot + 1))
-system-next plan slot count stations stepped after tracks tracks_after is ready heeded steps same advances =
-    let system = serial plan slot in
+-- the nodes and directed links after a slot are the system's after it
+pub system-next : (plan : PlanRec) (slot count : ℕ) (system : SystemRec) (stations stepped after : List Station) (tracks tracks_after : List Track) → IsSystem plan slot stations tracks system → AllByRecursion (IsReadyTrack slot count) tracks → AllByRecursion (IsHeeded stations) tracks
+    → AllZip (StationSteps slot tracks) stations stepped → AllZip SameButDue stepped after → AllZip (Advances slot stepped after) tracks tracks_after → IsSystem plan (slot + 1) after tracks_after (system_step plan slot system)
+system-next plan slot count system stations stepped after tracks tracks_after is ready heeded steps same advances =
     let quiet = all-quiet plan tracks stations system.histories is.carry heeded in
     let given = all-given plan slot count tracks system.histories is.carry ready 0 plan.nodes stations system.nodes system.events stepped is.serve quiet steps in
     let next = system_step plan slot system in
-    subst (IsSystem plan (slot + 1) after tracks_after) (sym (serial-next plan slot)) (record {
+    record {
       serve =
           play-same plan (slot + 1) 0 plan.nodes stepped next.nodes next.events after
           (all-play plan slot count tracks system.histories is.carry ready 0 plan.nodes stations system.nodes system.events stepped is.serve quiet steps) (same-nodes stepped after same);
       carry = all-carry plan slot count (steps_of plan slot system) stepped after given (directions plan.links) tracks system.histories tracks_after is.carry advances;
-    })
+    }
 
 -- each node and each directed link is ready for the next slot
 stations-next : (slot count : ℕ) (tracks : List Track) (stations after : List Station) → AllZip (StationSteps slot tracks) stations after → AllByRecursion (IsStation slot count) stations → AllByRecursion (IsStation (slot + 1) count) after
@@ -239,25 +234,25 @@ pub ready-at : (slot count : ℕ) (tracks : List Track) (i : ℕ) (d t : Track) 
 ready-at slot count tracks i d t all inside is = subst (IsReadyTrack slot count) is (all-at (IsReadyTrack slot count) tracks i d all inside)
 
 -- nodes and directed links stay ready where room is made, and are ready for the next slot after one
-pub ready-same : (plan : PlanRec) (slot : ℕ) (stations after : List Station) (tracks tracks_after : List Track) → AreReady plan slot stations tracks → AllZip SameStation stations after → AllZip SameTrack tracks tracks_after → AreReady plan slot after tracks_after
-ready-same plan slot stations after tracks tracks_after ready s t = record {
+pub ready-same : (plan : PlanRec) (slot : ℕ) (whole : SystemRec) (stations after : List Station) (tracks tracks_after : List Track) → AreReady plan slot whole stations tracks → AllZip SameStation stations after → AllZip SameTrack tracks tracks_after → AreReady plan slot whole after tracks_after
+ready-same plan slot whole stations after tracks tracks_after ready s t = record {
   system = record {
-    serve = play-same plan slot 0 plan.nodes stations (serial plan slot).nodes (serial plan slot).events after ready.system.serve (zip-first SameStation SameNode (λ x y s. s.node) stations after s);
-    carry = carry-same (directions plan.links) tracks (serial plan slot).histories tracks_after ready.system.carry t;
+    serve = play-same plan slot 0 plan.nodes stations whole.nodes whole.events after ready.system.serve (zip-first SameStation SameNode (λ x y s. s.node) stations after s);
+    carry = carry-same (directions plan.links) tracks whole.histories tracks_after ready.system.carry t;
   };
   stations = subst (λ (n : ℕ). AllByRecursion (IsStation slot n) after) (sym (zip-length SameTrack tracks tracks_after t)) (stations-same slot (length tracks) stations after s ready.stations);
   tracks = subst (λ (n : ℕ). AllByRecursion (IsReadyTrack slot n) tracks_after) (sym (zip-length SameStation stations after s)) (tracks-same slot (length stations) tracks tracks_after t ready.tracks);
   heeded = heeded-same stations after tracks tracks_after s t ready.heeded;
 }
 
-pub ready-next : (plan : PlanRec) (slot : ℕ) (stations stepped after : List Station) (tracks tracks_after : List Track) → AreReady plan slot stations tracks
-    → AllZip (StationSteps slot tracks) stations stepped → AllZip SameButDue stepped after → AllZip (Advances slot stepped after) tracks tracks_after → AreReady plan (slot + 1) after tracks_after
-ready-next plan slot stations stepped after tracks tracks_after ready s b t =
+pub ready-next : (plan : PlanRec) (slot : ℕ) (whole : SystemRec) (stations stepped after : List Station) (tracks tracks_after : List Track) → AreReady plan slot whole stations tracks
+    → AllZip (StationSteps slot tracks) stations stepped → AllZip SameButDue stepped after → AllZip (Advances slot stepped after) tracks tracks_after → AreReady plan (slot + 1) (system_step plan slot whole) after tracks_after
+ready-next plan slot whole stations stepped after tracks tracks_after ready s b t =
     let links = zip-length (Advances slot stepped after) tracks tracks_after t in
     let nodes = zip-length SameButDue stepped after b ∙ zip-length (StationSteps slot tracks) stations stepped s in
     let steady = stations-stay (slot + 1) (length tracks) stepped after (same-nodes stepped after b) (stations-next slot (length tracks) tracks stations stepped s ready.stations) in
     record {
-      system = system-next plan slot (length stations) stations stepped after tracks tracks_after ready.system ready.tracks ready.heeded s b t;
+      system = system-next plan slot (length stations) whole stations stepped after tracks tracks_after ready.system ready.tracks ready.heeded s b t;
       stations = subst (λ (n : ℕ). AllByRecursion (IsStation (slot + 1) n) after) (sym links) steady;
       tracks = subst (λ (n : ℕ). AllByRecursion (IsReadyTrack (slot + 1) n) tracks_after) (sym nodes) (tracks-next slot (length stations) stepped after tracks tracks_after t ready.tracks);
       heeded = zip-second (Advances slot stepped after) (IsHeeded after) (λ x y a. a.heeded) tracks tracks_after t;

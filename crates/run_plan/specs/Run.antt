@@ -7,7 +7,7 @@ use Rattle.xs_model.specs.declared.event.Event.{Event}
 use Rattle.xs_model.specs.Record.{NodeRec}
 use Rattle.sys_plan.specs.declared.NodePlan.{NodePlan}
 use Rattle.sys_plan.specs.Plan.{PlanRec, Direction, directions}
-use Rattle.serial_model.specs.Serial.{SystemRec, serial}
+use Rattle.serial_model.specs.Serial.{SystemRec}
 use Rattle.node_seats.specs.Seats.{Plays}
 use Rattle.run_plan.specs.declared.track.Track.{Track}
 use Rattle.run_plan.specs.declared.station.Station.{Station}
@@ -45,9 +45,9 @@ pub record IsSystem (plan : PlanRec) (slot : Slot) (stations : List Station) (tr
   pub serve : AllServe plan slot 0 plan.nodes stations system.nodes system.events
   pub carry : AllCarry (directions plan.links) tracks system.histories
 
--- the nodes and directed links of a plan are ready for a slot
-pub record AreReady (plan : PlanRec) (slot : Slot) (all_stations : List Station) (all_tracks : List Track) : Type 0 where
-  pub system : IsSystem plan slot all_stations all_tracks (serial plan slot)
+-- the nodes and directed links of a plan are ready for a slot, when the system is this
+pub record AreReady (plan : PlanRec) (slot : Slot) (whole : SystemRec) (all_stations : List Station) (all_tracks : List Track) : Type 0 where
+  pub system : IsSystem plan slot all_stations all_tracks whole
   pub stations : AllByRecursion (IsStation slot (length all_tracks)) all_stations
   pub tracks : AllByRecursion (IsReadyTrack slot (length all_stations)) all_tracks
   pub heeded : AllByRecursion (IsHeeded all_stations) all_tracks

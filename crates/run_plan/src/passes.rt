@@ -2,6 +2,7 @@
 ghost use Rattle.std.specs.Prelude.{◌≡◌, ◌+◌, ◌-◌, ◌^◌, ◌<◌, length, OnOk, OnErr};
 ghost use Rattle.std.specs.List.{AllByRecursion, AllZip};
 ghost use Rattle.sys_plan.specs.Plan.{PlanRec};
+ghost use Rattle.serial_model.specs.Serial.{SystemRec, system_step};
 ghost use Rattle.run_plan.specs.Stations.{IsStation, StationSteps};
 ghost use Rattle.run_plan.specs.Passes.{HasRoomForEvents, HasEntryRoom, SameStation, SameTrack, IsReadyTrack, Advances, SameButDue};
 ghost use Rattle.run_plan.specs.Run.{AreReady};
@@ -22,8 +23,8 @@ pub(crate) fn pass_slot(
     requires slot { slot < 2 ^ 32 - 1 }
     requires stations { AllByRecursion (IsStation slot (length tracks.old)) stations.old }
     requires tracks { AllByRecursion (IsReadyTrack slot (length stations.old)) tracks.old }
-    ensures ok { OnOk result ((plan : PlanRec) → AreReady plan slot stations.old tracks.old → AreReady plan (slot + 1) stations.new tracks.new) }
-    ensures err { OnErr result ((plan : PlanRec) → AreReady plan slot stations.old tracks.old → AreReady plan slot stations.new tracks.new) }
+    ensures ok { OnOk result ((plan : PlanRec) (whole : SystemRec) → AreReady plan slot whole stations.old tracks.old → AreReady plan (slot + 1) (system_step plan slot whole) stations.new tracks.new) }
+    ensures err { OnErr result ((plan : PlanRec) (whole : SystemRec) → AreReady plan slot whole stations.old tracks.old → AreReady plan slot whole stations.new tracks.new) }
     ensures stations { length stations.new ≡ length stations.old }
     ensures tracks { length tracks.new ≡ length tracks.old }
 {

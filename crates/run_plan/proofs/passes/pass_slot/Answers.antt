@@ -14,12 +14,12 @@ on_err (Err e) p = p
 pub returns-in_err-make_event_room-clause-err : goal.returns-in_err-make_event_room-clause-err
 returns-in_err-make_event_room-clause-err c =
     on_err c.from_residual.result
-    (λ plan ready. ready-same plan c.args.slot _ _ _ _ ready c.make_event_room.ensures.same (zip-refl SameTrack (λ x. refl) c.args.tracks.now))
+    (λ plan whole ready. ready-same plan c.args.slot whole _ _ _ _ ready c.make_event_room.ensures.same (zip-refl SameTrack (λ x. refl) c.args.tracks.now))
 
 pub returns-in_err-make_entry_room-clause-err : goal.returns-in_err-make_entry_room-clause-err
 returns-in_err-make_entry_room-clause-err c =
     on_err c.from_residual-in_err-make_entry_room.result
-    (λ plan ready. ready-same plan c.args.slot _ _ _ _ ready c.make_event_room.ensures.same c.make_entry_room.ensures.same)
+    (λ plan whole ready. ready-same plan c.args.slot whole _ _ _ _ ready c.make_event_room.ensures.same c.make_entry_room.ensures.same)
 
 pub step_all-requires-clause-stations : goal.step_all-requires-clause-stations
 step_all-requires-clause-stations c =
@@ -37,6 +37,6 @@ advance_all-requires-clause-tracks c =
     (tracks-same c.args.slot (length c.args.stations.now) c.args.tracks.now tracks c.make_entry_room.ensures.same c.requires.tracks)
 
 pub returns-clause-ok : goal.returns-clause-ok
-returns-clause-ok c = λ plan ready.
-    ready-next plan c.args.slot _ _ _ _ _ (ready-same plan c.args.slot _ _ _ _ ready c.make_event_room.ensures.same c.make_entry_room.ensures.same)
+returns-clause-ok c = λ plan whole ready.
+    ready-next plan c.args.slot whole _ _ _ _ _ (ready-same plan c.args.slot whole _ _ _ _ ready c.make_event_room.ensures.same c.make_entry_room.ensures.same)
     c.step_all.ensures.steps c.advance_all.ensures.same c.advance_all.ensures.advances
