@@ -9,4 +9,5 @@ pub mod Handing
 pub mod Starting
 pub mod Exchanges
 pub mod Running
+pub mod Turns
 pub mod Gathering

@@ -62,7 +62,10 @@ impl Model for Part {
 impl<'a> Worker<'a> {
     ghost use Rattle.core_workers.specs.Worker.{IsWorker, IsOpen, Stays, Exchanged, Answers, Closes, KeepsAllElse};
     ghost use Rattle.core_workers.specs.Run.{Keeps, EndsWith};
+    ghost use Rattle.core_workers.specs.Turns.{Shuts, RunsBy};
+    ghost use Rattle.link_logs.specs.declared.answers.Cause.TheVariants as cause;
     ghost use Rattle.core_workers.specs.declared.turn.Turn.TheVariants as turn;
+    ghost use Rattle.core_workers.specs.declared.ended.Ended.TheVariants as ended;
 
     /// A worker of the node at a position of the plan of these lanes, with the ends that are the node's. Nothing was run, read or
     /// published yet. It takes no memory.
@@ -105,6 +108,7 @@ impl<'a> Worker<'a> {
         ensures is_worker { IsWorker self.new }
         ensures keeps { Keeps self.old self.new }
         ensures ended { EndsWith result self.new }
+        ensures turns { RunsBy self.old result self.new }
     {
         for _ in rt.forever() {
             match self.turn(rt, gate) {
@@ -137,6 +141,8 @@ impl<'a> Worker<'a> {
         ensures is_worker { IsWorker self.new }
         ensures keeps { Keeps self.old self.new }
         ensures ended { EndsWith result self.new }
+        ensures shuts { Shuts cause.Memory self.old self.new }
+        ensures memory { result ≡ ended.Memory }
     {
         self.stop(rt, Cause::Memory);
         Ended::Memory
