@@ -1,1 +1,2 @@
 pub mod Stories
+pub mod Histories

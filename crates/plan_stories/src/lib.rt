@@ -1,6 +1,8 @@
-//! What names a directed link of the run of a plan. See docs/LOOKAHEAD.md.
+//! What names a directed link of the run of a plan, and what its log has of the serial machine. See docs/LOOKAHEAD.md.
 #![tactic(auto)]
 
+mod histories;
 mod story;
 
+pub use histories::{history_in, stories_are_histories};
 pub use story::PlanStory;
