@@ -7,7 +7,7 @@ use Rattle.std.proofs.lemmas.Option.{none-some, same_Some}
 use Rattle.xs_base.specs.Numbers.{Slot, Position, EndNumber, LinkNumber}
 use Rattle.sys_plan.specs.declared.Step.{Step}
 use Rattle.sys_plan.specs.declared.Step.TheVariants.{Take, Run, Send}
-use Rattle.sys_plan.specs.Plan.{PlanRec, Direction, directions, incoming, outgoing, delay_of, link_ends}
+use Rattle.sys_plan.specs.Plan.{PlanRec, Arc, arcs, arc_count, incoming, outgoing, delay_of, link_ends}
 use Rattle.sys_plan.proofs.Routes.{leads-from}
 use Rattle.ahead_limits.specs.declared.horizon.Seen.{Seen}
 use Rattle.ahead_limits.specs.Horizon.{HorizonRec, may_run, lets_run, horizon_at}
@@ -157,12 +157,12 @@ module _ (plan : PlanRec) (limit : Slot) where
 
     module _ (node : Position) where
       abbrev Leaves : ℕ → Type 0
-      Leaves link = (d : Direction) × (slice_get (directions plan.links) link ≡ Some d) × (d.from ≡ node)
+      Leaves link = (d : Arc) × (slice_get (arcs plan) link ≡ Some d) × (d.from ≡ node)
 
       leaves : (end link : ℕ) → outgoing plan node end ≡ Some link → Leaves link
       leaves end link at =
           let l = leads-from plan node end link at in
-          (l.direction, l.here, l.from)
+          (l.arc, l.here, l.from)
 
       published_before : (link : ℕ) → Leaves link → get_or s.published link 0 ≤ get_or s.clocks node 0
       published_before link l = subst (λ n. get_or s.published link 0 ≤ get_or s.clocks n 0) l.2 (k.behind link l.0 l.1)
@@ -175,10 +175,10 @@ module _ (plan : PlanRec) (limit : Slot) where
         published = set_all (λ j n. get_or s.published j 0 ≤ n) s.published link (get_or s.clocks node 0) (none_falls s).published (published_before link (there link refl));
       }
 
-      by_it : (link : ℕ) → Leaves link → (d : Direction) → slice_get (directions plan.links) link ≡ Some d → get_or s.clocks node 0 ≤ get_or s.clocks d.from 0
+      by_it : (link : ℕ) → Leaves link → (d : Arc) → slice_get (arcs plan) link ≡ Some d → get_or s.clocks node 0 ≤ get_or s.clocks d.from 0
       by_it link l d at =
           let same : l.0 ≡ d = same_Some l.0 d (sym l.1 ∙ at) in
-          let from : node ≡ d.from = sym l.2 ∙ ap (λ (e : Direction). e.from) same in
+          let from : node ≡ d.from = sym l.2 ∙ ap (λ (e : Arc). e.from) same in
           subst (λ n. get_or s.clocks node 0 ≤ get_or s.clocks n 0) from (same_le (get_or s.clocks node 0))
 
       send_keeps : (o : Option ℕ) → ((link : ℕ) → o ≡ Some link → Leaves link) → IsOfPlan plan (after_send o (get_or s.clocks node 0) s)
@@ -188,7 +188,7 @@ module _ (plan : PlanRec) (limit : Slot) where
         lengths = of;
         within = k.within;
         seen = λ l. omega (arith, k.seen l, f.published l);
-        behind = set_all (λ j n. (d : Direction) → slice_get (directions plan.links) j ≡ Some d → n ≤ get_or s.clocks d.from 0)
+        behind = set_all (λ j n. (d : Arc) → slice_get (arcs plan) j ≡ Some d → n ≤ get_or s.clocks d.from 0)
             s.published link (get_or s.clocks node 0) k.behind (by_it link (there link refl));
         ahead = k.ahead;
       }
@@ -215,8 +215,8 @@ pub bounds_at_start : (plan : PlanRec) (limit : Slot) → KeepsBounds plan limit
 bounds_at_start plan limit = record {
   lengths = lengths_at_start plan;
   within = λ n. none_above (length plan.nodes) n limit;
-  seen = λ l. none_above (length (directions plan.links)) l _;
-  behind = λ l d at. none_above (length (directions plan.links)) l _;
+  seen = λ l. none_above (arc_count plan) l _;
+  behind = λ l d at. none_above (arc_count plan) l _;
   ahead = λ n end l less at. none_above (length plan.nodes) n _;
 }
 

@@ -7,22 +7,22 @@ use Rattle.xs_base.specs.Numbers.{Slot}
 use Rattle.sys_plan.specs.declared.LinkPlan.{LinkPlan}
 use Rattle.sys_plan.specs.declared.Step.{Step}
 use Rattle.sys_plan.specs.declared.Step.TheVariants.{Take, Run, Send}
-use Rattle.sys_plan.specs.Plan.{PlanRec, IsPlan, directions, incoming, outgoing}
+use Rattle.sys_plan.specs.Plan.{PlanRec, IsPlan, arc_count, link_arcs, incoming, outgoing}
 use Rattle.ahead_limits.specs.declared.horizon.Seen.{Seen}
 use Rattle.ahead_limits.specs.Horizon.{HorizonRec, may_run}
 use Rattle.ahead_limits.specs.Bound.{nearer, least_bound}
 use Rattle.ahead_limits.specs.Schedule.{ScheduleRec, IsOfPlan, schedule_at_start, clock_after, after_take, after_send, after_step, after_steps}
 use Rattle.ahead_limits.proofs.Bounds.{may_run_is}
 
-pub directions_twice : (links : List LinkPlan) → length (directions links) ≡ 2 * length links
-directions_twice [] = refl
-directions_twice (link ∷ links) = omega (arith, directions_twice links)
+pub arcs_twice : (links : List LinkPlan) → length (link_arcs links) ≡ 2 * length links
+arcs_twice [] = refl
+arcs_twice (link ∷ links) = omega (arith, arcs_twice links)
 
--- no more directed links are there than a plan may have, and of none of them anything was seen
+-- no more arcs are there than a plan may have, and of none of them anything was seen
 pub nothing_seen : (plan : PlanRec) → IsPlan plan → (links : List LinkPlan) → links ≡ plan.links
-    → take (2 * length links) (replicate {A = Slot} 96 0) ≡ replicate (length (directions plan.links)) 0
+    → take (2 * length links) (replicate {A = Slot} 96 0) ≡ replicate (arc_count plan) 0
 nothing_seen plan is links same =
-    let twice : 2 * length links ≡ length (directions plan.links) = (λ i. 2 * length (same i)) ∙ sym (directions_twice plan.links) in
+    let twice : 2 * length links ≡ arc_count plan = (λ i. 2 * length (same i)) ∙ sym (arcs_twice plan.links) in
     let few : 2 * length links ≤ 96 = omega (arith, is.few_links, ap (λ (ls : List LinkPlan). length ls) same) in
     take-replicate (2 * length links) 96 0 few ∙ ap (λ n. replicate {A = Slot} n 0) twice
 
@@ -103,8 +103,8 @@ lengths_stay plan limit s (Send node end) is = sent_lengths plan (outgoing plan 
 pub lengths_at_start : (plan : PlanRec) → IsOfPlan plan (schedule_at_start plan)
 lengths_at_start plan = record {
   clocks = length-replicate (length plan.nodes) 0;
-  seen = length-replicate (length (directions plan.links)) 0;
-  published = length-replicate (length (directions plan.links)) 0;
+  seen = length-replicate (arc_count plan) 0;
+  published = length-replicate (arc_count plan) 0;
 }
 
 -- ---- One step after another

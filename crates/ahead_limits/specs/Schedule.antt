@@ -1,40 +1,40 @@
--- A schedule in numbers: how far each node has run, and how much of each directed link was seen and published.
+-- A schedule in numbers: how far each node has run, and how much of each arc was seen and published.
 use Rattle.std.specs.Prelude.{ℕ, ◌≡◌, zero, suc, ◌+◌, if◌then◌else◌, Option, Some, None, option_map, List, [], ◌∷◌, length, map, replicate, slice_index, slice_set}
 use Rattle.xs_base.specs.Numbers.{Slot, Position, LinkNumber}
 use Rattle.sys_plan.specs.declared.Step.{Step}
 use Rattle.sys_plan.specs.declared.Step.TheVariants.{Take, Run, Send}
-use Rattle.sys_plan.specs.Plan.{PlanRec, directions, outgoing, incoming, delay_of, link_ends}
+use Rattle.sys_plan.specs.Plan.{PlanRec, arc_count, outgoing, incoming, delay_of, ends_in}
 use Rattle.ahead_limits.specs.declared.horizon.Seen.{Seen}
 use Rattle.ahead_limits.specs.Horizon.{HorizonRec, may_run}
 
--- the clock of each node by position, which is the number of slots that it has run; of each directed link by number, the slot up to which
+-- the clock of each node by position, which is the number of slots that it has run; of each arc by number, the slot up to which
 -- its receiver has seen it, and the one up to which its sender has published it
 pub record ScheduleRec : Type 0 where
   pub clocks : List Slot
   pub seen : List Slot
   pub published : List Slot
 
--- the clocks are those of the plan's nodes, and the other numbers those of its directed links
+-- the clocks are those of the plan's nodes, and the other numbers those of its arcs
 pub record IsOfPlan (plan : PlanRec) (s : ScheduleRec) : Type 0 where
   pub clocks : length s.clocks ≡ length plan.nodes
-  pub seen : length s.seen ≡ length (directions plan.links)
-  pub published : length s.published ≡ length (directions plan.links)
+  pub seen : length s.seen ≡ arc_count plan
+  pub published : length s.published ≡ arc_count plan
 
 -- before the first step
 abbrev pub schedule_at_start : PlanRec → ScheduleRec
 schedule_at_start plan = record {
   clocks = replicate (length plan.nodes) 0;
-  seen = replicate (length (directions plan.links)) 0;
-  published = replicate (length (directions plan.links)) 0;
+  seen = replicate (arc_count plan) 0;
+  published = replicate (arc_count plan) 0;
 }
 
--- what is seen of the directed link with a number
+-- what is seen of the arc with a number
 abbrev pub seen_of_link : PlanRec → List Slot → LinkNumber → Seen
 seen_of_link plan seen link = record { delay = delay_of plan link; seen = slice_index seen link }
 
 -- how far the node at a position may run in a run of so many slots, by what is seen of the links that come to it
 abbrev pub horizon_of : PlanRec → Slot → List Slot → Position → HorizonRec
-horizon_of plan limit seen n = record { limit = limit; ends = map (λ end. option_map (seen_of_link plan seen) (incoming plan n end)) link_ends }
+horizon_of plan limit seen n = record { limit = limit; ends = map (λ end. option_map (seen_of_link plan seen) (incoming plan n end)) (ends_in plan n) }
 
 -- the clock of a node with this horizon that is to run so many slots: it runs each where its horizon lets it
 unfoldable pub clock_after : HorizonRec → ℕ → Slot → Slot

@@ -1,6 +1,6 @@
 //! `Horizon`, how far a node may run.
 ghost use Rattle.std.specs.Prelude.{IfSome, ◌↔◌, true, ◌≡◌, ◌+◌, ◌<◌, ◌≤◌, Some, None, IsNone, length, drop, slice_index_or, slice_set, replicate};
-ghost use Rattle.sys_plan.specs.Plan.{directions};
+ghost use Rattle.sys_plan.specs.Plan.{arc_count};
 ghost use Rattle.xs_base.specs.declared.numbers.TheConstants.{LINK_ENDS};
 ghost use Rattle.ahead_limits.specs.Horizon.{no_links, seen_to, seen_at, may_run, first_stop, stops_at, horizon_at, IsBelowAll, NoneStopsBelow, StopsAt};
 ghost use Rattle.ahead_limits.specs.Bound.{nearer, least_bound};
@@ -94,17 +94,17 @@ impl Horizon {
     }
 
     /// The horizon of the node at a position of a plan, in a run of so many slots. Nothing was seen yet.
-    #[tactic(auto, using(crate::proofs::Steps::directions_twice))]
+    #[tactic(auto, using(crate::proofs::Steps::arcs_twice))]
     pub fn of(plan: &Plan, node: u8, limit: u32) -> Horizon
-        ensures value { result ≡ horizon_of plan.now limit (replicate (length (directions plan.now.links)) 0) node }
+        ensures value { result ≡ horizon_of plan.now limit (replicate (arc_count plan.now) 0) node }
     {
         let nothing = [0; 96];
         Horizon::as_seen(plan, node, limit, &nothing[..2 * plan.links().len()])
     }
 
-    /// The horizon of the node at a position of a plan, by the slot up to which each directed link was seen.
+    /// The horizon of the node at a position of a plan, by the slot up to which each arc was seen.
     pub(crate) fn as_seen(plan: &Plan, node: u8, limit: u32, seen: &[u32]) -> Horizon
-        requires links { length seen.now ≡ length (directions plan.now.links) }
+        requires links { length seen.now ≡ arc_count plan.now }
         ensures value { result ≡ horizon_of plan.now limit seen.now node }
     {
         let ends = seen_ends(plan, node, seen);

@@ -1,6 +1,6 @@
 //! `Numbers`, a schedule worked through in numbers.
 ghost use Rattle.std.specs.Prelude.{◌≡◌, ◌*◌, ◌<◌, IfOk, length, replicate, slice_index};
-ghost use Rattle.sys_plan.specs.Plan.{directions, incoming, outgoing, NamesWhatIsThere};
+ghost use Rattle.sys_plan.specs.Plan.{incoming, outgoing, NamesWhatIsThere};
 ghost use Rattle.ahead_limits.specs.Schedule.{numbers, schedule_at_start, after_step, after_take, after_send, after_run, IsOfPlan};
 
 use crate::Horizon;
@@ -8,7 +8,7 @@ use std::alloc::{AllocError, Global};
 use std::marker::Model;
 use sys_plan::{Plan, Step};
 
-/// How far each node has run, and how much of each directed link was seen and published, all in slots from 0 on. Contracts see it as
+/// How far each node has run, and how much of each arc was seen and published, all in slots from 0 on. Contracts see it as
 /// a `ScheduleRec` of `Rattle.ahead_limits.specs.Schedule`. See docs/LOOKAHEAD.md.
 #[derive(Drop)]
 pub struct Numbers {
@@ -47,7 +47,7 @@ impl Numbers {
         self.clocks[node as usize]
     }
 
-    /// The slot up to which a directed link was seen by its receiver.
+    /// The slot up to which an arc was seen by its receiver.
     pub fn seen(&self, link: u32) -> u32
         requires link { link < length self.now.seen }
         ensures value { result ≡ slice_index self.now.seen link }
@@ -55,7 +55,7 @@ impl Numbers {
         self.seen[link as usize]
     }
 
-    /// The slot up to which a directed link was published by its sender.
+    /// The slot up to which an arc was published by its sender.
     pub fn published(&self, link: u32) -> u32
         requires link { link < length self.now.published }
         ensures value { result ≡ slice_index self.now.published link }
@@ -64,14 +64,14 @@ impl Numbers {
     }
 
     // Before the first step.
-    #[tactic(auto, using(crate::proofs::Steps::directions_twice))]
+    #[tactic(auto, using(crate::proofs::Steps::arcs_twice))]
     fn at_start(alloc: Global, plan: &Plan) -> Result<Numbers, AllocError>
         ensures { IfOk result (λ n. n ≡ schedule_at_start plan.now) }
     {
-        let directions = 2 * plan.links().len();
+        let arcs = 2 * plan.links().len();
         let clocks = vec![in alloc; 0; plan.nodes().len()]?;
-        let seen = vec![in alloc; 0; directions]?;
-        let published = vec![in alloc; 0; directions]?;
+        let seen = vec![in alloc; 0; arcs]?;
+        let published = vec![in alloc; 0; arcs]?;
         Ok(Numbers {
             clocks,
             seen,

@@ -6,7 +6,7 @@ use Rattle.std.proofs.lemmas.Bool.{cases_Bool}
 use Rattle.xs_base.specs.Numbers.{Slot, LinkNumber}
 use Rattle.xs_base.specs.declared.entry.Entry.{Entry}
 use Rattle.xs_model.specs.Outside.{Emitted}
-use Rattle.sys_plan.specs.Plan.{PlanRec, Direction, directions}
+use Rattle.sys_plan.specs.Plan.{PlanRec, Arc, arcs}
 use Rattle.step_model.specs.Step.{Stepped}
 use Rattle.serial_model.specs.Serial.{serial, steps_of, sent_by, emitted_by, longer_histories, is_sent_within, history}
 use Rattle.crossings.specs.Crossings.{MayFollow, AreInSendingOrder}
@@ -54,19 +54,19 @@ longer slot es emitted end is =
     sent_at_all : (slot : Slot) (emitted : Emitted) (end : ℕ) → AllByRecursion (λ (e : Entry). e.slot ≡ slot) (sent_by slot emitted end)
     sent_at_all slot emitted end = sent-at slot (slice_index_or emitted.tokens end None) (slice_index_or emitted.credits end false)
 
-all-longer : (slot : Slot) (steps : List Stepped) (ds : List Direction) (histories : List (List Entry)) → AllByRecursion (IsHistory slot) histories → AllByRecursion (IsHistory (suc slot)) (longer_histories slot steps ds histories)
+all-longer : (slot : Slot) (steps : List Stepped) (ds : List Arc) (histories : List (List Entry)) → AllByRecursion (IsHistory slot) histories → AllByRecursion (IsHistory (suc slot)) (longer_histories slot steps ds histories)
 all-longer slot steps [] histories all = tt
 all-longer slot steps (d ∷ ds) [] all = tt
 all-longer slot steps (d ∷ ds) (h ∷ histories) all = (longer slot h (emitted_by steps d.from) d.from_end all.0, all-longer slot steps ds histories all.1)
 
-none-yet : (ds : List Direction) → AllByRecursion (IsHistory 0) (map (λ (d : Direction). []) ds)
+none-yet : (ds : List Arc) → AllByRecursion (IsHistory 0) (map (λ (d : Arc). []) ds)
 none-yet [] = tt
 none-yet (d ∷ ds) = (record { in_order = tt; before = tt }, none-yet ds)
 
 all-histories : (plan : PlanRec) (slot : Slot) → AllByRecursion (IsHistory slot) (serial plan slot).histories
 unfolding serial
-all-histories plan zero = none-yet (directions plan.links)
-all-histories plan (suc slot) = all-longer slot (steps_of plan slot (serial plan slot)) (directions plan.links) (serial plan slot).histories (all-histories plan slot)
+all-histories plan zero = none-yet (arcs plan)
+all-histories plan (suc slot) = all-longer slot (steps_of plan slot (serial plan slot)) (arcs plan) (serial plan slot).histories (all-histories plan slot)
 
 history-at : (slot : Slot) (histories : List (List Entry)) (link : ℕ) → AllByRecursion (IsHistory slot) histories → IsHistory slot (slice_index_or histories link [])
 history-at slot [] link all = record { in_order = tt; before = tt }
@@ -77,6 +77,6 @@ history-at slot (h ∷ histories) (suc link) all = history-at slot histories lin
 pub serial_in_order : (plan : PlanRec) (link : LinkNumber) (slot : Slot) → AreInSendingOrder (slice_index_or (serial plan slot).histories link [])
 serial_in_order plan link slot = (history-at slot (serial plan slot).histories link (all-histories plan slot)).in_order
 
--- and so is what a directed link carried over some slots
+-- and so is what an arc carried over some slots
 pub history_in_order : (plan : PlanRec) (link : LinkNumber) (from to : Slot) → AreInSendingOrder (history plan link from to)
 history_in_order plan link from to = order-filter (is_sent_within from to) (slice_index_or (serial plan to).histories link []) (serial_in_order plan link to)

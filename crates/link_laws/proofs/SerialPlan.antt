@@ -6,13 +6,13 @@ use Rattle.std.specs.List.{AllByRecursion}
 use Rattle.std.proofs.lemmas.Bool.{eq-eqb, ne_eqb, eqb-true, eqb-false, cases_Bool, and_left, and_right}
 use Rattle.std.proofs.lemmas.Option.{none-some, same_Some, slice_get-map, get_or_from_slice_get}
 use Rattle.sys_plan.specs.declared.LinkPlan.{LinkPlan}
-use Rattle.sys_plan.specs.Plan.{PlanRec, Direction, IsPlan, IsLink, AreDistinct, forth, back, directions, places_of, leaves_by}
-use Rattle.sys_plan.specs.Plan.{comes_to, first_link, outgoing, incoming, delay_of, gap_of, gap_by, gaps_of, link_ends}
+use Rattle.sys_plan.specs.Plan.{PlanRec, Arc, IsPlan, IsLink, AreDistinct, forth, back, link_arcs, places_of, leaves_by}
+use Rattle.sys_plan.specs.Plan.{comes_to, first_arc, outgoing, incoming, delay_of, gap_of, gap_by, gaps_of, link_ends}
 use Rattle.link_laws.specs.Travel.{opposite}
 
 -- ---- The directed link that goes back
 
-abbrev pub turned : Direction → Direction
+abbrev pub turned : Arc → Arc
 turned d = record { from = d.to; from_end = d.to_end; to = d.from; to_end = d.from_end; delay = d.delay; gap = d.gap }
 
 opposite-even : (l : ℕ) → l % 2 ≡ 0 → opposite l ≡ l + 1
@@ -27,8 +27,8 @@ opposite-later k (inr odd) =
     let ne : k % 2 ≡ 0 → ⊥ = eqb-false (k % 2) 0 odd in
     omega (arith, opposite-odd k ne, opposite-odd (suc (suc k)) (λ even. ne (omega arith)))
 
-pub opposite-at : (links : List LinkPlan) (l : ℕ) (d : Direction) → slice_get (directions links) l ≡ Some d → slice_get (directions links) (opposite l) ≡ Some (turned d)
+pub opposite-at : (links : List LinkPlan) (l : ℕ) (d : Arc) → slice_get (link_arcs links) l ≡ Some d → slice_get (link_arcs links) (opposite l) ≡ Some (turned d)
 opposite-at [] l d h = absurd (none-some d h)
-opposite-at (link ∷ links) zero d h = ap (λ (x : Direction). Some (turned x)) (same_Some (forth link) d h)
-opposite-at (link ∷ links) (suc zero) d h = ap (λ (x : Direction). Some (turned x)) (same_Some (back link) d h)
+opposite-at (link ∷ links) zero d h = ap (λ (x : Arc). Some (turned x)) (same_Some (forth link) d h)
+opposite-at (link ∷ links) (suc zero) d h = ap (λ (x : Arc). Some (turned x)) (same_Some (back link) d h)
 opposite-at (link ∷ links) (suc (suc k)) d h = rw (opposite-later k (cases_Bool (eqb (k % 2) 0))) (opposite-at links k d h)

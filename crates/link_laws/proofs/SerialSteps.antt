@@ -10,7 +10,7 @@ use Rattle.xs_model.specs.Outside.{emitted_events}
 use Rattle.net_model.specs.Links.{fresh_link, link_after_arrivals}
 use Rattle.net_model.specs.Switch.{link_at}
 use Rattle.sys_plan.specs.declared.NodePlan.{NodePlan}
-use Rattle.sys_plan.specs.Plan.{PlanRec, Direction, IsPlan, directions, incoming, gaps_of}
+use Rattle.sys_plan.specs.Plan.{PlanRec, Arc, IsPlan, link_arcs, incoming, gaps_of}
 use Rattle.step_model.specs.Start.{fixed_of, node_of, link_with_gap}
 use Rattle.step_model.specs.Step.{Stepped, node_step}
 use Rattle.serial_model.specs.Serial.{nodes_at_start, arriving, arriving_by, token_among, credit_among, arrivals_at, pins_at, steps_from, sent_by, emitted_by, longer_histories}
@@ -102,7 +102,7 @@ module _ (plan : PlanRec) (histories : List (List Entry)) (slot : ℕ) where
 pub emitted-at : (steps : List Stepped) (k : ℕ) (s : Stepped) → slice_get steps k ≡ Some s → emitted_by steps k ≡ s.emitted
 emitted-at steps k s h = get_or_from_slice_get (map (λ (s : Stepped). s.emitted) steps) k s.emitted (emitted_events []) (map-at (λ (s : Stepped). s.emitted) steps k s h)
 
-pub history-at : (slot : ℕ) (steps : List Stepped) (ds : List Direction) (histories : List (List Entry)) (l : ℕ) (d : Direction) (history : List Entry)
+pub history-at : (slot : ℕ) (steps : List Stepped) (ds : List Arc) (histories : List (List Entry)) (l : ℕ) (d : Arc) (history : List Entry)
     → slice_get ds l ≡ Some d → slice_get histories l ≡ Some history → slice_get (longer_histories slot steps ds histories) l ≡ Some (history ++ sent_by slot (emitted_by steps d.from) d.from_end)
 history-at slot steps [] histories l d history h g = absurd (none-some d h)
 history-at slot steps (x ∷ ds) [] l d history h g = absurd (none-some history g)
@@ -112,11 +112,11 @@ history-at slot steps (x ∷ ds) (y ∷ histories) (suc l) d history h g = histo
 
 -- ---- What arrives at the link end that a directed link comes to
 
-module _ (plan : PlanRec) (histories : List (List Entry)) (slot l : ℕ) (d : Direction) (history : List Entry) where
+module _ (plan : PlanRec) (histories : List (List Entry)) (slot l : ℕ) (d : Arc) (history : List Entry) where
   -- directed link l is d, and this is its history
   pub record IsHistory : Type 0 where
     pub plan_is : IsPlan plan
-    pub here : slice_get (directions plan.links) l ≡ Some d
+    pub here : slice_get (link_arcs plan.links) l ≡ Some d
     pub history_is : slice_get histories l ≡ Some history
     pub inside : d.to_end < 8
 

@@ -7,7 +7,7 @@ use Rattle.xs_base.specs.declared.entry.Entry.{Entry}
 use Rattle.xs_model.specs.Record.{NodeRec, LinkRec, first_node}
 use Rattle.net_model.specs.Links.{fresh_link}
 use Rattle.net_model.specs.Switch.{link_at}
-use Rattle.sys_plan.specs.Plan.{PlanRec, Direction, IsPlan, directions, gaps_of}
+use Rattle.sys_plan.specs.Plan.{PlanRec, Arc, IsPlan, link_arcs, gaps_of}
 use Rattle.step_model.specs.Start.{node_of}
 use Rattle.step_model.specs.Step.{Stepped}
 use Rattle.serial_model.specs.Serial.{SystemRec, system_at_start, system_step, steps_of, serial, sent_by, arriving, token_among, credit_among}
@@ -21,7 +21,7 @@ use Rattle.link_laws.proofs.SerialPlan.{turned, opposite-at}
 use Rattle.link_laws.proofs.SerialSteps.{found, map-at, node-at-start, link-at-start, step_at, steps-at, end-slot, emitted-at, history-at, IsHistory, token-at, credit-at}
 
 -- directed link l of a system before a slot: its nodes, its link ends, and its histories
-pub record Joined (system : SystemRec) (slot l : ℕ) (d : Direction) : Type 0 where
+pub record Joined (system : SystemRec) (slot l : ℕ) (d : Arc) : Type 0 where
   pub from_node : NodeRec
   pub to_node : NodeRec
   pub sender : LinkRec
@@ -37,8 +37,8 @@ pub record Joined (system : SystemRec) (slot l : ℕ) (d : Direction) : Type 0 w
   pub back_is : slice_get system.histories (opposite l) ≡ Some back
   pub kept : Kept slot d.delay sender receiver forth back taken
 
-module _ (plan : PlanRec) (is : IsPlan plan) (l : ℕ) (d : Direction) (here : slice_get (directions plan.links) l ≡ Some d) where
-  abbrev there : slice_get (directions plan.links) (opposite l) ≡ Some (turned d)
+module _ (plan : PlanRec) (is : IsPlan plan) (l : ℕ) (d : Arc) (here : slice_get (link_arcs plan.links) l ≡ Some d) where
+  abbrev there : slice_get (link_arcs plan.links) (opposite l) ≡ Some (turned d)
   there = opposite-at plan.links l d here
 
   abbrev within : IsDirected (length plan.nodes) d
@@ -66,8 +66,8 @@ module _ (plan : PlanRec) (is : IsPlan plan) (l : ℕ) (d : Direction) (here : s
         to_is = node-at-start plan 0 plan.nodes d.to d.to to.0 (omega arith) to.1;
         sender_is = link-at-start plan d.from d.from_end from.0 within.from_end from_gap;
         receiver_is = link-at-start plan d.to d.to_end to.0 within.to_end to_gap;
-        forth_is = map-at (λ (d : Direction). []) (directions plan.links) l d here;
-        back_is = map-at (λ (d : Direction). []) (directions plan.links) (opposite l) (turned d) there;
+        forth_is = map-at (λ (d : Arc). []) (link_arcs plan.links) l d here;
+        back_is = map-at (λ (d : Arc). []) (link_arcs plan.links) (opposite l) (turned d) there;
         kept = kept-at-start d.delay;
       }
 
@@ -110,8 +110,8 @@ module _ (plan : PlanRec) (is : IsPlan plan) (l : ℕ) (d : Direction) (here : s
         let receiver_slot = end-slot plan system.histories slot at_end d.to d.to_end to.0 j.to_node j.receiver forth_token forth_credit in
         let sends = sender_slot within.from_end from_gap j.sender_is token_back credit_back in
         let receives = receiver_slot within.to_end to_gap j.receiver_is token_forth credit_forth in
-        let forth_at = history-at slot steps (directions plan.links) system.histories l d j.forth here j.forth_is in
-        let back_at = history-at slot steps (directions plan.links) system.histories (opposite l) (turned d) j.back there j.back_is in
+        let forth_at = history-at slot steps (link_arcs plan.links) system.histories l d j.forth here j.forth_is in
+        let back_at = history-at slot steps (link_arcs plan.links) system.histories (opposite l) (turned d) j.back there j.back_is in
         let arrived = arrive-keeps slot d.delay j.sender j.receiver j.forth j.back j.taken j.kept back_token forth_credit in
         record {
           from_node = from_step.rec;
@@ -137,7 +137,7 @@ module _ (plan : PlanRec) (is : IsPlan plan) (l : ℕ) (d : Direction) (here : s
 
 -- ---- What that says of the directed link
 
-module _ (system : SystemRec) (slot l : ℕ) (d : Direction) (j : Joined system slot l d) where
+module _ (system : SystemRec) (slot l : ℕ) (d : Arc) (j : Joined system slot l d) where
   abbrev travel : Travel
   travel = record { slot = slot; delay = d.delay; sender = Some j.sender; receiver = Some j.receiver; forth = j.forth; back = j.back }
 

@@ -9,7 +9,7 @@ use Rattle.xs_base.specs.declared.entry.What.TheVariants as what
 use Rattle.xs_model.specs.Record.{LinkRec, first_node}
 use Rattle.net_model.specs.Links.{token_arrives, credit_arrives}
 use Rattle.net_model.specs.Switch.{link_at}
-use Rattle.sys_plan.specs.Plan.{PlanRec, IsPlan, Direction, directions}
+use Rattle.sys_plan.specs.Plan.{PlanRec, IsPlan, Arc, link_arcs}
 use Rattle.serial_model.specs.Serial.{SystemRec, serial, arriving, token_among, credit_among}
 
 -- the directed link that goes back: 2k + 1 for 2k, and 2k for 2k + 1
@@ -53,7 +53,7 @@ pub record Travel : Type 0 where
   pub back : List Entry
 
 -- direction d, which is directed link l, in a system before a slot
-abbrev pub travel_of : SystemRec → Slot → LinkNumber → Direction → Travel
+abbrev pub travel_of : SystemRec → Slot → LinkNumber → Arc → Travel
 travel_of system slot l d = record {
   slot = slot;
   delay = d.delay;
@@ -70,9 +70,9 @@ OfEnds holds t _ _ = ⊥
 
 -- that holds for every plan, before every slot, for each directed link
 abbrev pub OfEachLink : (Travel → LinkRec → LinkRec → Type 0) → Type 0
-OfEachLink holds = (plan : PlanRec) (slot : Slot) (l : LinkNumber) (d : Direction) →
+OfEachLink holds = (plan : PlanRec) (slot : Slot) (l : LinkNumber) (d : Arc) →
     IsPlan plan →
-    slice_get (directions plan.links) l ≡ Some d →
+    slice_get (link_arcs plan.links) l ≡ Some d →
     let t = travel_of (serial plan slot) slot l d in OfEnds holds t t.sender t.receiver
 
 -- ---- The window. A token that was sent has no credit yet while it is in flight, while it is in the receiver's buffer, and

@@ -1,7 +1,7 @@
 -- What a load comes to, and the line that tells it.
 use Rattle.std.specs.Prelude.{ℕ, List, [], ◌∷◌, ◌++◌, length, sum_by, codes, decimal}
 use Rattle.std.specs.List.{range_with_len}
-use Rattle.sys_plan.specs.Plan.{PlanRec, directions}
+use Rattle.sys_plan.specs.Plan.{PlanRec, link_arcs}
 use Rattle.serial_model.specs.Serial.{SystemRec, serial}
 use Rattle.trace_model.specs.Trace.{tokens_sent, credits_sent, history_at, events_at}
 
@@ -11,7 +11,7 @@ made_slots = 60000
 
 -- the tokens and the credits that were sent on all directed links
 abbrev pub link_count : PlanRec → ℕ
-link_count plan = length (directions plan.links)
+link_count plan = length (link_arcs plan.links)
 
 abbrev pub all_tokens : PlanRec → SystemRec → ℕ
 all_tokens plan system = sum_by (λ link. tokens_sent (history_at system link)) (range_with_len 0 (link_count plan))

@@ -1,4 +1,4 @@
--- What was sent stays sent, and what is known of a directed link up to a slot tells all that arrives a delay later.
+-- What was sent stays sent, and what is known of an arc up to a slot tells all that arrives a delay later.
 use Rattle.std.proofs.Common.{◌≡◌, ℕ, suc, ◌+◌, ◌-◌, ◌<◌, ◌≤◌, Bool, true, false, ◌&&◌, eqb, leb, ltb, Option, Some, None, List, [], ◌∷◌, ◌++◌, length, filter, slice_get, slice_index_or, refl, sym, ap, ◌∙◌, subst, arith, length-append}
 use Rattle.std.specs.List.{AllByRecursion}
 use Rattle.std.proofs.lemmas.Bool.{eqb-true, ne_eqb, le-leb, lt-leb, lt-ltb, le-ltb}
@@ -8,7 +8,7 @@ use Rattle.xs_base.specs.Numbers.{Slot}
 use Rattle.xs_base.specs.declared.token.Token.{Token}
 use Rattle.xs_base.specs.declared.entry.Entry.{Entry}
 use Rattle.step_model.specs.Step.{Stepped}
-use Rattle.sys_plan.specs.Plan.{PlanRec, Direction, directions, delay_of}
+use Rattle.sys_plan.specs.Plan.{PlanRec, Arc, arcs, delay_of}
 use Rattle.serial_model.specs.Serial.{is_sent_within, arriving, history, serial, steps_of, emitted_by, token_entries, credit_entries}
 use Rattle.locality_laws.specs.Horizon.{HistoriesGrow, HistoriesAreWhole, CarriesFew, SlotsCarryFew, SeenArrives}
 use Rattle.locality_laws.proofs.Entries.{AllFrom, AllBefore, all_weaker, filter_same, filter_through, filter_none}
@@ -99,7 +99,7 @@ seen_arrives plan l from seen slot least known ahead =
 
 -- ---- One slot
 
--- what a directed link carries in a slot is what is put after its history there
+-- what an arc carries in a slot is what is put after its history there
 pub carried_in : (plan : PlanRec) (l slot : ℕ) → history plan l slot (suc slot) ≡ new_in plan l slot
 carried_in plan l slot =
     let test = is_sent_within slot (suc slot) in
@@ -119,7 +119,7 @@ credit_count : (slot : ℕ) (credit : Bool) → length (credit_entries slot cred
 credit_count slot false = omega arith
 credit_count slot true = omega arith
 
-added_count : (slot : ℕ) (steps : List Stepped) (d : Option Direction) → length (added slot steps d) ≤ 2
+added_count : (slot : ℕ) (steps : List Stepped) (d : Option Arc) → length (added slot steps d) ≤ 2
 added_count slot steps None = omega arith
 added_count slot steps (Some d) =
     let emitted = emitted_by steps d.from in
@@ -130,6 +130,6 @@ added_count slot steps (Some d) =
 pub slots_carry_few : SlotsCarryFew
 slots_carry_few plan l slot =
     subst (CarriesFew slot) (sym (carried_in plan l slot)) (record {
-      few = added_count slot (steps_of plan slot (serial plan slot)) (slice_get (directions plan.links) l);
+      few = added_count slot (steps_of plan slot (serial plan slot)) (slice_get (arcs plan) l);
       in_slot = new_are_in plan l slot;
     })

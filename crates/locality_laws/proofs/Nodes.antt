@@ -2,7 +2,7 @@
 use Rattle.std.proofs.Common.{◌≡◌, ℕ, zero, suc, ◌+◌, ◌<◌, ◌≤◌, Bool, true, false, eqb, ltb, cond, Option, Some, None, List, [], ◌∷◌, ◌++◌, length, map, get_or, slice_get, slice_index_or, filter, refl, sym, ap, ◌∙◌, subst, arith, inl, inr}
 use mathlib.Core.Logic.{◌⊎◌}
 use Rattle.std.specs.List.{AllByRecursion}
-use Rattle.std.proofs.lemmas.Bool.{and_parts, eq-eqb, eqb-true, ne_eqb, lt-ltb, ltb-true, le-ltb, cases_Bool}
+use Rattle.std.proofs.lemmas.Bool.{and_parts, eq-eqb, eqb-true, ne_eqb, lt-ltb, ltb-true, le-ltb, cases_Bool, cases_lt}
 use Rattle.std.proofs.lemmas.List.{append-nil}
 use Rattle.std.proofs.lemmas.List.Elements.{filter-append}
 use Rattle.std.proofs.lemmas.Option.{none-some, same_Some, get_or_from_slice_get}
@@ -12,29 +12,32 @@ use Rattle.xs_model.specs.Record.{NodeRec, first_node}
 use Rattle.xs_model.specs.Outside.{Emitted}
 use Rattle.sys_plan.specs.declared.NodePlan.{NodePlan}
 use Rattle.sys_plan.specs.declared.LinkPlan.{LinkPlan}
-use Rattle.sys_plan.specs.Plan.{PlanRec, Direction, IsPlan, IsLink, directions, first_link, leaves_by, comes_to, incoming, delay_of, link_ends}
+use Rattle.sys_plan.specs.Plan.{PlanRec, Arc, IsPlan, IsLink, arcs, link_arcs, first_arc, leaves_by, comes_to, incoming, delay_of, ends_out}
 use Rattle.sys_plan.proofs.Routes.{leads-from, incoming-delay}
-use Rattle.step_model.specs.Step.{Stepped, node_step}
-use Rattle.step_model.specs.Start.{fixed_of}
-use Rattle.sys_plan.specs.Plan.{gaps_of}
-use Rattle.serial_model.specs.Serial.{serial, arriving, arriving_by, arrivals_of, arrivals_at, pins_at, sent_by, steps_of, emitted_by}
-use Rattle.locality_laws.specs.Alone.{AloneRec, alone, step_alone}
-use Rattle.locality_laws.specs.Locality.{node_in, events_in, history_in, Leaves, arriving_before, ArriveAlike, ArriveAlikeBefore, IsStep, StepNeedsArrivals, OutgoingLeaves, IsInSerial, Locality}
+use Rattle.step_model.specs.Step.{Stepped}
+use Rattle.serial_model.specs.Serial.{Coming, coming_at, step_by, serial, arriving, arriving_by, arrivals_of, pins_at, sent_by, steps_of, emitted_by}
+use Rattle.locality_laws.specs.Alone.{AloneRec, alone, heard_by}
+use Rattle.locality_laws.specs.Locality.{node_in, events_in, history_in, Leaves, arriving_before, ArriveAlike, ArriveAlikeBefore, comes_in_serial, ArrivalsTell, ArrivalsTellBefore, IsStep, StepNeedsComing, OutgoingLeaves, IsInSerial, Locality}
 use Rattle.locality_laws.proofs.Entries.{filter_through, AllIn, all_weaker, filter_none}
 use Rattle.locality_laws.proofs.Links.{carried_in}
 use Rattle.locality_laws.proofs.Serial.{Stands, own_step, stands, stands_next, emitted_is, added, upto, upto_none, new_in, new_are_in, goes_on}
 
--- ---- One slot
+-- ---- What comes
 
 module _ (plan : PlanRec) (n : ℕ) (slot : Slot) (one other : List (List Entry)) (alike : ArriveAlike plan n slot one other) where
   by_incoming : (end : ℕ) (link : Option ℕ) → incoming plan n end ≡ link → arriving_by plan one slot link ≡ arriving_by plan other slot link
   by_incoming end None is = refl
   by_incoming end (Some link) is = alike end link is
 
-  pub arrivals_alike : arrivals_at plan one slot n ≡ arrivals_at plan other slot n
-  arrivals_alike = λ i. arrivals_of (map (λ end. by_incoming end (incoming plan n end) refl i) link_ends)
+  pub comes_alike : coming_at plan one slot n ≡ coming_at plan other slot n
+  comes_alike = λ i. record { arrivals = arrivals_of (λ end. by_incoming end (incoming plan n end) refl i); pins = pins_at plan n slot }
 
--- what a node's step puts after the history of a directed link that leaves it
+pub arrivals_tell : ArrivalsTell
+arrivals_tell plan n slot heard alike = comes_alike plan n slot heard (serial plan slot).histories alike
+
+-- ---- One slot
+
+-- what a node's step puts after the history of an arc that leaves it
 module _ (plan : PlanRec) (n : ℕ) (slot : Slot) (end link : ℕ) (l : Leaves plan n end link) where
   abbrev steps : List Stepped
   steps = steps_of plan slot (serial plan slot)
@@ -49,12 +52,12 @@ module _ (plan : PlanRec) (n : ℕ) (node : NodePlan) (here : slice_get plan.nod
   events_are : (slot : Slot) → events_in (serial plan slot) n ≡ (stands plan n node here slot).events
   events_are slot = let s = stands plan n node here slot in get_or_from_slice_get (serial plan slot).events n s.events [] s.events_is
 
-  module _ (slot : Slot) (heard : List (List Entry)) (alike : ArriveAlike plan n slot heard (serial plan slot).histories) where
+  module _ (slot : Slot) (coming : Coming) (comes : coming ≡ comes_in_serial plan n slot) where
     abbrev step : Stepped
-    step = step_alone plan heard n node slot (node_in (serial plan slot) n)
+    step = step_by plan n node slot coming (node_in (serial plan slot) n)
 
     own_is : own_step plan n node here slot (stands plan n node here slot) ≡ step
-    own_is = λ i. node_step (fixed_of node (gaps_of plan n)) (sym (node_is slot) i) slot (sym (arrivals_alike plan n slot heard (serial plan slot).histories alike) i) (pins_at plan n slot)
+    own_is = λ i. step_by plan n node slot (sym comes i) (sym (node_is slot) i)
 
     pub is_step : IsStep plan n slot step
     unfolding stands_next
@@ -76,15 +79,15 @@ module _ (plan : PlanRec) (n : ℕ) (node : NodePlan) (here : slice_get plan.nod
               ∙ (λ i. sent_by slot (emits i) end);
         }
 
-pub step_needs_arrivals : StepNeedsArrivals
-step_needs_arrivals plan n node slot heard here alike = is_step plan n node here slot heard alike
+pub step_needs_coming : StepNeedsComing
+step_needs_coming plan n node slot coming here comes = is_step plan n node here slot coming comes
 
 -- ---- The link that leaves by a link end
 
 pub outgoing_leaves : OutgoingLeaves
 outgoing_leaves plan n end link h =
     let l = leads-from plan n end link h in
-    record { direction = l.direction; here = l.here; from = l.from; from_end = l.from_end }
+    record { arc = l.arc; here = l.here; from = l.from; from_end = l.from_end }
 
 -- ---- What arrives before a slot tells what arrives in the one before it
 
@@ -137,63 +140,77 @@ module _ (plan : PlanRec) (is : IsPlan plan) (n : ℕ) (slot : Slot) (heard : Li
       let later = sent_later slot delay (new_in plan link slot) (incoming-delay plan is n end link h) (new_are_in plan link slot) in
       same_of slot delay (before_it slot delay) (before_up_to slot delay) (history_in heard link) (upto plan link (suc slot)) (upto plan link slot) (new_in plan link slot) (alike end link h) (goes_on plan link slot) later.1
 
+-- by what is told of the arrivals before a slot all is known that comes before it
+told_before : (plan : PlanRec) → IsPlan plan → (n : ℕ) (slots slot : Slot) (heard : List (List Entry)) → ArriveAlikeBefore plan n slots heard (serial plan slots).histories → slot < slots
+    → heard_by plan heard n slot ≡ comes_in_serial plan n slot
+told_before plan is n zero slot heard alike within = absurd (omega arith)
+told_before plan is n (suc slots) slot heard alike within = by_last (cases_lt slot slots)
+  where
+    by_last : (slot < slots) ⊎ (slots ≤ slot) → heard_by plan heard n slot ≡ comes_in_serial plan n slot
+    by_last (inl earlier) = told_before plan is n slots slot heard (before_slot plan is n slots heard alike) earlier
+    by_last (inr last) =
+        let same : slots ≡ slot = omega arith in
+        subst (λ (t : Slot). heard_by plan heard n t ≡ comes_in_serial plan n t) same (arrivals_tell plan n slots heard (in_slot plan is n slots heard alike))
+
+pub arrivals_tell_before : ArrivalsTellBefore
+arrivals_tell_before plan n slots slot heard is alike within = told_before plan is n slots slot heard alike within
+
 -- ---- All slots
 
-at_link_end : (f : ℕ → List Entry) (end : ℕ) → end < 8 → slice_index_or (map f link_ends) end [] ≡ f end
-at_link_end f zero h = refl
-at_link_end f (suc zero) h = refl
-at_link_end f (suc (suc zero)) h = refl
-at_link_end f (suc (suc (suc zero))) h = refl
-at_link_end f (suc (suc (suc (suc zero)))) h = refl
-at_link_end f (suc (suc (suc (suc (suc zero))))) h = refl
-at_link_end f (suc (suc (suc (suc (suc (suc zero)))))) h = refl
-at_link_end f (suc (suc (suc (suc (suc (suc (suc zero))))))) h = refl
-at_link_end f (suc (suc (suc (suc (suc (suc (suc (suc end)))))))) h = absurd (omega arith)
+at_end : (plan : PlanRec) (n : ℕ) (f : ℕ → List Entry) (end : ℕ) → end < 8 → slice_index_or (map f (ends_out plan n)) end [] ≡ f end
+at_end plan n f zero h = refl
+at_end plan n f (suc zero) h = refl
+at_end plan n f (suc (suc zero)) h = refl
+at_end plan n f (suc (suc (suc zero))) h = refl
+at_end plan n f (suc (suc (suc (suc zero)))) h = refl
+at_end plan n f (suc (suc (suc (suc (suc zero))))) h = refl
+at_end plan n f (suc (suc (suc (suc (suc (suc zero)))))) h = refl
+at_end plan n f (suc (suc (suc (suc (suc (suc (suc zero))))))) h = refl
+at_end plan n f (suc (suc (suc (suc (suc (suc (suc (suc end)))))))) h = absurd (omega arith)
 
-all_ends : (nodes : ℕ) (links : List LinkPlan) → AllByRecursion (IsLink nodes) links → AllByRecursion (λ (d : Direction). d.from_end < 8) (directions links)
+all_ends : (nodes : ℕ) (links : List LinkPlan) → AllByRecursion (IsLink nodes) links → AllByRecursion (λ (d : Arc). d.from_end < 8) (link_arcs links)
 all_ends nodes [] h = tt
 all_ends nodes (link ∷ links) h = (h.0.a_end, (h.0.b_end, all_ends nodes links h.1))
 
-end_at : (ds : List Direction) (l : ℕ) (d : Direction) → AllByRecursion (λ (d : Direction). d.from_end < 8) ds → slice_get ds l ≡ Some d → d.from_end < 8
+end_at : (ds : List Arc) (l : ℕ) (d : Arc) → AllByRecursion (λ (d : Arc). d.from_end < 8) ds → slice_get ds l ≡ Some d → d.from_end < 8
 end_at [] l d all h = absurd (none-some d h)
-end_at (x ∷ ds) zero d all h = subst (λ (d : Direction). d.from_end < 8) (same_Some x d h) all.0
+end_at (x ∷ ds) zero d all h = subst (λ (d : Arc). d.from_end < 8) (same_Some x d h) all.0
 end_at (x ∷ ds) (suc l) d all h = end_at ds l d all.1 h
 
 leaves_end : (plan : PlanRec) → IsPlan plan → (n end link : ℕ) → Leaves plan n end link → end < 8
 leaves_end plan is n end link l =
-    subst (λ e. e < 8) l.from_end (end_at (directions plan.links) link l.direction (all_ends (length plan.nodes) plan.links is.links) l.here)
+    subst (λ e. e < 8) l.from_end (end_at (arcs plan) link l.arc (all_ends (length plan.nodes) plan.links is.links) l.here)
 
-module _ (plan : PlanRec) (is : IsPlan plan) (n : ℕ) (node : NodePlan) (here : slice_get plan.nodes n ≡ Some node) (heard : List (List Entry)) where
+module _ (plan : PlanRec) (is : IsPlan plan) (n : ℕ) (node : NodePlan) (here : slice_get plan.nodes n ≡ Some node) (comes : Slot → Coming) where
   abbrev Reached : Slot → Type 0
-  Reached slots = IsInSerial plan n slots (alone plan heard n node slots)
+  Reached slots = IsInSerial plan n slots (alone plan comes n node slots)
 
   reached_start : Reached 0
   unfolding alone stands
   reached_start = record {
     rec = sym (node_is plan n node here 0);
     events = sym (events_are plan n node here 0);
-    sent = λ end link l. at_link_end (λ end. []) end (leaves_end plan is n end link l) ∙ sym (upto_none plan link);
+    sent = λ end link l. at_end plan n (λ end. []) end (leaves_end plan is n end link l) ∙ sym (upto_none plan link);
   }
 
-  reached_next : (slot : Slot) → ArriveAlike plan n slot heard (serial plan slot).histories → Reached slot → Reached (suc slot)
+  reached_next : (slot : Slot) → comes slot ≡ comes_in_serial plan n slot → Reached slot → Reached (suc slot)
   unfolding alone
-  reached_next slot alike r =
-      let step = is_step plan n node here slot heard alike in
-      let before = alone plan heard n node slot in
-      let same : step_alone plan heard n node slot before.rec ≡ step_alone plan heard n node slot (node_in (serial plan slot) n) = ap (step_alone plan heard n node slot) r.rec in
+  reached_next slot same_comes r =
+      let step = is_step plan n node here slot (comes slot) same_comes in
+      let before = alone plan comes n node slot in
+      let same : step_by plan n node slot (comes slot) before.rec ≡ step_by plan n node slot (comes slot) (node_in (serial plan slot) n) = ap (step_by plan n node slot (comes slot)) r.rec in
       record {
         rec = ap (λ (x : Stepped). x.rec) same ∙ sym step.rec;
         events = (λ i. r.events i ++ (same i).emitted.events) ∙ sym step.events;
         sent = λ end link l.
-            at_link_end (λ end. slice_index_or before.sent end [] ++ sent_by slot (step_alone plan heard n node slot before.rec).emitted end) end (leaves_end plan is n end link l)
+            at_end plan n (λ end. slice_index_or before.sent end [] ++ sent_by slot (step_by plan n node slot (comes slot) before.rec).emitted end) end (leaves_end plan is n end link l)
             ∙ (λ i. r.sent end link l i ++ sent_by slot (same i).emitted end)
             ∙ sym (step.sent end link l);
       }
 
-  reached : (slots : Slot) → ArriveAlikeBefore plan n slots heard (serial plan slots).histories → Reached slots
+  reached : (slots : Slot) → ((slot : Slot) → slot < slots → comes slot ≡ comes_in_serial plan n slot) → Reached slots
   reached zero alike = reached_start
-  reached (suc slot) alike =
-      reached_next slot (in_slot plan is n slot heard alike) (reached slot (before_slot plan is n slot heard alike))
+  reached (suc slot) alike = reached_next slot (alike slot (omega arith)) (reached slot (λ earlier within. alike earlier (omega (arith, within))))
 
 pub locality : Locality
-locality plan n node slots heard is here alike = reached plan is n node here heard slots alike
+locality plan n node slots comes is here alike = reached plan is n node here comes slots alike

@@ -1,4 +1,4 @@
--- The lists of the serial machine: nodes and events by position, histories by the number of the directed link.
+-- The lists of the serial machine: nodes and events by position, histories by the number of the arc.
 use Rattle.std.proofs.Common.{◌≡◌, ℕ, zero, suc, ◌+◌, ◌<◌, ◌≤◌, Option, Some, None, List, [], ◌∷◌, ◌++◌, length, map, get_or, slice_get, option_map, refl, sym, ap, ◌∙◌, arith}
 use Rattle.std.proofs.lemmas.Option.{none-some, same_Some, slice_get-map, get_or_from_slice_get}
 use Rattle.std.proofs.lemmas.Bool.{cases_lt}
@@ -10,12 +10,11 @@ use Rattle.xs_model.specs.declared.event.Event.{Event}
 use Rattle.xs_model.specs.Record.{NodeRec}
 use Rattle.xs_model.specs.Outside.{emitted_events}
 use Rattle.sys_plan.specs.declared.NodePlan.{NodePlan}
-use Rattle.sys_plan.specs.Plan.{PlanRec, Direction, directions, gaps_of}
+use Rattle.sys_plan.specs.Plan.{PlanRec, Arc, arcs, arc_count, gaps_of}
 use Rattle.step_model.specs.Start.{node_of}
 use Rattle.step_model.specs.Step.{Stepped}
-use Rattle.serial_model.specs.Serial.{SystemRec, nodes_at_start, serial, steps_from, steps_of, sent_by, emitted_by, longer_histories, longer_events}
-use Rattle.locality_laws.specs.Alone.{step_alone}
-use Rattle.locality_laws.specs.Locality.{history_in}
+use Rattle.serial_model.specs.Serial.{SystemRec, nodes_at_start, serial, steps_from, steps_of, coming_at, step_by, sent_by, emitted_by, longer_histories, longer_events}
+use Rattle.locality_laws.specs.Locality.{history_in, comes_in_serial}
 use Rattle.locality_laws.proofs.Entries.{AllIn, AllFrom, AllBefore, both_all, all_weaker, sent_in}
 
 pub map_at : {X Y : Type 0} (f : X → Y) (xs : List X) (k : ℕ) (x : X) → slice_get xs k ≡ Some x → slice_get (map f xs) k ≡ Some (f x)
@@ -33,12 +32,12 @@ start_at plan n (x ∷ nodes) (suc k) m node e h = start_at plan (n + 1) nodes k
 
 module _ (plan : PlanRec) (histories : List (List Entry)) (slot : Slot) where
   step_at : (n : ℕ) (nodes : List NodePlan) (recs : List NodeRec) (k m : ℕ) (node : NodePlan) (rec : NodeRec) → m ≡ n + k → slice_get nodes k ≡ Some node → slice_get recs k ≡ Some rec
-      → slice_get (steps_from plan histories slot n nodes recs) k ≡ Some (step_alone plan histories m node slot rec)
+      → slice_get (steps_from plan histories slot n nodes recs) k ≡ Some (step_by plan m node slot (coming_at plan histories slot m) rec)
   step_at n [] recs k m node rec e h g = absurd (none-some node h)
   step_at n (x ∷ nodes) [] k m node rec e h g = absurd (none-some rec g)
   step_at n (x ∷ nodes) (r ∷ recs) zero m node rec e h g =
       let same : n ≡ m = omega arith in
-      λ i. Some (step_alone plan histories (same i) (same_Some x node h i) slot (same_Some r rec g i))
+      λ i. Some (step_by plan (same i) (same_Some x node h i) slot (coming_at plan histories slot (same i)) (same_Some r rec g i))
   step_at n (x ∷ nodes) (r ∷ recs) (suc k) m node rec e h g = step_at (n + 1) nodes recs k m node rec (omega arith) h g
 
 pub events_at : (steps : List Stepped) (all : List (List Event)) (k : ℕ) (s : Stepped) (events : List Event) → slice_get steps k ≡ Some s → slice_get all k ≡ Some events
@@ -57,7 +56,7 @@ pub record Stands (system : SystemRec) (n : ℕ) : Type 0 where
 
 module _ (plan : PlanRec) (n : ℕ) (node : NodePlan) (here : slice_get plan.nodes n ≡ Some node) where
   abbrev pub own_step : (slot : Slot) → Stands (serial plan slot) n → Stepped
-  own_step slot s = step_alone plan (serial plan slot).histories n node slot s.rec
+  own_step slot s = step_by plan n node slot (comes_in_serial plan n slot) s.rec
 
   pub stepped : (slot : Slot) (s : Stands (serial plan slot) n) → slice_get (steps_of plan slot (serial plan slot)) n ≡ Some (own_step slot s)
   stepped slot s =
@@ -91,23 +90,23 @@ module _ (plan : PlanRec) (n : ℕ) (node : NodePlan) (here : slice_get plan.nod
       let steps = steps_of plan slot (serial plan slot) in
       get_or_from_slice_get (map (λ (x : Stepped). x.emitted) steps) n (own_step slot s).emitted (emitted_events []) (map_at (λ (x : Stepped). x.emitted) steps n (own_step slot s) (stepped slot s))
 
--- ---- Directed links
+-- ---- Arcs
 
--- what a slot puts after the history of the directed link with a number
-abbrev pub added : Slot → List Stepped → Option Direction → List Entry
+-- what a slot puts after the history of the arc with a number
+abbrev pub added : Slot → List Stepped → Option Arc → List Entry
 added slot steps None = []
 added slot steps (Some d) = sent_by slot (emitted_by steps d.from) d.from_end
 
-pub added_in : (slot : Slot) (steps : List Stepped) (d : Option Direction) → AllIn slot (added slot steps d)
+pub added_in : (slot : Slot) (steps : List Stepped) (d : Option Arc) → AllIn slot (added slot steps d)
 added_in slot steps None = tt
 added_in slot steps (Some d) = sent_in slot (emitted_by steps d.from) d.from_end
 
-longer_count : (slot : Slot) (steps : List Stepped) (ds : List Direction) (histories : List (List Entry)) → length histories ≡ length ds → length (longer_histories slot steps ds histories) ≡ length ds
+longer_count : (slot : Slot) (steps : List Stepped) (ds : List Arc) (histories : List (List Entry)) → length histories ≡ length ds → length (longer_histories slot steps ds histories) ≡ length ds
 longer_count slot steps [] histories e = refl
 longer_count slot steps (d ∷ ds) [] e = absurd (omega (arith, e))
 longer_count slot steps (d ∷ ds) (h ∷ histories) e = ap suc (longer_count slot steps ds histories (omega (arith, e)))
 
-longer_at : (slot : Slot) (steps : List Stepped) (ds : List Direction) (histories : List (List Entry)) (l : ℕ) → length histories ≡ length ds
+longer_at : (slot : Slot) (steps : List Stepped) (ds : List Arc) (histories : List (List Entry)) (l : ℕ) → length histories ≡ length ds
     → history_in (longer_histories slot steps ds histories) l ≡ history_in histories l ++ added slot steps (slice_get ds l)
 longer_at slot steps [] [] l e = refl
 longer_at slot steps [] (h ∷ histories) l e = absurd (omega (arith, e))
@@ -115,36 +114,36 @@ longer_at slot steps (d ∷ ds) [] l e = absurd (omega (arith, e))
 longer_at slot steps (d ∷ ds) (h ∷ histories) zero e = refl
 longer_at slot steps (d ∷ ds) (h ∷ histories) (suc l) e = longer_at slot steps ds histories l (omega (arith, e))
 
-none_sent : (ds : List Direction) (l : ℕ) → history_in (map (λ (d : Direction). []) ds) l ≡ []
+none_sent : (ds : List Arc) (l : ℕ) → history_in (map (λ (d : Arc). []) ds) l ≡ []
 none_sent [] l = refl
 none_sent (d ∷ ds) zero = refl
 none_sent (d ∷ ds) (suc l) = none_sent ds l
 
--- each directed link has a history
-count : (plan : PlanRec) (slot : Slot) → length (serial plan slot).histories ≡ length (directions plan.links)
+-- each arc has a history
+count : (plan : PlanRec) (slot : Slot) → length (serial plan slot).histories ≡ arc_count plan
 unfolding serial
-count plan zero = length-map (directions plan.links) (λ (d : Direction). [])
-count plan (suc slot) = longer_count slot (steps_of plan slot (serial plan slot)) (directions plan.links) (serial plan slot).histories (count plan slot)
+count plan zero = length-map (arcs plan) (λ (d : Arc). [])
+count plan (suc slot) = longer_count slot (steps_of plan slot (serial plan slot)) (arcs plan) (serial plan slot).histories (count plan slot)
 
 module _ (plan : PlanRec) (l : ℕ) where
-  -- the history of the directed link before a slot
+  -- the history of the arc before a slot
   abbrev pub upto : Slot → List Entry
   upto slot = history_in (serial plan slot).histories l
 
   -- what is put after it in a slot
   abbrev pub new_in : Slot → List Entry
-  new_in slot = added slot (steps_of plan slot (serial plan slot)) (slice_get (directions plan.links) l)
+  new_in slot = added slot (steps_of plan slot (serial plan slot)) (slice_get (arcs plan) l)
 
   pub goes_on : (slot : Slot) → upto (suc slot) ≡ upto slot ++ new_in slot
   unfolding serial
-  goes_on slot = longer_at slot (steps_of plan slot (serial plan slot)) (directions plan.links) (serial plan slot).histories l (count plan slot)
+  goes_on slot = longer_at slot (steps_of plan slot (serial plan slot)) (arcs plan) (serial plan slot).histories l (count plan slot)
 
   pub new_are_in : (slot : Slot) → AllIn slot (new_in slot)
-  new_are_in slot = added_in slot (steps_of plan slot (serial plan slot)) (slice_get (directions plan.links) l)
+  new_are_in slot = added_in slot (steps_of plan slot (serial plan slot)) (slice_get (arcs plan) l)
 
   pub upto_none : upto 0 ≡ []
   unfolding serial
-  upto_none = none_sent (directions plan.links) l
+  upto_none = none_sent (arcs plan) l
 
   -- what is in it was sent before the slot
   pub sent_before : (slot : Slot) → AllBefore slot (upto slot)

@@ -7,7 +7,7 @@ use Rattle.sys_plan.specs.Plan.{PlanRec, delay_of}
 use Rattle.serial_model.specs.Serial.{serial, history, arriving}
 use Rattle.locality_laws.specs.Locality.{history_in}
 
--- what a directed link carried up to a slot, then what it carried from there on
+-- what an arc carried up to a slot, then what it carried from there on
 abbrev pub HistoriesGrow : Type 0
 HistoriesGrow = (plan : PlanRec) (link : LinkNumber) (from mid to : Slot) → from ≤ mid → mid ≤ to →
     history plan link from mid ++ history plan link mid to ≡ history plan link from to
@@ -16,7 +16,7 @@ HistoriesGrow = (plan : PlanRec) (link : LinkNumber) (from mid to : Slot) → fr
 abbrev pub HistoriesAreWhole : Type 0
 HistoriesAreWhole = (plan : PlanRec) (link : LinkNumber) (slots : Slot) → history plan link 0 slots ≡ history_in (serial plan slots).histories link
 
--- in a slot a directed link carries two entries at most, and they have that slot
+-- in a slot an arc carries two entries at most, and they have that slot
 pub record CarriesFew (slot : Slot) (entries : List Entry) : Type 0 where
   pub few : length entries ≤ 2
   pub in_slot : AllByRecursion (λ (e : Entry). e.slot ≡ slot) entries
@@ -24,7 +24,7 @@ pub record CarriesFew (slot : Slot) (entries : List Entry) : Type 0 where
 abbrev pub SlotsCarryFew : Type 0
 SlotsCarryFew = (plan : PlanRec) (link : LinkNumber) (slot : Slot) → CarriesFew slot (history plan link slot (suc slot))
 
--- Where the entries of a directed link were seen, from one slot on and before another, all that arrives by it is known: in a slot that is
+-- Where the entries of an arc were seen, from one slot on and before another, all that arrives by it is known: in a slot that is
 -- before the second one and the delay together, if what was sent a delay before it is not before the first one.
 abbrev pub SeenArrives : Type 0
 SeenArrives = (plan : PlanRec) (link : LinkNumber) (from seen slot : Slot) → 1 ≤ delay_of plan link →

@@ -1,14 +1,14 @@
--- A node uses of the other nodes what arrives by its link ends, and nothing else.
-use Rattle.std.specs.Prelude.{ℕ, ◌≡◌, ◌+◌, suc, nat_lt, Option, Some, List, [], ◌++◌, filter, slice_get, slice_index_or}
+-- A node uses of the other nodes what comes to it, and nothing else.
+use Rattle.std.specs.Prelude.{ℕ, ◌≡◌, ◌+◌, ◌<◌, suc, nat_lt, Option, Some, List, [], ◌++◌, filter, slice_get, slice_index_or}
 use Rattle.xs_base.specs.Numbers.{Slot, Position, LinkNumber, EndNumber}
 use Rattle.xs_base.specs.declared.entry.Entry.{Entry}
 use Rattle.xs_model.specs.declared.event.Event.{Event}
 use Rattle.xs_model.specs.Record.{NodeRec, first_node}
 use Rattle.sys_plan.specs.declared.NodePlan.{NodePlan}
-use Rattle.sys_plan.specs.Plan.{PlanRec, Direction, IsPlan, directions, outgoing, incoming, delay_of}
+use Rattle.sys_plan.specs.Plan.{PlanRec, Arc, IsPlan, arcs, outgoing, incoming, delay_of}
 use Rattle.step_model.specs.Step.{Stepped}
-use Rattle.serial_model.specs.Serial.{SystemRec, serial, arriving, sent_by, history}
-use Rattle.locality_laws.specs.Alone.{AloneRec, alone, step_alone}
+use Rattle.serial_model.specs.Serial.{SystemRec, Coming, coming_at, step_by, serial, arriving, sent_by, history}
+use Rattle.locality_laws.specs.Alone.{AloneRec, alone, heard_by}
 
 -- ---- A node and its links in the serial machine
 
@@ -21,12 +21,12 @@ events_in system n = slice_index_or system.events n []
 abbrev pub history_in : List (List Entry) → LinkNumber → List Entry
 history_in histories link = slice_index_or histories link []
 
--- the directed links that leave by a link end of the node at a position
+-- the arcs that leave by a link end of the node at a position
 pub record Leaves (plan : PlanRec) (n : Position) (end : EndNumber) (link : LinkNumber) : Type 0 where
-  pub direction : Direction
-  pub here : slice_get (directions plan.links) link ≡ Some direction
-  pub from : direction.from ≡ n
-  pub from_end : direction.from_end ≡ end
+  pub arc : Arc
+  pub here : slice_get (arcs plan) link ≡ Some arc
+  pub from : arc.from ≡ n
+  pub from_end : arc.from_end ≡ end
 
 -- the one that a plan gives for a link end leaves by it
 abbrev pub OutgoingLeaves : Type 0
@@ -34,11 +34,11 @@ OutgoingLeaves = (plan : PlanRec) (n : Position) (end : EndNumber) (link : LinkN
 
 -- ---- What arrives
 
--- the entries of a directed link that arrive before a slot
+-- the entries of an arc that arrive before a slot
 abbrev pub arriving_before : Slot → ℕ → List Entry → List Entry
 arriving_before slot delay history = filter (λ (e : Entry). nat_lt (e.slot + delay) slot) history
 
--- of each directed link that comes to a node, the same arrives in a slot by one list of histories as by the other
+-- of each arc that comes to a node, the same arrives in a slot by one list of histories as by the other
 abbrev pub ArriveAlike : PlanRec → Position → Slot → List (List Entry) → List (List Entry) → Type 0
 ArriveAlike plan n slot one other = (end : EndNumber) (link : LinkNumber) → incoming plan n end ≡ Some link →
     arriving slot (delay_of plan link) (history_in one link) ≡ arriving slot (delay_of plan link) (history_in other link)
@@ -47,6 +47,22 @@ ArriveAlike plan n slot one other = (end : EndNumber) (link : LinkNumber) → in
 abbrev pub ArriveAlikeBefore : PlanRec → Position → Slot → List (List Entry) → List (List Entry) → Type 0
 ArriveAlikeBefore plan n slot one other = (end : EndNumber) (link : LinkNumber) → incoming plan n end ≡ Some link →
     arriving_before slot (delay_of plan link) (history_in one link) ≡ arriving_before slot (delay_of plan link) (history_in other link)
+
+-- ---- What comes
+
+-- what comes to a node in a slot of the serial machine
+abbrev pub comes_in_serial : PlanRec → Position → Slot → Coming
+comes_in_serial plan n slot = coming_at plan (serial plan slot).histories slot n
+
+-- the same comes to it by whatever lists tell the same of what arrives in this slot
+abbrev pub ArrivalsTell : Type 0
+ArrivalsTell = (plan : PlanRec) (n : Position) (slot : Slot) (heard : List (List Entry)) →
+    ArriveAlike plan n slot heard (serial plan slot).histories → heard_by plan heard n slot ≡ comes_in_serial plan n slot
+
+-- and lists that tell what arrives before a slot tell what comes in every slot before it, whatever else stands in them
+abbrev pub ArrivalsTellBefore : Type 0
+ArrivalsTellBefore = (plan : PlanRec) (n : Position) (slots slot : Slot) (heard : List (List Entry)) →
+    IsPlan plan → ArriveAlikeBefore plan n slots heard (serial plan slots).histories → slot < slots → heard_by plan heard n slot ≡ comes_in_serial plan n slot
 
 -- ---- One slot
 
@@ -59,11 +75,11 @@ pub record IsStep (plan : PlanRec) (n : Position) (slot : Slot) (s : Stepped) : 
   -- and that is what the link carries in the slot
   pub carried : (end : EndNumber) (link : LinkNumber) → Leaves plan n end link → history plan link slot (suc slot) ≡ sent_by slot s.emitted end
 
--- It is the step that the node makes by whatever lists tell the same of what arrives in this slot.
-abbrev pub StepNeedsArrivals : Type 0
-StepNeedsArrivals = (plan : PlanRec) (n : Position) (node : NodePlan) (slot : Slot) (heard : List (List Entry)) →
-    slice_get plan.nodes n ≡ Some node → ArriveAlike plan n slot heard (serial plan slot).histories →
-    IsStep plan n slot (step_alone plan heard n node slot (node_in (serial plan slot) n))
+-- It is the step that the node makes by what comes to it in this slot.
+abbrev pub StepNeedsComing : Type 0
+StepNeedsComing = (plan : PlanRec) (n : Position) (node : NodePlan) (slot : Slot) (coming : Coming) →
+    slice_get plan.nodes n ≡ Some node → coming ≡ comes_in_serial plan n slot →
+    IsStep plan n slot (step_by plan n node slot coming (node_in (serial plan slot) n))
 
 -- ---- All slots
 
@@ -73,9 +89,8 @@ pub record IsInSerial (plan : PlanRec) (n : Position) (slots : Slot) (alone : Al
   pub events : alone.events ≡ events_in (serial plan slots) n
   pub sent : (end : EndNumber) (link : LinkNumber) → Leaves plan n end link → slice_index_or alone.sent end [] ≡ history_in (serial plan slots).histories link
 
--- The law of locality: a node that is stepped alone, by lists that tell of the links that come to it what arrives before a slot,
--- is then what it is in the serial machine, whatever else stands in those lists.
+-- The law of locality: a node that is stepped alone, by what comes to it in each slot, is then what it is in the serial machine.
 abbrev pub Locality : Type 0
-Locality = (plan : PlanRec) (n : Position) (node : NodePlan) (slots : Slot) (heard : List (List Entry)) →
-    IsPlan plan → slice_get plan.nodes n ≡ Some node → ArriveAlikeBefore plan n slots heard (serial plan slots).histories →
-    IsInSerial plan n slots (alone plan heard n node slots)
+Locality = (plan : PlanRec) (n : Position) (node : NodePlan) (slots : Slot) (comes : Slot → Coming) →
+    IsPlan plan → slice_get plan.nodes n ≡ Some node → ((slot : Slot) → slot < slots → comes slot ≡ comes_in_serial plan n slot) →
+    IsInSerial plan n slots (alone plan comes n node slots)

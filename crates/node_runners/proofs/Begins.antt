@@ -7,7 +7,7 @@ use Rattle.xs_base.specs.Batch.{BatchRec}
 use Rattle.xs_model.specs.declared.event.Event.{Event}
 use Rattle.xs_model.specs.Record.{NodeRec, first_node}
 use Rattle.sys_plan.specs.declared.NodePlan.{NodePlan}
-use Rattle.sys_plan.specs.Plan.{PlanRec, IsPlan, directions, incoming, outgoing, delay_of, gaps_of, link_ends}
+use Rattle.sys_plan.specs.Plan.{PlanRec, IsPlan, arc_count, incoming, outgoing, delay_of, gaps_of, link_ends}
 use Rattle.step_model.specs.Start.{node_of}
 use Rattle.serial_model.specs.Serial.{serial, history, is_sent_within, nodes_at_start}
 use Rattle.locality_laws.specs.Locality.{node_in, events_in}
@@ -87,13 +87,13 @@ inlet-past (x ∷ inlets) (suc end) h = inlet-past inlets end (omega (arith, h))
 
 module _ (plan : PlanRec) (is : IsPlan plan) (n : Position) (limit : Slot) where
   abbrev count : ℕ
-  count = length (directions plan.links)
+  count = arc_count plan
 
   abbrev nothing_seen : List Slot
   nothing_seen = replicate count 0
 
   abbrev pub horizon : HorizonRec
-  horizon = horizon_of plan limit (replicate (length (directions plan.links)) 0) n
+  horizon = horizon_of plan limit (replicate (arc_count plan) 0) n
 
   hears-first : (l : Option LinkNumber) → Hears plan 0 l (option_map (seen_of_link plan nothing_seen) l) (first_inlet plan l)
   hears-first None = (refl, refl)

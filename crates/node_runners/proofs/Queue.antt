@@ -1,4 +1,4 @@
--- What a node has seen of a directed link, and which has not arrived yet.
+-- What a node has seen of an arc, and which has not arrived yet.
 use Rattle.std.proofs.Common.{◌≡◌, ℕ, zero, suc, ◌+◌, ◌-◌, ◌<◌, ◌≤◌, Bool, true, false, leb, ltb, List, [], ◌∷◌, filter, refl, ◌∙◌, arith, inl, inr}
 use mathlib.Core.Logic.{◌⊎◌}
 use Rattle.std.specs.List.{AllByRecursion}

@@ -13,7 +13,7 @@ use Rattle.node_seats.specs.Seats.{IsSeat, Plays}
 use Rattle.node_runners.specs.Queue.{InletRec, no_inlet, inlet_at}
 use Rattle.node_runners.specs.Sent.{batch_at}
 
--- of a directed link this much was seen, and of that the entries that arrive from the clock on wait
+-- of an arc this much was seen, and of that the entries that arrive from the clock on wait
 pub record HearsLink (plan : PlanRec) (clock : Slot) (link : LinkNumber) (s : Seen) (inlet : InletRec) : Type 0 where
   pub delay : s.delay ≡ delay_of plan link
   pub inlet_delay : inlet.delay ≡ delay_of plan link
@@ -26,7 +26,7 @@ Hears plan clock None s inlet = (s ≡ None) × (inlet ≡ no_inlet)
 Hears plan clock (Some link) None inlet = ⊥
 Hears plan clock (Some link) (Some s) inlet = HearsLink plan clock link s inlet
 
--- the batch of a link end by which a directed link leaves has what it carried from the published slot on and before the clock
+-- the batch of a link end by which an arc leaves has what it carried from the published slot on and before the clock
 pub record Tells (plan : PlanRec) (clock : Slot) (link : LinkNumber) (end : EndNumber) (batches : List BatchRec) (published : List Slot) : Type 0 where
   pub there : end < length batches
   pub batch : (batch_at batches end).entries ≡ history plan link (slice_index published end) clock

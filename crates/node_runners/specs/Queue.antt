@@ -4,7 +4,6 @@ use Rattle.std.specs.List.{AllByRecursion}
 use Rattle.xs_base.specs.Numbers.{Slot, EndNumber}
 use Rattle.xs_base.specs.declared.entry.Entry.{Entry}
 use Rattle.xs_model.specs.declared.outside.Arrivals.{Arrivals}
-use Rattle.sys_plan.specs.Plan.{link_ends}
 use Rattle.serial_model.specs.Serial.{arriving, arrivals_of}
 use Rattle.crossings.specs.Crossings.{AreInSendingOrder}
 
@@ -39,4 +38,4 @@ arriving_at slot inlets end = arriving slot (inlet_at inlets end).delay (inlet_a
 
 -- what arrives in a slot by these link ends, and nothing by the others
 abbrev pub arrivals_by : Slot → List InletRec → Arrivals
-arrivals_by slot inlets = arrivals_of (map (λ end. arriving_at slot inlets end) link_ends)
+arrivals_by slot inlets = arrivals_of (λ end. arriving_at slot inlets end)

@@ -1,7 +1,7 @@
 -- One node that runs ahead of the others, as far as what it has seen of the links that come to it lets it.
 use Rattle.std.specs.Prelude.{◌≡◌, ◌+◌, ◌<◌, true, List, length, replicate}
 use Rattle.xs_base.specs.Numbers.{Slot, Position}
-use Rattle.sys_plan.specs.Plan.{PlanRec, directions}
+use Rattle.sys_plan.specs.Plan.{PlanRec, arc_count}
 use Rattle.ahead_limits.specs.Horizon.{HorizonRec, may_run, StopsAt}
 use Rattle.ahead_limits.specs.Schedule.{horizon_of}
 use Rattle.node_runners.specs.declared.runner.Ran.{Ran}
@@ -22,7 +22,7 @@ new_runner plan limit n = record {
   plan = plan;
   node = n;
   clock = 0;
-  horizon = horizon_of plan limit (replicate (length (directions plan.links)) 0) n;
+  horizon = horizon_of plan limit (replicate (arc_count plan) 0) n;
   published = replicate 8 0;
 }
 

@@ -1,6 +1,6 @@
 //! The links of a node before its first slot.
 ghost use Rattle.std.specs.Prelude.{ℕ, ◌≡◌, ◌<◌, ◌≤◌, None, [], IfOk, IfSome, length};
-ghost use Rattle.sys_plan.specs.Plan.{IsPlan, directions, incoming, outgoing};
+ghost use Rattle.sys_plan.specs.Plan.{IsPlan, arc_count, incoming, outgoing};
 ghost use Rattle.node_runners.specs.Queue.{inlet_at};
 ghost use Rattle.node_runners.specs.Sent.{batch_at};
 ghost use Rattle.node_runners.specs.Starts.{first_inlet};
@@ -28,9 +28,9 @@ pub(crate) fn inlets_of(alloc: Global, plan: &Plan, n: u8) -> Result<Vec<Inlet>,
     Ok(inlets)
 }
 
-// What comes by a directed link, where there is one.
+// What comes by an arc, where there is one.
 fn inlet_of(alloc: Global, plan: &Plan, link: Option<u32>) -> Inlet
-    requires link { IfSome link (λ l. l < length (directions plan.now.links)) }
+    requires link { IfSome link (λ l. l < arc_count plan.now) }
     ensures { result ≡ first_inlet plan.now link }
 {
     match link {

@@ -13,11 +13,11 @@ use Rattle.xs_model.specs.Record.{NodeRec}
 use Rattle.xs_model.specs.Outside.{Emitted, emitted_events}
 use Rattle.pin_scripts.specs.Script.{view_at}
 use Rattle.sys_plan.specs.declared.NodePlan.{NodePlan}
-use Rattle.sys_plan.specs.Plan.{PlanRec, Direction, directions, incoming, delay_of, gaps_of, link_ends, node_numbers}
+use Rattle.sys_plan.specs.Plan.{PlanRec, Arc, arcs, incoming, delay_of, gaps_of, link_ends, node_numbers}
 use Rattle.step_model.specs.Start.{fixed_of, node_of}
 use Rattle.step_model.specs.Step.{Stepped, node_step}
 
--- a system after some slots: nodes and their events by position, histories by the number of the directed link
+-- a system after some slots: nodes and their events by position, histories by the number of the arc
 pub record SystemRec : Type 0 where
   pub nodes : List NodeRec
   pub histories : List (List Entry)
@@ -32,15 +32,15 @@ nodes_at_start plan n (node ∷ nodes) = node_of node (gaps_of plan n) ∷ nodes
 abbrev pub system_at_start : PlanRec → SystemRec
 system_at_start plan = record {
   nodes = nodes_at_start plan 0 plan.nodes;
-  histories = map (λ (d : Direction). []) (directions plan.links);
+  histories = map (λ (d : Arc). []) (arcs plan);
   events = map (λ (node : NodePlan). []) plan.nodes;
 }
 
--- the entries of a directed link that arrive in a slot: those that were sent a delay before
+-- the entries of an arc that arrive in a slot: those that were sent a delay before
 abbrev pub arriving : Slot → ℕ → List Entry → List Entry
 arriving slot delay history = filter (λ (e : Entry). (e.slot + delay) == slot) history
 
--- what arrives in a slot by the directed link with a number, where there is one
+-- what arrives in a slot by the arc with a number, where there is one
 abbrev pub arriving_by : PlanRec → List (List Entry) → Slot → Option LinkNumber → List Entry
 arriving_by plan histories slot None = []
 arriving_by plan histories slot (Some link) = arriving slot (delay_of plan link) (slice_index_or histories link [])
@@ -62,22 +62,35 @@ is_credit what.Credit = true
 abbrev pub credit_among : List Entry → Bool
 credit_among entries = list_any (λ (e : Entry). is_credit e.what) entries
 
--- what arrives by the link ends, of the entries that arrive by each of them
-abbrev pub arrivals_of : List (List Entry) → Arrivals
-arrivals_of by_end = record { tokens = map token_among by_end; credits = map credit_among by_end }
+-- what arrives by the link ends of a node, of the entries that arrive by each of them
+abbrev pub arrivals_of : (EndNumber → List Entry) → Arrivals
+arrivals_of by_end = record { tokens = map token_among (map by_end link_ends); credits = map credit_among (map by_end link_ends) }
 
 -- what arrives at a node in a slot
 abbrev pub arrivals_at : PlanRec → List (List Entry) → Slot → Position → Arrivals
-arrivals_at plan histories slot node = arrivals_of (map (λ end. arriving_by plan histories slot (incoming plan node end)) link_ends)
+arrivals_at plan histories slot node = arrivals_of (λ end. arriving_by plan histories slot (incoming plan node end))
 
 -- what the pins of the node at a position show in a slot, where its ports do not drive them
 abbrev pub pins_at : PlanRec → Position → Slot → PinView
 pins_at plan node slot = view_at plan.script (slice_index (node_numbers plan) node) slot
 
+-- what comes to a node in a slot: what arrives by its link ends, and what its pins show from outside
+pub record Coming : Type 0 where
+  pub arrivals : Arrivals
+  pub pins : PinView
+
+-- what comes in a slot to the node at a position, when the arcs have these histories
+abbrev pub coming_at : PlanRec → List (List Entry) → Slot → Position → Coming
+coming_at plan histories slot node = record { arrivals = arrivals_at plan histories slot node; pins = pins_at plan node slot }
+
+-- the step of a node of a plan, at a position, in a slot in which this comes to it
+abbrev pub step_by : PlanRec → Position → NodePlan → Slot → Coming → NodeRec → Stepped
+step_by plan n node slot coming rec = node_step (fixed_of node (gaps_of plan n)) rec slot coming.arrivals coming.pins
+
 -- the step of each node in a slot, the first of which stands at position n
 abbrev pub steps_from : PlanRec → List (List Entry) → Slot → Position → List NodePlan → List NodeRec → List Stepped
 steps_from plan histories slot n (node ∷ nodes) (rec ∷ recs) =
-    node_step (fixed_of node (gaps_of plan n)) rec slot (arrivals_at plan histories slot n) (pins_at plan n slot)
+    step_by plan n node slot (coming_at plan histories slot n) rec
     ∷ steps_from plan histories slot (n + 1) nodes recs
 steps_from plan histories slot n _ _ = []
 
@@ -103,7 +116,7 @@ abbrev pub emitted_by : List Stepped → Position → Emitted
 emitted_by steps node = slice_index_or (map (λ (s : Stepped). s.emitted) steps) node (emitted_events [])
 
 -- each history goes on with what its sender's link end sent
-abbrev pub longer_histories : Slot → List Stepped → List Direction → List (List Entry) → List (List Entry)
+abbrev pub longer_histories : Slot → List Stepped → List Arc → List (List Entry) → List (List Entry)
 longer_histories slot steps (d ∷ ds) (history ∷ histories) =
     (history ++ sent_by slot (emitted_by steps d.from) d.from_end) ∷ longer_histories slot steps ds histories
 longer_histories slot steps _ _ = []
@@ -117,7 +130,7 @@ longer_events _ _ = []
 abbrev pub system_after : PlanRec → Slot → SystemRec → List Stepped → SystemRec
 system_after plan slot system steps = record {
   nodes = map (λ (s : Stepped). s.rec) steps;
-  histories = longer_histories slot steps (directions plan.links) system.histories;
+  histories = longer_histories slot steps (arcs plan) system.histories;
   events = longer_events steps system.events;
 }
 
@@ -134,6 +147,6 @@ serial plan (suc slot) = system_step plan slot (serial plan slot)
 abbrev pub is_sent_within : Slot → Slot → Entry → Bool
 is_sent_within from to e = nat_le from e.slot && nat_lt e.slot to
 
--- what a directed link carried in the slots from one on and before another
+-- what an arc carried in the slots from one on and before another
 abbrev pub history : PlanRec → LinkNumber → Slot → Slot → List Entry
 history plan link from to = filter (is_sent_within from to) (slice_index_or (serial plan to).histories link [])

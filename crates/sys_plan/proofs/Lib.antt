@@ -1,3 +1,3 @@
-pub mod Directions
+pub mod Arcs
 mod Past
 pub mod Routes

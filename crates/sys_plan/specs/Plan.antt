@@ -17,8 +17,8 @@ pub record PlanRec : Type 0 where
   pub script : List PinLine
   pub steps : List Step
 
--- one direction of a link: from a link end of a node to one of another, with the delay and the gap in slots
-pub record Direction : Type 0 where
+-- an arc: what leads one way from an end of a node to an end of another, with the delay and the gap in slots
+pub record Arc : Type 0 where
   pub from : ℕ
   pub from_end : ℕ
   pub to : ℕ
@@ -27,43 +27,50 @@ pub record Direction : Type 0 where
   pub gap : ℕ
 
 -- from the first end of a link to the second, and back
-abbrev pub forth : LinkPlan → Direction
+abbrev pub forth : LinkPlan → Arc
 forth link = record { from = link.a; from_end = link.a_end; to = link.b; to_end = link.b_end; delay = link.delay; gap = link.gap }
 
-abbrev pub back : LinkPlan → Direction
+abbrev pub back : LinkPlan → Arc
 back link = record { from = link.b; from_end = link.b_end; to = link.a; to_end = link.a_end; delay = link.delay; gap = link.gap }
 
--- the directed links by number: 2k leads from the first to the second end of link k, and 2k + 1 leads back
-abbrev pub directions : List LinkPlan → List Direction
-directions [] = []
-directions (link ∷ links) = forth link ∷ (back link ∷ directions links)
+-- the arcs of links by number, two for each: 2k leads from the first to the second end of link k, and 2k + 1 leads back
+abbrev pub link_arcs : List LinkPlan → List Arc
+link_arcs [] = []
+link_arcs (link ∷ links) = forth link ∷ (back link ∷ link_arcs links)
 
-abbrev pub leaves_by : ℕ → ℕ → Direction → Bool
+-- the arcs of a plan by number, and how many they are
+abbrev pub arcs : PlanRec → List Arc
+arcs plan = link_arcs plan.links
+
+abbrev pub arc_count : PlanRec → ℕ
+arc_count plan = length (arcs plan)
+
+abbrev pub leaves_by : ℕ → ℕ → Arc → Bool
 leaves_by node end d = (d.from == node) && (d.from_end == end)
 
-abbrev pub comes_to : ℕ → ℕ → Direction → Bool
+abbrev pub comes_to : ℕ → ℕ → Arc → Bool
 comes_to node end d = (d.to == node) && (d.to_end == end)
 
--- the number of the first of these directed links, counted from n, that passes a test
-abbrev pub first_link : (Direction → Bool) → ℕ → List Direction → Option ℕ
-first_link test n [] = None
-first_link test n (d ∷ ds) = if test d then Some n else first_link test (n + 1) ds
+-- the number of the first of these arcs, counted from n, that passes a test
+abbrev pub first_arc : (Arc → Bool) → ℕ → List Arc → Option ℕ
+first_arc test n [] = None
+first_arc test n (d ∷ ds) = if test d then Some n else first_arc test (n + 1) ds
 
--- the directed link that leaves by a link end of a node, and the one that comes to it, where there is one
+-- the arc that leaves by an end of a node, and the one that comes to it, where there is one
 abbrev pub outgoing : PlanRec → ℕ → ℕ → Option ℕ
-outgoing plan node end = first_link (leaves_by node end) 0 (directions plan.links)
+outgoing plan node end = first_arc (leaves_by node end) 0 (arcs plan)
 
 abbrev pub incoming : PlanRec → ℕ → ℕ → Option ℕ
-incoming plan node end = first_link (comes_to node end) 0 (directions plan.links)
+incoming plan node end = first_arc (comes_to node end) 0 (arcs plan)
 
--- the delay and the gap of the directed link with a number, in slots
+-- the delay and the gap of the arc with a number, in slots
 abbrev pub delay_of : PlanRec → ℕ → ℕ
-delay_of plan link = slice_index (map (λ (d : Direction). d.delay) (directions plan.links)) link
+delay_of plan link = slice_index (map (λ (d : Arc). d.delay) (arcs plan)) link
 
 abbrev pub gap_of : PlanRec → ℕ → ℕ
-gap_of plan link = slice_index (map (λ (d : Direction). d.gap) (directions plan.links)) link
+gap_of plan link = slice_index (map (λ (d : Arc). d.gap) (arcs plan)) link
 
--- the gap of the directed link that leaves by a link end, 0 where none does
+-- the gap of the arc that leaves by a link end, 0 where none does
 abbrev pub gap_by : PlanRec → Option ℕ → ℕ
 gap_by plan None = 0
 gap_by plan (Some link) = gap_of plan link
@@ -71,6 +78,13 @@ gap_by plan (Some link) = gap_of plan link
 -- the numbers of a node's link ends
 abbrev pub link_ends : List ℕ
 link_ends = 0 ∷ 1 ∷ 2 ∷ 3 ∷ 4 ∷ 5 ∷ 6 ∷ 7 ∷ []
+
+-- the numbers of the ends of a node to which arcs may come, and of those by which arcs may leave
+abbrev pub ends_in : PlanRec → ℕ → List ℕ
+ends_in plan node = link_ends
+
+abbrev pub ends_out : PlanRec → ℕ → List ℕ
+ends_out plan node = link_ends
 
 -- the gap of each link end of a node, 0 where no link is
 abbrev pub gaps_of : PlanRec → ℕ → List ℕ

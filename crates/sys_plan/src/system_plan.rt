@@ -1,6 +1,6 @@
 //! `Plan`, the plan of a system.
 ghost use Rattle.std.specs.Prelude.{◌≡◌, ◌<◌, ◌≤◌, ◌+◌, ◌*◌, ℕ, length, slice_index, None, IfSome, IsSome};
-ghost use Rattle.sys_plan.specs.Plan.{PlanRec, IsPlan, outgoing, incoming, directions, first_link, leaves_by, comes_to, delay_of, gap_of, gap_by, gaps_of};
+ghost use Rattle.sys_plan.specs.Plan.{PlanRec, IsPlan, outgoing, incoming, arc_count, link_arcs, first_arc, leaves_by, comes_to, delay_of, gap_of, gap_by, gaps_of};
 
 use crate::{LinkPlan, NodePlan, Step};
 use pin_scripts::Script;
@@ -9,8 +9,8 @@ use std::marker::Model;
 /// The plan of a system: its nodes by ascending number, its links, the script of its pins, and the steps of its schedule. The record
 /// `IsPlan` says what every plan keeps. See docs/SYSTEM_TEXT.md.
 ///
-/// A directed link is one direction of a link. Number 2k leads from the first to the second end of link k, counted
-/// from 0, and 2k + 1 leads back. See docs/LINKS.md.
+/// An arc leads one way from an end of a node to an end of another: each link is two of them, its directed links. Number 2k leads from
+/// the first to the second end of link k, counted from 0, and 2k + 1 leads back. See docs/LINKS.md.
 #[derive(Drop)]
 pub struct Plan {
     nodes: Vec<NodePlan>,
@@ -75,30 +75,30 @@ impl Plan {
         self.steps.as_slice()
     }
 
-    /// The number of the directed link that leaves by a link end of the node at a position. `None` comes exactly
+    /// The number of the arc that leaves by a link end of the node at a position. `None` comes exactly
     /// where no link is there; any link end may be asked for, and none from 8 on has a link.
     pub fn outgoing(&self, node: u8, end: u8) -> Option<u32>
         ensures value { result ≡ outgoing self.now node end }
         ensures none_past { 8 ≤ end → result ≡ None }
-        ensures bound { IfSome result (λ link. link < length (directions self.now.links)) }
+        ensures bound { IfSome result (λ link. link < arc_count self.now) }
     {
         first_leaving(self.links(), node, end)
     }
 
-    /// The number of the directed link that comes to a link end of the node at a position. `None` comes exactly
+    /// The number of the arc that comes to a link end of the node at a position. `None` comes exactly
     /// where no link is there; any link end may be asked for, and none from 8 on has a link.
     pub fn incoming(&self, node: u8, end: u8) -> Option<u32>
         ensures value { result ≡ incoming self.now node end }
         ensures none_past { 8 ≤ end → result ≡ None }
-        ensures bound { IfSome result (λ link. link < length (directions self.now.links)) }
+        ensures bound { IfSome result (λ link. link < arc_count self.now) }
     {
         first_coming(self.links(), node, end)
     }
 
-    /// The delay of the directed link with a number, 1 to 1,000 slots.
-    #[tactic(auto, using(crate::proofs::Directions::directions_length))]
+    /// The delay of the arc with a number, 1 to 1,000 slots.
+    #[tactic(auto, using(crate::proofs::Arcs::arcs_length))]
     pub fn delay(&self, link: u32) -> u32
-        requires number { link < length (directions self.now.links) }
+        requires number { link < arc_count self.now }
         ensures value { result ≡ delay_of self.now link }
         ensures least { 1 ≤ result }
         ensures most { result ≤ 1000 }
@@ -125,7 +125,7 @@ impl Plan {
     }
 
     // The gap of a link end, 0 where no link is.
-    #[tactic(auto, using(crate::proofs::Directions::directions_length))]
+    #[tactic(auto, using(crate::proofs::Arcs::arcs_length))]
     fn gap(&self, node: u8, end: u8) -> u32
         ensures value { result ≡ gap_by self.now (outgoing self.now node end) }
         ensures there { IsSome (outgoing self.now node end) → 4 ≤ result }
@@ -140,12 +140,12 @@ impl Plan {
     }
 }
 
-// The number of the first directed link that leaves by a link end.
-#[tactic(auto, using(crate::proofs::Directions::directions_length))]
+// The number of the first arc that leaves by a link end.
+#[tactic(auto, using(crate::proofs::Arcs::arcs_length))]
 fn first_leaving(links: &[LinkPlan], node: u8, end: u8) -> Option<u32>
     requires few { length links.now ≤ 48 }
-    ensures value { result ≡ first_link (leaves_by node end) 0 (directions links.now) }
-    ensures bound { IfSome result (λ link. link < length (directions links.now)) }
+    ensures value { result ≡ first_arc (leaves_by node end) 0 (link_arcs links.now) }
+    ensures bound { IfSome result (λ link. link < length (link_arcs links.now)) }
 {
     let mut number = 0;
     for link in links {
@@ -160,12 +160,12 @@ fn first_leaving(links: &[LinkPlan], node: u8, end: u8) -> Option<u32>
     None
 }
 
-// The number of the first directed link that comes to a link end.
-#[tactic(auto, using(crate::proofs::Directions::directions_length))]
+// The number of the first arc that comes to a link end.
+#[tactic(auto, using(crate::proofs::Arcs::arcs_length))]
 fn first_coming(links: &[LinkPlan], node: u8, end: u8) -> Option<u32>
     requires few { length links.now ≤ 48 }
-    ensures value { result ≡ first_link (comes_to node end) 0 (directions links.now) }
-    ensures bound { IfSome result (λ link. link < length (directions links.now)) }
+    ensures value { result ≡ first_arc (comes_to node end) 0 (link_arcs links.now) }
+    ensures bound { IfSome result (λ link. link < length (link_arcs links.now)) }
 {
     let mut number = 0;
     for link in links {

@@ -14,7 +14,7 @@ use Rattle.xs_model.specs.Record.{NodeRec, first_node}
 use Rattle.trace_model.specs.EventLines.{event_line, hex_word}
 use Rattle.xs_model.specs.FirstEvents.{first_events, left_out}
 use Rattle.sys_plan.specs.declared.NodePlan.{NodePlan}
-use Rattle.sys_plan.specs.Plan.{PlanRec, Direction, directions}
+use Rattle.sys_plan.specs.Plan.{PlanRec, Arc, link_arcs}
 use Rattle.serial_model.specs.Serial.{SystemRec, serial, is_credit}
 use Rattle.trace_model.specs.EventOrder.{Placed, merged}
 
@@ -110,7 +110,7 @@ abbrev pub more_at : SystemRec → ℕ → NodePlan → List ℕ
 more_at system k node = more_line node.number (left_out (events_at system k))
 
 -- the line that tells what was sent on the directed link with number k
-abbrev pub traffic_at : List NodePlan → SystemRec → ℕ → Direction → List ℕ
+abbrev pub traffic_at : List NodePlan → SystemRec → ℕ → Arc → List ℕ
 traffic_at nodes system k d =
     traffic_line (number_at nodes d.from) d.from_end (number_at nodes d.to) d.to_end (history_at system k)
 
@@ -127,7 +127,7 @@ memory_at system k node = memory_lines node.number MEMORY_START (words_of (node_
 abbrev pub lines_after_events : PlanRec → SystemRec → List ℕ
 lines_after_events plan system =
     by_position (more_at system) 0 plan.nodes
-    ++ (by_position (traffic_at plan.nodes system) 0 (directions plan.links)
+    ++ (by_position (traffic_at plan.nodes system) 0 (link_arcs plan.links)
     ++ (by_position (halted_at system) 0 plan.nodes
     ++ by_position (memory_at system) 0 plan.nodes))
 

@@ -1,7 +1,7 @@
--- Directed links worked out by hand.
+-- Arcs worked out by hand.
 use Rattle.std.specs.Prelude.{◌≡◌, Some, None, [], ◌∷◌, replicate}
 use Rattle.sys_plan.specs.declared.LinkPlan.{LinkPlan}
-use Rattle.sys_plan.specs.Plan.{PlanRec, directions, outgoing, incoming, delay_of, gap_of, gaps_of}
+use Rattle.sys_plan.specs.Plan.{PlanRec, arcs, outgoing, incoming, delay_of, gap_of, gaps_of}
 
 -- from link end 2 of the second node to link end 7 of the first one
 abbrev pub first_link_plan : LinkPlan
@@ -19,7 +19,7 @@ abbrev pub two_links : PlanRec
 two_links = record { nodes = []; links = first_link_plan ∷ second_link_plan ∷ []; script = []; steps = [] }
 
 pub record WorkedDirections : Type 0 where
-  -- a link's first end is where directed link 0 leaves, and where directed link 1 comes to
+  -- a link's first end is where arc 0 leaves, and where arc 1 comes to
   pub forth_leaves : outgoing one_link 1 2 ≡ Some 0
   pub forth_comes : incoming one_link 0 7 ≡ Some 0
   pub back_leaves : outgoing one_link 0 7 ≡ Some 1
@@ -32,8 +32,8 @@ pub record WorkedDirections : Type 0 where
   pub gaps_of_second : gaps_of one_link 1 ≡ 0 ∷ 0 ∷ 4 ∷ 0 ∷ 0 ∷ 0 ∷ 0 ∷ 0 ∷ []
   pub gaps_of_first : gaps_of one_link 0 ≡ 0 ∷ 0 ∷ 0 ∷ 0 ∷ 0 ∷ 0 ∷ 0 ∷ 4 ∷ []
   pub gaps_of_third : gaps_of one_link 2 ≡ replicate 8 0
-  -- the second link's directions have the numbers 2 and 3, and those of the first one stay
-  pub all : directions two_links.links
+  -- the second link's arcs have the numbers 2 and 3, and those of the first one stay
+  pub all : arcs two_links
       ≡ record { from = 1; from_end = 2; to = 0; to_end = 7; delay = 5; gap = 4 }
       ∷ record { from = 0; from_end = 7; to = 1; to_end = 2; delay = 5; gap = 4 }
       ∷ record { from = 0; from_end = 0; to = 2; to_end = 1; delay = 9; gap = 6 }

@@ -6,7 +6,7 @@ use Rattle.xs_base.specs.declared.entry.Entry.{Entry}
 use Rattle.xs_model.specs.declared.event.Happen.TheVariants as happen
 use Rattle.xs_model.specs.Outside.{in_slot}
 use Rattle.worked_runs.specs.Systems.{token_sent, credit_sent, talking_pair, receiving_node}
-use Rattle.locality_laws.specs.Alone.{AloneRec, alone}
+use Rattle.locality_laws.specs.Alone.{AloneRec, alone, heard_by}
 
 -- the header bytes of the packet, and its END
 abbrev pub header : List Entry
@@ -17,7 +17,7 @@ packet = token_sent 13 (Byte 0) ∷ token_sent 17 (Byte 1) ∷ token_sent 21 (By
 
 -- the second node, where this was heard of the link to it, and that of the link by which it sends
 abbrev pub receiver : List Entry → List Entry → Slot → AloneRec
-receiver forth back slots = alone talking_pair (forth ∷ back ∷ []) 1 receiving_node slots
+receiver forth back slots = alone talking_pair (heard_by talking_pair (forth ∷ back ∷ []) 1) 1 receiving_node slots
 
 -- END is sent in slot 25, and so arrives in slot 30: there it is delivered, and before it nobody can miss it
 pub record ReceiverAlone : Type 0 where

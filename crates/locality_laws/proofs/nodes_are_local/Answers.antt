@@ -1,8 +1,8 @@
-use Rattle.locality_laws.proofs.Nodes.{step_needs_arrivals, locality, outgoing_leaves}
+use Rattle.locality_laws.proofs.Nodes.{step_needs_coming, locality, outgoing_leaves}
 use Rattle.locality_laws.proofs.nodes_are_local.Goals as goal
 
 pub returns-clause-step : goal.returns-clause-step
-returns-clause-step c = step_needs_arrivals
+returns-clause-step c = step_needs_coming
 
 pub returns-clause-local : goal.returns-clause-local
 returns-clause-local c = locality

@@ -1,10 +1,10 @@
 use Rattle.std.proofs.Common.{◌≡◌, ◌*◌, drop}
-use Rattle.sys_plan.specs.Plan.{directions, first_link, leaves_by}
+use Rattle.sys_plan.specs.Plan.{link_arcs, first_arc, leaves_by}
 use Rattle.sys_plan.proofs.system_plan.first_leaving.Given as goal
 
 -- no link so far is there
 abbrev pub invariant-loop-link : goal.invariant-loop-link
 invariant-loop-link l = record {
   number : l.number ≡ 2 * l.link-index;
-  rest : first_link (leaves_by l.node l.end) 0 (directions l.links) ≡ first_link (leaves_by l.node l.end) l.number (directions (drop l.link-index l.links));
+  rest : first_arc (leaves_by l.node l.end) 0 (link_arcs l.links) ≡ first_arc (leaves_by l.node l.end) l.number (link_arcs (drop l.link-index l.links));
 }

@@ -1,8 +1,8 @@
--- Nothing was seen of any directed link.
+-- Nothing was seen of any arc.
 use Rattle.std.proofs.Common.{List, length, ap, ◌∙◌}
 use Rattle.std.proofs.lemmas.List.{length-replicate}
 use Rattle.xs_base.specs.Numbers.{Slot}
-use Rattle.sys_plan.specs.Plan.{directions}
+use Rattle.sys_plan.specs.Plan.{arc_count}
 use Rattle.ahead_limits.specs.Schedule.{horizon_of}
 use Rattle.ahead_limits.proofs.Steps.{nothing_seen}
 use Rattle.ahead_limits.proofs.horizon.Horizon.of.Goals as goal
@@ -10,7 +10,7 @@ use Rattle.ahead_limits.proofs.horizon.Horizon.of.Goals as goal
 pub as_seen-requires : goal.as_seen-requires
 as_seen-requires c = record {
   links = ap (λ (xs : List Slot). length xs) (nothing_seen c.args.plan.now c.links.ensures.plan c.links.result.now c.links.ensures.value)
-      ∙ length-replicate (length (directions c.args.plan.now.links)) 0;
+      ∙ length-replicate (arc_count c.args.plan.now) 0;
 }
 
 pub returns : goal.returns

@@ -1,16 +1,16 @@
--- The directed links of a list of links, by number.
+-- The arcs of a list of links, by number.
 use Rattle.std.proofs.Common.{◌≡◌, ℕ, zero, suc, ◌*◌, ◌/◌, ◌<◌, List, [], ◌∷◌, length, map, get_or, refl, ◌∙◌, sym, ap, arith}
 use Rattle.std.specs.List.{AllByRecursion}
 use Rattle.sys_plan.specs.declared.LinkPlan.{LinkPlan}
-use Rattle.sys_plan.specs.Plan.{Direction, forth, back, directions}
+use Rattle.sys_plan.specs.Plan.{Arc, forth, back, link_arcs}
 
-pub directions_length : (links : List LinkPlan) → length (directions links) ≡ 2 * length links
-directions_length [] = refl
-directions_length (link ∷ links) = omega (arith, directions_length links)
+pub arcs_length : (links : List LinkPlan) → length (link_arcs links) ≡ 2 * length links
+arcs_length [] = refl
+arcs_length (link ∷ links) = omega (arith, arcs_length links)
 
--- what both directions of a link share stands at half the number
-module _ (of_direction : Direction → ℕ) (of_link : LinkPlan → ℕ) (forth_is : (l : LinkPlan) → of_direction (forth l) ≡ of_link l) (back_is : (l : LinkPlan) → of_direction (back l) ≡ of_link l) where
-  pub shared-at : (links : List LinkPlan) (k : ℕ) (d : LinkPlan) → k < 2 * length links → get_or (map of_direction (directions links)) k 0 ≡ of_link (get_or links (k / 2) d)
+-- what both arcs of a link share stands at half the number
+module _ (of_arc : Arc → ℕ) (of_link : LinkPlan → ℕ) (forth_is : (l : LinkPlan) → of_arc (forth l) ≡ of_link l) (back_is : (l : LinkPlan) → of_arc (back l) ≡ of_link l) where
+  pub shared-at : (links : List LinkPlan) (k : ℕ) (d : LinkPlan) → k < 2 * length links → get_or (map of_arc (link_arcs links)) k 0 ≡ of_link (get_or links (k / 2) d)
   shared-at [] k d h = absurd (omega arith)
   shared-at (link ∷ links) zero d h = forth_is link
   shared-at (link ∷ links) (suc zero) d h = back_is link
