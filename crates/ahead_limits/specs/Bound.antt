@@ -1,14 +1,14 @@
--- The bound that a horizon keeps beside its link ends, so that one comparison tells whether a node may run.
+-- The bound that a horizon keeps beside its ends, so that one comparison tells whether a node may run.
 use Rattle.std.specs.Prelude.{min, fold, Option, Some, None, List}
 use Rattle.xs_base.specs.Numbers.{Slot}
 use Rattle.ahead_limits.specs.declared.horizon.Seen.{Seen}
 use Rattle.ahead_limits.specs.Horizon.{horizon_at}
 
--- the lesser of a bound and the horizon at a link end
+-- the lesser of a bound and the horizon at an end
 abbrev pub nearer : Slot → Option Seen → Slot
 nearer bound None = bound
 nearer bound (Some s) = min bound (horizon_at s)
 
--- the least of a limit and of the horizon at each of these link ends
+-- the least of a limit and of the horizon at each of these ends
 abbrev pub least_bound : Slot → List (Option Seen) → Slot
 least_bound limit ends = fold nearer limit ends

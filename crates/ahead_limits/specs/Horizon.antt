@@ -1,19 +1,19 @@
--- How far a node may run by what it has seen of the links that come to it.
+-- How far a node may run by what it has seen of the arcs that come to it.
 use Rattle.std.specs.Prelude.{◌≡◌, ◌≢◌, ◌+◌, ◌<◌, Bool, true, ◌&&◌, ◌==◌, nat_lt, if◌then◌else◌, Option, Some, None, List, [], ◌∷◌, replicate, slice_get, slice_index_or}
 use Rattle.std.specs.List.{list_all}
 use Rattle.xs_base.specs.Numbers.{Slot, EndNumber}
-use Rattle.xs_base.specs.declared.numbers.TheConstants.{LINK_ENDS}
+use Rattle.sys_plan.specs.declared.system_plan.TheConstants.{ENDS}
 use Rattle.ahead_limits.specs.declared.horizon.Seen.{Seen}
 
--- the limit of the run, and what was seen at each link end that a link comes to
+-- the limit of the run, and what was seen at each end that an arc comes to
 pub record HorizonRec : Type 0 where
   pub limit : Slot
   pub ends : List (Option Seen)
 
-abbrev pub no_links : List (Option Seen)
-no_links = replicate LINK_ENDS None
+abbrev pub no_arcs : List (Option Seen)
+no_arcs = replicate ENDS None
 
--- what was seen at a link end, 0 where no link comes
+-- what was seen at an end, 0 where no arc comes
 abbrev pub seen_by_end : Option Seen → Slot
 seen_by_end None = 0
 seen_by_end (Some s) = s.seen
@@ -21,12 +21,12 @@ seen_by_end (Some s) = s.seen
 abbrev pub seen_at : HorizonRec → EndNumber → Slot
 seen_at h end = seen_by_end (slice_index_or h.ends end None)
 
--- a link of which this much was seen
+-- an arc of which this much was seen
 abbrev pub seen_to : Slot → Option Seen → Option Seen
 seen_to slot None = None
 seen_to slot (Some s) = Some (record s { seen = slot })
 
--- the horizon of a link: the first slot for which it is not known what arrives by it
+-- the horizon of an arc: the first slot for which it is not known what arrives by it
 abbrev pub horizon_at : Seen → Slot
 horizon_at s = s.seen + s.delay
 
@@ -38,7 +38,7 @@ lets_run clock (Some s) = nat_lt clock (horizon_at s)
 abbrev pub may_run : HorizonRec → Slot → Bool
 may_run h clock = nat_lt clock h.limit && list_all (lets_run clock) h.ends
 
--- what was seen at a link end that stops a node at its clock
+-- what was seen at an end that stops a node at its clock
 abbrev pub stops_at : Slot → Option Seen → Option Slot
 stops_at clock None = None
 stops_at clock (Some s) = if clock == horizon_at s then Some s.seen else None
@@ -47,22 +47,22 @@ abbrev pub or_later : EndNumber → Option Slot → Option (EndNumber × Slot) �
 or_later n (Some seen) later = Some (n, seen)
 or_later n None later = later
 
--- the first of these link ends, counted from n, that stops a node at its clock, and what was seen there
+-- the first of these ends, counted from n, that stops a node at its clock, and what was seen there
 abbrev pub first_stop : Slot → EndNumber → List (Option Seen) → Option (EndNumber × Slot)
 first_stop clock n [] = None
 first_stop clock n (s ∷ ends) = or_later n (stops_at clock s) (first_stop clock (n + 1) ends)
 
--- ---- The same by link end
+-- ---- The same by end
 
--- a link comes to a link end, and this much of it was seen
+-- an arc comes to an end, and this much of it was seen
 abbrev pub Sees : HorizonRec → EndNumber → Seen → Type 0
 Sees h end s = slice_get h.ends end ≡ Some (Some s)
 
--- the clock is below the limit, and below the horizon at every link end
+-- the clock is below the limit, and below the horizon at every end
 abbrev pub IsBelowAll : HorizonRec → Slot → Type 0
 IsBelowAll h clock = (clock < h.limit) × ((end : EndNumber) (s : Seen) → Sees h end s → clock < horizon_at s)
 
--- at no link end below this one the clock is the horizon
+-- at no end below this one the clock is the horizon
 abbrev pub NoneStopsBelow : HorizonRec → Slot → EndNumber → Type 0
 NoneStopsBelow h clock below = (end : EndNumber) (s : Seen) → end < below → Sees h end s → clock ≢ horizon_at s
 

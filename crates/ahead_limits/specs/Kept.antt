@@ -1,7 +1,7 @@
 -- What every schedule keeps.
 use Rattle.std.specs.Prelude.{◌≡◌, ◌+◌, ◌<◌, ◌≤◌, Option, Some, List, slice_get, slice_index}
 use Rattle.xs_base.specs.Numbers.{Slot, Position, LinkNumber, EndNumber}
-use Rattle.xs_base.specs.declared.numbers.TheConstants.{LINK_ENDS}
+use Rattle.sys_plan.specs.declared.system_plan.TheConstants.{ENDS}
 use Rattle.sys_plan.specs.declared.Step.{Step}
 use Rattle.sys_plan.specs.Plan.{PlanRec, Arc, arcs, incoming, delay_of}
 use Rattle.ahead_limits.specs.Schedule.{ScheduleRec, IsOfPlan, schedule_at_start, after_step, after_steps}
@@ -16,7 +16,7 @@ pub record KeepsBounds (plan : PlanRec) (limit : Slot) (s : ScheduleRec) : Type 
   -- no more is published of a link than the node has run that it leaves
   pub behind : (link : LinkNumber) (d : Arc) → slice_get (arcs plan) link ≡ Some d → slice_index s.published link ≤ slice_index s.clocks d.from
   -- no node is further than what is seen of a link that comes to it and the delay
-  pub ahead : (node : Position) (end : EndNumber) (link : LinkNumber) → end < LINK_ENDS → incoming plan node end ≡ Some link
+  pub ahead : (node : Position) (end : EndNumber) (link : LinkNumber) → end < ENDS → incoming plan node end ≡ Some link
       → slice_index s.clocks node ≤ slice_index s.seen link + delay_of plan link
 
 -- each number is at least what it was

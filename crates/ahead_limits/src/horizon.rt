@@ -1,33 +1,32 @@
 //! `Horizon`, how far a node may run.
 ghost use Rattle.std.specs.Prelude.{IfSome, ◌↔◌, true, ◌≡◌, ◌+◌, ◌<◌, ◌≤◌, Some, None, IsNone, length, drop, slice_index_or, slice_set, replicate};
 ghost use Rattle.sys_plan.specs.Plan.{arc_count};
-ghost use Rattle.xs_base.specs.declared.numbers.TheConstants.{LINK_ENDS};
-ghost use Rattle.ahead_limits.specs.Horizon.{no_links, seen_to, seen_at, may_run, first_stop, stops_at, horizon_at, IsBelowAll, NoneStopsBelow, StopsAt};
+ghost use Rattle.sys_plan.specs.declared.system_plan.TheConstants.{ENDS};
+ghost use Rattle.ahead_limits.specs.Horizon.{no_arcs, seen_to, seen_at, may_run, first_stop, stops_at, horizon_at, IsBelowAll, NoneStopsBelow, StopsAt};
 ghost use Rattle.ahead_limits.specs.Bound.{nearer, least_bound};
 ghost use Rattle.ahead_limits.specs.Schedule.{horizon_of, clock_after};
 
 use crate::plan_horizon::seen_ends;
 use std::marker::Model;
-use sys_plan::Plan;
-use xs_base::numbers::LINK_ENDS;
+use sys_plan::{ENDS, Plan};
 
-/// What was seen of the link that comes to a link end.
+/// What was seen of the arc that comes to an end of a node.
 #[derive(Clone, Copy)]
 pub struct Seen {
-    /// The delay of the link, in slots.
+    /// The delay of the arc, in slots.
     pub delay: u32,
     /// The slot before which all its entries were seen.
     pub seen: u32,
 }
 
-// The horizon of a link: the first slot for which it is not known what arrives by it.
+// The horizon of an arc: the first slot for which it is not known what arrives by it.
 fn horizon_at(s: Seen) -> u64
     ensures { result ≡ horizon_at s }
 {
     u64::from(s.seen) + u64::from(s.delay)
 }
 
-// The lesser of a bound and the horizon at a link end.
+// The lesser of a bound and the horizon at an end.
 fn nearer(bound: u64, s: Option<Seen>) -> u64
     ensures { result ≡ nearer bound s }
 {
@@ -37,7 +36,7 @@ fn nearer(bound: u64, s: Option<Seen>) -> u64
     }
 }
 
-// The least of a limit and of the horizon at each link end.
+// The least of a limit and of the horizon at each end.
 fn least_bound(limit: u32, ends: &[Option<Seen>]) -> u64
     ensures { result ≡ least_bound limit ends.now }
 {
@@ -45,7 +44,7 @@ fn least_bound(limit: u32, ends: &[Option<Seen>]) -> u64
         .fold(u64::from(limit), |bound, s| nearer(bound, *s))
 }
 
-// What was seen at a link end, if it stops a node at its clock.
+// What was seen at an end, if it stops a node at its clock.
 fn stops_at(clock: u32, s: Option<Seen>) -> Option<u32>
     ensures { result ≡ stops_at clock s }
 {
@@ -55,14 +54,14 @@ fn stops_at(clock: u32, s: Option<Seen>) -> Option<u32>
     }
 }
 
-/// How far a node may run: to the limit of the run, and at each link that comes to it as far as is known what arrives, which is to
-/// the slot up to which the link's history was seen, and its delay. Slots count from 0. Contracts see it as a `HorizonRec` of
+/// How far a node may run: to the limit of the run, and at each arc that comes to it as far as is known what arrives, which is to
+/// the slot up to which the arc's history was seen, and its delay. Its ends are counted from 0, below `ENDS`. Slots count from 0. Contracts see it as a `HorizonRec` of
 /// `Rattle.ahead_limits.specs.Horizon`. No call takes memory. See docs/LOOKAHEAD.md.
 #[derive(Drop)]
 pub struct Horizon {
     limit: u32,
-    ends: [Option<Seen>; 8],
-    // The least of the limit and of the horizon at each link end. A node asks in every slot, and what was seen changes once a batch.
+    ends: [Option<Seen>; ENDS],
+    // The least of the limit and of the horizon at each end. A node asks in every slot, and what was seen changes once a batch.
     bound: u64,
 }
 
@@ -72,23 +71,23 @@ impl Model for Horizon {
     ghost Value = { HorizonRec };
 
     ghost use Rattle.std.specs.Prelude.{◌≡◌, length};
-    ghost use Rattle.xs_base.specs.declared.numbers.TheConstants.{LINK_ENDS};
+    ghost use Rattle.sys_plan.specs.declared.system_plan.TheConstants.{ENDS};
     ghost use Rattle.ahead_limits.specs.Bound.{least_bound};
 
     ghost view = { λ h. record { limit = h.limit; ends = h.ends } };
 
-    ghost invariant = { λ h. (length h.ends ≡ LINK_ENDS) × (h.bound ≡ least_bound h.limit h.ends) };
+    ghost invariant = { λ h. (length h.ends ≡ ENDS) × (h.bound ≡ least_bound h.limit h.ends) };
 }
 
 impl Horizon {
-    /// The horizon of a node to which no link comes, in a run of so many slots.
+    /// The horizon of a node to which no arc comes, in a run of so many slots.
     pub fn new(limit: u32) -> Horizon
         ensures limit { result.limit ≡ limit }
-        ensures ends { result.ends ≡ no_links }
+        ensures ends { result.ends ≡ no_arcs }
     {
         Horizon {
             limit,
-            ends: [None; 8],
+            ends: [None; ENDS],
             bound: u64::from(limit),
         }
     }
@@ -115,18 +114,18 @@ impl Horizon {
         }
     }
 
-    /// A link with this delay in slots comes to a link end, 0 to 7. Nothing of it was seen yet.
+    /// A link with this delay in slots comes to an end, below `ENDS`. Nothing of it was seen yet.
     pub fn add(&mut self, end: u8, delay: u32)
-        requires end { end < LINK_ENDS }
+        requires end { end < ENDS }
         ensures ends { self.new ≡ record self.old { ends = slice_set self.old.ends end (Some (record { delay = delay; seen = 0 })) } }
     {
         self.ends[end as usize] = Some(Seen { delay, seen: 0 });
         self.bound = least_bound(self.limit, &self.ends);
     }
 
-    /// The history of the link that comes to a link end, 0 to 7, was seen up to a slot.
+    /// The history of the arc that comes to an end was seen up to a slot.
     pub fn see(&mut self, end: u8, published: u32)
-        requires end { end < LINK_ENDS }
+        requires end { end < ENDS }
         ensures ends { self.new ≡ record self.old { ends = slice_set self.old.ends end (seen_to published (slice_index_or self.old.ends end None)) } }
     {
         if let Some(s) = &mut self.ends[end as usize] {
@@ -142,7 +141,7 @@ impl Horizon {
         self.limit
     }
 
-    /// The slot up to which the link that comes to a link end was seen, 0 where no link comes.
+    /// The slot up to which the arc that comes to an end was seen, 0 where none comes.
     pub fn seen(&self, end: u8) -> u32
         ensures value { result ≡ seen_at self.now end }
     {
@@ -152,8 +151,8 @@ impl Horizon {
         }
     }
 
-    /// Whether a node may run the slot that its clock shows: exactly where the clock is below the limit, and at each link end that
-    /// a link comes to below what was seen there and the delay together.
+    /// Whether a node may run the slot that its clock shows: exactly where the clock is below the limit, and at each end that
+    /// an arc comes to below what was seen there and the delay together.
     #[inline]
     pub fn may_run(&self, clock: u32) -> bool
         ensures value { result ≡ may_run self.now clock }
@@ -172,12 +171,12 @@ impl Horizon {
         u64::from(clock).max(end) as u32
     }
 
-    /// The least link end at which the clock is what was seen there and the delay together, and what was seen there. `None`
+    /// The least end at which the clock is what was seen there and the delay together, and what was seen there. `None`
     /// comes exactly where there is none.
     pub fn first_block(&self, clock: u32) -> Option<(u8, u32)>
         ensures value { result ≡ first_stop clock 0 self.now.ends }
         ensures least { IfSome result (λ stop. StopsAt self.now clock stop.0 stop.1) }
-        ensures none { IsNone result → NoneStopsBelow self.now clock LINK_ENDS }
+        ensures none { IsNone result → NoneStopsBelow self.now clock ENDS }
     {
         self.first_stop(clock)
     }
@@ -185,9 +184,9 @@ impl Horizon {
     fn first_stop(&self, clock: u32) -> Option<(u8, u32)>
         ensures { result ≡ first_stop clock 0 self.now.ends }
     {
-        for end in 0..LINK_ENDS {
-            if let Some(seen) = stops_at(clock, self.ends[end as usize]) {
-                return Some((end, seen));
+        for end in 0..ENDS {
+            if let Some(seen) = stops_at(clock, self.ends[end]) {
+                return Some((end as u8, seen));
             }
         }
         None

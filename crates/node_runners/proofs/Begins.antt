@@ -7,7 +7,7 @@ use Rattle.xs_base.specs.Batch.{BatchRec}
 use Rattle.xs_model.specs.declared.event.Event.{Event}
 use Rattle.xs_model.specs.Record.{NodeRec, first_node}
 use Rattle.sys_plan.specs.declared.NodePlan.{NodePlan}
-use Rattle.sys_plan.specs.Plan.{PlanRec, IsPlan, arc_count, incoming, outgoing, delay_of, gaps_of, link_ends}
+use Rattle.sys_plan.specs.Plan.{PlanRec, IsPlan, arc_count, incoming, outgoing, delay_of, gaps_of, ends_in}
 use Rattle.step_model.specs.Start.{node_of}
 use Rattle.serial_model.specs.Serial.{serial, history, is_sent_within, nodes_at_start}
 use Rattle.locality_laws.specs.Locality.{node_in, events_in}
@@ -15,8 +15,10 @@ use Rattle.locality_laws.proofs.Serial.{upto_none, start_at}
 use Rattle.ahead_limits.specs.declared.horizon.Seen.{Seen}
 use Rattle.ahead_limits.specs.Horizon.{HorizonRec}
 use Rattle.ahead_limits.specs.Schedule.{horizon_of, seen_of_link}
+use Rattle.node_seats.specs.declared.pins.Pins.{Pins}
 use Rattle.node_seats.specs.declared.seat.Seat.{Seat}
 use Rattle.node_seats.specs.Seats.{IsSeat, Plays}
+use Rattle.node_seats.specs.Shown.{ArePins}
 use Rattle.node_runners.specs.Queue.{InletRec, no_inlet, inlet_at}
 use Rattle.node_runners.specs.Sent.{batch_at}
 use Rattle.node_runners.specs.Starts.{first_inlet}
@@ -69,16 +71,16 @@ zero-at zero i = refl
 zero-at (suc k) zero = refl
 zero-at (suc k) (suc i) = zero-at k i
 
-by_end : (f : ℕ → Option Seen) (end : ℕ) → (8 ≤ end → f end ≡ None) → slice_index_or (map f link_ends) end None ≡ f end
-by_end f zero past = refl
-by_end f (suc zero) past = refl
-by_end f (suc (suc zero)) past = refl
-by_end f (suc (suc (suc zero))) past = refl
-by_end f (suc (suc (suc (suc zero)))) past = refl
-by_end f (suc (suc (suc (suc (suc zero))))) past = refl
-by_end f (suc (suc (suc (suc (suc (suc zero)))))) past = refl
-by_end f (suc (suc (suc (suc (suc (suc (suc zero))))))) past = refl
-by_end f (suc (suc (suc (suc (suc (suc (suc (suc end)))))))) past = sym (past (omega arith))
+by_end : (plan : PlanRec) (n : Position) (f : ℕ → Option Seen) (end : ℕ) → (8 ≤ end → f end ≡ None) → slice_index_or (map f (ends_in plan n)) end None ≡ f end
+by_end plan n f zero past = refl
+by_end plan n f (suc zero) past = refl
+by_end plan n f (suc (suc zero)) past = refl
+by_end plan n f (suc (suc (suc zero))) past = refl
+by_end plan n f (suc (suc (suc (suc zero)))) past = refl
+by_end plan n f (suc (suc (suc (suc (suc zero))))) past = refl
+by_end plan n f (suc (suc (suc (suc (suc (suc zero)))))) past = refl
+by_end plan n f (suc (suc (suc (suc (suc (suc (suc zero))))))) past = refl
+by_end plan n f (suc (suc (suc (suc (suc (suc (suc (suc end)))))))) past = sym (past (omega arith))
 
 inlet-past : (inlets : List InletRec) (end : ℕ) → length inlets ≤ end → inlet_at inlets end ≡ no_inlet
 inlet-past [] end h = refl
@@ -105,7 +107,7 @@ module _ (plan : PlanRec) (is : IsPlan plan) (n : Position) (limit : Slot) where
   }
 
   seen-first : (end : EndNumber) → slice_index_or horizon.ends end None ≡ option_map (seen_of_link plan nothing_seen) (incoming plan n end)
-  seen-first end = by_end (λ e. option_map (seen_of_link plan nothing_seen) (incoming plan n e)) end (λ past. ap (option_map (seen_of_link plan nothing_seen)) (incoming-past plan is n end past))
+  seen-first end = by_end plan n (λ e. option_map (seen_of_link plan nothing_seen) (incoming plan n e)) end (λ past. ap (option_map (seen_of_link plan nothing_seen)) (incoming-past plan is n end past))
 
   module _ (inlets : List InletRec) (fresh : (end : ℕ) → end < length inlets → inlet_at inlets end ≡ first_inlet plan (incoming plan n end)) (rest : (end : ℕ) → length inlets ≤ end → end < 8 → incoming plan n end ≡ None) where
     none-past : (end : EndNumber) → length inlets ≤ end → incoming plan n end ≡ None
@@ -126,14 +128,15 @@ module _ (plan : PlanRec) (is : IsPlan plan) (n : Position) (limit : Slot) where
         batch = empty end ∙ sym (history-none plan link (slice_index (replicate 8 0) end));
       }
 
-      pub runner-start : (seat : Seat) → length inlets ≤ 8 → length batches ≤ 8 → limit < 2 ^ 32 → n < length plan.nodes
-          → ((node : NodePlan) → slice_get plan.nodes n ≡ Some node → Plays plan 0 n node seat (node_of node (gaps_of plan n)) []) → IsSeat 0 seat
-          → IsRunner plan n 0 horizon seat inlets batches (replicate 8 0)
-      runner-start seat few_inlets few_batches small within plays ready = record {
+      pub runner-start : (seat : Seat) (pins : Pins) → length inlets ≤ 8 → length batches ≤ 8 → limit < 2 ^ 32 → n < length plan.nodes
+          → ((node : NodePlan) → slice_get plan.nodes n ≡ Some node → Plays plan 0 n node seat (node_of node (gaps_of plan n)) []) → IsSeat 0 seat → ArePins plan n 0 pins
+          → IsRunner plan n 0 horizon seat pins inlets batches (replicate 8 0)
+      runner-start seat pins few_inlets few_batches small within plays ready pins_are = record {
         plan_is = is;
         within = omega arith;
         small = small;
         seat_is = sits-start plan n seat within plays ready;
+        pins_are = pins_are;
         links = record {
           all_ends = refl;
           few_inlets = few_inlets;

@@ -10,6 +10,7 @@ use Rattle.xs_base.specs.declared.entry.Entry.{Entry}
 use Rattle.sys_plan.specs.Plan.{PlanRec, outgoing}
 use Rattle.serial_model.specs.Serial.{history}
 use Rattle.ahead_limits.specs.Horizon.{HorizonRec}
+use Rattle.node_seats.specs.declared.pins.Pins.{Pins}
 use Rattle.node_seats.specs.declared.seat.Seat.{Seat}
 use Rattle.node_runners.specs.Queue.{InletRec}
 use Rattle.node_runners.specs.Sent.{batch_at}
@@ -24,8 +25,8 @@ some_is None h = absurd (apart h)
     apart : false ≡ true → ⊥
     apart e = cc
 
-module _ (plan : PlanRec) (n : Position) (clock : Slot) (horizon : HorizonRec) (seat : Seat) (inlets : List InletRec) (batches : List BatchRec) (published : List Slot)
-    (is : IsRunner plan n clock horizon seat inlets batches published) (end : EndNumber) (leaves : IsSome (outgoing plan n end)) where
+module _ (plan : PlanRec) (n : Position) (clock : Slot) (horizon : HorizonRec) (seat : Seat) (pins : Pins) (inlets : List InletRec) (batches : List BatchRec) (published : List Slot)
+    (is : IsRunner plan n clock horizon seat pins inlets batches published) (end : EndNumber) (leaves : IsSome (outgoing plan n end)) where
   link_is : (link : LinkNumber) × (outgoing plan n end ≡ Some link)
   link_is = some_is (outgoing plan n end) leaves
 
@@ -67,12 +68,13 @@ module _ (plan : PlanRec) (n : Position) (clock : Slot) (horizon : HorizonRec) (
       | inr ne ↦ subst (λ s. s ≤ clock) (sym (get_or-set_other published end e slot 0 ne)) (is.links.behind e)
     ]
 
-    pub publishes : IsRunner plan n clock horizon seat inlets batches' published'
+    pub publishes : IsRunner plan n clock horizon seat pins inlets batches' published'
     publishes = record {
       plan_is = is.plan_is;
       within = is.within;
       small = is.small;
       seat_is = is.seat_is;
+      pins_are = is.pins_are;
       links = record {
         all_ends = is.links.all_ends;
         few_inlets = is.links.few_inlets;

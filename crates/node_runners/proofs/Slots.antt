@@ -6,20 +6,22 @@ use Rattle.xs_base.specs.Batch.{BatchRec}
 use Rattle.xs_base.specs.declared.entry.Entry.{Entry}
 use Rattle.xs_model.specs.declared.event.Event.{Event}
 use Rattle.xs_model.specs.declared.outside.Arrivals.{Arrivals}
+use Rattle.xs_model.specs.declared.outside.PinView.{PinView}
 use Rattle.xs_model.specs.Record.{NodeRec}
 use Rattle.xs_model.specs.Outside.{Emitted}
 use Rattle.sys_plan.specs.declared.NodePlan.{NodePlan}
-use Rattle.sys_plan.specs.Plan.{PlanRec, IsPlan, incoming, outgoing, delay_of, link_ends}
+use Rattle.sys_plan.specs.Plan.{PlanRec, IsPlan, incoming, outgoing, delay_of}
 use Rattle.step_model.specs.Step.{Stepped}
-use Rattle.serial_model.specs.Serial.{serial, history, arriving, arriving_by, arrivals_of, arrivals_at, sent_by}
-use Rattle.locality_laws.specs.Alone.{step_alone}
-use Rattle.locality_laws.specs.Locality.{node_in, events_in, IsStep}
+use Rattle.serial_model.specs.Serial.{serial, history, arriving, arriving_by, arrivals_of, arrivals_at, pins_at, step_by, sent_by}
+use Rattle.locality_laws.specs.Locality.{node_in, events_in, comes_in_serial, IsStep}
 use Rattle.locality_laws.proofs.Links.{histories_grow, seen_arrives}
-use Rattle.locality_laws.proofs.Nodes.{step_needs_arrivals, outgoing_leaves}
+use Rattle.locality_laws.proofs.Nodes.{step_needs_coming, outgoing_leaves}
 use Rattle.ahead_limits.specs.declared.horizon.Seen.{Seen}
 use Rattle.ahead_limits.specs.Horizon.{HorizonRec, horizon_at, IsBelowAll}
+use Rattle.node_seats.specs.declared.pins.Pins.{Pins}
 use Rattle.node_seats.specs.declared.seat.Seat.{Seat}
 use Rattle.node_seats.specs.Seats.{IsSeat, Plays, SameSeat, StepsOn}
+use Rattle.node_seats.specs.Shown.{ArePins}
 use Rattle.node_seats.proofs.Seats.{plays-next, given-is, plays-same, ready-same}
 use Rattle.node_runners.specs.Queue.{InletRec, no_inlet, inlet_at, AreWaiting, after_slot, arriving_after, arriving_at, arrivals_by}
 use Rattle.node_runners.specs.Sent.{batch_at}
@@ -81,7 +83,7 @@ module _ (plan : PlanRec) (plan_is : IsPlan plan) (n : Position) (clock : Slot) 
 
       -- what arrives is what arrives in the serial machine
       pub arrivals-are : arrivals_by clock inlets ≡ arrivals_at plan heard clock n
-      arrivals-are = λ k. arrivals_of (map (λ end. one-end end k) link_ends)
+      arrivals-are = λ k. arrivals_of (λ end. one-end end k)
 
       pub hears-next : (end : EndNumber) → Hears plan (clock + 1) (incoming plan n end) (seen_by end) (inlet_at (map (after_slot clock) inlets) end)
       hears-next end =
@@ -91,8 +93,11 @@ module _ (plan : PlanRec) (plan_is : IsPlan plan) (n : Position) (clock : Slot) 
 -- ---- The node
 
 module _ (plan : PlanRec) (n : Position) (clock : Slot) (seat : Seat) (sits : Sits plan n clock seat) where
-  abbrev here_heard : List (List Entry)
-  here_heard = (serial plan clock).histories
+  abbrev here_arrive : Arrivals
+  here_arrive = arrivals_at plan (serial plan clock).histories clock n
+
+  abbrev here_shown : PinView
+  here_shown = pins_at plan n clock
 
   abbrev rec : NodeRec
   rec = node_in (serial plan clock) n
@@ -102,23 +107,23 @@ module _ (plan : PlanRec) (n : Position) (clock : Slot) (seat : Seat) (sits : Si
 
   -- the node's step in the serial machine
   abbrev pub own : Stepped
-  own = step_alone plan here_heard n sits.node clock rec
+  own = step_by plan n sits.node clock (comes_in_serial plan n clock) rec
 
   pub is-step : IsStep plan n clock own
-  is-step = step_needs_arrivals plan n sits.node clock here_heard sits.here (λ end link h. refl)
+  is-step = step_needs_coming plan n sits.node clock (comes_in_serial plan n clock) sits.here refl
 
   next : suc clock ≡ clock + 1
   next = omega arith
 
-  module _ (arrivals : Arrivals) (after : Seat) (steps : StepsOn clock arrivals seat after) (are : arrivals ≡ arrivals_at plan here_heard clock n) where
-    steps_own : StepsOn clock (arrivals_at plan here_heard clock n) seat after
-    steps_own = subst (λ (a : Arrivals). StepsOn clock a seat after) are steps
+  module _ (arrivals : Arrivals) (view : PinView) (after : Seat) (steps : StepsOn clock arrivals view seat after) (are : arrivals ≡ here_arrive) (shows : view ≡ here_shown) where
+    steps_own : StepsOn clock here_arrive here_shown seat after
+    steps_own = subst (λ (a : Arrivals). StepsOn clock a here_shown seat after) are (subst (λ (v : PinView). StepsOn clock arrivals v seat after) shows steps)
 
     pub gives : after.given ≡ own.emitted
-    gives = given-is plan clock n sits.node seat rec events sits.plays (arrivals_at plan here_heard clock n) after steps_own
+    gives = given-is plan clock n sits.node seat rec events sits.plays here_arrive here_shown after steps_own
 
     plays_own : Plays plan (clock + 1) n sits.node after own.rec (events ++ own.emitted.events)
-    plays_own = plays-next plan clock n sits.node seat rec events sits.plays (arrivals_at plan here_heard clock n) after steps_own
+    plays_own = plays-next plan clock n sits.node seat rec events sits.plays here_arrive here_shown after steps_own
 
     pub sits-next : Sits plan n (clock + 1) after
     sits-next = record {
@@ -171,32 +176,36 @@ links-same plan n clock horizon inlets batches after published is same count = r
   behind = is.behind;
 }
 
-pub runner-same : (plan : PlanRec) (n : Position) (clock : Slot) (horizon : HorizonRec) (seat seat_after : Seat) (inlets : List InletRec) (batches after : List BatchRec) (published : List Slot)
-    → IsRunner plan n clock horizon seat inlets batches published → SameSeat seat seat_after → SameEntries after batches → length after ≡ length batches
-    → IsRunner plan n clock horizon seat_after inlets after published
-runner-same plan n clock horizon seat seat_after inlets batches after published is same_seat same count = record {
+pub runner-same : (plan : PlanRec) (n : Position) (clock : Slot) (horizon : HorizonRec) (seat seat_after : Seat) (pins : Pins) (inlets : List InletRec) (batches after : List BatchRec) (published : List Slot)
+    → IsRunner plan n clock horizon seat pins inlets batches published → SameSeat seat seat_after → SameEntries after batches → length after ≡ length batches
+    → IsRunner plan n clock horizon seat_after pins inlets after published
+runner-same plan n clock horizon seat seat_after pins inlets batches after published is same_seat same count = record {
   plan_is = is.plan_is;
   within = is.within;
   small = is.small;
   seat_is = sits-same plan n clock seat seat_after is.seat_is same_seat;
+  pins_are = is.pins_are;
   links = links-same plan n clock horizon inlets batches after published is.links same count;
 }
 
 -- ---- One slot
 
-pub runner-next : (plan : PlanRec) (n : Position) (clock : Slot) (horizon : HorizonRec) (seat seat_after : Seat) (inlets inlets_after : List InletRec) (batches after : List BatchRec) (published : List Slot) (arrivals : Arrivals)
-    → IsRunner plan n clock horizon seat inlets batches published → IsBelowAll horizon clock → arrivals ≡ arrivals_by clock inlets → inlets_after ≡ map (after_slot clock) inlets → length inlets_after ≡ length inlets
-    → StepsOn clock arrivals seat seat_after → length after ≡ length batches
+pub runner-next : (plan : PlanRec) (n : Position) (clock : Slot) (horizon : HorizonRec) (seat seat_after : Seat) (pins pins_after : Pins) (inlets inlets_after : List InletRec) (batches after : List BatchRec) (published : List Slot)
+    (arrivals : Arrivals) (view : PinView)
+    → IsRunner plan n clock horizon seat pins inlets batches published → IsBelowAll horizon clock → arrivals ≡ arrivals_by clock inlets → inlets_after ≡ map (after_slot clock) inlets → length inlets_after ≡ length inlets
+    → view ≡ pins_at plan n clock → ArePins plan n (clock + 1) pins_after
+    → StepsOn clock arrivals view seat seat_after → length after ≡ length batches
     → ((end : ℕ) → end < length batches → (batch_at after end).entries ≡ (batch_at batches end).entries ++ sent_by clock seat_after.given end)
-    → IsRunner plan n (clock + 1) horizon seat_after inlets_after after published
-runner-next plan n clock horizon seat seat_after inlets inlets_after batches after published arrivals is below arrive left inlet_count steps count puts =
+    → IsRunner plan n (clock + 1) horizon seat_after pins_after inlets_after after published
+runner-next plan n clock horizon seat seat_after pins pins_after inlets inlets_after batches after published arrivals view is below arrive left inlet_count shows pins_are steps count puts =
     let are = arrive ∙ arrivals-are plan is.plan_is n clock horizon inlets batches published is.links below in
-    let given = gives plan n clock seat is.seat_is arrivals seat_after steps are in
+    let given = gives plan n clock seat is.seat_is arrivals view seat_after steps are shows in
     record {
       plan_is = is.plan_is;
       within = omega (arith, below.0);
       small = is.small;
-      seat_is = sits-next plan n clock seat is.seat_is arrivals seat_after steps are;
+      seat_is = sits-next plan n clock seat is.seat_is arrivals view seat_after steps are shows;
+      pins_are = pins_are;
       links = record {
         all_ends = is.links.all_ends;
         few_inlets = omega (arith, inlet_count, is.links.few_inlets);

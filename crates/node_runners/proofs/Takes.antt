@@ -11,6 +11,7 @@ use Rattle.serial_model.specs.Serial.{history}
 use Rattle.locality_laws.proofs.Links.{histories_grow}
 use Rattle.ahead_limits.specs.declared.horizon.Seen.{Seen}
 use Rattle.ahead_limits.specs.Horizon.{HorizonRec, seen_at, seen_by_end, seen_to, horizon_at}
+use Rattle.node_seats.specs.declared.pins.Pins.{Pins}
 use Rattle.node_seats.specs.declared.seat.Seat.{Seat}
 use Rattle.node_runners.specs.Queue.{InletRec, no_inlet, inlet_at}
 use Rattle.node_runners.specs.Inside.{HearsLink, Hears, HasLinks, IsRunner}
@@ -76,14 +77,15 @@ module _ (plan : PlanRec) (clock to : Slot) (entries : List Entry) where
       behind = is.behind;
     }
 
-    pub runner-taken : (seat : Seat) (later : HorizonRec) (inlet : InletRec) → IsRunner plan n clock horizon seat inlets batches published → later ≡ record horizon { ends = sees }
-        → inlet ≡ longer (inlet_at inlets end) entries → IsRunner plan n clock later seat (slice_set inlets end inlet) batches published
-    runner-taken seat later inlet r is_later is_inlet =
-        subst (λ (h : HorizonRec). IsRunner plan n clock h seat (slice_set inlets end inlet) batches published) (sym is_later)
-        (subst (λ (i : InletRec). IsRunner plan n clock (record horizon { ends = sees }) seat (slice_set inlets end i) batches published) (sym is_inlet) (record {
+    pub runner-taken : (seat : Seat) (pins : Pins) (later : HorizonRec) (inlet : InletRec) → IsRunner plan n clock horizon seat pins inlets batches published → later ≡ record horizon { ends = sees }
+        → inlet ≡ longer (inlet_at inlets end) entries → IsRunner plan n clock later seat pins (slice_set inlets end inlet) batches published
+    runner-taken seat pins later inlet r is_later is_inlet =
+        subst (λ (h : HorizonRec). IsRunner plan n clock h seat pins (slice_set inlets end inlet) batches published) (sym is_later)
+        (subst (λ (i : InletRec). IsRunner plan n clock (record horizon { ends = sees }) seat pins (slice_set inlets end i) batches published) (sym is_inlet) (record {
           plan_is = r.plan_is;
           within = r.within;
           small = r.small;
           seat_is = r.seat_is;
+          pins_are = r.pins_are;
           links = links-taken;
         }))

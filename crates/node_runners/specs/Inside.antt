@@ -8,8 +8,10 @@ use Rattle.serial_model.specs.Serial.{serial, history}
 use Rattle.locality_laws.specs.Locality.{node_in, events_in}
 use Rattle.ahead_limits.specs.declared.horizon.Seen.{Seen}
 use Rattle.ahead_limits.specs.Horizon.{HorizonRec, horizon_at}
+use Rattle.node_seats.specs.declared.pins.Pins.{Pins}
 use Rattle.node_seats.specs.declared.seat.Seat.{Seat}
 use Rattle.node_seats.specs.Seats.{IsSeat, Plays}
+use Rattle.node_seats.specs.Shown.{ArePins}
 use Rattle.node_runners.specs.Queue.{InletRec, no_inlet, inlet_at}
 use Rattle.node_runners.specs.Sent.{batch_at}
 
@@ -49,9 +51,10 @@ pub record Sits (plan : PlanRec) (n : Position) (clock : Slot) (seat : Seat) : T
   pub ready : IsSeat clock seat
   pub plays : Plays plan clock n node seat (node_in (serial plan clock) n) (events_in (serial plan clock) n)
 
-pub record IsRunner (plan : PlanRec) (n : Position) (clock : Slot) (horizon : HorizonRec) (seat : Seat) (inlets : List InletRec) (batches : List BatchRec) (published : List Slot) : Type 0 where
+pub record IsRunner (plan : PlanRec) (n : Position) (clock : Slot) (horizon : HorizonRec) (seat : Seat) (pins : Pins) (inlets : List InletRec) (batches : List BatchRec) (published : List Slot) : Type 0 where
   pub plan_is : IsPlan plan
   pub within : clock ≤ horizon.limit
   pub small : horizon.limit < 2 ^ 32
   pub seat_is : Sits plan n clock seat
+  pub pins_are : ArePins plan n clock pins
   pub links : HasLinks plan n clock horizon inlets batches published

@@ -16,7 +16,7 @@ use crate::starts::{batches_of, inlets_of};
 use ahead_limits::Horizon;
 use core_step::Core;
 use known_value::Known;
-use node_seats::Seat;
+use node_seats::{Pins, Seat};
 use std::alloc::{AllocError, Global};
 use std::marker::Model;
 use std::mem;
@@ -46,6 +46,7 @@ pub struct NodeRunner {
     alloc: Global,
     horizon: Horizon,
     seat: Seat,
+    pins: Pins,
     // By link end, as far as the last to which a link comes.
     inlets: Vec<Inlet>,
     // What was sent and not published, by link end, as far as the last by which a link leaves.
@@ -62,7 +63,7 @@ impl Model for NodeRunner {
 
     ghost view = { λ r. record { plan = r.plan.value; node = r.node; clock = r.clock; horizon = r.horizon; published = r.published } };
 
-    ghost invariant = { λ r. IsRunner r.plan.value r.node r.clock r.horizon r.seat r.inlets.items r.batches.items r.published };
+    ghost invariant = { λ r. IsRunner r.plan.value r.node r.clock r.horizon r.seat r.pins r.inlets.items r.batches.items r.published };
 }
 
 impl NodeRunner {
@@ -74,6 +75,7 @@ impl NodeRunner {
     {
         let horizon = Horizon::of(plan, node, limit);
         let seat = Seat::of(alloc, plan, node)?;
+        let pins = Pins::of(plan, node)?;
         let inlets = inlets_of(alloc, plan, node)?;
         let batches = batches_of(alloc, plan, node)?;
         Ok(NodeRunner {
@@ -83,6 +85,7 @@ impl NodeRunner {
             alloc,
             horizon,
             seat,
+            pins,
             inlets,
             batches,
             published: [0; 8],
@@ -119,7 +122,9 @@ impl NodeRunner {
         self.seat.reserve()?;
         make_room(&mut self.batches)?;
         let arrived = arrive_all(&mut self.inlets, self.clock);
-        self.seat.step(self.clock, arrived.some, &arrived.arrivals);
+        self.pins.look(self.clock);
+        self.seat
+            .step(self.clock, arrived.some, &arrived.arrivals, self.pins.view());
         put_all(&mut self.batches, self.clock, &self.seat.given);
         self.clock += 1;
         Ok(Ran::Slot)

@@ -2,18 +2,17 @@
 use Rattle.std.proofs.Common.{◌≡◌, ℕ, zero, suc, ◌+◌, ◌<◌, List, [], ◌∷◌, ◌++◌, length, get_or, sym, ap, ◌∙◌, subst, arith}
 use Rattle.xs_model.specs.declared.event.Event.{Event}
 use Rattle.xs_model.specs.declared.outside.Arrivals.{Arrivals}
+use Rattle.xs_model.specs.declared.outside.PinView.{PinView}
 use Rattle.xs_model.specs.Record.{NodeRec}
 use Rattle.xs_model.specs.Outside.{Emitted}
-use Rattle.pin_scripts.specs.Script.{view_at}
 use Rattle.sys_plan.specs.declared.NodePlan.{NodePlan}
-use Rattle.sys_plan.specs.Plan.{PlanRec, WaysLead, AllWaysLead, gaps_of, node_numbers}
+use Rattle.sys_plan.specs.Plan.{PlanRec, WaysLead, AllWaysLead, gaps_of}
 use Rattle.step_model.specs.Start.{fixed_of}
 use Rattle.step_model.specs.Step.{Stepped, node_step}
 use Rattle.trace_lines.specs.Kept.{KeptEvents, Keeps}
 use Rattle.core_step.specs.Core.{StandsAt}
 use Rattle.node_seats.specs.declared.seat.Seat.{Seat}
 use Rattle.node_seats.specs.Seats.{IsSeat, Plays, SameSeat, StepsOn, step_of}
-use Rattle.std.specs.Prelude.{slice_index}
 
 -- the ways of the node at a place lead on
 pub ways-at : (plan : PlanRec) (n : ℕ) (nodes : List NodePlan) (k m : ℕ) (d : NodePlan) → AllWaysLead plan n nodes → k < length nodes → m ≡ n + k → WaysLead plan m (get_or nodes k d).ways
@@ -30,8 +29,6 @@ plays-same plan slot n node seat after rec events plays same =
     let p = subst (λ (s : Seat). Plays plan slot n node s rec events) (sym same) plays in
     record {
       fixed = p.fixed;
-      script = p.script;
-      number = p.number;
       stands = p.stands;
       keeps = record { first = p.keeps.first; rest = p.keeps.rest };
     }
@@ -42,27 +39,24 @@ ready-same slot seat after ready same =
     record {
       before = k.before;
       more = k.more;
-      shown = record { steady = k.shown.steady; next = k.shown.next; levels = k.shown.levels };
     }
 
 -- a node that plays its part: its step is that of the plan's node
-module _ (plan : PlanRec) (slot n : ℕ) (node : NodePlan) (seat : Seat) (rec : NodeRec) (events : List Event) (plays : Plays plan slot n node seat rec events) (arrivals : Arrivals) where
+module _ (plan : PlanRec) (slot n : ℕ) (node : NodePlan) (seat : Seat) (rec : NodeRec) (events : List Event) (plays : Plays plan slot n node seat rec events) (arrivals : Arrivals) (pins : PinView) where
   abbrev pub own_step : Stepped
-  own_step = node_step (fixed_of node (gaps_of plan n)) rec slot arrivals (view_at plan.script (slice_index (node_numbers plan) n) slot)
+  own_step = node_step (fixed_of node (gaps_of plan n)) rec slot arrivals pins
 
-  pub step-is : step_of slot arrivals seat rec ≡ own_step
-  step-is = λ i. node_step (plays.fixed i) rec slot arrivals (view_at (plays.script i) (plays.number i) slot)
+  pub step-is : step_of slot arrivals pins seat rec ≡ own_step
+  step-is = λ i. node_step (plays.fixed i) rec slot arrivals pins
 
   -- and that is what it gave
-  pub given-is : (after : Seat) → StepsOn slot arrivals seat after → after.given ≡ own_step.emitted
+  pub given-is : (after : Seat) → StepsOn slot arrivals pins seat after → after.given ≡ own_step.emitted
   given-is after s = s.given rec plays.stands ∙ ap (λ (st : Stepped). st.emitted) step-is
 
   -- it plays its part in the next slot
-  pub plays-next : (after : Seat) → StepsOn slot arrivals seat after → Plays plan (slot + 1) n node after own_step.rec (events ++ own_step.emitted.events)
+  pub plays-next : (after : Seat) → StepsOn slot arrivals pins seat after → Plays plan (slot + 1) n node after own_step.rec (events ++ own_step.emitted.events)
   plays-next after s = record {
     fixed = s.fixed ∙ plays.fixed;
-    script = s.script ∙ plays.script;
-    number = s.number ∙ plays.number;
     stands = subst (λ (st : Stepped). StandsAt after.core st.rec (slot + 1)) step-is (s.stands rec plays.stands);
     keeps = subst (λ (es : List Event). Keeps after.events (events ++ es)) (ap (λ (g : Emitted). g.events) (given-is after s)) (s.keeps events plays.keeps);
   }

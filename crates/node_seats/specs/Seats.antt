@@ -1,32 +1,27 @@
 -- Nodes at work: what they stand for, and what a slot makes of them.
-use Rattle.std.specs.Prelude.{◌≡◌, ◌+◌, ◌*◌, ◌≤◌, List, ◌++◌, slice_index}
+use Rattle.std.specs.Prelude.{◌≡◌, ◌+◌, ◌*◌, ◌≤◌, List, ◌++◌}
 use Rattle.xs_base.specs.Numbers.{Slot, Position}
 use Rattle.xs_base.specs.declared.numbers.TheConstants.{EVENT_ROOM}
 use Rattle.xs_model.specs.declared.event.Event.{Event}
 use Rattle.xs_model.specs.declared.outside.Arrivals.{Arrivals}
 use Rattle.xs_model.specs.declared.outside.PinView.{PinView}
 use Rattle.xs_model.specs.Record.{NodeRec}
-use Rattle.pin_scripts.specs.Script.{view_at}
 use Rattle.sys_plan.specs.declared.NodePlan.{NodePlan}
-use Rattle.sys_plan.specs.Plan.{PlanRec, gaps_of, node_numbers}
+use Rattle.sys_plan.specs.Plan.{PlanRec, gaps_of}
 use Rattle.step_model.specs.Start.{fixed_of}
 use Rattle.step_model.specs.Step.{Stepped, node_step}
 use Rattle.trace_lines.specs.Kept.{Keeps, HasRoom}
 use Rattle.core_step.specs.Core.{StandsAt, SlotsBefore}
 use Rattle.node_seats.specs.declared.seat.Seat.{Seat}
-use Rattle.node_seats.specs.Shown.{IsShown}
 
 -- a node as it is before a slot
 pub record IsSeat (slot : Slot) (seat : Seat) : Type 0 where
   pub before : SlotsBefore seat.core slot
   pub more : seat.events.more ≤ EVENT_ROOM * slot
-  pub shown : IsShown slot seat.pins
 
 -- a node of a plan, at a position, stands before a slot for its record, with these events so far
 pub record Plays (plan : PlanRec) (slot : Slot) (n : Position) (node : NodePlan) (seat : Seat) (rec : NodeRec) (events : List Event) : Type 0 where
   pub fixed : seat.core.fixed ≡ fixed_of node (gaps_of plan n)
-  pub script : seat.pins.script ≡ plan.script
-  pub number : seat.pins.number ≡ slice_index (node_numbers plan) n
   pub stands : StandsAt seat.core rec slot
   pub keeps : Keeps seat.events events
 
@@ -42,20 +37,14 @@ SameSeat before after = record after { events = record after.events { spare = be
 
 -- ---- One slot
 
--- what the pins of a node show in a slot, where its ports do not drive them
-abbrev pub pins_shown : Seat → Slot → PinView
-pins_shown seat slot = view_at seat.pins.script seat.pins.number slot
+-- what the slot of a node is, when this arrives, and its pins show this from outside
+abbrev pub step_of : Slot → Arrivals → PinView → Seat → NodeRec → Stepped
+step_of slot arrivals pins seat rec = node_step seat.core.fixed rec slot arrivals pins
 
--- what the slot of a node is, when this arrives
-abbrev pub step_of : Slot → Arrivals → Seat → NodeRec → Stepped
-step_of slot arrivals seat rec = node_step seat.core.fixed rec slot arrivals (pins_shown seat slot)
-
--- what a slot makes of a node at which this arrives
-pub record StepsOn (slot : Slot) (arrivals : Arrivals) (before after : Seat) : Type 0 where
+-- what a slot makes of a node to which this comes
+pub record StepsOn (slot : Slot) (arrivals : Arrivals) (pins : PinView) (before after : Seat) : Type 0 where
   pub fixed : after.core.fixed ≡ before.core.fixed
-  pub script : after.pins.script ≡ before.pins.script
-  pub number : after.pins.number ≡ before.pins.number
-  pub stands : (rec : NodeRec) → StandsAt before.core rec slot → StandsAt after.core (step_of slot arrivals before rec).rec (slot + 1)
-  pub given : (rec : NodeRec) → StandsAt before.core rec slot → after.given ≡ (step_of slot arrivals before rec).emitted
+  pub stands : (rec : NodeRec) → StandsAt before.core rec slot → StandsAt after.core (step_of slot arrivals pins before rec).rec (slot + 1)
+  pub given : (rec : NodeRec) → StandsAt before.core rec slot → after.given ≡ (step_of slot arrivals pins before rec).emitted
   pub keeps : (all : List Event) → Keeps before.events all → Keeps after.events (all ++ after.given.events)
   pub next : IsSeat (slot + 1) after

@@ -1,8 +1,9 @@
--- What the pins of a node show.
-use Rattle.std.specs.Prelude.{◌≡◌, ◌<◌, ◌≤◌, Option, Some, None}
-use Rattle.xs_base.specs.Numbers.{Slot}
+-- What the pins of a node show from outside.
+use Rattle.std.specs.Prelude.{◌≡◌, ◌<◌, ◌≤◌, Option, Some, None, slice_index}
+use Rattle.xs_base.specs.Numbers.{Slot, Position}
 use Rattle.xs_model.specs.Outside.{LevelsFit}
 use Rattle.pin_scripts.specs.Script.{view_at}
+use Rattle.sys_plan.specs.Plan.{PlanRec, node_numbers}
 use Rattle.node_seats.specs.declared.pins.Pins.{Pins}
 
 -- the slot of a change, 2 ^ 32 - 1, which is no slot of a run, where none comes
@@ -15,3 +16,9 @@ pub record IsShown (slot : Slot) (pins : Pins) : Type 0 where
   pub steady : (later : Slot) → slot ≤ later → later < pins.next → view_at pins.script pins.number later ≡ pins.view
   pub next : slot ≤ pins.next
   pub levels : LevelsFit pins.view.level
+
+-- these are the pins of the node of a plan at a position, before a slot
+pub record ArePins (plan : PlanRec) (n : Position) (slot : Slot) (pins : Pins) : Type 0 where
+  pub script : pins.script ≡ plan.script
+  pub number : pins.number ≡ slice_index (node_numbers plan) n
+  pub shown : IsShown slot pins

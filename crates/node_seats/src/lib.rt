@@ -1,4 +1,4 @@
-//! A node at work: its core, its events and its pins, stepped by what arrives at it. See docs/MACHINE.md.
+//! A node at work: its core and its events, stepped by what comes to it; and what its pins show from outside. See docs/MACHINE.md.
 #![tactic(auto)]
 
 mod pins;

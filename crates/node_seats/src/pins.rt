@@ -1,17 +1,19 @@
-//! `Pins`, what the pins of a node show. See docs/PINS.md.
-ghost use Rattle.std.specs.Prelude.{◌≡◌, ◌+◌, ◌-◌, ◌^◌, ◌<◌, ◌==◌};
+//! `Pins`, what the pins of a node show from outside. See docs/PINS.md.
+ghost use Rattle.std.specs.Prelude.{◌≡◌, ◌+◌, ◌-◌, ◌^◌, ◌<◌, ◌==◌, IfOk, length};
 ghost use Rattle.xs_model.specs.Outside.{LevelsFit};
 ghost use Rattle.pin_scripts.specs.Script.{view_at};
-ghost use Rattle.node_seats.specs.Shown.{IsShown, slot_or_never};
+ghost use Rattle.node_seats.specs.Shown.{IsShown, ArePins, slot_or_never};
 
 use pin_scripts::Script;
+use std::alloc::AllocError;
+use sys_plan::Plan;
 use xs_model::PinView;
 
 // The slot of a change that never comes: no slot has this number.
 const NEVER: u32 = u32::MAX;
 
-/// What the pins of the node with this number show, where its ports do not drive them, and the slot from which on that may
-/// be something else.
+/// What the pins of the node with this number show from outside, and the slot from which on that may be something else. Who steps a
+/// node keeps its pins, and hands what they show to its slot.
 #[derive(Drop)]
 pub struct Pins {
     pub script: Script,
@@ -22,8 +24,19 @@ pub struct Pins {
 }
 
 impl Pins {
-    /// The pins of a node before slot 0.
-    pub(crate) fn of(script: Script, number: u8) -> Pins
+    /// The pins of the node of a plan at a position, before slot 0. The error is want of memory.
+    pub fn of(plan: &Plan, n: u8) -> Result<Pins, AllocError>
+        requires node { n < length plan.now.nodes }
+        ensures pins { IfOk result (λ pins. ArePins plan.now n 0 pins) }
+    {
+        let script = plan.script().clone()?;
+        let nodes = plan.nodes();
+        let node = &nodes[n as usize];
+        Ok(Pins::by_script(script, node.number))
+    }
+
+    // The pins of the node with a number, before slot 0.
+    fn by_script(script: Script, number: u8) -> Pins
         ensures script { result.script ≡ script }
         ensures number { result.number ≡ number }
         ensures shown { IsShown 0 result }
@@ -40,7 +53,7 @@ impl Pins {
     }
 
     /// Looks at what the pins show in a slot. That costs little where it is what they showed before.
-    pub(crate) fn look(&mut self, slot: u32)
+    pub fn look(&mut self, slot: u32)
         requires slot { slot < 2 ^ 32 - 1 }
         requires shown { IsShown slot self.old }
         ensures script { self.new.script ≡ self.old.script }
@@ -63,7 +76,7 @@ impl Pins {
     }
 
     /// What they showed when it last looked.
-    pub(crate) fn view(&self) -> &PinView
+    pub fn view(&self) -> &PinView
         ensures { result.now ≡ self.now.view }
     {
         &self.view

@@ -1,24 +1,24 @@
-//! `Seat`, one node of a system: its core, its events, and what its pins show.
-ghost use Rattle.std.specs.Prelude.{ℕ, ◌≡◌, ◌+◌, ◌-◌, ◌*◌, ◌^◌, ◌<◌, ◌≤◌, List, [], ◌++◌, length, slice_get, slice_index, Some, false, IfOk, OnOk, OnErr, All};
+//! `Seat`, one node of a system: its core and its events.
+ghost use Rattle.std.specs.Prelude.{ℕ, ◌≡◌, ◌+◌, ◌-◌, ◌*◌, ◌^◌, ◌<◌, ◌≤◌, List, [], ◌++◌, length, slice_get, Some, false, IfOk, OnOk, OnErr, All};
 ghost use Rattle.xs_base.specs.declared.numbers.TheConstants.{EVENT_ROOM};
 ghost use Rattle.xs_model.specs.declared.event.Event.{Event};
 ghost use Rattle.xs_model.specs.Events.{IsWithinCounts};
+ghost use Rattle.xs_model.specs.Outside.{LevelsFit};
 ghost use Rattle.sys_plan.specs.declared.NodePlan.{NodePlan};
-ghost use Rattle.sys_plan.specs.Plan.{WaysLead, gaps_of, node_numbers};
+ghost use Rattle.sys_plan.specs.Plan.{WaysLead, gaps_of};
 ghost use Rattle.step_model.specs.Start.{node_of};
 ghost use Rattle.trace_lines.specs.Kept.{Keeps, HasRoom};
 ghost use Rattle.core_step.specs.Core.{NothingArrives};
 ghost use Rattle.node_seats.specs.Seats.{IsSeat, HasEventRoom, SameSeat, StepsOn, Plays};
 
-use crate::pins::Pins;
 use core_step::Core;
 use std::alloc::{AllocError, Global};
 use sys_plan::{NodePlan, Plan};
 use trace_lines::{Emissions, NodeEvents};
 use xs_base::numbers::EVENT_ROOM;
-use xs_model::{Arrivals, Event};
+use xs_model::{Arrivals, Event, PinView};
 
-/// A node at work. Who steps it says what arrives at it, and reads what its slot gave. `Plays` and `IsSeat` of
+/// A node at work. Who steps it says what comes to it, and reads what its slot gave. `Plays` and `IsSeat` of
 /// `Rattle.node_seats.specs.Seats` say what it stands for. See docs/MACHINE.md.
 #[derive(Drop)]
 pub struct Seat {
@@ -26,8 +26,6 @@ pub struct Seat {
     pub events: NodeEvents,
     /// What the node's last slot gave.
     pub given: Emissions,
-    /// What its pins show.
-    pub pins: Pins,
 }
 
 impl Seat {
@@ -50,20 +48,20 @@ impl Seat {
         self.events.reserve(EVENT_ROOM)
     }
 
-    /// One slot of the node, with what arrives by its link ends, and whether anything does. Its events are kept, in room that
-    /// was made for them.
+    /// One slot of the node, with what arrives by its link ends, whether anything does, and what its pins show from outside. Its
+    /// events are kept, in room that was made for them.
     // Not inlined: the registers of a loop over nodes are then not shared with all that a slot may do.
     #[inline(never)]
-    pub fn step(&mut self, slot: u32, arrives: bool, arrivals: &Arrivals)
+    pub fn step(&mut self, slot: u32, arrives: bool, arrivals: &Arrivals, pins: &PinView)
         requires slot { slot < 2 ^ 32 - 1 }
         requires seat { IsSeat slot self.old }
         requires room { HasEventRoom self.old }
         requires arrives { arrives ≡ false → NothingArrives arrivals.now }
-        ensures steps { StepsOn slot arrivals.now self.old self.new }
+        requires levels { LevelsFit pins.now.level }
+        ensures steps { StepsOn slot arrivals.now pins.now self.old self.new }
     {
-        self.pins.look(slot);
         self.core
-            .slot_where(arrives, slot, arrivals, self.pins.view(), &mut self.given);
+            .slot_where(arrives, slot, arrivals, pins, &mut self.given);
         keep(&mut self.events, self.given.events());
     }
 }
@@ -71,17 +69,14 @@ impl Seat {
 // The node at a position as it starts.
 fn seat_of(alloc: Global, plan: &Plan, n: u8, node: &NodePlan) -> Result<Seat, AllocError>
     requires node { WaysLead plan.now n node.now.ways }
-    requires number { node.now.number ≡ slice_index (node_numbers plan.now) n }
     ensures plays { IfOk result (λ seat. Plays plan.now 0 n node.now seat (node_of node.now (gaps_of plan.now n)) []) }
     ensures ready { IfOk result (λ seat. IsSeat 0 seat) }
 {
     let core = Core::boot(alloc, node, &plan.gaps(n))?;
-    let script = plan.script().clone()?;
     Ok(Seat {
         core,
         events: NodeEvents::new(alloc),
         given: Emissions::new(),
-        pins: Pins::of(script, node.number),
     })
 }
 

@@ -6,7 +6,7 @@ mod system_plan;
 #[cfg(test)]
 mod tests;
 
-pub use system_plan::Plan;
+pub use system_plan::{ENDS, Plan};
 use xs_instructions::Image;
 
 /// A node: its number, which names it in texts (0 to 99), its id on the network, its image, and for each bit of an

@@ -6,6 +6,9 @@ use crate::{LinkPlan, NodePlan, Step};
 use pin_scripts::Script;
 use std::marker::Model;
 
+/// How many ends a node may have to which arcs come, and how many by which arcs leave.
+pub const ENDS: usize = 8;
+
 /// The plan of a system: its nodes by ascending number, its links, the script of its pins, and the steps of its schedule. The record
 /// `IsPlan` says what every plan keeps. See docs/SYSTEM_TEXT.md.
 ///

@@ -25,4 +25,4 @@ invariant_of-self-2 c =
     let was = c.index_mut-inlet.ensures.value ∙ get_or_default i.inlets.items end c.index_mut-inlet.result.now no_inlet within in
     let went : is_ok c.append.result ≡ true = first_of (cc, search rules, grind (arith)) in
     let is = went-well c.append.result went c.append.ensures.ok ∙ (λ k. longer (was k) (c.entries.ensures.value k)) in
-    runner-taken i.plan.value i.clock to entries i.node end i.horizon i.inlets.items i.batches.items i.published links there on own i.seat c.see.new.self c.append.new.self c.self.invariant c.see.ensures.ends is
+    runner-taken i.plan.value i.clock to entries i.node end i.horizon i.inlets.items i.batches.items i.published links there on own i.seat i.pins c.see.new.self c.append.new.self c.self.invariant c.see.ensures.ends is

@@ -1,6 +1,6 @@
 use Rattle.std.proofs.Common.{◌<◌, sym, ◌∙◌, subst, arith}
 use Rattle.node_seats.proofs.Shown.{before-change}
-use Rattle.node_seats.proofs.pins.Pins.of.Goals as goal
+use Rattle.node_seats.proofs.pins.Pins.by_script.Goals as goal
 
 pub returns-clause-shown : goal.returns-clause-shown
 returns-clause-shown c = record {
