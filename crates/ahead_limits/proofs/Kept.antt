@@ -7,8 +7,9 @@ use Rattle.std.proofs.lemmas.Option.{none-some, same_Some}
 use Rattle.xs_base.specs.Numbers.{Slot, Position, EndNumber, LinkNumber}
 use Rattle.sys_plan.specs.declared.Step.{Step}
 use Rattle.sys_plan.specs.declared.Step.TheVariants.{Take, Run, Send}
-use Rattle.sys_plan.specs.Plan.{PlanRec, Arc, arcs, arc_count, incoming, outgoing, delay_of, link_ends}
-use Rattle.sys_plan.proofs.Routes.{leads-from}
+use Rattle.sys_plan.specs.Plan.{PlanRec, Arc, arcs, arc_count, incoming, outgoing, delay_of}
+use Rattle.sys_plan.specs.declared.system_plan.TheConstants.{ENDS}
+use Rattle.sys_plan.proofs.Routes.{leads-from, found-at-end-in}
 use Rattle.ahead_limits.specs.declared.horizon.Seen.{Seen}
 use Rattle.ahead_limits.specs.Horizon.{HorizonRec, may_run, lets_run, horizon_at}
 use Rattle.ahead_limits.specs.Schedule.{ScheduleRec, IsOfPlan, schedule_at_start, seen_of_link, horizon_of, clock_after, after_take, after_run, after_send, after_step, after_steps}
@@ -76,23 +77,11 @@ module _ (h : HorizonRec) where
   pub below_end : (end : EndNumber) (s : Seen) → slice_get h.ends end ≡ Some (Some s) → (clock : Slot) → may_run h clock ≡ true → clock < horizon_at s
   below_end end s at clock runs = all_below clock h.ends (and_parts (ltb clock h.limit) (list_all (lets_run clock) h.ends) runs).1 end s at
 
--- what is told of each link end, at one of them
-at_end : {X : Type 0} (f : ℕ → X) (end : ℕ) → end < 8 → slice_get (map f link_ends) end ≡ Some (f end)
-at_end f zero h = refl
-at_end f (suc zero) h = refl
-at_end f (suc (suc zero)) h = refl
-at_end f (suc (suc (suc zero))) h = refl
-at_end f (suc (suc (suc (suc zero)))) h = refl
-at_end f (suc (suc (suc (suc (suc zero))))) h = refl
-at_end f (suc (suc (suc (suc (suc (suc zero)))))) h = refl
-at_end f (suc (suc (suc (suc (suc (suc (suc zero))))))) h = refl
-at_end f (suc (suc (suc (suc (suc (suc (suc (suc n)))))))) h = absurd (omega (arith, h))
-
--- the horizon of a node tells of each link that comes to it
-pub link_at_end : (plan : PlanRec) (limit : Slot) (seen : List Slot) (n : Position) (end : EndNumber) (link : LinkNumber) → end < 8 → incoming plan n end ≡ Some link
+-- the horizon of a node tells of each arc that comes to it
+pub link_at_end : (plan : PlanRec) (limit : Slot) (seen : List Slot) (n : Position) (end : EndNumber) (link : LinkNumber) → end < ENDS → incoming plan n end ≡ Some link
     → slice_get (horizon_of plan limit seen n).ends end ≡ Some (Some (seen_of_link plan seen link))
 link_at_end plan limit seen n end link less at =
-    at_end (λ e. option_map (seen_of_link plan seen) (incoming plan n e)) end less ∙ ap (λ (o : Option ℕ). Some (option_map (seen_of_link plan seen) o)) at
+    found-at-end-in plan n (λ e. option_map (seen_of_link plan seen) (incoming plan n e)) end less ∙ ap (λ (o : Option ℕ). Some (option_map (seen_of_link plan seen) o)) at
 
 -- ---- A step
 
@@ -137,7 +126,7 @@ module _ (plan : PlanRec) (limit : Slot) where
         published = (none_falls s).published;
       }
 
-      not_past : (end link : ℕ) → end < 8 → incoming plan node end ≡ Some link → clock_after h count before ≤ get_or s.seen link 0 + delay_of plan link
+      not_past : (end link : ℕ) → end < ENDS → incoming plan node end ≡ Some link → clock_after h count before ≤ get_or s.seen link 0 + delay_of plan link
       not_past end link less at =
           clock_within h (horizon_at (seen_of_link plan s.seen link))
           (below_end h end (seen_of_link plan s.seen link) (link_at_end plan limit s.seen node end link less at)) count before (k.ahead node end link less at)
@@ -149,7 +138,7 @@ module _ (plan : PlanRec) (limit : Slot) where
         seen = k.seen;
         behind = λ l d at. omega (arith, k.behind l d at, run_falls.clocks d.from);
         ahead = λ n end l less at.
-            set_all (λ j clock. (end l : ℕ) → end < 8 → incoming plan j end ≡ Some l → clock ≤ get_or s.seen l 0 + delay_of plan l)
+            set_all (λ j clock. (end l : ℕ) → end < ENDS → incoming plan j end ≡ Some l → clock ≤ get_or s.seen l 0 + delay_of plan l)
             s.clocks node (clock_after h count before) k.ahead not_past n end l less at;
       }
 

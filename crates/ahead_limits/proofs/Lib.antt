@@ -2,3 +2,4 @@ pub mod Bounds
 pub mod Ends
 pub mod Kept
 pub mod Steps
+pub mod Told

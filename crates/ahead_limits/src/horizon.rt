@@ -114,7 +114,7 @@ impl Horizon {
         }
     }
 
-    /// A link with this delay in slots comes to an end, below `ENDS`. Nothing of it was seen yet.
+    /// An arc with this delay in slots comes to an end. Nothing of it was seen yet.
     pub fn add(&mut self, end: u8, delay: u32)
         requires end { end < ENDS }
         ensures ends { self.new ≡ record self.old { ends = slice_set self.old.ends end (Some (record { delay = delay; seen = 0 })) } }

@@ -4,10 +4,11 @@ use Rattle.std.proofs.Common.{length, map, get_or, slice_get, slice_index, optio
 use mathlib.Core.Logic.{◌⊎◌}
 use Rattle.std.specs.List.{AllByRecursion}
 use Rattle.std.proofs.lemmas.Bool.{eq-eqb, eqb-true, eqb-false, cases_Bool, and_left, and_right, and_parts}
-use Rattle.std.proofs.lemmas.Option.{none-some, same_Some, slice_get-map, get_or_from_slice_get}
+use Rattle.std.proofs.lemmas.Option.{none-some, same_Some, slice_get-map, slice_get-get_or, get_or_from_slice_get}
 use Rattle.sys_plan.specs.declared.LinkPlan.{LinkPlan}
 use Rattle.sys_plan.specs.Plan.{PlanRec, Arc, IsPlan, IsLink, AreDistinct, forth, back, arcs, link_arcs, places_of, leaves_by}
-use Rattle.sys_plan.specs.Plan.{comes_to, first_arc, outgoing, incoming, delay_of, gap_of, gap_by, gaps_of, link_ends}
+use Rattle.sys_plan.specs.Plan.{comes_to, first_arc, outgoing, incoming, delay_of, gap_of, gap_by, gaps_of, link_ends, ends_in, ends_out}
+use Rattle.sys_plan.specs.declared.system_plan.TheConstants.{ENDS}
 use Rattle.sys_plan.proofs.Past.{leaves_none, comes_none}
 
 -- ---- What holds of each link holds of its arcs
@@ -33,7 +34,7 @@ directed-at nodes (link ∷ links) zero d all h = subst (IsDirected nodes) (same
 directed-at nodes (link ∷ links) (suc zero) d all h = subst (IsDirected nodes) (same_Some (back link) d h) (back-is nodes link all.0)
 directed-at nodes (link ∷ links) (suc (suc k)) d all h = directed-at nodes links k d all.1 h
 
--- ---- What is told of each link end of a node
+-- ---- What is told of each end of a node
 
 pub at-link-end : {X : Type 0} (f : ℕ → X) (default : X) (end : ℕ) → end < 8 → get_or (map f link_ends) end default ≡ f end
 at-link-end f default zero h = refl
@@ -45,6 +46,16 @@ at-link-end f default (suc (suc (suc (suc (suc zero))))) h = refl
 at-link-end f default (suc (suc (suc (suc (suc (suc zero)))))) h = refl
 at-link-end f default (suc (suc (suc (suc (suc (suc (suc zero))))))) h = refl
 at-link-end f default (suc (suc (suc (suc (suc (suc (suc (suc n)))))))) h = absurd (omega arith)
+
+-- what is told of each end to which arcs may come, and of each by which they may leave
+pub at-end-in : {X : Type 0} (plan : PlanRec) (node : ℕ) (f : ℕ → X) (default : X) (end : ℕ) → end < ENDS → get_or (map f (ends_in plan node)) end default ≡ f end
+at-end-in plan node f default end h = at-link-end f default end h
+
+pub at-end-out : {X : Type 0} (plan : PlanRec) (node : ℕ) (f : ℕ → X) (default : X) (end : ℕ) → end < ENDS → get_or (map f (ends_out plan node)) end default ≡ f end
+at-end-out plan node f default end h = at-link-end f default end h
+
+pub found-at-end-in : {X : Type 0} (plan : PlanRec) (node : ℕ) (f : ℕ → X) (end : ℕ) → end < ENDS → slice_get (map f (ends_in plan node)) end ≡ Some (f end)
+found-at-end-in plan node f end h = slice_get-get_or (map f (ends_in plan node)) end (f end) h ∙ ap (λ x. Some x) (at-end-in plan node f (f end) end h)
 
 -- ---- No two arcs leave by one link end, and no two come to one
 
