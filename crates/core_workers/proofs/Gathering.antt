@@ -1,11 +1,11 @@
--- What is left of all workers is at the limit: each node, and the log of each directed link.
+-- What is left of all workers is at the limit: each node, and the log of each arc.
 use Rattle.std.proofs.Common.{◌≡◌, ◌<◌, Some, List, length, map, get_or, slice_get, sym, ap, ◌∙◌, subst, arith}
 use Rattle.std.specs.List.{AllByRecursion}
 use Rattle.std.proofs.lemmas.Option.{slice_get_within, slice_get-get_or}
 use Rattle.std.proofs.lemmas.List.{length-map}
 use Rattle.std.proofs.lemmas.List.Elements.{recursion_from_All}
 use Rattle.xs_base.specs.Numbers.{Slot, LinkNumber, Position}
-use Rattle.sys_plan.specs.Plan.{PlanRec, IsPlan, directions}
+use Rattle.sys_plan.specs.Plan.{PlanRec, IsPlan, arc_count}
 use Rattle.serial_model.specs.Serial.{history}
 use Rattle.xs_base.specs.declared.entry.Entry.{Entry}
 use Rattle.trace_model.specs.Trace.{tokens_sent, credits_sent}
@@ -63,9 +63,9 @@ module _ (cells : CellsRec) (limit : Slot) (parts : List WorkerRec)
   pub all_ends : length (map ends_of parts) ≡ length cells.plan.nodes
   all_ends = length-map parts ends_of ∙ nodes
 
-  -- so is the log of each directed link, since it is as the end has left it by which the link leaves its node
+  -- so is the log of each arc, since it is as the end has left it by which the link leaves its node
   module _ (is : IsPlan cells.plan) (logs : List (LogRec PlanRec))
-      (links : length logs ≡ length (directions cells.plan.links))
+      (links : length logs ≡ arc_count cells.plan)
       (own : (link : LinkNumber) (log : LogRec PlanRec) → slice_get logs link ≡ Some log → IsLogOf cells.plan link log)
       (has_left : (n : Position) (ends : Ends) → slice_get (map ends_of parts) n ≡ Some ends → AllByRecursion (HasLeft logs) ends.outgoing.items) where
     told_by : (n : Position) (ends : Ends) → slice_get (map ends_of parts) n ≡ Some ends → AllByRecursion (IsToldTo limit) ends.outgoing.items
@@ -76,7 +76,7 @@ module _ (cells : CellsRec) (limit : Slot) (parts : List WorkerRec)
 
     each_link : (link : LinkNumber) (log : LogRec PlanRec) → slice_get logs link ≡ Some log → IsFull cells.plan limit link log
     each_link link log here =
-        let below : link < length (directions cells.plan.links) = omega (arith, slice_get_within logs link log here, links) in
+        let below : link < arc_count cells.plan = omega (arith, slice_get_within logs link log here, links) in
         let by = left_by cells is (map ends_of parts) all_ends are_ends logs has_left link below log here in
         let told = told_by by.writer.node by.writer.ends by.writer.ends_at in
         record {
@@ -84,7 +84,7 @@ module _ (cells : CellsRec) (limit : Slot) (parts : List WorkerRec)
           published = by.published ∙ all_at (IsToldTo limit) by.writer.ends.outgoing.items by.writer.place by.writer.end told by.writer.end_at;
         }
 
-    -- so the totals of all logs are those of all directed links
+    -- so the totals of all logs are those of all arcs
     pub each_total : (link : LinkNumber) (sent : Totals) → slice_get (map sent_in logs) link ≡ Some sent → HasSent cells.plan limit link sent
     each_total link sent here =
         let log = from_map sent_in logs link sent here in

@@ -3,8 +3,8 @@ use Rattle.std.proofs.Common.{◌≡◌, ℕ, zero, suc, ◌<◌, Option, Some, 
 use Rattle.std.proofs.lemmas.List.Elements.{All-from_recursion}
 use Rattle.std.proofs.lemmas.Option.{none-some, same_Some, slice_get-get_or, slice_get_within}
 use Rattle.xs_base.specs.Numbers.{Slot, Position, EndNumber, LinkNumber}
-use Rattle.sys_plan.specs.Plan.{PlanRec, IsPlan, directions, incoming, delay_of, link_ends}
-use Rattle.sys_plan.proofs.Routes.{at-link-end, incoming-end}
+use Rattle.sys_plan.specs.Plan.{PlanRec, IsPlan, arc_count, incoming, delay_of, link_ends}
+use Rattle.sys_plan.proofs.Routes.{found-at-end-in, incoming-end}
 use Rattle.link_logs.specs.Logs.{WriteRec, ReadRec}
 use Rattle.ahead_limits.specs.declared.horizon.Seen.{Seen}
 use Rattle.ahead_limits.specs.Horizon.{HorizonRec, Sees}
@@ -22,10 +22,6 @@ none_counted zero k = refl
 none_counted (suc n) zero = refl
 none_counted (suc n) (suc k) = none_counted n k
 
--- what is told of a link end
-at_end : {X : Type 0} (f : ℕ → X) (end : ℕ) → end < 8 → slice_get (map f link_ends) end ≡ Some (f end)
-at_end f end within = slice_get-get_or (map f link_ends) end (f end) within ∙ ap (λ x. Some x) (at-link-end f (f end) end within)
-
 -- a mapped option that is there was there
 mapped_there : (f : LinkNumber → Seen) (o : Option LinkNumber) (s : Seen) → option_map f o ≡ Some s → (link : LinkNumber) × (o ≡ Some link)
 mapped_there f None s is = absurd (none-some s is)
@@ -36,7 +32,7 @@ none_in_hand plan link seen got hand none is = subst (λ (h : Option Hand). IsIn
 
 module _ (plan : PlanRec) (is : IsPlan plan) (limit : Slot) (n : Position) where
   abbrev none_seen : List Slot
-  none_seen = replicate (length (directions plan.links)) 0
+  none_seen = replicate (arc_count plan) 0
 
   abbrev start : HorizonRec
   start = horizon_of plan limit none_seen n
@@ -48,11 +44,11 @@ module _ (plan : PlanRec) (is : IsPlan plan) (limit : Slot) (n : Position) where
   heard_at_start i route new = record {
     seen = record { delay = delay_of plan i.link; seen = get_or none_seen i.link 0 };
     there =
-        at_end (λ end. option_map (seen_of_link plan none_seen) (incoming plan n end)) i.end (incoming-end plan is n i.end i.link route)
+        found-at-end-in plan n (λ end. option_map (seen_of_link plan none_seen) (incoming plan n end)) i.end (incoming-end plan is n i.end i.link route)
         ∙ ap (λ (o : Option LinkNumber). Some (option_map (seen_of_link plan none_seen) o)) route;
     delay = refl;
     in_hand = none_in_hand plan i.link (get_or none_seen i.link 0) i.r.end.got i.hand new.none_in_hand
-        (none_counted (length (directions plan.links)) i.link ∙ sym (ap (λ (r : ReadRec PlanRec). r.got) new.end));
+        (none_counted (arc_count plan) i.link ∙ sym (ap (λ (r : ReadRec PlanRec). r.got) new.end));
   }
 
   no_others_at_start : (end : EndNumber) (s : Seen) → Sees start end s → (link : LinkNumber) × (incoming plan n end ≡ Some link)
@@ -60,7 +56,7 @@ module _ (plan : PlanRec) (is : IsPlan plan) (limit : Slot) (n : Position) where
       let within : end < 8 = slice_get_within start.ends end (Some s) sees in
       mapped_there (seen_of_link plan none_seen) (incoming plan n end) s
       (same_Some (option_map (seen_of_link plan none_seen) (incoming plan n end)) (Some s)
-      (sym (at_end (λ e. option_map (seen_of_link plan none_seen) (incoming plan n e)) end within) ∙ sees))
+      (sym (found-at-end-in plan n (λ e. option_map (seen_of_link plan none_seen) (incoming plan n e)) end within) ∙ sees))
 
 module _ (cells : CellsRec) (is : IsPlan cells.plan) (limit : Slot) (n : Position) (ends : Ends) (new : AreNewEnds cells n ends) where
   pub starts : IsWorker (record { cells = cells; runner = new_runner cells.plan limit n; ends = ends })

@@ -1,4 +1,4 @@
--- The logs of all directed links of a plan, at the limit of a run.
+-- The logs of all arcs of a plan, at the limit of a run.
 use Rattle.std.specs.Prelude.{◌≡◌}
 use Rattle.xs_base.specs.Numbers.{Slot, LinkNumber}
 use Rattle.sys_plan.specs.Plan.{PlanRec}
@@ -7,7 +7,7 @@ use Rattle.link_logs.specs.Logs.{LogRec}
 use Rattle.plan_cells.specs.Ends.{IsLogOf}
 use Rattle.finished_runs.specs.Limit.{Totals}
 
--- the log of a directed link of a plan, with all that the link carries below a slot
+-- the log of an arc of a plan, with all that the link carries below a slot
 pub record IsFull (plan : PlanRec) (limit : Slot) (link : LinkNumber) (log : LogRec PlanRec) : Type 0 where
   pub log_of : IsLogOf plan link log
   pub published : log.published ≡ limit

@@ -27,12 +27,12 @@ pub record WorkerRec : Type 0 where
 
 -- ---- What a worker keeps
 
--- of a directed link that was read up to a slot, the node was handed what stands before `seen`: the rest is in hand
+-- of an arc that was read up to a slot, the node was handed what stands before `seen`: the rest is in hand
 abbrev pub IsInHand : PlanRec → LinkNumber → Slot → Slot → Option Hand → Type 0
 IsInHand plan link seen got None = seen ≡ got
 IsInHand plan link seen got (Some hand) = (seen ≤ got) × (hand.to ≡ got) × (hand.batch.entries ≡ history plan link seen got)
 
--- so much of a directed link that comes to a node was handed to it, and the rest of what was read is in hand
+-- so much of an arc that comes to a node was handed to it, and the rest of what was read is in hand
 pub record IsHeard (plan : PlanRec) (h : HorizonRec) (i : Incoming) : Type 0 where
   pub seen : Seen
   pub there : Sees h i.end seen
@@ -123,7 +123,7 @@ pub record Exchanged (before after : WorkerRec) : Type 0 where
 
 -- ---- The answers, of which at most one fits
 
--- the directed links of which the logs were found closed
+-- the arcs of which the logs were found closed
 abbrev pub shut_links : List Incoming → List LinkNumber
 shut_links ends = map (λ (i : Incoming). i.link) (filter (λ (i : Incoming). i.r.end.shut) ends)
 

@@ -24,7 +24,7 @@ fn lesser(least: Option<u32>, link: u32) -> u32
     }
 }
 
-// The least of the directed links of which the logs were found closed. None comes exactly where none was.
+// The least of the arcs of which the logs were found closed. None comes exactly where none was.
 fn least_shut(readers: &[Incoming]) -> Option<u32>
     ensures { IsLeastOf result (shut_links readers.now) }
 {

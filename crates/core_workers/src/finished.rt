@@ -1,7 +1,7 @@
 //! `Finished`, the run of a system at its limit.
 ghost use Rattle.std.specs.Prelude.{◌≡◌, ◌≢◌, ◌<◌, length, IfOk};
 ghost use Rattle.std.specs.List.{AllZip};
-ghost use Rattle.sys_plan.specs.Plan.{directions};
+ghost use Rattle.sys_plan.specs.Plan.{arc_count};
 ghost use Rattle.serial_model.specs.Serial.{serial, history};
 ghost use Rattle.locality_laws.specs.Locality.{node_in, events_in};
 ghost use Rattle.trace_lines.specs.Kept.{Keeps};
@@ -107,9 +107,9 @@ impl Finished {
         self.run.events(node)
     }
 
-    /// How many tokens were sent on the directed link with a number, and how many credits.
+    /// How many tokens were sent on the arc with a number, and how many credits.
     pub fn totals(&self, link: u32) -> (u64, u64)
-        requires link { link < length (directions self.now.plan.links) }
+        requires link { link < arc_count self.now.plan }
         ensures tokens { result.0 ≡ tokens_sent (history self.now.plan link 0 self.now.limit) }
         ensures credits { result.1 ≡ credits_sent (history self.now.plan link 0 self.now.limit) }
     {

@@ -10,7 +10,7 @@ pub enum Turn {
     Blocked { end: u8, seen: u32 },
     /// The node has run all slots of the run, and all that it sends is published.
     Finished,
-    /// The node has run no slot, and is not at the limit, and the log of this directed link that comes to it was found closed.
+    /// The node has run no slot, and is not at the limit, and the log of this arc that comes to it was found closed.
     Stopped { link: u32 },
     /// Memory was wanting. What was done of the turn stands.
     Memory,

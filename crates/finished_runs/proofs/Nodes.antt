@@ -1,8 +1,8 @@
--- A node that has run up to the limit is what it is in the serial machine there, and so much was sent on each directed link.
+-- A node that has run up to the limit is what it is in the serial machine there, and so much was sent on each arc.
 use Rattle.std.proofs.Common.{◌≡◌, ◌<◌, Some, List, length, get_or, slice_get, sym, ap, ◌∙◌, subst, arith}
 use Rattle.std.proofs.lemmas.Option.{slice_get-get_or}
 use Rattle.xs_base.specs.Numbers.{Slot, LinkNumber, Position}
-use Rattle.sys_plan.specs.Plan.{PlanRec, directions}
+use Rattle.sys_plan.specs.Plan.{PlanRec, arc_count}
 use Rattle.serial_model.specs.Serial.{serial}
 use Rattle.locality_laws.specs.Locality.{node_in, events_in}
 use Rattle.core_step.specs.Core.{CoreValue, StandsAt}
@@ -28,6 +28,6 @@ module _ (plan : PlanRec) (limit : Slot) (runners : List RunnerRec) (totals : Li
   node_at n runner below here =
       is.each_node n runner (slice_get-get_or runners n runner (omega (arith, below, is.nodes)) ∙ ap (λ (r : RunnerRec). Some r) (sym here))
 
-  pub sent_at : (link : LinkNumber) (sent : Totals) → link < length (directions plan.links) → sent ≡ get_or totals link sent → HasSent plan limit link sent
+  pub sent_at : (link : LinkNumber) (sent : Totals) → link < arc_count plan → sent ≡ get_or totals link sent → HasSent plan limit link sent
   sent_at link sent below here =
       is.each_link link sent (slice_get-get_or totals link sent (omega (arith, below, is.links)) ∙ ap (λ (t : Totals). Some t) (sym here))

@@ -1,7 +1,7 @@
--- A run at its limit: the nodes of a plan, and what was sent on its directed links.
+-- A run at its limit: the nodes of a plan, and what was sent on its arcs.
 use Rattle.std.specs.Prelude.{ℕ, ◌≡◌, Some, List, length, slice_get}
 use Rattle.xs_base.specs.Numbers.{Slot, LinkNumber, Position}
-use Rattle.sys_plan.specs.Plan.{PlanRec, directions}
+use Rattle.sys_plan.specs.Plan.{PlanRec, arc_count}
 use Rattle.serial_model.specs.Serial.{history}
 use Rattle.trace_model.specs.Trace.{tokens_sent, credits_sent}
 use Rattle.node_runners.specs.Runner.{RunnerRec}
@@ -21,14 +21,14 @@ pub record HasRun (plan : PlanRec) (limit : Slot) (n : Position) (runner : Runne
   pub node : runner.node ≡ n
   pub clock : runner.clock ≡ limit
 
--- so many tokens and credits a directed link of a plan carries below a slot
+-- so many tokens and credits an arc of a plan carries below a slot
 pub record HasSent (plan : PlanRec) (limit : Slot) (link : LinkNumber) (sent : Totals) : Type 0 where
   pub tokens : sent.0 ≡ tokens_sent (history plan link 0 limit)
   pub credits : sent.1 ≡ credits_sent (history plan link 0 limit)
 
--- all nodes of a plan, by position, at the limit of a run, and the totals of all its directed links, by number
+-- all nodes of a plan, by position, at the limit of a run, and the totals of all its arcs, by number
 pub record AreAtLimit (plan : PlanRec) (limit : Slot) (runners : List RunnerRec) (totals : List Totals) : Type 0 where
   pub nodes : length runners ≡ length plan.nodes
   pub each_node : (n : Position) (runner : RunnerRec) → slice_get runners n ≡ Some runner → HasRun plan limit n runner
-  pub links : length totals ≡ length (directions plan.links)
+  pub links : length totals ≡ arc_count plan
   pub each_link : (link : LinkNumber) (sent : Totals) → slice_get totals link ≡ Some sent → HasSent plan limit link sent

@@ -2,7 +2,7 @@
 ghost use Rattle.std.specs.Prelude.{◌≡◌, ◌<◌, Some, IfOk, length, slice_get};
 ghost use Rattle.std.specs.List.{AllZip};
 ghost use Rattle.xs_base.specs.Numbers.{Position, LinkNumber};
-ghost use Rattle.sys_plan.specs.Plan.{directions};
+ghost use Rattle.sys_plan.specs.Plan.{arc_count};
 ghost use Rattle.serial_model.specs.Serial.{serial, history};
 ghost use Rattle.locality_laws.specs.Locality.{node_in, events_in};
 ghost use Rattle.trace_lines.specs.Kept.{Keeps};
@@ -60,7 +60,7 @@ impl FinishedRun {
     }
 
     /// The run of a plan of which each node, by position, has run so many slots by itself, `limit`; `totals` are how many tokens and how many
-    /// credits were sent on each directed link below the limit, by number. It takes no memory.
+    /// credits were sent on each arc below the limit, by number. It takes no memory.
     pub fn of_runners(
         plan: Known<Plan>,
         limit: u32,
@@ -69,7 +69,7 @@ impl FinishedRun {
     ) -> FinishedRun
         requires nodes { length runners.items ≡ length plan.value.nodes }
         requires at_limit { (n : Position) (runner : RunnerRec) → slice_get runners.items n ≡ Some runner → HasRun plan.value limit n runner }
-        requires links { length totals.items ≡ length (directions plan.value.links) }
+        requires links { length totals.items ≡ arc_count plan.value }
         requires sent { (link : LinkNumber) (sent : Totals) → slice_get totals.items link ≡ Some sent → HasSent plan.value limit link sent }
         ensures { result ≡ record { plan = plan.value; limit = limit } }
     {
@@ -110,10 +110,10 @@ impl FinishedRun {
         }
     }
 
-    /// How many tokens were sent on the directed link with a number, and how many credits. Of a serial machine they are counted at each
+    /// How many tokens were sent on the arc with a number, and how many credits. Of a serial machine they are counted at each
     /// call.
     pub fn totals(&self, link: u32) -> (u64, u64)
-        requires link { link < length (directions self.now.plan.links) }
+        requires link { link < arc_count self.now.plan }
         ensures tokens { result.0 ≡ tokens_sent (history self.now.plan link 0 self.now.limit) }
         ensures credits { result.1 ≡ credits_sent (history self.now.plan link 0 self.now.limit) }
     {

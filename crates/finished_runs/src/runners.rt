@@ -2,7 +2,7 @@
 ghost use Rattle.std.specs.Prelude.{◌≡◌, ◌<◌, Some, IfOk, length, slice_get};
 ghost use Rattle.std.specs.List.{AllZip};
 ghost use Rattle.xs_base.specs.Numbers.{Position, LinkNumber};
-ghost use Rattle.sys_plan.specs.Plan.{directions};
+ghost use Rattle.sys_plan.specs.Plan.{arc_count};
 ghost use Rattle.serial_model.specs.Serial.{serial, history};
 ghost use Rattle.locality_laws.specs.Locality.{node_in, events_in};
 ghost use Rattle.trace_lines.specs.Kept.{Keeps};
@@ -19,7 +19,7 @@ use std::marker::Model;
 use sys_plan::Plan;
 use trace_lines::NodeEvents;
 
-/// All nodes of a plan, by position, at the limit of a run in slots, and how many tokens and credits were sent on each directed link, by
+/// All nodes of a plan, by position, at the limit of a run in slots, and how many tokens and credits were sent on each arc, by
 /// number. Contracts see a `FinishedRunRec` of `Rattle.finished_runs.specs.Limit`.
 #[derive(Drop)]
 pub(crate) struct Runners {
@@ -40,7 +40,7 @@ impl Model for Runners {
 }
 
 impl Runners {
-    /// The nodes of a plan, each of which has run so many slots, and what was sent on its directed links. It takes no memory.
+    /// The nodes of a plan, each of which has run so many slots, and what was sent on its arcs. It takes no memory.
     pub(crate) fn of(
         plan: Known<Plan>,
         limit: u32,
@@ -49,7 +49,7 @@ impl Runners {
     ) -> Runners
         requires nodes { length runners.items ≡ length plan.value.nodes }
         requires at_limit { (n : Position) (runner : RunnerRec) → slice_get runners.items n ≡ Some runner → HasRun plan.value limit n runner }
-        requires links { length totals.items ≡ length (directions plan.value.links) }
+        requires links { length totals.items ≡ arc_count plan.value }
         requires sent { (link : LinkNumber) (sent : Totals) → slice_get totals.items link ≡ Some sent → HasSent plan.value limit link sent }
         ensures { result ≡ record { plan = plan.value; limit = limit } }
     {
@@ -86,9 +86,9 @@ impl Runners {
         runner.events()
     }
 
-    /// How many tokens were sent on the directed link with a number, and how many credits.
+    /// How many tokens were sent on the arc with a number, and how many credits.
     pub(crate) fn totals(&self, link: u32) -> (u64, u64)
-        requires link { link < length (directions self.now.plan.links) }
+        requires link { link < arc_count self.now.plan }
         ensures tokens { result.0 ≡ tokens_sent (history self.now.plan link 0 self.now.limit) }
         ensures credits { result.1 ≡ credits_sent (history self.now.plan link 0 self.now.limit) }
     {

@@ -1,7 +1,7 @@
 //! `Together`, the nodes of a plan that a serial machine has run from slot 0 on.
 ghost use Rattle.std.specs.Prelude.{◌≡◌, ◌<◌, IfOk, length};
 ghost use Rattle.std.specs.List.{AllZip};
-ghost use Rattle.sys_plan.specs.Plan.{directions};
+ghost use Rattle.sys_plan.specs.Plan.{arc_count};
 ghost use Rattle.serial_model.specs.Serial.{serial, history};
 ghost use Rattle.locality_laws.specs.Locality.{node_in, events_in};
 ghost use Rattle.trace_lines.specs.Kept.{Keeps};
@@ -69,18 +69,18 @@ impl Together {
         self.machine.events(node)
     }
 
-    /// How many tokens were sent on the directed link with a number, and how many credits. They are counted at each call.
+    /// How many tokens were sent on the arc with a number, and how many credits. They are counted at each call.
     pub(crate) fn totals(&self, link: u32) -> (u64, u64)
-        requires link { link < length (directions self.now.plan.links) }
+        requires link { link < arc_count self.now.plan }
         ensures tokens { result.0 ≡ tokens_sent (history self.now.plan link 0 self.now.limit) }
         ensures credits { result.1 ≡ credits_sent (history self.now.plan link 0 self.now.limit) }
     {
         count_sent(self.history(link))
     }
 
-    // What the directed link with a number has carried below the limit.
+    // What the arc with a number has carried below the limit.
     fn history(&self, link: u32) -> &[Entry]
-        requires link { link < length (directions self.now.plan.links) }
+        requires link { link < arc_count self.now.plan }
         ensures value { result.now ≡ history self.now.plan link 0 self.now.limit }
     {
         links_tell_ahead();

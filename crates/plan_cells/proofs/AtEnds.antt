@@ -1,9 +1,9 @@
--- The ends that a node holds are those of the directed links at its link ends, one for each.
+-- The ends that a node holds are those of the arcs at its link ends, one for each.
 use Rattle.std.proofs.Common.{◌≡◌, ℕ, ◌<◌, Some, List, length, map, slice_get, sym, ap, ◌∙◌, subst, arith}
 use Rattle.std.specs.List.{AllByRecursion}
 use Rattle.std.proofs.lemmas.Option.{same_Some}
 use Rattle.xs_base.specs.Numbers.{EndNumber, Position, LinkNumber}
-use Rattle.sys_plan.specs.Plan.{PlanRec, IsPlan, directions, outgoing, incoming}
+use Rattle.sys_plan.specs.Plan.{PlanRec, IsPlan, arcs, arc_count, outgoing, incoming}
 use Rattle.sys_plan.proofs.Routes.{outgoing-is, directed}
 use Rattle.link_logs.specs.Logs.{LogRec}
 use Rattle.log_cells.specs.Ends.{CellRec, WritesTo, ReadsOf}
@@ -78,7 +78,7 @@ module _ (cells : CellsRec) (n : Position) (ends : Ends) (are : AreEnds cells n 
 
 -- the ends of all nodes
 module _ (cells : CellsRec) (is : IsPlan cells.plan) (all : List Ends) (nodes : length all ≡ length cells.plan.nodes) (are : (n : Position) (e : Ends) → slice_get all n ≡ Some e → AreEnds cells n e) where
-  -- the end that writes to the cell of a directed link is among them
+  -- the end that writes to the cell of an arc is among them
   pub record Writer (link : LinkNumber) : Type 0 where
     pub node : Position
     pub ends : Ends
@@ -88,9 +88,9 @@ module _ (cells : CellsRec) (is : IsPlan cells.plan) (all : List Ends) (nodes : 
     pub end_at : slice_get ends.outgoing.items place ≡ Some end
     pub link_is : end.link ≡ link
 
-  pub writer_of : (link : LinkNumber) → link < length (directions cells.plan.links) → Writer link
+  pub writer_of : (link : LinkNumber) → link < arc_count cells.plan → Writer link
   writer_of link below =
-      let d = some_at (directions cells.plan.links) link below in
+      let d = some_at (arcs cells.plan) link below in
       let there = directed cells.plan is link d.0 d.1 in
       let e = some_at all d.0.from (omega (arith, nodes, there.from)) in
       let h = outgoing_held cells d.0.from e.0 (are d.0.from e.0 e.1) d.0.from_end link (outgoing-is cells.plan is link d.0 d.1) in
@@ -103,7 +103,7 @@ module _ (cells : CellsRec) (is : IsPlan cells.plan) (all : List Ends) (nodes : 
       pub published : log.published ≡ writer.end.w.end.published
       pub cause : log.cause ≡ writer.end.w.end.cause
 
-    pub left_by : (link : LinkNumber) → link < length (directions cells.plan.links) → (log : LogRec PlanRec) → slice_get logs link ≡ Some log → LeftBy log link
+    pub left_by : (link : LinkNumber) → link < arc_count cells.plan → (log : LogRec PlanRec) → slice_get logs link ≡ Some log → LeftBy log link
     left_by link below log here =
         let w = writer_of link below in
         let l = all_at (HasLeft logs) w.ends.outgoing.items w.place w.end (left w.node w.ends w.ends_at) w.end_at in

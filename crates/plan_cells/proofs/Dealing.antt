@@ -6,7 +6,7 @@ use Rattle.std.proofs.lemmas.Option.{same_Some, get_or_from_slice_get, slice_get
 use Rattle.std.proofs.lemmas.List.{map-append, length-map, length-set, length-take, length-replicate, length_push, get_or-replicate, get_or-set_same, get_or-set_other, take_more}
 use Rattle.atomic_table.specs.Seated.{TableId}
 use Rattle.xs_base.specs.Numbers.{EndNumber, Position, LinkNumber}
-use Rattle.sys_plan.specs.Plan.{PlanRec, Direction, directions}
+use Rattle.sys_plan.specs.Plan.{PlanRec, Arc, arcs}
 use Rattle.log_cells.specs.Ends.{CellRec}
 use Rattle.plan_cells.specs.declared.ends.Outgoing.{Outgoing}
 use Rattle.plan_cells.specs.declared.ends.Incoming.{Incoming}
@@ -18,11 +18,11 @@ use Rattle.plan_cells.proofs.Links.{one_more, no_more}
 
 -- ---- Of ends of either kind
 
-module _ {X : Type 0} (at : X → LinkAt) (site : Direction → Position) (end : Direction → EndNumber) where
-  abbrev here : Position → Direction → Bool
+module _ {X : Type 0} (at : X → LinkAt) (site : Arc → Position) (end : Arc → EndNumber) where
+  abbrev here : Position → Arc → Bool
   here n d = eqb (site d) n
 
-  -- before the first directed link
+  -- before the first arc
   pub none_lie : (Fit : X → Type 0) (count : ℕ) (lists : List (List X)) → lists ≡ replicate count [] → AllLie at site end Fit [] lists
   none_lie Fit count lists are n below =
       let none : List X = [] in
@@ -30,8 +30,8 @@ module _ {X : Type 0} (at : X → LinkAt) (site : Direction → Position) (end :
       let is : get_or lists n none ≡ none = ap (λ (ls : List (List X)). get_or ls n none) are ∙ get_or-replicate count n none none inside in
       subst (Lies at site end Fit [] n) (sym is) (record { places = refl; fit = tt })
 
-  -- one more directed link, whose end is handed to its node
-  module _ (Fit Then : X → Type 0) (stays : (y : X) → Fit y → Then y) (ds : List Direction) (d : Direction) (lists : List (List X)) (x : X)
+  -- one more arc, whose end is handed to its node
+  module _ (Fit Then : X → Type 0) (stays : (y : X) → Fit y → Then y) (ds : List Arc) (d : Arc) (lists : List (List X)) (x : X)
       (all : AllLie at site end Fit ds lists) (at_is : at x ≡ (end d, length ds)) (fit : Then x) (inside : site d < length lists) where
     more_at : (n : Position) → n < length lists → (n ≡ site d) ⊎ (n ≡ site d → ⊥) → Lies at site end Then (ds ++ d ∷ []) n (get_or (handed lists (site d) x) n [])
     more_at n below (inl same) =
@@ -59,16 +59,16 @@ module _ {X : Type 0} (at : X → LinkAt) (site : Direction → Position) (end :
     pub more_lie : AllLie at site end Then (ds ++ d ∷ []) (handed lists (site d) x)
     more_lie n below = more_at n (omega (arith, length-set lists (site d) (get_or lists (site d) [] ++ x ∷ []))) (cases_eq n (site d))
 
-  -- a node with a directed link has an end
-  pub some_lie : (Fit : X → Type 0) (ds : List Direction) (d : Direction) (lists : List (List X)) → AllLie at site end Fit (ds ++ d ∷ []) lists → site d < length lists → 0 < length (get_or lists (site d) [])
+  -- a node with an arc has an end
+  pub some_lie : (Fit : X → Type 0) (ds : List Arc) (d : Arc) (lists : List (List X)) → AllLie at site end Fit (ds ++ d ∷ []) lists → site d < length lists → 0 < length (get_or lists (site d) [])
   some_lie Fit ds d lists all inside =
       let n = site d in
       let xs = get_or lists n [] in
       let whole = (all n inside).places ∙ one_more (here n) end ds d 0 (eq-eqb n n refl) in
       omega (arith, length-map xs at, ap (length {A = LinkAt}) whole, length_push (links_by (here n) end 0 ds) (end d, 0 + length ds))
 
-  -- the last directed link, whose end is taken back from its node
-  module _ (Fit : X → Type 0) (ds : List Direction) (d : Direction) (lists : List (List X)) (x : X)
+  -- the last arc, whose end is taken back from its node
+  module _ (Fit : X → Type 0) (ds : List Arc) (d : Arc) (lists : List (List X)) (x : X)
       (all : AllLie at site end Fit (ds ++ d ∷ []) (handed lists (site d) x)) (inside : site d < length lists) where
     abbrev n : Position
     n = site d
@@ -102,18 +102,18 @@ module _ {X : Type 0} (at : X → LinkAt) (site : Direction → Position) (end :
     pub fewer_lie : AllLie at site end Fit ds lists
     fewer_lie m below = fewer_at m below (cases_eq m n)
 
--- ---- The first directed links of a plan
+-- ---- The first arcs of a plan
 
-pub take_next : (ds : List Direction) (k : ℕ) (d : Direction) → slice_get ds k ≡ Some d → take (k + 1) ds ≡ take k ds ++ d ∷ []
-take_next ds k d h = take_more ds k d (slice_get_within ds k d h) ∙ ap (λ (x : Direction). take k ds ++ x ∷ []) (get_or_from_slice_get ds k d d h)
+pub take_next : (ds : List Arc) (k : ℕ) (d : Arc) → slice_get ds k ≡ Some d → take (k + 1) ds ≡ take k ds ++ d ∷ []
+take_next ds k d h = take_more ds k d (slice_get_within ds k d h) ∙ ap (λ (x : Arc). take k ds ++ x ∷ []) (get_or_from_slice_get ds k d d h)
 
-pub length_first : (ds : List Direction) (k : ℕ) → k < length ds → length (take k ds) ≡ k
+pub length_first : (ds : List Arc) (k : ℕ) → k < length ds → length (take k ds) ≡ k
 length_first ds k below = omega (arith, length-take k ds)
 
 -- one more cell is dealt
 module _ (plan : PlanRec) (cells : List (CellRec PlanRec)) (cell : CellRec PlanRec) (link : LinkNumber) (count : length cells ≡ link) where
-  abbrev ds : List Direction
-  ds = directions plan.links
+  abbrev ds : List Arc
+  ds = arcs plan
 
   abbrev tables_then : List TableId
   tables_then = tables_of (cells ++ cell ∷ [])
@@ -138,7 +138,7 @@ module _ (plan : PlanRec) (cells : List (CellRec PlanRec)) (cell : CellRec PlanR
   pub deal_more : (before after : List Ends) → length before ≡ length plan.nodes → AreDealt (cells_of plan cells) (take link ds) before → Deals plan link cell before after
       → AreDealt (cells_of plan (cells ++ cell ∷ [])) (take (link + 1) ds) after
   deal_more before after nodes dealt one =
-      let d = one.direction in
+      let d = one.arc in
       let first = length_first ds link (slice_get_within ds link d one.here) in
       let outgoing_inside : d.from < length (outgoing_of before) = omega (arith, length-map before outgoing_items, nodes, one.from_there) in
       let incoming_inside : d.to < length (incoming_of before) = omega (arith, length-map before incoming_items, nodes, one.to_there) in
@@ -151,10 +151,10 @@ module _ (plan : PlanRec) (cells : List (CellRec PlanRec)) (cell : CellRec PlanR
       let next = sym (take_next ds link d one.here) in
       record {
         outgoing =
-            subst (λ (l : List Direction). OutgoingLie (IsDealtOutgoing (cells_of plan (cells ++ cell ∷ []))) l (outgoing_of after)) next
+            subst (λ (l : List Arc). OutgoingLie (IsDealtOutgoing (cells_of plan (cells ++ cell ∷ []))) l (outgoing_of after)) next
             (subst (OutgoingLie (IsDealtOutgoing (cells_of plan (cells ++ cell ∷ []))) (take link ds ++ d ∷ [])) (sym one.outgoing) outgoing_then);
         incoming =
-            subst (λ (l : List Direction). IncomingLie (IsDealtIncoming (cells_of plan (cells ++ cell ∷ []))) l (incoming_of after)) next
+            subst (λ (l : List Arc). IncomingLie (IsDealtIncoming (cells_of plan (cells ++ cell ∷ []))) l (incoming_of after)) next
             (subst (IncomingLie (IsDealtIncoming (cells_of plan (cells ++ cell ∷ []))) (take link ds ++ d ∷ [])) (sym one.incoming) incoming_then);
       }
 
@@ -176,7 +176,7 @@ module _ (plan : PlanRec) (cells : List (CellRec PlanRec)) (cell : CellRec PlanR
 -- the nodes stay
 pub deals_nodes : (plan : PlanRec) (link : LinkNumber) (cell : CellRec PlanRec) (before after : List Ends) → Deals plan link cell before after → length after ≡ length before
 deals_nodes plan link cell before after one =
-    let d = one.direction in
+    let d = one.arc in
     let x = outgoing_end d link plan cell.table in
     omega (
       arith,
@@ -187,9 +187,9 @@ deals_nodes plan link cell before after one =
     )
 
 -- all are dealt
-pub new_ends : (cells : CellsRec) (all : List Ends) → AreDealt cells (directions cells.plan.links) all → (n : Position) (ends : Ends) → slice_get all n ≡ Some ends → AreNewEnds cells n ends
+pub new_ends : (cells : CellsRec) (all : List Ends) → AreDealt cells (arcs cells.plan) all → (n : Position) (ends : Ends) → slice_get all n ≡ Some ends → AreNewEnds cells n ends
 new_ends cells all dealt n ends h =
-    let ds = directions cells.plan.links in
+    let ds = arcs cells.plan in
     let within = slice_get_within all n ends h in
     let out = subst (Lies leaves_at from_of from_end_of (IsDealtOutgoing cells) ds n) (map_or_at outgoing_items all n ends [] h)
     (dealt.outgoing n (omega (arith, length-map all outgoing_items, within))) in

@@ -1,4 +1,4 @@
--- The ends are taken back from the last directed link on, and each log is as its end that writes has left it.
+-- The ends are taken back from the last arc on, and each log is as its end that writes has left it.
 use Rattle.std.proofs.Common.{◌≡◌, ℕ, zero, suc, ◌+◌, ◌<◌, Some, List, [], ◌∷◌, ◌++◌, length, map, take, get_or, slice_get, refl, sym, ap, ◌∙◌, subst, arith, inl, inr}
 use Rattle.std.specs.Prelude.{reverse}
 use mathlib.Core.Logic.{◌⊎◌}
@@ -7,7 +7,7 @@ use Rattle.std.proofs.lemmas.Bool.{cases_eq}
 use Rattle.std.proofs.lemmas.Option.{none-some, same_Some, slice_get_within}
 use Rattle.std.proofs.lemmas.List.{append_assoc, append-nil, reverse-append, length-map, length-set, length_push, get_or-set_same, get_or-set_other, take_all}
 use Rattle.xs_base.specs.Numbers.{Position, LinkNumber}
-use Rattle.sys_plan.specs.Plan.{PlanRec, Direction, directions}
+use Rattle.sys_plan.specs.Plan.{PlanRec, Arc, arcs, arc_count}
 use Rattle.link_logs.specs.Logs.{LogRec}
 use Rattle.link_logs.specs.Entries.{between}
 use Rattle.log_cells.specs.Ends.{CellRec, WritesTo, ReadsOf}
@@ -61,7 +61,7 @@ module _ {X : Type 0} where
   pub all_parted : (Then : X → Type 0) (whole : List X) (left : List X) → Parted Then whole left → left ≡ [] → AllByRecursion Then whole
   all_parted Then whole left p none = subst (AllByRecursion Then) (sym (p.parts ∙ (λ i. none i ++ p.gone))) p.each
 
--- ---- The logs so far: those of the directed links from a number on
+-- ---- The logs so far: those of the arcs from a number on
 
 -- the log of an end's link is among them, as the end has left it
 pub record LeftFrom (k : LinkNumber) (logs : List (LogRec PlanRec)) (o : Outgoing) : Type 0 where
@@ -100,23 +100,23 @@ log_of plan link cell o log is taken =
       entries = taken.own ∙ (λ i. between (carried_at (run i) (number i)) 0 log.published) ∙ between_is_history plan link 0 log.published (omega arith);
     }
 
--- ---- From the last directed link on
+-- ---- From the last arc on
 
--- what is left of the cells and of the ends, and the logs so far, the last of which is that of the first directed link
+-- what is left of the cells and of the ends, and the logs so far, the last of which is that of the first arc
 pub record Gathers (plan : PlanRec) (whole : List (CellRec PlanRec)) (given : List Ends) (cells : List (CellRec PlanRec)) (all : List Ends) (logs : List (LogRec PlanRec)) : Type 0 where
   pub each : (k : LinkNumber) (cell : CellRec PlanRec) → slice_get cells k ≡ Some cell → slice_get whole k ≡ Some cell
-  pub count : length cells + length logs ≡ length (directions plan.links)
+  pub count : length cells + length logs ≡ arc_count plan
   pub nodes : length all ≡ length plan.nodes
-  pub outgoing : OutgoingLie (IsOutgoing (cells_of plan whole)) (take (length cells) (directions plan.links)) (outgoing_of all)
-  pub incoming : IncomingLie (IsIncoming (cells_of plan whole)) (take (length cells) (directions plan.links)) (incoming_of all)
+  pub outgoing : OutgoingLie (IsOutgoing (cells_of plan whole)) (take (length cells) (arcs plan)) (outgoing_of all)
+  pub incoming : IncomingLie (IsIncoming (cells_of plan whole)) (take (length cells) (arcs plan)) (incoming_of all)
   pub own : (k : ℕ) (log : LogRec PlanRec) → slice_get (reverse logs) k ≡ Some log → IsLogOf plan (length cells + k) log
   pub left : AllParted (LeftFrom (length cells) (reverse logs)) (outgoing_of given) (outgoing_of all)
 
 -- before the first step
 module _ (plan : PlanRec) (whole : List (CellRec PlanRec)) (given : List Ends) (are : AreCells plan whole) (nodes : length given ≡ length plan.nodes)
     (ends : (n : Position) (e : Ends) → slice_get given n ≡ Some e → AreEnds (cells_of plan whole) n e) where
-  all_first : take (length whole) (directions plan.links) ≡ directions plan.links
-  all_first = take_all (length whole) (directions plan.links) (omega (arith, are.count))
+  all_first : take (length whole) (arcs plan) ≡ arcs plan
+  all_first = take_all (length whole) (arcs plan) (omega (arith, are.count))
 
   pub gathers_none : Gathers plan whole given whole given []
   gathers_none = record {
@@ -126,14 +126,14 @@ module _ (plan : PlanRec) (whole : List (CellRec PlanRec)) (given : List Ends) (
     outgoing = λ n below.
         let e = some_at given n (omega (arith, length-map given outgoing_items)) in
         let is = ends n e.0 e.1 in
-        subst (λ (l : List Direction). Lies leaves_at from_of from_end_of (IsOutgoing (cells_of plan whole)) l n (get_or (outgoing_of given) n [])) (sym all_first)
-        (subst (Lies leaves_at from_of from_end_of (IsOutgoing (cells_of plan whole)) (directions plan.links) n) (sym (map_or_at outgoing_items given n e.0 [] e.1))
+        subst (λ (l : List Arc). Lies leaves_at from_of from_end_of (IsOutgoing (cells_of plan whole)) l n (get_or (outgoing_of given) n [])) (sym all_first)
+        (subst (Lies leaves_at from_of from_end_of (IsOutgoing (cells_of plan whole)) (arcs plan) n) (sym (map_or_at outgoing_items given n e.0 [] e.1))
         (record { places = is.outgoing_at; fit = is.outgoing_fit }));
     incoming = λ n below.
         let e = some_at given n (omega (arith, length-map given incoming_items)) in
         let is = ends n e.0 e.1 in
-        subst (λ (l : List Direction). Lies comes_at to_of to_end_of (IsIncoming (cells_of plan whole)) l n (get_or (incoming_of given) n [])) (sym all_first)
-        (subst (Lies comes_at to_of to_end_of (IsIncoming (cells_of plan whole)) (directions plan.links) n) (sym (map_or_at incoming_items given n e.0 [] e.1))
+        subst (λ (l : List Arc). Lies comes_at to_of to_end_of (IsIncoming (cells_of plan whole)) l n (get_or (incoming_of given) n [])) (sym all_first)
+        (subst (Lies comes_at to_of to_end_of (IsIncoming (cells_of plan whole)) (arcs plan) n) (sym (map_or_at incoming_items given n e.0 [] e.1))
         (record { places = is.incoming_at; fit = is.incoming_fit }));
     own = λ k log h. absurd (none-some log h);
     left = none_parted (LeftFrom (length whole) []) (outgoing_of given);
@@ -161,8 +161,8 @@ module _ (plan : PlanRec) (whole : List (CellRec PlanRec)) (given all : List End
 -- one step: the ends of the last cell that is left
 module _ (plan : PlanRec) (whole : List (CellRec PlanRec)) (given : List Ends) (are : AreCells plan whole) (cells : List (CellRec PlanRec)) (cell : CellRec PlanRec) (all : List Ends) (logs : List (LogRec PlanRec))
     (g : Gathers plan whole given (cells ++ cell ∷ []) all logs) where
-  abbrev ds : List Direction
-  ds = directions plan.links
+  abbrev ds : List Arc
+  ds = arcs plan
 
   abbrev link : LinkNumber
   link = length cells
@@ -179,15 +179,15 @@ module _ (plan : PlanRec) (whole : List (CellRec PlanRec)) (given : List Ends) (
   cell_here : slice_get whole link ≡ Some cell
   cell_here = g.each link cell (at_push cells cell link refl)
 
-  module _ (d : Direction) (here : slice_get ds link ≡ Some d) (from_there : d.from < length plan.nodes) (to_there : d.to < length plan.nodes) where
+  module _ (d : Arc) (here : slice_get ds link ≡ Some d) (from_there : d.from < length plan.nodes) (to_there : d.to < length plan.nodes) where
     first_are : take (length (cells ++ cell ∷ [])) ds ≡ take link ds ++ d ∷ []
     first_are = ap (λ (k : ℕ). take k ds) (length_push cells cell) ∙ take_next ds link d here
 
     outgoing_lie : OutgoingLie FitsOutgoing (take link ds ++ d ∷ []) (outgoing_of all)
-    outgoing_lie = subst (λ (l : List Direction). OutgoingLie FitsOutgoing l (outgoing_of all)) first_are g.outgoing
+    outgoing_lie = subst (λ (l : List Arc). OutgoingLie FitsOutgoing l (outgoing_of all)) first_are g.outgoing
 
     incoming_lie : IncomingLie FitsIncoming (take link ds ++ d ∷ []) (incoming_of all)
-    incoming_lie = subst (λ (l : List Direction). IncomingLie FitsIncoming l (incoming_of all)) first_are g.incoming
+    incoming_lie = subst (λ (l : List Arc). IncomingLie FitsIncoming l (incoming_of all)) first_are g.incoming
 
     pub some_outgoing : 0 < length (get_or (outgoing_of all) d.from [])
     some_outgoing =

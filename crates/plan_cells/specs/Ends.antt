@@ -1,9 +1,9 @@
--- The cells of a plan's directed links, and the ends of these cells that the nodes hold.
+-- The cells of a plan's arcs, and the ends of these cells that the nodes hold.
 use Rattle.std.specs.Prelude.{◌≡◌, ◌+◌, Bool, ◌==◌, if◌then◌else◌, Some, None, List, [], ◌∷◌, map, slice_get}
 use Rattle.std.specs.List.{AllByRecursion}
 use Rattle.atomic_table.specs.Seated.{TableId}
 use Rattle.xs_base.specs.Numbers.{EndNumber, Position, LinkNumber}
-use Rattle.sys_plan.specs.Plan.{PlanRec, Direction, directions}
+use Rattle.sys_plan.specs.Plan.{PlanRec, Arc, arcs}
 use Rattle.serial_model.specs.Serial.{history}
 use Rattle.link_logs.specs.Logs.{LogRec, new_write_end, new_read_end}
 use Rattle.plan_cells.specs.declared.ends.Outgoing.{Outgoing}
@@ -12,21 +12,21 @@ use Rattle.plan_cells.specs.declared.ends.Ends.{Ends}
 
 -- ---- Which ends a node holds
 
--- a directed link at a node: its link end there, and its number
+-- an arc at a node: its link end there, and its number
 abbrev pub LinkAt : Type 0
 LinkAt = EndNumber × LinkNumber
 
--- the directed links among these, of which the first has the number k, that pass a test, each with one of its link ends
-abbrev pub links_by : (Direction → Bool) → (Direction → EndNumber) → LinkNumber → List Direction → List LinkAt
+-- the arcs among these, of which the first has the number k, that pass a test, each with one of its link ends
+abbrev pub links_by : (Arc → Bool) → (Arc → EndNumber) → LinkNumber → List Arc → List LinkAt
 links_by test end k [] = []
 links_by test end k (d ∷ ds) = if test d then (end d, k) ∷ links_by test end (k + 1) ds else links_by test end (k + 1) ds
 
--- the directed links that leave the node at a position, and those that come to it, by number
+-- the arcs that leave the node at a position, and those that come to it, by number
 abbrev pub leaving : PlanRec → Position → List LinkAt
-leaving plan n = links_by (λ d. d.from == n) (λ d. d.from_end) 0 (directions plan.links)
+leaving plan n = links_by (λ d. d.from == n) (λ d. d.from_end) 0 (arcs plan)
 
 abbrev pub coming : PlanRec → Position → List LinkAt
-coming plan n = links_by (λ d. d.to == n) (λ d. d.to_end) 0 (directions plan.links)
+coming plan n = links_by (λ d. d.to == n) (λ d. d.to_end) 0 (arcs plan)
 
 -- where an end is
 abbrev pub leaves_at : Outgoing → LinkAt
@@ -37,7 +37,7 @@ comes_at i = (i.end, i.link)
 
 -- ---- The cells and their ends
 
--- the cells of a plan's directed links, by number: which table each of them is
+-- the cells of a plan's arcs, by number: which table each of them is
 pub record CellsRec : Type 0 where
   pub plan : PlanRec
   pub tables : List TableId
@@ -77,7 +77,7 @@ pub record AreNewEnds (cells : CellsRec) (n : Position) (ends : Ends) : Type 0 w
 
 -- ---- The logs at the end
 
--- the log of a directed link: all that the link carries before the published slot
+-- the log of an arc: all that the link carries before the published slot
 pub record IsLogOf (plan : PlanRec) (link : LinkNumber) (log : LogRec PlanRec) : Type 0 where
   pub run : log.run ≡ plan
   pub number : log.number ≡ link

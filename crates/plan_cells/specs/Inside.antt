@@ -3,7 +3,7 @@ use Rattle.std.specs.Prelude.{ℕ, ◌≡◌, ◌<◌, ◌++◌, ◌==◌, Some,
 use Rattle.std.specs.List.{AllByRecursion}
 use Rattle.atomic_table.specs.Seated.{TableId}
 use Rattle.xs_base.specs.Numbers.{EndNumber, Position, LinkNumber}
-use Rattle.sys_plan.specs.Plan.{PlanRec, Direction, directions}
+use Rattle.sys_plan.specs.Plan.{PlanRec, Arc, arcs, arc_count}
 use Rattle.link_logs.specs.Logs.{new_write_end, new_read_end}
 use Rattle.log_cells.specs.Ends.{CellRec}
 use Rattle.plan_cells.specs.declared.way.Way.{Way}
@@ -20,28 +20,28 @@ tables_of cells = map (λ (c : CellRec PlanRec). c.table) cells
 abbrev pub cells_of : PlanRec → List (CellRec PlanRec) → CellsRec
 cells_of plan cells = record { plan = plan; tables = tables_of cells }
 
--- a cell is that of the directed link with a number
+-- a cell is that of the arc with a number
 pub record IsCellOf (plan : PlanRec) (link : LinkNumber) (cell : CellRec PlanRec) : Type 0 where
   pub run : cell.run ≡ plan
   pub number : cell.number ≡ link
 
--- one cell for each directed link of a plan, by number
+-- one cell for each arc of a plan, by number
 pub record AreCells (plan : PlanRec) (cells : List (CellRec PlanRec)) : Type 0 where
-  pub count : length cells ≡ length (directions plan.links)
+  pub count : length cells ≡ arc_count plan
   pub each : (link : LinkNumber) (cell : CellRec PlanRec) → slice_get cells link ≡ Some cell → IsCellOf plan link cell
 
--- ---- Directed links
+-- ---- Arcs
 
--- a way is that of the directed link with a number, and its nodes are there
+-- a way is that of the arc with a number, and its nodes are there
 pub record IsWay (plan : PlanRec) (link : LinkNumber) (way : Way) : Type 0 where
-  pub direction : Direction
-  pub here : slice_get (directions plan.links) link ≡ Some direction
-  pub from : way.from ≡ direction.from
-  pub from_end : way.from_end ≡ direction.from_end
-  pub to : way.to ≡ direction.to
-  pub to_end : way.to_end ≡ direction.to_end
-  pub from_there : direction.from < length plan.nodes
-  pub to_there : direction.to < length plan.nodes
+  pub arc : Arc
+  pub here : slice_get (arcs plan) link ≡ Some arc
+  pub from : way.from ≡ arc.from
+  pub from_end : way.from_end ≡ arc.from_end
+  pub to : way.to ≡ arc.to
+  pub to_end : way.to_end ≡ arc.to_end
+  pub from_there : arc.from < length plan.nodes
+  pub to_there : arc.to < length plan.nodes
 
 -- ---- Ends by node
 
@@ -61,49 +61,49 @@ incoming_of all = map incoming_items all
 abbrev pub handed : {X : Type 0} → List (List X) → ℕ → X → List (List X)
 handed lists n x = slice_set lists n (slice_index_or lists n [] ++ x ∷ [])
 
--- of the directed links at a node, in order, each has one of these, and each of these is fit
-pub record Lies {X : Type 0} (at : X → LinkAt) (site : Direction → Position) (end : Direction → EndNumber) (Fit : X → Type 0) (ds : List Direction) (n : Position) (xs : List X) : Type 0 where
+-- of the arcs at a node, in order, each has one of these, and each of these is fit
+pub record Lies {X : Type 0} (at : X → LinkAt) (site : Arc → Position) (end : Arc → EndNumber) (Fit : X → Type 0) (ds : List Arc) (n : Position) (xs : List X) : Type 0 where
   pub places : map at xs ≡ links_by (λ d. site d == n) end 0 ds
   pub fit : AllByRecursion Fit xs
 
-abbrev pub AllLie : {X : Type 0} → (X → LinkAt) → (Direction → Position) → (Direction → EndNumber) → (X → Type 0) → List Direction → List (List X) → Type 0
+abbrev pub AllLie : {X : Type 0} → (X → LinkAt) → (Arc → Position) → (Arc → EndNumber) → (X → Type 0) → List Arc → List (List X) → Type 0
 AllLie at site end Fit ds lists = (n : Position) → n < length lists → Lies at site end Fit ds n (slice_index_or lists n [])
 
-abbrev pub from_of : Direction → Position
+abbrev pub from_of : Arc → Position
 from_of d = d.from
 
-abbrev pub to_of : Direction → Position
+abbrev pub to_of : Arc → Position
 to_of d = d.to
 
-abbrev pub from_end_of : Direction → EndNumber
+abbrev pub from_end_of : Arc → EndNumber
 from_end_of d = d.from_end
 
-abbrev pub to_end_of : Direction → EndNumber
+abbrev pub to_end_of : Arc → EndNumber
 to_end_of d = d.to_end
 
-abbrev pub OutgoingLie : (Outgoing → Type 0) → List Direction → List (List Outgoing) → Type 0
+abbrev pub OutgoingLie : (Outgoing → Type 0) → List Arc → List (List Outgoing) → Type 0
 OutgoingLie Fit ds lists = AllLie leaves_at from_of from_end_of Fit ds lists
 
-abbrev pub IncomingLie : (Incoming → Type 0) → List Direction → List (List Incoming) → Type 0
+abbrev pub IncomingLie : (Incoming → Type 0) → List Arc → List (List Incoming) → Type 0
 IncomingLie Fit ds lists = AllLie comes_at to_of to_end_of Fit ds lists
 
 -- ---- Dealing
 
 -- the ends of a cell as they are made
-abbrev pub outgoing_end : Direction → LinkNumber → PlanRec → TableId → Outgoing
+abbrev pub outgoing_end : Arc → LinkNumber → PlanRec → TableId → Outgoing
 outgoing_end d link plan table = record { end = d.from_end; link = link; w = record { table = table; end = new_write_end plan link; refused = 0 } }
 
-abbrev pub incoming_end : Direction → LinkNumber → PlanRec → TableId → Incoming
+abbrev pub incoming_end : Arc → LinkNumber → PlanRec → TableId → Incoming
 incoming_end d link plan table = record { end = d.to_end; link = link; r = record { table = table; end = new_read_end plan link; refused = 0 }; hand = None }
 
 -- the ends of one more cell go to its two nodes
 pub record Deals (plan : PlanRec) (link : LinkNumber) (cell : CellRec PlanRec) (before after : List Ends) : Type 0 where
-  pub direction : Direction
-  pub here : slice_get (directions plan.links) link ≡ Some direction
-  pub from_there : direction.from < length plan.nodes
-  pub to_there : direction.to < length plan.nodes
-  pub outgoing : outgoing_of after ≡ handed (outgoing_of before) direction.from (outgoing_end direction link plan cell.table)
-  pub incoming : incoming_of after ≡ handed (incoming_of before) direction.to (incoming_end direction link plan cell.table)
+  pub arc : Arc
+  pub here : slice_get (arcs plan) link ≡ Some arc
+  pub from_there : arc.from < length plan.nodes
+  pub to_there : arc.to < length plan.nodes
+  pub outgoing : outgoing_of after ≡ handed (outgoing_of before) arc.from (outgoing_end arc link plan cell.table)
+  pub incoming : incoming_of after ≡ handed (incoming_of before) arc.to (incoming_end arc link plan cell.table)
 
 -- each end is a new one of a cell among these
 abbrev pub IsDealtOutgoing : CellsRec → Outgoing → Type 0
@@ -112,7 +112,7 @@ IsDealtOutgoing cells o = IsOutgoing cells o × IsNewOutgoing cells.plan o
 abbrev pub IsDealtIncoming : CellsRec → Incoming → Type 0
 IsDealtIncoming cells i = IsIncoming cells i × IsNewIncoming cells.plan i
 
--- the ends of the first directed links are with their nodes
-pub record AreDealt (cells : CellsRec) (ds : List Direction) (all : List Ends) : Type 0 where
+-- the ends of the first arcs are with their nodes
+pub record AreDealt (cells : CellsRec) (ds : List Arc) (all : List Ends) : Type 0 where
   pub outgoing : OutgoingLie (IsDealtOutgoing cells) ds (outgoing_of all)
   pub incoming : IncomingLie (IsDealtIncoming cells) ds (incoming_of all)

@@ -1,6 +1,6 @@
 //! How the cells of a plan are made, and their ends dealt to the nodes.
 ghost use Rattle.std.specs.Prelude.{◌≡◌, ◌<◌, [], IfOk, OnOk, length, replicate};
-ghost use Rattle.sys_plan.specs.Plan.{directions};
+ghost use Rattle.sys_plan.specs.Plan.{arcs, arc_count};
 ghost use Rattle.plan_cells.specs.Inside.{AreCells, IsCellOf, AreDealt, Deals, handed, outgoing_of, incoming_of, cells_of};
 
 use crate::ends::{Ends, Incoming, Outgoing};
@@ -26,7 +26,7 @@ pub(crate) fn no_ends(alloc: Global, nodes: usize) -> Result<Vec<Ends>, AllocErr
     Ok(all)
 }
 
-/// A new cell for each directed link of a plan, by number, whose ends go to the nodes, which have none so far. The error is want of
+/// A new cell for each arc of a plan, by number, whose ends go to the nodes, which have none so far. The error is want of
 /// memory.
 pub(crate) fn deal_all(
     alloc: Global,
@@ -37,7 +37,7 @@ pub(crate) fn deal_all(
     requires no_incoming { incoming_of all.old.items ≡ replicate (length plan.now.value.nodes) [] }
     ensures cells { IfOk result (λ cells. AreCells plan.now.value cells.items) }
     ensures nodes { OnOk result (length all.new.items ≡ length plan.now.value.nodes) }
-    ensures dealt { IfOk result (λ cells. AreDealt (cells_of plan.now.value cells.items) (directions plan.now.value.links) all.new.items) }
+    ensures dealt { IfOk result (λ cells. AreDealt (cells_of plan.now.value cells.items) (arcs plan.now.value) all.new.items) }
 {
     let mut cells = Vec::new(alloc);
     for link in 0..2 * plan.links().len() {
@@ -47,14 +47,14 @@ pub(crate) fn deal_all(
     Ok(cells)
 }
 
-// A new cell for the directed link with a number, whose ends go to its two nodes, behind those that they have.
+// A new cell for the arc with a number, whose ends go to its two nodes, behind those that they have.
 fn deal(
     alloc: Global,
     plan: &Arc<Plan>,
     link: u32,
     all: &mut Vec<Ends>,
 ) -> Result<Cell<PlanStory>, AllocError>
-    requires link { link < length (directions plan.now.value.links) }
+    requires link { link < arc_count plan.now.value }
     requires nodes { length all.old.items ≡ length plan.now.value.nodes }
     ensures cell { IfOk result (λ cell. IsCellOf plan.now.value link cell) }
     ensures deals { IfOk result (λ cell. Deals plan.now.value link cell all.old.items all.new.items) }

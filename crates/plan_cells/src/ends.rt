@@ -11,8 +11,8 @@ pub struct Hand {
     pub to: u32,
 }
 
-/// The end by which a node writes to the cell of a directed link that leaves it: the link end, 0 to 7, by which the link leaves, and
-/// the number of the directed link.
+/// The end by which a node writes to the cell of an arc that leaves it: the link end, 0 to 7, by which the link leaves, and
+/// the number of the arc.
 #[derive(Drop)]
 pub struct Outgoing {
     pub end: u8,
@@ -20,8 +20,8 @@ pub struct Outgoing {
     pub w: WriteEnd<PlanStory>,
 }
 
-/// The end by which a node reads the cell of a directed link that comes to it: the link end, 0 to 7, to which the link comes, the
-/// number of the directed link, and what was read and is still in hand.
+/// The end by which a node reads the cell of an arc that comes to it: the link end, 0 to 7, to which the link comes, the
+/// number of the arc, and what was read and is still in hand.
 #[derive(Drop)]
 pub struct Incoming {
     pub end: u8,
@@ -30,7 +30,7 @@ pub struct Incoming {
     pub hand: Option<Hand>,
 }
 
-/// The ends that a node holds, one for each directed link that leaves it and one for each that comes to it, by number.
+/// The ends that a node holds, one for each arc that leaves it and one for each that comes to it, by number.
 #[derive(Drop)]
 pub struct Ends {
     pub outgoing: Vec<Outgoing>,

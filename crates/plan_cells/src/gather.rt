@@ -2,7 +2,7 @@
 ghost use Rattle.std.specs.Prelude.{◌≡◌, ◌<◌, Some, [], IfOk, length, slice_get, slice_index_or};
 ghost use Rattle.std.specs.List.{AllByRecursion};
 ghost use Rattle.xs_base.specs.Numbers.{Position, LinkNumber};
-ghost use Rattle.sys_plan.specs.Plan.{PlanRec, directions};
+ghost use Rattle.sys_plan.specs.Plan.{PlanRec, arc_count};
 ghost use Rattle.link_logs.specs.Logs.{LogRec};
 ghost use Rattle.plan_cells.specs.declared.ends.Ends as ends;
 ghost use Rattle.plan_cells.specs.Ends.{AreEnds, IsLogOf, HasLeft};
@@ -26,14 +26,14 @@ pub(crate) fn logs_of(
     requires cells { AreCells plan.now cells.items }
     requires nodes { length all.items ≡ length plan.now.nodes }
     requires ends { (n : Position) (e : ends.Ends) → slice_get all.items n ≡ Some e → AreEnds (cells_of plan.now cells.items) n e }
-    ensures links { IfOk result (λ logs. length logs.items ≡ length (directions plan.now.links)) }
+    ensures links { IfOk result (λ logs. length logs.items ≡ arc_count plan.now) }
     ensures own { IfOk result (λ logs. (link : LinkNumber) (log : LogRec PlanRec) → slice_get logs.items link ≡ Some log → IsLogOf plan.now link log) }
     ensures left { IfOk result (λ logs. (n : Position) (e : ends.Ends) → slice_get all.items n ≡ Some e → AllByRecursion (HasLeft logs.items) e.outgoing.items) }
 {
     let mut cells = cells;
     let mut all = all;
     let mut logs = Vec::new(alloc);
-    // From the last directed link on, whose ends are the last that its two nodes have.
+    // From the last arc on, whose ends are the last that its two nodes have.
     while let Some(cell) = cells.pop() {
         let way = way_of(plan, cells.len());
         let outgoing = last_outgoing(&mut all, way.from);

@@ -1,4 +1,4 @@
-//! The cells of a plan's directed links, one for each, and the ends of these cells by node. See docs/LOOKAHEAD.md.
+//! The cells of a plan's arcs, one for each, and the ends of these cells by node. See docs/LOOKAHEAD.md.
 #![tactic(auto)]
 
 mod cells;

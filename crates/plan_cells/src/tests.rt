@@ -49,7 +49,7 @@ fn joined(alloc: Global) -> Result<Plan, AllocError>
     Ok(Plan::of(nodes, links, Script::empty(), Vec::new(alloc)))
 }
 
-// Whether these are an end that writes and an end that reads, at this link end of these directed links.
+// Whether these are an end that writes and an end that reads, at this link end of these arcs.
 fn are_ends(ends: &Ends, end: u8, leaves: u32, comes: u32) -> bool {
     let outgoing = ends.outgoing.iter().all(|o| o.end == end
         && o.link == leaves

@@ -1,11 +1,11 @@
-//! `Way`, which link ends a directed link joins.
+//! `Way`, which link ends an arc joins.
 ghost use Rattle.std.specs.Prelude.{◌<◌, length};
-ghost use Rattle.sys_plan.specs.Plan.{directions};
+ghost use Rattle.sys_plan.specs.Plan.{arc_count};
 ghost use Rattle.plan_cells.specs.Inside.{IsWay};
 
 use sys_plan::Plan;
 
-/// A directed link leads from a link end of the node at a position to one of another.
+/// An arc leads from a link end of the node at a position to one of another.
 #[derive(Clone, Copy)]
 pub(crate) struct Way {
     pub(crate) from: u8,
@@ -14,9 +14,9 @@ pub(crate) struct Way {
     pub(crate) to_end: u8,
 }
 
-/// The way of the directed link with a number.
+/// The way of the arc with a number.
 pub(crate) fn way_of(plan: &Plan, link: usize) -> Way
-    requires link { link < length (directions plan.now.links) }
+    requires link { link < arc_count plan.now }
     ensures way { IsWay plan.now link result }
 {
     let of = plan.links()[link / 2];

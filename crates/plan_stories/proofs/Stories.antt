@@ -1,4 +1,4 @@
--- What a directed link carries over some slots is what it carries in each of them, in turn.
+-- What an arc carries over some slots is what it carries in each of them, in turn.
 use Rattle.std.proofs.Common.{◌≡◌, ℕ, zero, suc, ◌+◌, ◌-◌, ◌≤◌, List, ◌++◌, sym, ap, ◌∙◌, arith}
 use Rattle.xs_base.specs.Numbers.{Slot, LinkNumber}
 use Rattle.xs_base.specs.declared.entry.Entry.{Entry}

@@ -1,4 +1,4 @@
-//! Logs of a plan's directed links have the histories of the serial machine. See docs/LOOKAHEAD.md.
+//! Logs of a plan's arcs have the histories of the serial machine. See docs/LOOKAHEAD.md.
 ghost use Rattle.std.specs.Prelude.{◌≡◌};
 ghost use Rattle.serial_model.specs.Serial.{history};
 ghost use Rattle.plan_stories.specs.Histories.{StoriesAreHistories};
@@ -7,13 +7,13 @@ use crate::story::PlanStory;
 use link_logs::Log;
 use xs_base::Entry;
 
-/// For every plan and each of its directed links: what its story tells of some slots, one after the other, is the history of the link over
+/// For every plan and each of its arcs: what its story tells of some slots, one after the other, is the history of the link over
 /// these slots in the serial machine. It does nothing.
 pub fn stories_are_histories()
     ensures histories { StoriesAreHistories }
 {}
 
-/// The entries of a log, in the order in which they were sent: the history of its directed link in the serial machine, from the log's base
+/// The entries of a log, in the order in which they were sent: the history of its arc in the serial machine, from the log's base
 /// on and before the slot up to which it is published. It takes no memory.
 pub fn history_in(log: &Log<PlanStory>) -> &[Entry]
     ensures value { result.now ≡ log.now.entries }

@@ -1,4 +1,4 @@
-//! What names a directed link of the run of a plan, and what its log has of the serial machine. See docs/LOOKAHEAD.md.
+//! What names an arc of the run of a plan, and what its log has of the serial machine. See docs/LOOKAHEAD.md.
 #![tactic(auto)]
 
 mod histories;

@@ -1,4 +1,4 @@
-//! `PlanStory`, what names a directed link of the run of a plan. See docs/LOOKAHEAD.md.
+//! `PlanStory`, what names an arc of the run of a plan. See docs/LOOKAHEAD.md.
 ghost use Rattle.std.specs.Prelude.{◌≡◌, IfOk};
 ghost use Rattle.plan_stories.specs.Stories.{carried_at};
 ghost use Rattle.locality_laws.proofs.Links.{slots_carry_few};
@@ -9,7 +9,7 @@ use std::marker::Model;
 use std::sync::Arc;
 use sys_plan::Plan;
 
-/// A directed link of the run of a plan: what it carries in each slot is what it carries in the serial machine. It is one more owner of
+/// An arc of the run of a plan: what it carries in each slot is what it carries in the serial machine. It is one more owner of
 /// the plan. Contracts see a `StoryRec` of `Rattle.plan_stories.specs.Stories`.
 #[derive(Drop)]
 pub struct PlanStory {
@@ -26,7 +26,7 @@ impl Model for PlanStory {
 }
 
 impl PlanStory {
-    /// The directed link of a plan with a number. It takes no memory; the error is that the plan has 2^63 - 1 owners already.
+    /// The arc of a plan with a number. It takes no memory; the error is that the plan has 2^63 - 1 owners already.
     pub fn new(plan: &Arc<Plan, Global>, link: u32) -> Result<PlanStory, AllocError>
         ensures story { IfOk result (λ s. s ≡ record { plan = plan.now.value; link = link }) }
     {

@@ -1,4 +1,4 @@
--- What is noted of the directed link at each link end of a node, where it changes for one link.
+-- What is noted of the arc at each link end of a node, where it changes for one link.
 use Rattle.std.proofs.Common.{◌≡◌, ◌≢◌, ℕ, ◌<◌, Option, Some, List, length, map, get_or, set, sym, ap, ◌∙◌, inl, inr}
 use mathlib.Core.Logic.{◌⊎◌}
 use Rattle.std.proofs.lemmas.Bool.{cases_eq}

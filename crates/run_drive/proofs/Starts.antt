@@ -1,7 +1,7 @@
 -- A play before its first step.
 use Rattle.std.proofs.Common.{◌≡◌, ℕ, zero, suc, Option, Some, None, List, length, map, replicate, get_or, refl, sym, ap, ◌∙◌, subst}
 use Rattle.xs_base.specs.Numbers.{Slot}
-use Rattle.sys_plan.specs.Plan.{PlanRec, directions, outgoing, link_ends}
+use Rattle.sys_plan.specs.Plan.{PlanRec, arc_count, outgoing, link_ends}
 use Rattle.ahead_limits.specs.Schedule.{schedule_at_start, horizon_of}
 use Rattle.play_model.specs.Play.{number_by}
 use Rattle.node_runners.specs.Runner.{RunnerRec, new_runner}
@@ -23,11 +23,11 @@ none_published plan count n = λ i. map (λ end. none_by count (outgoing plan n 
 
 module _ (plan : PlanRec) (limit : Slot) (runners : List RunnerRec) (lanes : List Lane)
     (node_count : length runners ≡ length plan.nodes) (nodes : AllAt (λ n r. r ≡ new_runner plan limit n) runners)
-    (link_count : length lanes ≡ length (directions plan.links)) (links : AllAt (IsNewLane plan) lanes) where
-  none_seen : seen_of lanes ≡ replicate (length (directions plan.links)) 0
+    (link_count : length lanes ≡ arc_count plan) (links : AllAt (IsNewLane plan) lanes) where
+  none_seen : seen_of lanes ≡ replicate (arc_count plan) 0
   none_seen = map_none (λ (l : Lane). l.r.got) lanes (λ k l below. (links k l below).seen_none) ∙ ap (λ n. replicate n 0) link_count
 
-  none_sent : published_of lanes ≡ replicate (length (directions plan.links)) 0
+  none_sent : published_of lanes ≡ replicate (arc_count plan) 0
   none_sent = map_none (λ (l : Lane). l.log.published) lanes (λ k l below. (links k l below).published_none) ∙ ap (λ n. replicate n 0) link_count
 
   none_ran : clocks_of runners ≡ replicate (length plan.nodes) 0
@@ -41,7 +41,7 @@ module _ (plan : PlanRec) (limit : Slot) (runners : List RunnerRec) (lanes : Lis
       of_plan = refl;
       node_is = refl;
       horizon_is = ap (λ (ns : List Slot). horizon_of plan limit ns n) (sym none_seen);
-      published_is = sym (ap (λ (ns : List Slot). published_at plan ns n) none_sent ∙ none_published plan (length (directions plan.links)) n);
+      published_is = sym (ap (λ (ns : List Slot). published_at plan ns n) none_sent ∙ none_published plan (arc_count plan) n);
     });
     each_lane = λ k l below. (links k l below).lane_is;
   }

@@ -1,11 +1,11 @@
--- What each step makes of the nodes and the directed links of a play.
+-- What each step makes of the nodes and the arcs of a play.
 use Rattle.std.proofs.Common.{◌≡◌, ◌≢◌, ℕ, ◌<◌, ◌≤◌, Option, Some, None, option_map, List, [], length, map, get_or, set, refl, sym, ap, ◌∙◌, subst, arith}
 use Rattle.std.proofs.lemmas.List.{get_or-set_same, get_or-set_other, length-set, length-map, get_or-map, map-set, set-get_or}
 use Rattle.xs_base.specs.Numbers.{Slot}
 use Rattle.xs_base.specs.declared.entry.Entry.{Entry}
 use Rattle.sys_plan.specs.declared.Step.{Step}
 use Rattle.sys_plan.specs.declared.Step.TheVariants.{Take, Run, Send}
-use Rattle.sys_plan.specs.Plan.{PlanRec, directions, leaves_by, comes_to, outgoing, incoming, delay_of}
+use Rattle.sys_plan.specs.Plan.{PlanRec, arc_count, leaves_by, comes_to, outgoing, incoming, delay_of}
 use Rattle.serial_model.specs.Serial.{history}
 use Rattle.link_logs.specs.declared.answers.Got.{Got}
 use Rattle.link_logs.specs.Logs.{looked}
@@ -136,7 +136,7 @@ module _ (plan : PlanRec) (limit : Slot) (runners : List RunnerRec) (lanes : Lis
           tells = λ i. record { step = Run node count; number = number_then i; entries = [] };
         }
 
-  module _ (link : ℕ) (lane : Lane) (lane_is : lane ≡ get_or lanes link lane) (link_below : link < length (directions plan.links)) where
+  module _ (link : ℕ) (lane : Lane) (lane_is : lane ≡ get_or lanes link lane) (link_below : link < arc_count plan) where
     lane_below : link < length lanes
     lane_below = omega (arith, link_below, at.link_count)
 

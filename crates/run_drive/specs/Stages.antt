@@ -1,8 +1,8 @@
--- A play at work: the nodes and the directed links of a plan, as far as its schedule has gone.
+-- A play at work: the nodes and the arcs of a plan, as far as its schedule has gone.
 use Rattle.std.specs.Prelude.{ℕ, ◌≡◌, ◌<◌, None, List, length, map, slice_index_or}
 use Rattle.xs_base.specs.Numbers.{Slot, Position, LinkNumber}
 use Rattle.sys_plan.specs.declared.Step.{Step}
-use Rattle.sys_plan.specs.Plan.{PlanRec, directions, outgoing, link_ends}
+use Rattle.sys_plan.specs.Plan.{PlanRec, arc_count, outgoing, link_ends}
 use Rattle.link_logs.specs.Logs.{Writes, Reads}
 use Rattle.ahead_limits.specs.Schedule.{ScheduleRec, horizon_of, after_step}
 use Rattle.play_model.specs.Play.{number_by, played_step}
@@ -16,20 +16,20 @@ use Rattle.run_drive.specs.Played.{line_of}
 abbrev pub AllAt : {X : Type 0} → (ℕ → X → Type 0) → List X → Type 0
 AllAt {X} P xs = (k : ℕ) (x : X) → k < length xs → P k (slice_index_or xs k x)
 
--- ---- One node, and one directed link
+-- ---- One node, and one arc
 
 -- what a node has published by each of its link ends, 0 where no link leaves
 abbrev pub published_at : PlanRec → List Slot → Position → List Slot
 published_at plan published n = map (λ end. number_by published (outgoing plan n end)) link_ends
 
--- the node at a position, by what is seen and what is published of each directed link
+-- the node at a position, by what is seen and what is published of each arc
 pub record IsRunner (plan : PlanRec) (limit : Slot) (seen published : List Slot) (n : Position) (runner : RunnerRec) : Type 0 where
   pub of_plan : runner.plan ≡ plan
   pub node_is : runner.node ≡ n
   pub horizon_is : runner.horizon ≡ horizon_of plan limit seen n
   pub published_is : runner.published ≡ published_at plan published n
 
--- the lane of the directed link with a number: its log is open, and both ends are that log's
+-- the lane of the arc with a number: its log is open, and both ends are that log's
 pub record IsLane (plan : PlanRec) (link : LinkNumber) (lane : Lane) : Type 0 where
   pub of_plan : lane.log.run ≡ plan
   pub number_is : lane.log.number ≡ link
@@ -57,10 +57,10 @@ published_of lanes = map (λ (lane : Lane). lane.log.published) lanes
 abbrev pub numbers_of : List RunnerRec → List Lane → ScheduleRec
 numbers_of runners lanes = record { clocks = clocks_of runners; seen = seen_of lanes; published = published_of lanes }
 
--- nodes by position and directed links by number, all as the numbers of the schedule have them
+-- nodes by position and arcs by number, all as the numbers of the schedule have them
 pub record AreAt (plan : PlanRec) (limit : Slot) (runners : List RunnerRec) (lanes : List Lane) : Type 0 where
   pub node_count : length runners ≡ length plan.nodes
-  pub link_count : length lanes ≡ length (directions plan.links)
+  pub link_count : length lanes ≡ arc_count plan
   pub each_node : AllAt (IsRunner plan limit (seen_of lanes) (published_of lanes)) runners
   pub each_lane : AllAt (IsLane plan) lanes
 

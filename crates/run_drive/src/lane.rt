@@ -1,6 +1,6 @@
-//! `Lane`, a directed link of a play: its log, and both ends of it.
+//! `Lane`, an arc of a play: its log, and both ends of it.
 ghost use Rattle.std.specs.Prelude.{◌<◌, IfOk, length};
-ghost use Rattle.sys_plan.specs.Plan.{directions};
+ghost use Rattle.sys_plan.specs.Plan.{arc_count};
 ghost use Rattle.run_drive.specs.Stages.{IsNewLane};
 
 use link_logs::{Log, ReadEnd, WriteEnd, make_log};
@@ -9,7 +9,7 @@ use std::alloc::{AllocError, Global};
 use std::sync::Arc;
 use sys_plan::Plan;
 
-/// The log of a directed link, with both of its ends.
+/// The log of an arc, with both of its ends.
 #[derive(Drop)]
 pub(crate) struct Lane {
     pub(crate) log: Log<PlanStory>,
@@ -18,9 +18,9 @@ pub(crate) struct Lane {
 }
 
 impl Lane {
-    /// The lane of the directed link with a number. The error is want of memory.
+    /// The lane of the arc with a number. The error is want of memory.
     pub(crate) fn new(alloc: Global, plan: &Arc<Plan>, link: u32) -> Result<Lane, AllocError>
-        requires link { link < length (directions plan.now.value.links) }
+        requires link { link < arc_count plan.now.value }
         ensures lane { IfOk result (λ lane. IsNewLane plan.now.value link lane) }
     {
         let story = PlanStory::new(plan, link)?;

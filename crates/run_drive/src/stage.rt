@@ -1,8 +1,8 @@
-//! `Stage`, the nodes and the directed links of a plan whose schedule is played.
+//! `Stage`, the nodes and the arcs of a plan whose schedule is played.
 ghost use Rattle.std.specs.Prelude.{◌≡◌, ◌≤◌, ◌+◌, if◌then◌else◌, Some, None, IsSome, IfOk, OnOk, [], length, slice_set, slice_index_or};
 ghost use Rattle.xs_base.specs.Numbers.{LinkNumber};
 ghost use Rattle.sys_plan.specs.declared.Step.TheVariants as step;
-ghost use Rattle.sys_plan.specs.Plan.{directions, incoming, NamesWhatIsThere};
+ghost use Rattle.sys_plan.specs.Plan.{arc_count, incoming, NamesWhatIsThere};
 ghost use Rattle.serial_model.specs.Serial.{history};
 ghost use Rattle.ahead_limits.specs.Horizon.{may_run, seen_at, seen_to};
 ghost use Rattle.ahead_limits.specs.Schedule.{schedule_at_start, clock_after};
@@ -20,7 +20,7 @@ use std::sync::Arc;
 use sys_plan::{Plan, Step};
 use xs_base::{Batch, Entry};
 
-/// The nodes of a plan by position, and its directed links by number, of which each is as far as the steps have brought it.
+/// The nodes of a plan by position, and its arcs by number, of which each is as far as the steps have brought it.
 #[derive(Drop)]
 pub(crate) struct Stage {
     // How many slots the run has.
@@ -161,9 +161,9 @@ fn runners_of(alloc: Global, plan: &Plan, limit: u32) -> Result<Vec<NodeRunner>,
     Ok(runners)
 }
 
-// The directed links of a plan by number, as they start.
+// The arcs of a plan by number, as they start.
 fn lanes_of(alloc: Global, plan: &Arc<Plan>) -> Result<Vec<Lane>, AllocError>
-    ensures count { IfOk result (λ v. length v.items ≡ length (directions plan.now.value.links)) }
+    ensures count { IfOk result (λ v. length v.items ≡ arc_count plan.now.value) }
     ensures start { IfOk result (λ v. AllAt (IsNewLane plan.now.value) v.items) }
 {
     let mut lanes = Vec::new(alloc);

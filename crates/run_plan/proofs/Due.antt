@@ -6,7 +6,7 @@ use Rattle.std.proofs.lemmas.Option.{same_Some}
 use Rattle.xs_base.specs.declared.entry.Entry.{Entry}
 use Rattle.node_seats.specs.declared.seat.Seat.{Seat}
 use Rattle.serial_model.specs.Serial.{sent_by}
-use Rattle.sys_plan.specs.Plan.{PlanRec, Direction, directions, incoming, link_ends}
+use Rattle.sys_plan.specs.Plan.{PlanRec, Arc, arcs, incoming, link_ends}
 use Rattle.sys_plan.proofs.Routes.{leads-to}
 use Rattle.crossings.specs.declared.crossing.Crossing.{Crossing}
 use Rattle.crossings.specs.Crossings.{no_crossing}
@@ -24,12 +24,12 @@ pub map-same : {X Y : Type 0} (f g : X → Y) → ((x : X) → f x ≡ g x) → 
 map-same f g h [] = refl
 map-same f g h (x ∷ xs) = λ i. h x i ∷ map-same f g h xs i
 
--- what arrives by a directed link makes the node that it leads to due
-heeded-at : (stations : List Station) (ds : List Direction) (tracks : List Track) (histories : List (List Entry)) (k : ℕ) (d : Direction) → AllCarry ds tracks histories → AllByRecursion (IsHeeded stations) tracks
+-- what arrives by an arc makes the node that it leads to due
+heeded-at : (stations : List Station) (ds : List Arc) (tracks : List Track) (histories : List (List Entry)) (k : ℕ) (d : Arc) → AllCarry ds tracks histories → AllByRecursion (IsHeeded stations) tracks
     → slice_get ds k ≡ Some d → due_at stations d.to ≡ false → get_or (arrived_of tracks) k no_crossing ≡ no_crossing
 heeded-at stations [] [] [] k d carry all h not = refl
 heeded-at stations (x ∷ ds) (t ∷ ts) (hist ∷ hists) zero d carry all h not =
-    all.0 (ap (due_at stations) (carry.0.to ∙ ap (λ (y : Direction). y.to) (same_Some x d h)) ∙ not)
+    all.0 (ap (due_at stations) (carry.0.to ∙ ap (λ (y : Arc). y.to) (same_Some x d h)) ∙ not)
 heeded-at stations (x ∷ ds) (t ∷ ts) (hist ∷ hists) (suc k) d carry all h not = heeded-at stations ds ts hists k d carry.1 all.1 h not
 heeded-at stations _ _ _ k d carry all h not = absurd carry
 
@@ -65,7 +65,7 @@ module _ (plan : PlanRec) (tracks : List Track) where
         all-quiet-from (n + 1) stations (λ k not. let next : n + suc k ≡ n + 1 + k = omega arith in subst IsQuiet next (h (suc k) not)),
       )
 
-  module _ (stations : List Station) (histories : List (List Entry)) (carry : AllCarry (directions plan.links) tracks histories) (heeded : AllByRecursion (IsHeeded stations) tracks) where
+  module _ (stations : List Station) (histories : List (List Entry)) (carry : AllCarry (arcs plan) tracks histories) (heeded : AllByRecursion (IsHeeded stations) tracks) where
     quiet-at : (n : ℕ) → due_at stations n ≡ false → IsQuiet n
     quiet-at n not = λ end. by_link end (incoming plan n end) refl
       where
@@ -73,7 +73,7 @@ module _ (plan : PlanRec) (tracks : List Track) where
         by_link end None e = refl
         by_link end (Some k) e =
             let leads = leads-to plan n end k e in
-            heeded-at stations (directions plan.links) tracks histories k leads.direction carry heeded leads.here (ap (due_at stations) leads.to ∙ not)
+            heeded-at stations (arcs plan) tracks histories k leads.arc carry heeded leads.here (ap (due_at stations) leads.to ∙ not)
 
     pub all-quiet : AllQuiet 0 stations
     all-quiet = all-quiet-from 0 stations (λ k not. let here : k ≡ 0 + k = omega arith in subst IsQuiet here (quiet-at k not))
@@ -118,7 +118,7 @@ pub same-but-due : (before stations : List Station) (n : ℕ) (d : Station) → 
 same-but-due [] [] n d zip = tt
 same-but-due [] (s ∷ stations) n d zip = absurd zip
 same-but-due (b ∷ before) [] n d zip = absurd zip
-same-but-due (b ∷ before) (s ∷ stations) zero d zip = (record { seat = zip.0.seat; incoming = zip.0.incoming }, zip.1)
+same-but-due (b ∷ before) (s ∷ stations) zero d zip = (record { seat = zip.0.seat; pins = zip.0.pins; incoming = zip.0.incoming }, zip.1)
 same-but-due (b ∷ before) (s ∷ stations) (suc n) d zip = (zip.0, same-but-due before stations n d zip.1)
 
 -- what a node gave stays
@@ -129,7 +129,7 @@ sender-gave (x ∷ nodes) [] n d zip h = absurd zip
 sender-gave (x ∷ nodes) (s ∷ stations) zero d zip h = ap (λ (seat : Seat). seat.given) zip.0.seat
 sender-gave (x ∷ nodes) (s ∷ stations) (suc n) d zip h = sender-gave nodes stations n d zip.1 (omega arith)
 
--- one more directed link goes on, with something that arrives by it then or not
+-- one more arc goes on, with something that arrives by it then or not
 module _ (slot : ℕ) (nodes stations : List Station) (i : ℕ) (tracks now : List Track) (d after : Track) (so_far : Through (Advances slot nodes stations) i tracks now) (inside : i < length now)
     (on : GoesOn slot (sent_by slot (given_at nodes (get_or now i d).from) (get_or now i d).from_end) (get_or now i d) after) where
   pub on-with-nothing : after.arrived ≡ no_crossing → Through (Advances slot nodes stations) (i + 1) tracks (slice_set now i after)

@@ -1,4 +1,4 @@
--- The nodes and directed links at work, from slot to slot, are those of the system that its step moves.
+-- The nodes and arcs at work, from slot to slot, are those of the system that its step moves.
 use Rattle.std.proofs.Common.{◌≡◌, ℕ, zero, suc, ◌+◌, ◌<◌, false, Option, Some, None, List, [], ◌∷◌, ◌++◌, length, map, get_or, refl, sym, ap, ◌∙◌, subst, arith, add-one}
 use Rattle.std.specs.List.{AllByRecursion, AllZip}
 use Rattle.xs_base.specs.Batch.{BatchRec}
@@ -7,12 +7,11 @@ use Rattle.xs_model.specs.declared.event.Event.{Event}
 use Rattle.xs_model.specs.Record.{NodeRec}
 use Rattle.xs_model.specs.Outside.{emitted_events}
 use Rattle.sys_plan.specs.declared.NodePlan.{NodePlan}
-use Rattle.sys_plan.specs.Plan.{PlanRec, Direction, directions, gaps_of}
-use Rattle.step_model.specs.Start.{fixed_of}
-use Rattle.step_model.specs.Step.{Stepped, node_step}
+use Rattle.sys_plan.specs.Plan.{PlanRec, Arc, arcs}
+use Rattle.step_model.specs.Step.{Stepped}
 use Rattle.trace_lines.specs.Kept.{Keeps}
 use Rattle.core_step.specs.Core.{StandsAt}
-use Rattle.serial_model.specs.Serial.{arriving, arriving_by, token_among, credit_among, arrivals_at, pins_at, steps_from, steps_of, sent_by, longer_histories, longer_events, SystemRec, system_step}
+use Rattle.serial_model.specs.Serial.{arriving, arriving_by, token_among, credit_among, arrivals_at, coming_at, step_by, steps_from, steps_of, sent_by, longer_histories, longer_events, SystemRec, system_step}
 use Rattle.crossings.specs.declared.crossing.Crossing.{Crossing}
 use Rattle.run_plan.specs.declared.track.Track.{Track}
 use Rattle.run_plan.specs.declared.station.Station.{Station}
@@ -20,26 +19,28 @@ use Rattle.crossings.specs.Crossings.{crossing_of, no_crossing}
 use Rattle.run_plan.specs.Incoming.{IncomingRec, IsBelow, incoming_of, arrived_of, arrived_by, arrivals_by}
 use Rattle.node_seats.specs.Seats.{Plays}
 use Rattle.node_seats.proofs.Seats.{own_step, given-is, plays-next, plays-same, ready-same as seat-ready-same}
-use Rattle.run_plan.specs.Stations.{IsStation, StationSteps, taken_by}
+use Rattle.node_seats.proofs.Shown.{shows, pins-next}
+use Rattle.node_seats.specs.Shown.{IsShown, ArePins}
+use Rattle.run_plan.specs.Stations.{IsStation, StationSteps, taken_by, shown_to}
 use Rattle.run_plan.specs.Passes.{IsReadyTrack, IsHeeded, Advances, SameNode, SameStation, SameTrack, SameButDue}
 use Rattle.run_plan.specs.Run.{Serves, AllServe, Carries, AllCarry, IsSystem, AreReady}
 use Rattle.run_plan.proofs.Through.{all-at, all-zip, zip-first, zip-second, zip-length}
 use Rattle.run_plan.proofs.Due.{map-same, IsQuiet, AllQuiet, taken-is, all-quiet, heeded-same}
 
 module _ (plan : PlanRec) (slot nodes_count : ℕ) where
-  -- what arrives by the directed link with a number
-  arrived-at : (ds : List Direction) (tracks : List Track) (histories : List (List Entry)) (k : ℕ) → AllCarry ds tracks histories → AllByRecursion (IsReadyTrack slot nodes_count) tracks
-      → get_or (arrived_of tracks) k no_crossing ≡ crossing_of (arriving slot (get_or (map (λ (d : Direction). d.delay) ds) k 0) (get_or histories k []))
+  -- what arrives by the arc with a number
+  arrived-at : (ds : List Arc) (tracks : List Track) (histories : List (List Entry)) (k : ℕ) → AllCarry ds tracks histories → AllByRecursion (IsReadyTrack slot nodes_count) tracks
+      → get_or (arrived_of tracks) k no_crossing ≡ crossing_of (arriving slot (get_or (map (λ (d : Arc). d.delay) ds) k 0) (get_or histories k []))
   arrived-at [] [] [] k carry all = refl
   arrived-at (d ∷ ds) (t ∷ ts) (h ∷ hs) zero carry all =
       all.0.here.arrived ∙ (λ i. crossing_of (arriving slot (carry.0.delay i) (carry.0.entries i)))
   arrived-at (d ∷ ds) (t ∷ ts) (h ∷ hs) (suc k) carry all = arrived-at ds ts hs k carry.1 all.1
   arrived-at _ _ _ k carry all = absurd carry
 
-  module _ (tracks : List Track) (histories : List (List Entry)) (carry : AllCarry (directions plan.links) tracks histories) (all : AllByRecursion (IsReadyTrack slot nodes_count) tracks) where
+  module _ (tracks : List Track) (histories : List (List Entry)) (carry : AllCarry (arcs plan) tracks histories) (all : AllByRecursion (IsReadyTrack slot nodes_count) tracks) where
     arrived-by : (link : Option ℕ) → arrived_by tracks link ≡ crossing_of (arriving_by plan histories slot link)
     arrived-by None = refl
-    arrived-by (Some k) = arrived-at (directions plan.links) tracks histories k carry all
+    arrived-by (Some k) = arrived-at (arcs plan) tracks histories k carry all
 
     arrivals-same : (n : ℕ) → arrivals_by tracks (incoming_of plan n) ≡ arrivals_at plan histories slot n
     arrivals-same n =
@@ -49,27 +50,29 @@ module _ (plan : PlanRec) (slot nodes_count : ℕ) where
 
     -- the step of a node that plays its part is the serial machine's
     abbrev serial_step : ℕ → NodePlan → NodeRec → Stepped
-    serial_step n node rec = node_step (fixed_of node (gaps_of plan n)) rec slot (arrivals_at plan histories slot n) (pins_at plan n slot)
+    serial_step n node rec = step_by plan n node slot (coming_at plan histories slot n) rec
 
     step-same : (n : ℕ) (node : NodePlan) (station : Station) (rec : NodeRec) (events : List Event) → (is : Serves plan slot n node station rec events) → (station.due ≡ false → IsQuiet plan tracks n)
-        → own_step plan slot n node station.seat rec events is.plays (taken_by tracks station) ≡ serial_step n node rec
+        → own_step plan slot n node station.seat rec events is.plays (taken_by tracks station) (shown_to slot station) ≡ serial_step n node rec
     step-same n node station rec events is quiet =
         let arrivals = taken-is plan tracks n station is.incoming quiet ∙ arrivals-same n in
-        λ i. node_step (fixed_of node (gaps_of plan n)) rec slot (arrivals i) (pins_at plan n slot)
+        let pins = shows plan n slot station.pins is.pins in
+        λ i. step_by plan n node slot (record { arrivals = arrivals i; pins = pins i }) rec
 
     serves-next : (n : ℕ) (node : NodePlan) (before after : Station) (rec : NodeRec) (events : List Event) → Serves plan slot n node before rec events → (before.due ≡ false → IsQuiet plan tracks n) → StationSteps slot tracks before after
         → Serves plan (slot + 1) n node after (serial_step n node rec).rec (events ++ (serial_step n node rec).emitted.events)
     serves-next n node before after rec events is quiet s = record {
       plays =
           subst (λ (st : Stepped). Plays plan (slot + 1) n node after.seat st.rec (events ++ st.emitted.events)) (step-same n node before rec events is quiet)
-          (plays-next plan slot n node before.seat rec events is.plays (taken_by tracks before) after.seat s.steps);
+          (plays-next plan slot n node before.seat rec events is.plays (taken_by tracks before) (shown_to slot before) after.seat s.steps);
+      pins = pins-next plan n slot before.pins after.pins is.pins s.script s.number s.shown;
       incoming = s.incoming ∙ is.incoming;
     }
 
     gave : (n : ℕ) (node : NodePlan) (before after : Station) (rec : NodeRec) (events : List Event) → Serves plan slot n node before rec events → (before.due ≡ false → IsQuiet plan tracks n) → StationSteps slot tracks before after
         → after.seat.given ≡ (serial_step n node rec).emitted
     gave n node before after rec events is quiet s =
-        given-is plan slot n node before.seat rec events is.plays (taken_by tracks before) after.seat s.steps
+        given-is plan slot n node before.seat rec events is.plays (taken_by tracks before) (shown_to slot before) after.seat s.steps
         ∙ ap (λ (st : Stepped). st.emitted) (step-same n node before rec events is quiet)
 
     all-play : (n : ℕ) (nodes : List NodePlan) (stations : List Station) (recs : List NodeRec) (events : List (List Event)) (after : List Station) → AllServe plan slot n nodes stations recs events → AllQuiet plan tracks n stations → AllZip (StationSteps slot tracks) stations after
@@ -95,7 +98,7 @@ module _ (plan : PlanRec) (slot nodes_count : ℕ) where
     all-given n _ _ _ _ _ play quiet zip = absurd play
 
   all-carry : (steps : List Stepped) (stations stations_after : List Station) → map (λ (s : Station). s.seat.given) stations ≡ map (λ (s : Stepped). s.emitted) steps
-      → (ds : List Direction) (tracks : List Track) (histories : List (List Entry)) (after : List Track) → AllCarry ds tracks histories → AllZip (Advances slot stations stations_after) tracks after
+      → (ds : List Arc) (tracks : List Track) (histories : List (List Entry)) (after : List Track) → AllCarry ds tracks histories → AllZip (Advances slot stations stations_after) tracks after
       → AllCarry ds after (longer_histories slot steps ds histories)
   all-carry steps stations stations_after given [] [] [] [] carry zip = tt
   all-carry steps stations stations_after given [] [] [] (a ∷ afters) carry zip = absurd zip
@@ -121,7 +124,7 @@ play-same plan slot n [] [] [] [] [] play zip = tt
 play-same plan slot n [] [] [] [] (a ∷ afters) play zip = absurd zip
 play-same plan slot n (node ∷ nodes) (station ∷ stations) (rec ∷ recs) (es ∷ all_events) [] play zip = absurd zip
 play-same plan slot n (node ∷ nodes) (station ∷ stations) (rec ∷ recs) (es ∷ all_events) (a ∷ afters) play zip = (
-  record { plays = plays-same plan slot n node station.seat a.seat rec es play.0.plays zip.0.seat; incoming = ap (λ (i : IncomingRec). i.links) zip.0.incoming ∙ play.0.incoming },
+  record { plays = plays-same plan slot n node station.seat a.seat rec es play.0.plays zip.0.seat; pins = subst (ArePins plan n slot) (sym zip.0.pins) play.0.pins; incoming = ap (λ (i : IncomingRec). i.links) zip.0.incoming ∙ play.0.incoming },
   play-same plan slot (n + 1) nodes stations recs all_events afters play.1 zip.1,
 )
 play-same plan slot n _ _ _ _ _ play zip = absurd play
@@ -131,18 +134,19 @@ stations-stay slot count stations after =
     all-zip SameNode (IsStation slot count) (IsStation slot count)
     (λ x y s h. record {
       here = seat-ready-same slot x.seat y.seat h.here s.seat;
+      shown = subst (IsShown slot) (sym s.pins) h.shown;
       incoming = subst (λ (i : IncomingRec). AllByRecursion (IsBelow count) i.links) (sym s.incoming) h.incoming;
     }) stations after
 
 same-node : (before after : Station) → SameButDue before after → SameNode before after
-same-node before after s = record { seat = λ i. record (s.seat i) { events = record (s.seat i).events { spare = before.seat.events.spare } }; incoming = s.incoming }
+same-node before after s = record { seat = λ i. record (s.seat i) { events = record (s.seat i).events { spare = before.seat.events.spare } }; pins = s.pins; incoming = s.incoming }
 
 same-nodes : (stations after : List Station) → AllZip SameButDue stations after → AllZip SameNode stations after
 same-nodes stations after = zip-first SameButDue SameNode same-node stations after
 
 -- ---- The next slot
 
--- the nodes and directed links after a slot are the system's after it
+-- the nodes and arcs after a slot are the system's after it
 pub system-next : (plan : PlanRec) (slot count : ℕ) (system : SystemRec) (stations stepped after : List Station) (tracks tracks_after : List Track) → IsSystem plan slot stations tracks system → AllByRecursion (IsReadyTrack slot count) tracks → AllByRecursion (IsHeeded stations) tracks
     → AllZip (StationSteps slot tracks) stations stepped → AllZip SameButDue stepped after → AllZip (Advances slot stepped after) tracks tracks_after → IsSystem plan (slot + 1) after tracks_after (system_step plan slot system)
 system-next plan slot count system stations stepped after tracks tracks_after is ready heeded steps same advances =
@@ -153,13 +157,14 @@ system-next plan slot count system stations stepped after tracks tracks_after is
       serve =
           play-same plan (slot + 1) 0 plan.nodes stepped next.nodes next.events after
           (all-play plan slot count tracks system.histories is.carry ready 0 plan.nodes stations system.nodes system.events stepped is.serve quiet steps) (same-nodes stepped after same);
-      carry = all-carry plan slot count (steps_of plan slot system) stepped after given (directions plan.links) tracks system.histories tracks_after is.carry advances;
+      carry = all-carry plan slot count (steps_of plan slot system) stepped after given (arcs plan) tracks system.histories tracks_after is.carry advances;
     }
 
--- each node and each directed link is ready for the next slot
+-- each node and each arc is ready for the next slot
 stations-next : (slot count : ℕ) (tracks : List Track) (stations after : List Station) → AllZip (StationSteps slot tracks) stations after → AllByRecursion (IsStation slot count) stations → AllByRecursion (IsStation (slot + 1) count) after
 stations-next slot count tracks stations after = all-zip (StationSteps slot tracks) (IsStation slot count) (IsStation (slot + 1) count) (λ x y s h. record {
   here = s.steps.next;
+  shown = s.shown;
   incoming = subst (AllByRecursion (IsBelow count)) (sym s.incoming) h.incoming;
 }) stations after
 
@@ -173,12 +178,12 @@ tracks-next slot count stations stations_after tracks after = all-zip (Advances 
 -- ---- Where room is made
 
 pub same-itself : (station : Station) → SameStation station station
-same-itself station = record { node = record { seat = refl; incoming = refl }; due = refl }
+same-itself station = record { node = record { seat = refl; pins = refl; incoming = refl }; due = refl }
 
 pub same-track : (track : Track) (history : BatchRec) → history.entries ≡ track.history.entries → SameTrack track (record track { history = history })
 same-track track history e = λ i. record track { history = record { entries = e i; spare = track.history.spare } }
 
-carry-same : (ds : List Direction) (tracks : List Track) (histories : List (List Entry)) (after : List Track) → AllCarry ds tracks histories → AllZip SameTrack tracks after → AllCarry ds after histories
+carry-same : (ds : List Arc) (tracks : List Track) (histories : List (List Entry)) (after : List Track) → AllCarry ds tracks histories → AllZip SameTrack tracks after → AllCarry ds after histories
 carry-same [] [] [] [] carry zip = tt
 carry-same [] [] [] (a ∷ afters) carry zip = absurd zip
 carry-same (d ∷ ds) (t ∷ ts) (h ∷ hs) [] carry zip = absurd zip
@@ -199,7 +204,7 @@ tracks-same slot count tracks after =
     record { from = k.from; to = k.to; here = record { from_end = t.from_end; delayed = t.delayed; in_order = t.in_order; before = t.before; few = t.few; due = t.due; arrived = t.arrived } })
     tracks after
 
--- the node and the directed link at a place
+-- the node and the arc at a place
 pub play-at : (plan : PlanRec) (slot n : ℕ) (nodes : List NodePlan) (stations : List Station) (recs : List NodeRec) (events : List (List Event)) (k : ℕ) (s : Station) (r : NodeRec) → AllServe plan slot n nodes stations recs events → k < length nodes
     → StandsAt (get_or stations k s).seat.core (get_or recs k r) slot × Keeps (get_or stations k s).seat.events (get_or events k [])
 play-at plan slot n [] [] [] [] k s r play h = absurd (omega arith)
@@ -218,27 +223,27 @@ play-length plan slot n [] [] [] [] play = refl
 play-length plan slot n (node ∷ nodes) (station ∷ stations) (rec ∷ recs) (es ∷ events) play = omega (arith, play-length plan slot (n + 1) nodes stations recs events play.1)
 play-length plan slot n _ _ _ _ play = absurd play
 
-pub carry-at : (ds : List Direction) (tracks : List Track) (histories : List (List Entry)) (k : ℕ) (t : Track) → AllCarry ds tracks histories → k < length ds → (get_or tracks k t).history.entries ≡ get_or histories k []
+pub carry-at : (ds : List Arc) (tracks : List Track) (histories : List (List Entry)) (k : ℕ) (t : Track) → AllCarry ds tracks histories → k < length ds → (get_or tracks k t).history.entries ≡ get_or histories k []
 carry-at [] [] [] k t carry h = absurd (omega arith)
 carry-at (d ∷ ds) (x ∷ xs) (hist ∷ hists) zero t carry h = carry.0.entries
 carry-at (d ∷ ds) (x ∷ xs) (hist ∷ hists) (suc k) t carry h = carry-at ds xs hists k t carry.1 (omega arith)
 carry-at _ _ _ k t carry h = absurd carry
 
-pub carry-length : (ds : List Direction) (tracks : List Track) (histories : List (List Entry)) → AllCarry ds tracks histories → length tracks ≡ length ds
+pub carry-length : (ds : List Arc) (tracks : List Track) (histories : List (List Entry)) → AllCarry ds tracks histories → length tracks ≡ length ds
 carry-length [] [] [] carry = refl
 carry-length (d ∷ ds) (x ∷ xs) (h ∷ hs) carry = omega (arith, carry-length ds xs hs carry.1)
 carry-length _ _ _ carry = absurd carry
 
--- the directed link at a place is ready
+-- the arc at a place is ready
 pub ready-at : (slot count : ℕ) (tracks : List Track) (i : ℕ) (d t : Track) → AllByRecursion (IsReadyTrack slot count) tracks → i < length tracks → get_or tracks i d ≡ t → IsReadyTrack slot count t
 ready-at slot count tracks i d t all inside is = subst (IsReadyTrack slot count) is (all-at (IsReadyTrack slot count) tracks i d all inside)
 
--- nodes and directed links stay ready where room is made, and are ready for the next slot after one
+-- nodes and arcs stay ready where room is made, and are ready for the next slot after one
 pub ready-same : (plan : PlanRec) (slot : ℕ) (whole : SystemRec) (stations after : List Station) (tracks tracks_after : List Track) → AreReady plan slot whole stations tracks → AllZip SameStation stations after → AllZip SameTrack tracks tracks_after → AreReady plan slot whole after tracks_after
 ready-same plan slot whole stations after tracks tracks_after ready s t = record {
   system = record {
     serve = play-same plan slot 0 plan.nodes stations whole.nodes whole.events after ready.system.serve (zip-first SameStation SameNode (λ x y s. s.node) stations after s);
-    carry = carry-same (directions plan.links) tracks whole.histories tracks_after ready.system.carry t;
+    carry = carry-same (arcs plan) tracks whole.histories tracks_after ready.system.carry t;
   };
   stations = subst (λ (n : ℕ). AllByRecursion (IsStation slot n) after) (sym (zip-length SameTrack tracks tracks_after t)) (stations-same slot (length tracks) stations after s ready.stations);
   tracks = subst (λ (n : ℕ). AllByRecursion (IsReadyTrack slot n) tracks_after) (sym (zip-length SameStation stations after s)) (tracks-same slot (length stations) tracks tracks_after t ready.tracks);

@@ -1,4 +1,4 @@
--- A directed link from slot to slot.
+-- An arc from slot to slot.
 use Rattle.std.proofs.Common.{◌≡◌, ℕ, ◌+◌, ◌<◌, ◌≤◌, Bool, Option, List, ◌++◌, sym, ◌∙◌, subst, arith}
 use Rattle.std.specs.Prelude.{slice_get}
 use Rattle.std.specs.List.{AllByRecursion}
@@ -11,7 +11,7 @@ use Rattle.crossings.proofs.Arriving.{all-map, all-append, seen-at, next-at, due
 use Rattle.run_plan.specs.declared.track.Track.{Track}
 use Rattle.run_plan.specs.Tracks.{IsTrack, GoesOn}
 
--- a directed link that goes on to the next slot
+-- an arc that goes on to the next slot
 module _ (slot : ℕ) (track : Track) (is : IsTrack slot track) (token : Option Token) (credit : Bool) where
   abbrev sent : List Entry
   sent = token_entries slot token ++ credit_entries slot credit

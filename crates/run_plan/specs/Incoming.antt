@@ -1,4 +1,4 @@
--- The directed links that come to a node, and what arrives by them.
+-- The arcs that come to a node, and what arrives by them.
 use Rattle.std.specs.Prelude.{ℕ, zero, suc, ◌≡◌, ◌<◌, ◌≤◌, Bool, false, Option, Some, None, List, [], ◌∷◌, length, drop, map, slice_index_or, IfSome}
 use Rattle.std.specs.List.{AllByRecursion}
 use Rattle.xs_base.specs.Numbers.{Position, LinkNumber, EndNumber}
@@ -11,19 +11,19 @@ use Rattle.run_plan.specs.declared.track.Track.{Track}
 use Rattle.run_plan.specs.declared.incoming.TheConstants.{NOTHING}
 use Rattle.crossings.specs.Crossings.{no_crossing}
 
--- the directed links that come to the link ends of the node at a position
+-- the arcs that come to the link ends of the node at a position
 abbrev pub incoming_of : PlanRec → Position → List (Option LinkNumber)
 incoming_of plan n = map (λ end. incoming plan n end) link_ends
 
--- no directed link comes to a link end
+-- no arc comes to a link end
 abbrev pub IsNowhere : Option LinkNumber → Type 0
 IsNowhere link = link ≡ None
 
--- the directed link that comes to each link end, where one does
+-- the arc that comes to each link end, where one does
 pub record IncomingRec : Type 0 where
   pub links : List (Option LinkNumber)
 
--- nothing arrives by the link ends that no directed link comes to
+-- nothing arrives by the link ends that no arc comes to
 abbrev pub NothingElse : List (Option LinkNumber) → List (Option Token) → List Bool → Type 0
 NothingElse [] [] [] = Unit {0}
 NothingElse (link ∷ links) (token ∷ tokens) (credit ∷ credits) =
@@ -37,20 +37,20 @@ pub record IsReachedBelow (reached : EndNumber) (links : List (Option LinkNumber
   pub rest : AllByRecursion IsNowhere (drop reached links)
   pub is_nothing : nothing ≡ NOTHING
 
--- a directed link is one of so many
+-- an arc is one of so many
 abbrev pub IsBelow : ℕ → Option LinkNumber → Type 0
 IsBelow count link = IfSome link (λ k. k < count)
 
--- what arrives by the directed links, by number
+-- what arrives by the arcs, by number
 abbrev pub arrived_of : List Track → List Crossing
 arrived_of tracks = map (λ (t : Track). t.arrived) tracks
 
--- what arrives by a directed link, where there is one
+-- what arrives by an arc, where there is one
 abbrev pub arrived_by : List Track → Option LinkNumber → Crossing
 arrived_by tracks None = no_crossing
 arrived_by tracks (Some link) = slice_index_or (arrived_of tracks) link no_crossing
 
--- what arrives at a node that these directed links reach, by link end
+-- what arrives at a node that these arcs reach, by link end
 abbrev pub arrivals_by : List Track → List (Option LinkNumber) → Arrivals
 arrivals_by tracks links = record {
   tokens = map (λ link. (arrived_by tracks link).token) links;

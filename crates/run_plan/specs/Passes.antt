@@ -24,9 +24,10 @@ HasRoomForEvents station = HasEventRoom station.seat
 abbrev pub HasEntryRoom : Track → Type 0
 HasEntryRoom track = 2 ≤ track.history.spare
 
--- nothing of a node changed but the room, with the directed links that come to it
+-- nothing of a node changed but the room, with its pins and the arcs that come to it
 pub record SameNode (before after : Station) : Type 0 where
   pub seat : SameSeat before.seat after.seat
+  pub pins : after.pins ≡ before.pins
   pub incoming : after.incoming ≡ before.incoming
 
 -- nothing changed but the room
@@ -37,6 +38,7 @@ pub record SameStation (before after : Station) : Type 0 where
 -- nothing changed but whether it is due
 pub record SameButDue (before after : Station) : Type 0 where
   pub seat : after.seat ≡ before.seat
+  pub pins : after.pins ≡ before.pins
   pub incoming : after.incoming ≡ before.incoming
 
 abbrev pub SameTrack : Track → Track → Type 0
@@ -51,7 +53,7 @@ pub record MakesEntryRoom (before after : Track) : Type 0 where
   pub same : SameTrack before after
   pub room : HasEntryRoom after
 
--- a directed link as it is before a slot, among so many nodes
+-- an arc as it is before a slot, among so many nodes
 pub record IsReadyTrack (slot : Slot) (node_count : ℕ) (track : Track) : Type 0 where
   pub from : track.from < node_count
   pub to : track.to < node_count
@@ -65,11 +67,11 @@ given_at stations n = slice_index_or (map (λ (s : Station). s.seat.given) stati
 abbrev pub due_at : List Station → Position → Bool
 due_at stations n = slice_index_or (map (λ (s : Station). s.due) stations) n false
 
--- where something arrives by a directed link, the node that it leads to is due
+-- where something arrives by an arc, the node that it leads to is due
 abbrev pub IsHeeded : List Station → Track → Type 0
 IsHeeded stations track = due_at stations track.to ≡ false → track.arrived ≡ no_crossing
 
--- what the nodes gave in a slot makes this of a directed link, and the nodes are due as they are afterwards
+-- what the nodes gave in a slot makes this of an arc, and the nodes are due as they are afterwards
 pub record Advances (slot : Slot) (nodes nodes_after : List Station) (before after : Track) : Type 0 where
   pub on : GoesOn slot (sent_by slot (given_at nodes before.from) before.from_end) before after
   pub heeded : IsHeeded nodes_after after

@@ -1,8 +1,8 @@
--- The nodes and the directed links of a plan as they start.
+-- The nodes and the arcs of a plan as they start.
 use Rattle.std.specs.Prelude.{ℕ, ◌≡◌, ◌+◌, Some, List, [], ◌∷◌, length, map, slice_get}
 use Rattle.xs_base.specs.Numbers.{Position, EndNumber}
 use Rattle.sys_plan.specs.declared.NodePlan.{NodePlan}
-use Rattle.sys_plan.specs.Plan.{PlanRec, Direction, directions, gaps_of}
+use Rattle.sys_plan.specs.Plan.{PlanRec, Arc, arc_count, gaps_of}
 use Rattle.step_model.specs.Start.{node_of}
 use Rattle.crossings.specs.Crossings.{no_crossing}
 use Rattle.run_plan.specs.declared.track.Track.{Track}
@@ -13,7 +13,7 @@ use Rattle.run_plan.specs.Run.{Serves}
 -- a node, at a position, as it starts
 pub record StartsHere (plan : PlanRec) (n : Position) (node : NodePlan) (station : Station) : Type 0 where
   pub serves : Serves plan 0 n node station (node_of node (gaps_of plan n)) []
-  pub ready : IsStation 0 (length (directions plan.links)) station
+  pub ready : IsStation 0 (arc_count plan) station
 
 -- that is so of these nodes, the first of which stands at position n
 abbrev pub AllStart : PlanRec → Position → List NodePlan → List Station → Type 0
@@ -25,7 +25,7 @@ AllStart plan n _ _ = ⊥
 abbrev pub StartsAs : PlanRec → Position → Station → Type 0
 StartsAs plan n station = (node : NodePlan) → slice_get plan.nodes n ≡ Some node → StartsHere plan n node station
 
--- a directed link as it starts
+-- an arc as it starts
 abbrev pub track_at_start : Position → EndNumber → Position → ℕ → Track
 track_at_start from from_end to delay = record {
   from = from;
@@ -37,5 +37,5 @@ track_at_start from from_end to delay = record {
   arrived = no_crossing;
 }
 
-abbrev pub tracks_at_start : List Direction → List Track
-tracks_at_start ds = map (λ (d : Direction). track_at_start d.from d.from_end d.to d.delay) ds
+abbrev pub tracks_at_start : List Arc → List Track
+tracks_at_start ds = map (λ (d : Arc). track_at_start d.from d.from_end d.to d.delay) ds

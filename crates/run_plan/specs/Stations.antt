@@ -1,24 +1,35 @@
--- Nodes at work, with the directed links that come to them.
-use Rattle.std.specs.Prelude.{ℕ, ◌≡◌, if◌then◌else◌, List}
+-- Nodes at work, with the arcs that come to them.
+use Rattle.std.specs.Prelude.{ℕ, ◌≡◌, ◌+◌, if◌then◌else◌, List}
 use Rattle.std.specs.List.{AllByRecursion}
 use Rattle.xs_base.specs.Numbers.{Slot}
 use Rattle.xs_model.specs.declared.outside.Arrivals.{Arrivals}
+use Rattle.xs_model.specs.declared.outside.PinView.{PinView}
+use Rattle.pin_scripts.specs.Script.{view_at}
 use Rattle.node_seats.specs.Seats.{IsSeat, StepsOn}
+use Rattle.node_seats.specs.Shown.{IsShown}
 use Rattle.run_plan.specs.declared.track.Track.{Track}
 use Rattle.run_plan.specs.declared.station.Station.{Station}
 use Rattle.run_plan.specs.declared.incoming.TheConstants.{NOTHING}
 use Rattle.run_plan.specs.Incoming.{IsBelow, arrivals_by}
 
--- a node as it is before a slot, among so many directed links
+-- a node as it is before a slot, among so many arcs
 pub record IsStation (slot : Slot) (link_count : ℕ) (station : Station) : Type 0 where
   pub here : IsSeat slot station.seat
+  pub shown : IsShown slot station.pins
   pub incoming : AllByRecursion (IsBelow link_count) station.incoming.links
 
--- what a node goes on with: what arrives by the directed links that come to it, if it is due, and nothing if it is not
+-- what a node goes on with: what arrives by the arcs that come to it, if it is due, and nothing if it is not
 abbrev pub taken_by : List Track → Station → Arrivals
 taken_by tracks station = if station.due then arrivals_by tracks station.incoming.links else NOTHING
+
+-- what its pins show from outside in a slot
+abbrev pub shown_to : Slot → Station → PinView
+shown_to slot station = view_at station.pins.script station.pins.number slot
 
 -- what a slot makes of a node
 pub record StationSteps (slot : Slot) (tracks : List Track) (before after : Station) : Type 0 where
   pub incoming : after.incoming.links ≡ before.incoming.links
-  pub steps : StepsOn slot (taken_by tracks before) before.seat after.seat
+  pub script : after.pins.script ≡ before.pins.script
+  pub number : after.pins.number ≡ before.pins.number
+  pub shown : IsShown (slot + 1) after.pins
+  pub steps : StepsOn slot (taken_by tracks before) (shown_to slot before) before.seat after.seat

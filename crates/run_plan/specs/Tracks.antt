@@ -1,4 +1,4 @@
--- Directed links at work: their histories, and what of them arrives in a slot.
+-- Arcs at work: their histories, and what of them arrives in a slot.
 use Rattle.std.specs.Prelude.{◌≡◌, ◌+◌, ◌*◌, ◌<◌, ◌≤◌, List, ◌++◌}
 use Rattle.std.specs.List.{AllByRecursion}
 use Rattle.xs_base.specs.Numbers.{Slot}
@@ -8,7 +8,7 @@ use Rattle.serial_model.specs.Serial.{arriving}
 use Rattle.crossings.specs.Crossings.{crossing_of, AreInSendingOrder, IsDueFrom}
 use Rattle.run_plan.specs.declared.track.Track.{Track}
 
--- a directed link as it is before a slot
+-- an arc as it is before a slot
 pub record IsTrack (slot : Slot) (track : Track) : Type 0 where
   pub from_end : track.from_end < LINK_ENDS
   pub delayed : 1 ≤ track.delay
@@ -18,7 +18,7 @@ pub record IsTrack (slot : Slot) (track : Track) : Type 0 where
   pub due : IsDueFrom slot track.delay track.first track.history.entries
   pub arrived : track.arrived ≡ crossing_of (arriving slot track.delay track.history.entries)
 
--- what a slot makes of a directed link, which goes on with what its sender sent
+-- what a slot makes of an arc, which goes on with what its sender sent
 pub record GoesOn (slot : Slot) (sent : List Entry) (before after : Track) : Type 0 where
   pub from : after.from ≡ before.from
   pub from_end : after.from_end ≡ before.from_end

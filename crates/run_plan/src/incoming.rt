@@ -1,8 +1,8 @@
-//! `Incoming`, the directed links that come to a node's link ends, and what arrives by them.
+//! `Incoming`, the arcs that come to a node's link ends, and what arrives by them.
 ghost use Rattle.std.specs.Prelude.{◌≡◌, ◌≤◌, length, drop};
 ghost use Rattle.std.specs.List.{AllByRecursion};
 ghost use Rattle.xs_base.specs.declared.numbers.TheConstants.{LINK_ENDS};
-ghost use Rattle.sys_plan.specs.Plan.{directions};
+ghost use Rattle.sys_plan.specs.Plan.{arc_count};
 ghost use Rattle.run_plan.specs.Incoming.{arrivals_by, arrived_by, incoming_of, IsBelow, IsNowhere};
 
 use crate::track::Track;
@@ -18,7 +18,7 @@ const NOTHING: Arrivals = Arrivals {
     credits: [false; 8],
 };
 
-/// The directed links that come to a node's link ends. Contracts see it as an `IncomingRec` of
+/// The arcs that come to a node's link ends. Contracts see it as an `IncomingRec` of
 /// `Rattle.run_plan.specs.Incoming`.
 #[derive(Drop)]
 pub(crate) struct Incoming {
@@ -42,10 +42,10 @@ impl Model for Incoming {
 }
 
 impl Incoming {
-    /// The directed links that come to the link ends of the node at a position.
+    /// The arcs that come to the link ends of the node at a position.
     pub(crate) fn of(plan: &Plan, n: u8) -> Incoming
         ensures links { result.links ≡ incoming_of plan.now n }
-        ensures below { AllByRecursion (IsBelow (length (directions plan.now.links))) result.links }
+        ensures below { AllByRecursion (IsBelow (arc_count plan.now)) result.links }
     {
         let links = links_to(plan, n);
         Incoming {
@@ -55,7 +55,7 @@ impl Incoming {
         }
     }
 
-    /// What arrives by the link ends in this slot. One that no directed link comes to costs nothing, if none after it is
+    /// What arrives by the link ends in this slot. One that no arc comes to costs nothing, if none after it is
     /// reached either.
     pub(crate) fn arrivals(&self, tracks: &[Track]) -> Arrivals
         requires below { AllByRecursion (IsBelow (length tracks.now)) self.now.links }
@@ -79,10 +79,10 @@ impl Incoming {
     }
 }
 
-// The directed links that come to the link ends of the node at a position.
+// The arcs that come to the link ends of the node at a position.
 fn links_to(plan: &Plan, n: u8) -> [Option<u32>; 8]
     ensures value { result ≡ incoming_of plan.now n }
-    ensures below { AllByRecursion (IsBelow (length (directions plan.now.links))) result }
+    ensures below { AllByRecursion (IsBelow (arc_count plan.now)) result }
 {
     [
         plan.incoming(n, 0),
@@ -108,7 +108,7 @@ fn reached_of(links: &[Option<u32>; 8]) -> usize
     reached
 }
 
-// What arrives by a directed link, where there is one.
+// What arrives by an arc, where there is one.
 fn arrived(tracks: &[Track], link: Option<u32>) -> Crossing
     requires below { IsBelow (length tracks.now) link }
     ensures { result ≡ arrived_by tracks.now link }

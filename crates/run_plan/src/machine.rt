@@ -1,7 +1,7 @@
 //! `SerialMachine`, all nodes of a system stepped together.
 ghost use Rattle.std.specs.Prelude.{◌≡◌, ◌+◌, ◌-◌, ◌^◌, ◌<◌, ◌≤◌, max, [], length, slice_index_or, IfOk, OnOk, OnErr};
 ghost use Rattle.std.specs.List.{AllZip};
-ghost use Rattle.sys_plan.specs.Plan.{directions};
+ghost use Rattle.sys_plan.specs.Plan.{arc_count};
 ghost use Rattle.serial_model.specs.Serial.{system_at_start, system_step};
 ghost use Rattle.trace_lines.specs.Kept.{Keeps};
 ghost use Rattle.core_step.specs.Core.{StandsAt};
@@ -115,9 +115,9 @@ impl SerialMachine {
         &station.seat.core
     }
 
-    /// The history of the directed link with a number: what was sent on it so far, in order.
+    /// The history of the arc with a number: what was sent on it so far, in order.
     pub fn history(&self, link: u32) -> &[Entry]
-        requires link { link < length (directions self.now.plan.links) }
+        requires link { link < arc_count self.now.plan }
         ensures value { result.now ≡ slice_index_or self.now.system.histories link [] }
     {
         let track = &self.tracks[link as usize];

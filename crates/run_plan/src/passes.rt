@@ -1,4 +1,4 @@
-//! The passes of a slot over all nodes and all directed links.
+//! The passes of a slot over all nodes and all arcs.
 ghost use Rattle.std.specs.Prelude.{◌≡◌, ◌+◌, ◌-◌, ◌^◌, ◌<◌, length, OnOk, OnErr};
 ghost use Rattle.std.specs.List.{AllByRecursion, AllZip};
 ghost use Rattle.sys_plan.specs.Plan.{PlanRec};
@@ -14,7 +14,7 @@ use std::alloc::AllocError;
 // How many entries a slot can add to a history at most: a token and a credit.
 const MOST_ENTRIES: usize = 2;
 
-/// One slot of all nodes and all directed links. The error is want of memory, and changes nothing but the room.
+/// One slot of all nodes and all arcs. The error is want of memory, and changes nothing but the room.
 pub(crate) fn pass_slot(
     stations: &mut [Station],
     tracks: &mut [Track],
@@ -69,7 +69,7 @@ fn step_all(stations: &mut [Station], tracks: &[Track], slot: u32)
     }
 }
 
-// Each directed link goes on with what its sender's slot gave. Where something then arrives by it, the node that it leads
+// Each arc goes on with what its sender's slot gave. Where something then arrives by it, the node that it leads
 // to becomes due.
 fn advance_all(tracks: &mut [Track], stations: &mut [Station], slot: u32)
     requires slot { slot < 2 ^ 32 - 1 }

@@ -1,23 +1,24 @@
-//! `Station`, one node of a system, and the directed links that come to it.
+//! `Station`, one node of a system, with its pins and the arcs that come to it.
 ghost use Rattle.std.specs.Prelude.{◌≡◌, ◌-◌, ◌^◌, ◌<◌, true, length};
 ghost use Rattle.node_seats.specs.Seats.{HasEventRoom};
 ghost use Rattle.run_plan.specs.Stations.{IsStation, StationSteps};
 
 use crate::incoming::Incoming;
 use crate::track::Track;
-use node_seats::Seat;
+use node_seats::{Pins, Seat};
 
-/// A node at work, and the directed links that come to it.
+/// A node at work, with its pins and the arcs that come to it.
 #[derive(Drop)]
 pub(crate) struct Station {
     pub(crate) seat: Seat,
+    pub(crate) pins: Pins,
     pub(crate) incoming: Incoming,
     // Whether something arrives at it in this slot.
     pub(crate) due: bool,
 }
 
 impl Station {
-    /// One slot of the node, with what arrives by its links. Its events are kept, in room that was made for them.
+    /// One slot of the node, with what comes to it: what arrives by its arcs, and what its pins show from outside. Its events are kept, in room that was made for them.
     pub(crate) fn step(&mut self, tracks: &[Track], slot: u32)
         requires slot { slot < 2 ^ 32 - 1 }
         requires station { IsStation slot (length tracks.now) self.old }
@@ -27,7 +28,9 @@ impl Station {
         if self.due {
             self.step_due(tracks, slot);
         } else {
-            self.seat.step(slot, false, self.incoming.nothing());
+            self.pins.look(slot);
+            self.seat
+                .step(slot, false, self.incoming.nothing(), self.pins.view());
         }
     }
 
@@ -42,7 +45,8 @@ impl Station {
         ensures steps { StationSteps slot tracks.now self.old self.new }
     {
         let arrivals = self.incoming.arrivals(tracks);
-        self.seat.step(slot, true, &arrivals);
+        self.pins.look(slot);
+        self.seat.step(slot, true, &arrivals, self.pins.view());
         self.due = false;
     }
 }

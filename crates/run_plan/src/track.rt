@@ -1,4 +1,4 @@
-//! `Track`, one directed link: its history, and what of it arrives. See docs/LINKS.md.
+//! `Track`, one arc: its history, and what of it arrives. See docs/LINKS.md.
 ghost use Rattle.std.specs.Prelude.{◌≡◌, ◌+◌, ◌-◌, ◌^◌, ◌<◌, ◌≤◌, ◌++◌, false, slice_get};
 ghost use Rattle.xs_base.specs.declared.numbers.TheConstants.{LINK_ENDS};
 ghost use Rattle.serial_model.specs.Serial.{sent_by};
@@ -9,7 +9,7 @@ use crossings::{Crossing, due};
 use trace_lines::Emissions;
 use xs_base::Batch;
 
-/// A directed link: it leads from a link end of the node at a position to the node at another, with a delay in slots.
+/// An arc: it leads from a link end of the node at a position to the node at another, with a delay in slots.
 #[derive(Drop)]
 pub(crate) struct Track {
     pub(crate) from: u8,

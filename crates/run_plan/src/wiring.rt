@@ -1,13 +1,13 @@
-//! The nodes and the directed links of a plan as they start.
+//! The nodes and the arcs of a plan as they start.
 ghost use Rattle.std.specs.Prelude.{◌≡◌, ◌<◌, length, IfOk};
-ghost use Rattle.sys_plan.specs.Plan.{directions, IsPlan};
+ghost use Rattle.sys_plan.specs.Plan.{arcs, IsPlan};
 ghost use Rattle.run_plan.specs.Starts.{StartsAs, AllStart, track_at_start, tracks_at_start};
 
 use crate::incoming::Incoming;
 use crate::station::Station;
 use crate::track::Track;
 use crossings::Crossing;
-use node_seats::Seat;
+use node_seats::{Pins, Seat};
 use std::alloc::{AllocError, Global};
 use sys_plan::Plan;
 use xs_base::Batch;
@@ -30,16 +30,18 @@ fn station_of(alloc: Global, plan: &Plan, n: u8) -> Result<Station, AllocError>
     ensures start { IfOk result (λ station. StartsAs plan.now n station) }
 {
     let seat = Seat::of(alloc, plan, n)?;
+    let pins = Pins::of(plan, n)?;
     Ok(Station {
         seat,
+        pins,
         incoming: Incoming::of(plan, n),
         due: false,
     })
 }
 
-/// The directed links of a plan as they start. The error is want of memory.
+/// The arcs of a plan as they start. The error is want of memory.
 pub(crate) fn tracks_of(alloc: Global, plan: &Plan) -> Result<Vec<Track>, AllocError>
-    ensures start { IfOk result (λ v. v.items ≡ tracks_at_start (directions plan.now.links)) }
+    ensures start { IfOk result (λ v. v.items ≡ tracks_at_start (arcs plan.now)) }
     ensures plan { IsPlan plan.now }
 {
     let mut tracks = Vec::new(alloc);
@@ -50,7 +52,7 @@ pub(crate) fn tracks_of(alloc: Global, plan: &Plan) -> Result<Vec<Track>, AllocE
     Ok(tracks)
 }
 
-// A directed link as it starts.
+// An arc as it starts.
 fn track_of(alloc: Global, from: u8, from_end: u8, to: u8, delay: u32) -> Track
     ensures { result ≡ track_at_start from from_end to delay }
 {

@@ -3,7 +3,7 @@ use Rattle.std.proofs.Common.{◌≡◌, ℕ, ◌+◌, ◌*◌, ◌<◌, ◌≤�
 use Rattle.std.proofs.lemmas.List.{at_drop_more, drop_all, get_or-map}
 use Rattle.sys_plan.specs.declared.LinkPlan.{LinkPlan}
 use Rattle.sys_plan.specs.declared.NodePlan.{NodePlan}
-use Rattle.sys_plan.specs.Plan.{Direction, directions, forth, back}
+use Rattle.sys_plan.specs.Plan.{Arc, link_arcs, forth, back}
 use Rattle.trace_model.specs.Trace.{by_position, number_at}
 use Rattle.trace_text.proofs.TraceLines.{one_more, none_left}
 
@@ -36,14 +36,14 @@ pub number_at-is : (nodes : List NodePlan) (k : ℕ) (node : NodePlan) → k < l
 number_at-is nodes k node below is = ap (λ (n : NodePlan). n.number) is ∙ sym (get_or-map (λ (n : NodePlan). n.number) nodes k node 0 below)
 
 -- each link is two directed links
-pub directions-length : (links : List LinkPlan) → length (directions links) ≡ 2 * length links
+pub directions-length : (links : List LinkPlan) → length (link_arcs links) ≡ 2 * length links
 directions-length [] = refl
 directions-length (link ∷ links) = omega (arith, directions-length links)
 
 -- two pieces for each link
-module _ (piece : ℕ → Direction → List ℕ) where
+module _ (piece : ℕ → Arc → List ℕ) where
   abbrev pub link_pieces : ℕ → List LinkPlan → List ℕ
-  link_pieces k links = by_position piece (2 * k) (directions links)
+  link_pieces k links = by_position piece (2 * k) (link_arcs links)
 
   link_pieces-next : (k : ℕ) (links : List LinkPlan) (d link : LinkPlan) → k < length links → link ≡ get_or links k d → link_pieces k (drop k links) ≡ (piece (2 * k) (forth link) ++ piece (2 * k + 1) (back link)) ++ link_pieces (k + 1) (drop (k + 1) links)
   link_pieces-next k links d link below is =
@@ -51,9 +51,9 @@ module _ (piece : ℕ → Direction → List ℕ) where
       let twice : 2 * k + 1 + 1 ≡ 2 * (k + 1) = omega arith in
       at_drop_more (link_pieces k) links k d below
       ∙ (ap (λ (l : LinkPlan). link_pieces k (l ∷ rest)) (sym is)
-      ∙ (by_position-cons piece (2 * k) (forth link) (back link ∷ directions rest)
-      ∙ (ap (λ (t : List ℕ). piece (2 * k) (forth link) ++ t) (by_position-cons piece (2 * k + 1) (back link) (directions rest)
-      ∙ ap (λ (n : ℕ). piece (2 * k + 1) (back link) ++ by_position piece n (directions rest)) twice)
+      ∙ (by_position-cons piece (2 * k) (forth link) (back link ∷ link_arcs rest)
+      ∙ (ap (λ (t : List ℕ). piece (2 * k) (forth link) ++ t) (by_position-cons piece (2 * k + 1) (back link) (link_arcs rest)
+      ∙ ap (λ (n : ℕ). piece (2 * k + 1) (back link) ++ by_position piece n (link_arcs rest)) twice)
       ∙ sym (append_assoc (piece (2 * k) (forth link)) (piece (2 * k + 1) (back link)) _))))
 
   pub link_more : (k : ℕ) (links : List LinkPlan) (d link : LinkPlan) (so_far after all : List ℕ) → k < length links → link ≡ get_or links k d → after ≡ so_far ++ (piece (2 * k) (forth link) ++ piece (2 * k + 1) (back link)) → so_far ++ link_pieces k (drop k links) ≡ all → after ++ link_pieces (k + 1) (drop (k + 1) links) ≡ all

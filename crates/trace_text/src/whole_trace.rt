@@ -1,6 +1,6 @@
 //! The trace of a run.
 ghost use Rattle.std.specs.Prelude.{◌≡◌, ◌<◌, ◌≤◌, ◌++◌, length, IfOk, OnOk, ◌+◌, ◌*◌, [], ◌∷◌};
-ghost use Rattle.sys_plan.specs.Plan.{directions, forth, back};
+ghost use Rattle.sys_plan.specs.Plan.{link_arcs, forth, back};
 ghost use Rattle.serial_model.specs.Serial.{serial};
 ghost use Rattle.trace_model.specs.Trace.{by_position, event_lines, events_in_order, traffic_at, lines_after_events, trace_text};
 
@@ -61,7 +61,7 @@ fn append_rest(out: &mut Text, plan: &Plan, finished: &FinishedRun) -> Result<()
 // The line of each directed link: of each link forth, and back.
 fn append_links(out: &mut Text, plan: &Plan, finished: &FinishedRun) -> Result<(), AllocError>
     requires plan { finished.now.plan ≡ plan.now }
-    ensures { OnOk result (out.new ≡ out.old ++ by_position (traffic_at plan.now.nodes (serial finished.now.plan finished.now.limit)) 0 (directions plan.now.links)) }
+    ensures { OnOk result (out.new ≡ out.old ++ by_position (traffic_at plan.now.nodes (serial finished.now.plan finished.now.limit)) 0 (link_arcs plan.now.links)) }
 {
     let links = plan.links();
     let nodes = plan.nodes();
@@ -79,7 +79,7 @@ fn append_traffic_at(
     nodes: &[NodePlan],
     finished: &FinishedRun,
 ) -> Result<(), AllocError>
-    requires number { 2 * k + 1 < length (directions finished.now.plan.links) }
+    requires number { 2 * k + 1 < length (link_arcs finished.now.plan.links) }
     requires few { k < 48 }
     requires a { link.now.a < length nodes.now }
     requires b { link.now.b < length nodes.now }

@@ -2,8 +2,8 @@ use Rattle.std.proofs.Common.{◌≡◌, ℕ, ◌*◌, List, length, refl, ap, s
 use Rattle.std.specs.Prelude.{sum_by}
 use Rattle.std.specs.List.{range_with_len}
 use Rattle.sys_plan.specs.declared.LinkPlan.{LinkPlan}
-use Rattle.sys_plan.specs.Plan.{PlanRec, directions}
-use Rattle.sys_plan.proofs.Directions.{directions_length}
+use Rattle.sys_plan.specs.Plan.{PlanRec, link_arcs}
+use Rattle.sys_plan.proofs.Arcs.{arcs_length}
 use Rattle.serial_model.specs.Serial.{serial}
 use Rattle.trace_model.specs.Trace.{tokens_sent, credits_sent, history_at}
 use Rattle.load_model.specs.Made.{link_count, all_tokens, all_credits}
@@ -12,8 +12,8 @@ use Rattle.made_text.proofs.totals.all_sent.Goals as goal
 
 pub totals-sent-requires : goal.totals-sent-requires
 totals-sent-requires c =
-    let count : length (directions c.args.finished.now.plan.links) ≡ 2 * length c.links.result.now =
-    directions_length _ ∙ ap (λ (ls : List LinkPlan). 2 * length ls) (ap (λ (p : PlanRec). p.links) c.requires.plan ∙ sym c.links.ensures.value) in
+    let count : length (link_arcs c.args.finished.now.plan.links) ≡ 2 * length c.links.result.now =
+    arcs_length _ ∙ ap (λ (ls : List LinkPlan). 2 * length ls) (ap (λ (p : PlanRec). p.links) c.requires.plan ∙ sym c.links.ensures.value) in
     record { link = omega (arith, count, c.loop-link-test.true) }
 
 pub loop-link-preserved : goal.loop-link-preserved
@@ -32,7 +32,7 @@ loop-link-preserved c =
 -- twice as many directed links as links
 link_count-is : (plan lent : PlanRec) (links : List LinkPlan) → plan ≡ lent → links ≡ lent.links → 2 * length links ≡ link_count plan
 link_count-is plan lent links same value =
-    ap (λ (ls : List LinkPlan). 2 * length ls) (value ∙ ap (λ (p : PlanRec). p.links) (sym same)) ∙ sym (directions_length plan.links)
+    ap (λ (ls : List LinkPlan). 2 * length ls) (value ∙ ap (λ (p : PlanRec). p.links) (sym same)) ∙ sym (arcs_length plan.links)
 
 pub returns-clause-tokens : goal.returns-clause-tokens
 returns-clause-tokens c =

@@ -2,8 +2,8 @@ use Rattle.std.proofs.Common.{◌≡◌, ◌+◌, ◌≤◌, Some, List, [], ◌
 use Rattle.std.proofs.lemmas.List.{length_push, take_all}
 use Rattle.xs_base.specs.Numbers.{LinkNumber}
 use Rattle.sys_plan.specs.declared.LinkPlan.{LinkPlan}
-use Rattle.sys_plan.specs.Plan.{PlanRec, Direction, directions}
-use Rattle.sys_plan.proofs.Directions.{directions_length}
+use Rattle.sys_plan.specs.Plan.{PlanRec, Arc, arcs}
+use Rattle.sys_plan.proofs.Arcs.{arcs_length}
 use Rattle.log_cells.specs.Ends.{CellRec}
 use Rattle.plan_cells.specs.Inside.{IsCellOf, AreDealt, cells_of}
 use Rattle.plan_cells.proofs.Dealing.{deal_more, deals_nodes, push_cell}
@@ -13,7 +13,7 @@ pub deal-requires-clause-link : goal.deal-requires-clause-link
 deal-requires-clause-link c =
     let plan = c.args.plan.now.value in
     let links : length c.links.result.now ≡ length plan.links = ap (λ (ls : List LinkPlan). length ls) (c.links.ensures.value ∙ ap (λ (p : PlanRec). p.links) c.deref.ensures) in
-    omega (arith, c.loop-link-test.true, links, directions_length plan.links)
+    omega (arith, c.loop-link-test.true, links, arcs_length plan.links)
 
 pub loop-link-preserved : goal.loop-link-preserved
 loop-link-preserved c =
@@ -32,7 +32,7 @@ loop-link-preserved c =
           (push_cell plan cells cell link i.count i.each c.in_ok-cell.ensures.cell);
       nodes = deals_nodes plan link cell before after c.in_ok-cell.ensures.deals ∙ i.nodes;
       dealt =
-          subst (λ (cs : List (CellRec PlanRec)). AreDealt (cells_of plan cs) (take (link + 1) (directions plan.links)) after) (sym pushed)
+          subst (λ (cs : List (CellRec PlanRec)). AreDealt (cells_of plan cs) (take (link + 1) (arcs plan)) after) (sym pushed)
           (deal_more plan cells cell link i.count before after i.nodes i.dealt c.in_ok-cell.ensures.deals);
     }
 
@@ -41,14 +41,14 @@ returns-clause-cells c =
     let plan = c.args.plan.now.value in
     let links : length c.links.result.now ≡ length plan.links = ap (λ (ls : List LinkPlan). length ls) (c.links.ensures.value ∙ ap (λ (p : PlanRec). p.links) c.deref.ensures) in
     record {
-      count = omega (arith, c.loop-link.invariant.count, c.loop-link-test.false, c.loop-link.auto.link-end, links, directions_length plan.links);
+      count = omega (arith, c.loop-link.invariant.count, c.loop-link-test.false, c.loop-link.auto.link-end, links, arcs_length plan.links);
       each = c.loop-link.invariant.each;
     }
 
 pub returns-clause-dealt : goal.returns-clause-dealt
 returns-clause-dealt c =
     let plan = c.args.plan.now.value in
-    let ds = directions plan.links in
+    let ds = arcs plan in
     let links : length c.links.result.now ≡ length plan.links = ap (λ (ls : List LinkPlan). length ls) (c.links.ensures.value ∙ ap (λ (p : PlanRec). p.links) c.deref.ensures) in
-    let all : length ds ≤ c.loop-link.link = omega (arith, c.loop-link-test.false, links, directions_length plan.links) in
-    subst (λ (l : List Direction). AreDealt (cells_of plan c.loop-link.cells.items) l c.loop-link.all.items) (take_all c.loop-link.link ds all) c.loop-link.invariant.dealt
+    let all : length ds ≤ c.loop-link.link = omega (arith, c.loop-link-test.false, links, arcs_length plan.links) in
+    subst (λ (l : List Arc). AreDealt (cells_of plan c.loop-link.cells.items) l c.loop-link.all.items) (take_all c.loop-link.link ds all) c.loop-link.invariant.dealt

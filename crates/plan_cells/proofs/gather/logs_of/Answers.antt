@@ -1,7 +1,7 @@
 use Rattle.std.proofs.Common.{◌≡◌, ◌<◌, Some, List, [], length, get_or, slice_get, sym, ap, ◌∙◌, subst}
 use Rattle.std.specs.List.{AllByRecursion}
 use Rattle.xs_base.specs.Numbers.{Position, LinkNumber}
-use Rattle.sys_plan.specs.Plan.{PlanRec, directions}
+use Rattle.sys_plan.specs.Plan.{PlanRec, arcs}
 use Rattle.link_logs.specs.Logs.{LogRec}
 use Rattle.log_cells.specs.Ends.{CellRec}
 use Rattle.plan_cells.specs.declared.ends.Ends.{Ends}
@@ -28,9 +28,9 @@ last_outgoing-outgoing-requires-clause-some c =
     let logs = c.loop-cell.logs.items in
     let g = subst (λ (cs : List (CellRec PlanRec)). Gathers plan whole given cs all logs) c.in-Some.ensures.items c.loop-cell.invariant in
     let w = c.way_of-way.ensures.way in
-    let at = ap (slice_get (directions plan.links)) (sym c.pop.new.self.ok.0 ∙ sym c.len.ensures) ∙ w.here in
+    let at = ap (slice_get (arcs plan)) (sym c.pop.new.self.ok.0 ∙ sym c.len.ensures) ∙ w.here in
     subst (λ (n : Position). 0 < length (get_or (outgoing_of all) n [])) (sym w.from)
-    (some_outgoing plan whole given c.requires.cells cells c.in-Some.cell all logs g w.direction at w.from_there w.to_there)
+    (some_outgoing plan whole given c.requires.cells cells c.in-Some.cell all logs g w.arc at w.from_there w.to_there)
 
 pub last_incoming-incoming-requires-clause-some : goal.last_incoming-incoming-requires-clause-some
 last_incoming-incoming-requires-clause-some c =
@@ -44,10 +44,10 @@ last_incoming-incoming-requires-clause-some c =
     let o = c.last_outgoing-outgoing.result in
     let g = subst (λ (cs : List (CellRec PlanRec)). Gathers plan whole given cs all logs) c.in-Some.ensures.items c.loop-cell.invariant in
     let w = c.way_of-way.ensures.way in
-    let at = ap (slice_get (directions plan.links)) (sym c.pop.new.self.ok.0 ∙ sym c.len.ensures) ∙ w.here in
+    let at = ap (slice_get (arcs plan)) (sym c.pop.new.self.ok.0 ∙ sym c.len.ensures) ∙ w.here in
     let o_back = c.last_outgoing-outgoing.ensures.outgoing ∙ ap (λ (n : Position). handed (outgoing_of mid) n o) w.from in
     subst (λ (n : Position). 0 < length (get_or (incoming_of mid) n [])) (sym w.to)
-    (some_incoming plan whole given c.requires.cells cells c.in-Some.cell all logs g w.direction at w.from_there w.to_there o mid o_back c.last_outgoing-outgoing.ensures.incoming)
+    (some_incoming plan whole given c.requires.cells cells c.in-Some.cell all logs g w.arc at w.from_there w.to_there o mid o_back c.last_outgoing-outgoing.ensures.incoming)
 
 pub done-requires-clause-writer : goal.done-requires-clause-writer
 done-requires-clause-writer c =
@@ -61,9 +61,9 @@ done-requires-clause-writer c =
     let o = c.last_outgoing-outgoing.result in
     let g = subst (λ (cs : List (CellRec PlanRec)). Gathers plan whole given cs all logs) c.in-Some.ensures.items c.loop-cell.invariant in
     let w = c.way_of-way.ensures.way in
-    let at = ap (slice_get (directions plan.links)) (sym c.pop.new.self.ok.0 ∙ sym c.len.ensures) ∙ w.here in
+    let at = ap (slice_get (arcs plan)) (sym c.pop.new.self.ok.0 ∙ sym c.len.ensures) ∙ w.here in
     let o_back = c.last_outgoing-outgoing.ensures.outgoing ∙ ap (λ (n : Position). handed (outgoing_of mid) n o) w.from in
-    o_writes plan whole given c.requires.cells cells c.in-Some.cell all logs g w.direction at w.from_there w.to_there o mid o_back c.last_outgoing-outgoing.ensures.incoming
+    o_writes plan whole given c.requires.cells cells c.in-Some.cell all logs g w.arc at w.from_there w.to_there o mid o_back c.last_outgoing-outgoing.ensures.incoming
 
 pub done-requires-clause-reader : goal.done-requires-clause-reader
 done-requires-clause-reader c =
@@ -79,10 +79,10 @@ done-requires-clause-reader c =
     let i = c.last_incoming-incoming.result in
     let g = subst (λ (cs : List (CellRec PlanRec)). Gathers plan whole given cs all logs) c.in-Some.ensures.items c.loop-cell.invariant in
     let w = c.way_of-way.ensures.way in
-    let at = ap (slice_get (directions plan.links)) (sym c.pop.new.self.ok.0 ∙ sym c.len.ensures) ∙ w.here in
+    let at = ap (slice_get (arcs plan)) (sym c.pop.new.self.ok.0 ∙ sym c.len.ensures) ∙ w.here in
     let o_back = c.last_outgoing-outgoing.ensures.outgoing ∙ ap (λ (n : Position). handed (outgoing_of mid) n o) w.from in
     let i_back = c.last_incoming-incoming.ensures.incoming ∙ ap (λ (n : Position). handed (incoming_of after) n i) w.to in
-    i_reads plan whole given c.requires.cells cells c.in-Some.cell all logs g w.direction at w.from_there w.to_there o mid o_back c.last_outgoing-outgoing.ensures.incoming
+    i_reads plan whole given c.requires.cells cells c.in-Some.cell all logs g w.arc at w.from_there w.to_there o mid o_back c.last_outgoing-outgoing.ensures.incoming
     i after i_back c.last_incoming-incoming.ensures.outgoing
 
 pub loop-cell-preserved-in_ok-push : goal.loop-cell-preserved-in_ok-push
@@ -100,12 +100,12 @@ loop-cell-preserved-in_ok-push c =
     let log = c.done.result in
     let g = subst (λ (cs : List (CellRec PlanRec)). Gathers plan whole given cs all logs) c.in-Some.ensures.items c.loop-cell.invariant in
     let w = c.way_of-way.ensures.way in
-    let at = ap (slice_get (directions plan.links)) (sym c.pop.new.self.ok.0 ∙ sym c.len.ensures) ∙ w.here in
+    let at = ap (slice_get (arcs plan)) (sym c.pop.new.self.ok.0 ∙ sym c.len.ensures) ∙ w.here in
     let o_back = c.last_outgoing-outgoing.ensures.outgoing ∙ ap (λ (n : Position). handed (outgoing_of mid) n o) w.from in
     let i_back = c.last_incoming-incoming.ensures.incoming ∙ ap (λ (n : Position). handed (incoming_of after) n i) w.to in
     let d = c.done.ensures in
     subst (Gathers plan whole given cells after) (sym c.in_ok-push.ensures.items)
-    (gathers_more plan whole given c.requires.cells cells c.in-Some.cell all logs g w.direction at w.from_there w.to_there o mid o_back c.last_outgoing-outgoing.ensures.incoming
+    (gathers_more plan whole given c.requires.cells cells c.in-Some.cell all logs g w.arc at w.from_there w.to_there o mid o_back c.last_outgoing-outgoing.ensures.incoming
     i after i_back c.last_incoming-incoming.ensures.outgoing log (record { run = d.run; number = d.number; base = d.base; published = d.published; cause = d.cause; own = d.own }))
 
 pub loop-cell-preserved : goal.loop-cell-preserved
@@ -123,12 +123,12 @@ loop-cell-preserved c =
     let log = c.done.result in
     let g = subst (λ (cs : List (CellRec PlanRec)). Gathers plan whole given cs all logs) c.in-Some.ensures.items c.loop-cell.invariant in
     let w = c.way_of-way.ensures.way in
-    let at = ap (slice_get (directions plan.links)) (sym c.pop.new.self.ok.0 ∙ sym c.len.ensures) ∙ w.here in
+    let at = ap (slice_get (arcs plan)) (sym c.pop.new.self.ok.0 ∙ sym c.len.ensures) ∙ w.here in
     let o_back = c.last_outgoing-outgoing.ensures.outgoing ∙ ap (λ (n : Position). handed (outgoing_of mid) n o) w.from in
     let i_back = c.last_incoming-incoming.ensures.incoming ∙ ap (λ (n : Position). handed (incoming_of after) n i) w.to in
     let d = c.done.ensures in
     subst (Gathers plan whole given cells after) (sym c.in_ok-push.ensures.items)
-    (gathers_more plan whole given c.requires.cells cells c.in-Some.cell all logs g w.direction at w.from_there w.to_there o mid o_back c.last_outgoing-outgoing.ensures.incoming
+    (gathers_more plan whole given c.requires.cells cells c.in-Some.cell all logs g w.arc at w.from_there w.to_there o mid o_back c.last_outgoing-outgoing.ensures.incoming
     i after i_back c.last_incoming-incoming.ensures.outgoing log (record { run = d.run; number = d.number; base = d.base; published = d.published; cause = d.cause; own = d.own }))
 
 pub returns-clause-own : goal.returns-clause-own

@@ -1,14 +1,14 @@
 use Rattle.std.proofs.Common.{length, ap, arith}
 use Rattle.sys_plan.specs.declared.LinkPlan.{LinkPlan}
-use Rattle.sys_plan.proofs.Directions.{directions_length}
+use Rattle.sys_plan.proofs.Arcs.{arcs_length}
 use Rattle.plan_cells.proofs.Ways.{way_forth, way_back}
 use Rattle.plan_cells.proofs.way.way_of.Goals as goal
 
 pub offset_bounds-links-link : goal.offset_bounds-links-link
-offset_bounds-links-link c = omega (arith, c.requires.link, directions_length c.args.plan.now.links, ap (length {A = LinkPlan}) c.links.ensures.value, c.links.type_inv)
+offset_bounds-links-link c = omega (arith, c.requires.link, arcs_length c.args.plan.now.links, ap (length {A = LinkPlan}) c.links.ensures.value, c.links.type_inv)
 
 pub bounds-links-link : goal.bounds-links-link
-bounds-links-link c = omega (arith, c.requires.link, directions_length c.args.plan.now.links, ap (length {A = LinkPlan}) c.links.ensures.value)
+bounds-links-link c = omega (arith, c.requires.link, arcs_length c.args.plan.now.links, ap (length {A = LinkPlan}) c.links.ensures.value)
 
 pub returns-then-link-eq0 : goal.returns-then-link-eq0
 returns-then-link-eq0 c = record {

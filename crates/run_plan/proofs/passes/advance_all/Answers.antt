@@ -13,7 +13,7 @@ use Rattle.run_plan.proofs.passes.advance_all.Goals.{then-go_on, else-go_on}
 use Rattle.run_plan.proofs.passes.advance_all.Goals as goal
 
 pub loop-track-init : goal.loop-track-init
-loop-track-init c = record { through = refl; same = zip-refl SameButDue (λ x. record { seat = refl; incoming = refl }) c.args.stations.now }
+loop-track-init c = record { through = refl; same = zip-refl SameButDue (λ x. record { seat = refl; pins = refl; incoming = refl }) c.args.stations.now }
 
 pub bounds-stations-track : goal.bounds-stations-track
 bounds-stations-track c =

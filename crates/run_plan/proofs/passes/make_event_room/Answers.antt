@@ -10,7 +10,7 @@ returns-in_err-reserve-clause-same c =
     let i = c.loop-station.station-index in
     let before = slice_index_or c.loop-station.stations i c.station-item.result in
     let so_far = through-to MakesEventRoom SameStation (λ x y r. r.same) i c.args.stations.now c.loop-station.stations c.loop-station.invariant.through in
-    let after = through-more SameStation i c.args.stations.now c.loop-station.stations c.station-item.result _ so_far (omega arith) (record { node = record { seat = c.reserve.ensures.same; incoming = refl }; due = refl }) in
+    let after = through-more SameStation i c.args.stations.now c.loop-station.stations c.station-item.result _ so_far (omega arith) (record { node = record { seat = c.reserve.ensures.same; pins = refl; incoming = refl }; due = refl }) in
     through-weaker SameStation SameStation (λ x y r. r) same-itself (i + 1) c.args.stations.now _ after
 
 pub loop-station-preserved : goal.loop-station-preserved
@@ -19,7 +19,7 @@ loop-station-preserved c =
     record {
       through =
           through-more MakesEventRoom c.loop-station.station-index c.args.stations.now c.loop-station.stations c.station-item.result _ c.loop-station.invariant.through (omega arith)
-          (record { same = record { node = record { seat = c.reserve.ensures.same; incoming = refl }; due = refl }; room = c.in_ok-reserve.ensures.room });
+          (record { same = record { node = record { seat = c.reserve.ensures.same; pins = refl; incoming = refl }; due = refl }; room = c.in_ok-reserve.ensures.room });
     }
 
 pub returns-clause-same : goal.returns-clause-same

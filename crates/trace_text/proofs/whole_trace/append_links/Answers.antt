@@ -1,7 +1,7 @@
 use Rattle.std.proofs.Common.{◌≡◌, ◌*◌, ◌++◌, List, length, ap, sym, ◌∙◌, arith, refl}
 use Rattle.sys_plan.specs.declared.LinkPlan.{LinkPlan}
 use Rattle.sys_plan.specs.declared.NodePlan.{NodePlan}
-use Rattle.sys_plan.specs.Plan.{PlanRec, directions}
+use Rattle.sys_plan.specs.Plan.{PlanRec, link_arcs}
 use Rattle.serial_model.specs.Serial.{serial}
 use Rattle.trace_model.specs.Trace.{by_position, traffic_at}
 use Rattle.trace_text.proofs.ByPosition.{directions-length, link_more, link_done}
@@ -10,7 +10,7 @@ use Rattle.trace_text.proofs.whole_trace.append_links.Goals as goal
 pub append_traffic_at-requires-clause-number : goal.append_traffic_at-requires-clause-number
 append_traffic_at-requires-clause-number c =
     let links = c.links-links.result.now in
-    let count : length (directions c.args.finished.now.plan.links) ≡ 2 * length links =
+    let count : length (link_arcs c.args.finished.now.plan.links) ≡ 2 * length links =
     directions-length _ ∙ ap (λ (ls : List LinkPlan). 2 * length ls) (ap (λ (p : PlanRec). p.links) c.requires.plan ∙ sym c.links-links.ensures.value) in
     omega (arith, count)
 
@@ -26,5 +26,5 @@ returns c =
     let out = c.args.out.now in
     let links = c.links-links.result.now in
     link_done (traffic_at c.nodes-nodes.result.now system) c.loop-k.k links _ _ (omega arith) c.loop-k.invariant
-    ∙ (ap (λ (ns : List NodePlan). out ++ by_position (traffic_at ns system) 0 (directions links)) c.nodes-nodes.ensures.value
-    ∙ ap (λ (ls : List LinkPlan). out ++ by_position (traffic_at c.args.plan.now.nodes system) 0 (directions ls)) c.links-links.ensures.value)
+    ∙ (ap (λ (ns : List NodePlan). out ++ by_position (traffic_at ns system) 0 (link_arcs links)) c.nodes-nodes.ensures.value
+    ∙ ap (λ (ls : List LinkPlan). out ++ by_position (traffic_at c.args.plan.now.nodes system) 0 (link_arcs ls)) c.links-links.ensures.value)

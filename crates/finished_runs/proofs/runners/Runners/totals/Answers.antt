@@ -1,5 +1,4 @@
 use Rattle.std.proofs.Common.{ap, arith, ◌<◌, ◌∙◌, length}
-use Rattle.sys_plan.specs.Plan.{directions}
 use Rattle.serial_model.specs.Serial.{history}
 use Rattle.trace_model.specs.Trace.{tokens_sent, credits_sent}
 use Rattle.finished_runs.specs.Limit.{FinishedRunRec}

@@ -1,6 +1,6 @@
 use Rattle.std.proofs.Common.{◌<◌, length, ap, ◌∙◌, arith, []}
 use Rattle.std.specs.Prelude.{slice_index_or}
-use Rattle.sys_plan.specs.Plan.{directions}
+use Rattle.sys_plan.specs.Plan.{arcs, arc_count}
 use Rattle.run_plan.specs.declared.track.Track.{Track}
 use Rattle.run_plan.specs.Machine.{MachineRec}
 use Rattle.run_plan.proofs.Systems.{carry-at, carry-length}
@@ -10,14 +10,14 @@ pub index-track-requires : goal.index-track-requires
 index-track-requires c =
     let plan = c.self.inside.plan.value in
     let system = c.self.inside.system.whole in
-    omega (arith, carry-length (directions plan.links) c.self.inside.tracks.items system.histories c.self.invariant.system.carry, ap (λ (m : MachineRec). length (directions m.plan.links)) c.self.view_is)
+    omega (arith, carry-arc_count plan c.self.inside.tracks.items system.histories c.self.invariant.system.carry, ap (λ (m : MachineRec). arc_count m.plan) c.self.view_is)
 
 pub returns : goal.returns
 returns c =
     let plan = c.self.inside.plan.value in
     let system = c.self.inside.system.whole in
-    let inside : c.args.link < length (directions plan.links) = omega (arith, ap (λ (m : MachineRec). length (directions m.plan.links)) c.self.view_is) in
-    let at = carry-at (directions plan.links) c.self.inside.tracks.items system.histories c.args.link c.index-track.result.now c.self.invariant.system.carry inside in
+    let inside : c.args.link < arc_count plan = omega (arith, ap (λ (m : MachineRec). arc_count m.plan) c.self.view_is) in
+    let at = carry-at (arcs plan) c.self.inside.tracks.items system.histories c.args.link c.index-track.result.now c.self.invariant.system.carry inside in
     record {
       value =
           c.entries.ensures.value
