@@ -8,7 +8,7 @@ use Rattle.pin_scripts.specs.Script.{IsBefore, IsNextChange}
 use Rattle.pin_scripts.specs.Script.{view_at}
 use Rattle.sys_plan.specs.Plan.{PlanRec, node_numbers}
 use Rattle.node_seats.specs.declared.pins.Pins.{Pins}
-use Rattle.node_seats.specs.Shown.{IsShown, ArePins, slot_or_never}
+use Rattle.node_seats.specs.Shown.{IsShown, ArePins, shown_by, slot_or_never}
 use Rattle.std.specs.Prelude.{slice_index}
 
 pub next-after : (script : List PinLine) (number slot : ℕ) (next : Option Slot) → slot < 2 ^ 32 - 1 → IsNextChange script number slot next → slot + 1 ≤ slot_or_never next
@@ -23,7 +23,7 @@ pub not-due : (slot next : Slot) → slot ≤ next → (next == slot) ≡ false 
 not-due slot next l e = grind (arith, nat_tests)
 
 -- what the pins of a plan's node show is what its script says
-pub shows : (plan : PlanRec) (n slot : ℕ) (pins : Pins) → ArePins plan n slot pins → view_at pins.script pins.number slot ≡ view_at plan.script (slice_index (node_numbers plan) n) slot
+pub shows : (plan : PlanRec) (n slot : ℕ) (pins : Pins) → ArePins plan n slot pins → shown_by pins slot ≡ view_at plan.script (slice_index (node_numbers plan) n) slot
 shows plan n slot pins are = λ i. view_at (are.script i) (are.number i) slot
 
 pub pins-next : (plan : PlanRec) (n slot : ℕ) (pins after : Pins) → ArePins plan n slot pins → after.script ≡ pins.script → after.number ≡ pins.number → IsShown (slot + 1) after → ArePins plan n (slot + 1) after

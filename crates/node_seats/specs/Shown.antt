@@ -1,6 +1,7 @@
 -- What the pins of a node show from outside.
 use Rattle.std.specs.Prelude.{◌≡◌, ◌<◌, ◌≤◌, Option, Some, None, slice_index}
 use Rattle.xs_base.specs.Numbers.{Slot, Position}
+use Rattle.xs_model.specs.declared.outside.PinView.{PinView}
 use Rattle.xs_model.specs.Outside.{LevelsFit}
 use Rattle.pin_scripts.specs.Script.{view_at}
 use Rattle.sys_plan.specs.Plan.{PlanRec, node_numbers}
@@ -11,9 +12,13 @@ abbrev pub slot_or_never : Option Slot → Slot
 slot_or_never None = 4294967295
 slot_or_never (Some slot) = slot
 
+-- what pins show in a slot
+abbrev pub shown_by : Pins → Slot → PinView
+shown_by pins slot = view_at pins.script pins.number slot
+
 -- before a slot: until the next change the pins show what is kept
 pub record IsShown (slot : Slot) (pins : Pins) : Type 0 where
-  pub steady : (later : Slot) → slot ≤ later → later < pins.next → view_at pins.script pins.number later ≡ pins.view
+  pub steady : (later : Slot) → slot ≤ later → later < pins.next → shown_by pins later ≡ pins.view
   pub next : slot ≤ pins.next
   pub levels : LevelsFit pins.view.level
 

@@ -1,8 +1,7 @@
 //! `Pins`, what the pins of a node show from outside. See docs/PINS.md.
 ghost use Rattle.std.specs.Prelude.{◌≡◌, ◌+◌, ◌-◌, ◌^◌, ◌<◌, ◌==◌, IfOk, length};
 ghost use Rattle.xs_model.specs.Outside.{LevelsFit};
-ghost use Rattle.pin_scripts.specs.Script.{view_at};
-ghost use Rattle.node_seats.specs.Shown.{IsShown, ArePins, slot_or_never};
+ghost use Rattle.node_seats.specs.Shown.{IsShown, ArePins, shown_by, slot_or_never};
 
 use pin_scripts::Script;
 use std::alloc::AllocError;
@@ -58,7 +57,7 @@ impl Pins {
         requires shown { IsShown slot self.old }
         ensures script { self.new.script ≡ self.old.script }
         ensures number { self.new.number ≡ self.old.number }
-        ensures view { self.new.view ≡ view_at self.old.script self.old.number slot }
+        ensures view { self.new.view ≡ shown_by self.old slot }
         ensures levels { LevelsFit self.new.view.level }
         ensures shown { IsShown (slot + 1) self.new }
     {

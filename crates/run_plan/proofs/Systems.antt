@@ -20,8 +20,8 @@ use Rattle.run_plan.specs.Incoming.{IncomingRec, IsBelow, incoming_of, arrived_o
 use Rattle.node_seats.specs.Seats.{Plays}
 use Rattle.node_seats.proofs.Seats.{own_step, given-is, plays-next, plays-same, ready-same as seat-ready-same}
 use Rattle.node_seats.proofs.Shown.{shows, pins-next}
-use Rattle.node_seats.specs.Shown.{IsShown, ArePins}
-use Rattle.run_plan.specs.Stations.{IsStation, StationSteps, taken_by, shown_to}
+use Rattle.node_seats.specs.Shown.{IsShown, ArePins, shown_by}
+use Rattle.run_plan.specs.Stations.{IsStation, StationSteps, taken_by}
 use Rattle.run_plan.specs.Passes.{IsReadyTrack, IsHeeded, Advances, SameNode, SameStation, SameTrack, SameButDue}
 use Rattle.run_plan.specs.Run.{Serves, AllServe, Carries, AllCarry, IsSystem, AreReady}
 use Rattle.run_plan.proofs.Through.{all-at, all-zip, zip-first, zip-second, zip-length}
@@ -53,7 +53,7 @@ module _ (plan : PlanRec) (slot nodes_count : ℕ) where
     serial_step n node rec = step_by plan n node slot (coming_at plan histories slot n) rec
 
     step-same : (n : ℕ) (node : NodePlan) (station : Station) (rec : NodeRec) (events : List Event) → (is : Serves plan slot n node station rec events) → (station.due ≡ false → IsQuiet plan tracks n)
-        → own_step plan slot n node station.seat rec events is.plays (taken_by tracks station) (shown_to slot station) ≡ serial_step n node rec
+        → own_step plan slot n node station.seat rec events is.plays (taken_by tracks station) (shown_by station.pins slot) ≡ serial_step n node rec
     step-same n node station rec events is quiet =
         let arrivals = taken-is plan tracks n station is.incoming quiet ∙ arrivals-same n in
         let pins = shows plan n slot station.pins is.pins in
@@ -64,7 +64,7 @@ module _ (plan : PlanRec) (slot nodes_count : ℕ) where
     serves-next n node before after rec events is quiet s = record {
       plays =
           subst (λ (st : Stepped). Plays plan (slot + 1) n node after.seat st.rec (events ++ st.emitted.events)) (step-same n node before rec events is quiet)
-          (plays-next plan slot n node before.seat rec events is.plays (taken_by tracks before) (shown_to slot before) after.seat s.steps);
+          (plays-next plan slot n node before.seat rec events is.plays (taken_by tracks before) (shown_by before.pins slot) after.seat s.steps);
       pins = pins-next plan n slot before.pins after.pins is.pins s.script s.number s.shown;
       incoming = s.incoming ∙ is.incoming;
     }
@@ -72,7 +72,7 @@ module _ (plan : PlanRec) (slot nodes_count : ℕ) where
     gave : (n : ℕ) (node : NodePlan) (before after : Station) (rec : NodeRec) (events : List Event) → Serves plan slot n node before rec events → (before.due ≡ false → IsQuiet plan tracks n) → StationSteps slot tracks before after
         → after.seat.given ≡ (serial_step n node rec).emitted
     gave n node before after rec events is quiet s =
-        given-is plan slot n node before.seat rec events is.plays (taken_by tracks before) (shown_to slot before) after.seat s.steps
+        given-is plan slot n node before.seat rec events is.plays (taken_by tracks before) (shown_by before.pins slot) after.seat s.steps
         ∙ ap (λ (st : Stepped). st.emitted) (step-same n node before rec events is quiet)
 
     all-play : (n : ℕ) (nodes : List NodePlan) (stations : List Station) (recs : List NodeRec) (events : List (List Event)) (after : List Station) → AllServe plan slot n nodes stations recs events → AllQuiet plan tracks n stations → AllZip (StationSteps slot tracks) stations after

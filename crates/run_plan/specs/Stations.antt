@@ -3,10 +3,8 @@ use Rattle.std.specs.Prelude.{ℕ, ◌≡◌, ◌+◌, if◌then◌else◌, List
 use Rattle.std.specs.List.{AllByRecursion}
 use Rattle.xs_base.specs.Numbers.{Slot}
 use Rattle.xs_model.specs.declared.outside.Arrivals.{Arrivals}
-use Rattle.xs_model.specs.declared.outside.PinView.{PinView}
-use Rattle.pin_scripts.specs.Script.{view_at}
 use Rattle.node_seats.specs.Seats.{IsSeat, StepsOn}
-use Rattle.node_seats.specs.Shown.{IsShown}
+use Rattle.node_seats.specs.Shown.{IsShown, shown_by}
 use Rattle.run_plan.specs.declared.track.Track.{Track}
 use Rattle.run_plan.specs.declared.station.Station.{Station}
 use Rattle.run_plan.specs.declared.incoming.TheConstants.{NOTHING}
@@ -22,14 +20,10 @@ pub record IsStation (slot : Slot) (link_count : ℕ) (station : Station) : Type
 abbrev pub taken_by : List Track → Station → Arrivals
 taken_by tracks station = if station.due then arrivals_by tracks station.incoming.links else NOTHING
 
--- what its pins show from outside in a slot
-abbrev pub shown_to : Slot → Station → PinView
-shown_to slot station = view_at station.pins.script station.pins.number slot
-
 -- what a slot makes of a node
 pub record StationSteps (slot : Slot) (tracks : List Track) (before after : Station) : Type 0 where
   pub incoming : after.incoming.links ≡ before.incoming.links
   pub script : after.pins.script ≡ before.pins.script
   pub number : after.pins.number ≡ before.pins.number
   pub shown : IsShown (slot + 1) after.pins
-  pub steps : StepsOn slot (taken_by tracks before) (shown_to slot before) before.seat after.seat
+  pub steps : StepsOn slot (taken_by tracks before) (shown_by before.pins slot) before.seat after.seat
