@@ -13,6 +13,7 @@ use Rattle.plan_cells.specs.declared.ends.Outgoing.{Outgoing}
 use Rattle.plan_cells.specs.declared.ends.Incoming.{Incoming}
 use Rattle.plan_cells.specs.declared.ends.Ends.{Ends}
 use Rattle.plan_cells.specs.Ends.{CellsRec, leaving, coming, leaves_at, comes_at, IsOutgoing, IsIncoming}
+use Rattle.sys_plan.specs.declared.system_plan.TheConstants.{ENDS}
 use Rattle.ahead_limits.specs.declared.horizon.Seen.{Seen}
 use Rattle.ahead_limits.specs.Horizon.{HorizonRec, Sees, StopsAt}
 use Rattle.node_runners.specs.Runner.{RunnerRec}
@@ -55,7 +56,7 @@ pub record Tells (cells : CellsRec) (runner : RunnerRec) (ends : List Outgoing) 
   pub places : map leaves_at ends ≡ leaving cells.plan runner.node
   pub fit : AllByRecursion (IsOutgoing cells) ends
   pub told : All (IsTold runner.published) ends
-  pub all_ends : length runner.published ≡ 8
+  pub all_ends : length runner.published ≡ ENDS
 
 pub record IsWorker (w : WorkerRec) : Type 0 where
   pub plan_is : IsPlan w.cells.plan

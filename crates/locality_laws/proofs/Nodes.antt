@@ -144,11 +144,12 @@ module _ (plan : PlanRec) (is : IsPlan plan) (n : ℕ) (slot : Slot) (heard : Li
 told_before : (plan : PlanRec) → IsPlan plan → (n : ℕ) (slots slot : Slot) (heard : List (List Entry)) → ArriveAlikeBefore plan n slots heard (serial plan slots).histories → slot < slots
     → heard_by plan heard n slot ≡ comes_in_serial plan n slot
 told_before plan is n zero slot heard alike within = absurd (omega arith)
-told_before plan is n (suc slots) slot heard alike within = by_last (cases_lt slot slots)
+told_before plan is n (suc slots) slot heard alike within =
+    by_last (λ earlier. told_before plan is n slots slot heard (before_slot plan is n slots heard alike) earlier) (cases_lt slot slots)
   where
-    by_last : (slot < slots) ⊎ (slots ≤ slot) → heard_by plan heard n slot ≡ comes_in_serial plan n slot
-    by_last (inl earlier) = told_before plan is n slots slot heard (before_slot plan is n slots heard alike) earlier
-    by_last (inr last) =
+    by_last : (slot < slots → heard_by plan heard n slot ≡ comes_in_serial plan n slot) → (slot < slots) ⊎ (slots ≤ slot) → heard_by plan heard n slot ≡ comes_in_serial plan n slot
+    by_last rest (inl earlier) = rest earlier
+    by_last rest (inr last) =
         let same : slots ≡ slot = omega arith in
         subst (λ (t : Slot). heard_by plan heard n t ≡ comes_in_serial plan n t) same (arrivals_tell plan n slots heard (in_slot plan is n slots heard alike))
 

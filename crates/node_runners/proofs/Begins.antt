@@ -24,6 +24,7 @@ use Rattle.node_runners.specs.Sent.{batch_at}
 use Rattle.node_runners.specs.Starts.{first_inlet}
 use Rattle.node_runners.specs.Inside.{HearsLink, Hears, Tells, HasLinks, Sits, IsRunner}
 use Rattle.sys_plan.proofs.Routes.{incoming-past, outgoing-end}
+use Rattle.sys_plan.specs.declared.system_plan.TheConstants.{ENDS}
 
 -- ---- The node
 
@@ -122,15 +123,15 @@ module _ (plan : PlanRec) (is : IsPlan plan) (n : Position) (limit : Slot) where
         (subst (Hears plan 0 (incoming plan n end) (option_map (seen_of_link plan nothing_seen) (incoming plan n end))) (sym (inlet-first end)) (hears-first (incoming plan n end)))
 
     module _ (batches : List BatchRec) (empty : (end : ℕ) → (batch_at batches end).entries ≡ []) (no_more : (end : ℕ) → length batches ≤ end → end < 8 → outgoing plan n end ≡ None) where
-      tells-start : (end : EndNumber) (link : LinkNumber) → outgoing plan n end ≡ Some link → Tells plan 0 link end batches (replicate 8 0)
+      tells-start : (end : EndNumber) (link : LinkNumber) → outgoing plan n end ≡ Some link → Tells plan 0 link end batches (replicate ENDS 0)
       tells-start end link at = record {
         there = elim (cases_lt end (length batches)) [ inl h ↦ h | inr h ↦ absurd (none-some link (sym (no_more end h (outgoing-end plan is n end link at)) ∙ at)) ];
-        batch = empty end ∙ sym (history-none plan link (slice_index (replicate 8 0) end));
+        batch = empty end ∙ sym (history-none plan link (slice_index (replicate ENDS 0) end));
       }
 
       pub runner-start : (seat : Seat) (pins : Pins) → length inlets ≤ 8 → length batches ≤ 8 → limit < 2 ^ 32 → n < length plan.nodes
           → ((node : NodePlan) → slice_get plan.nodes n ≡ Some node → Plays plan 0 n node seat (node_of node (gaps_of plan n)) []) → IsSeat 0 seat → ArePins plan n 0 pins
-          → IsRunner plan n 0 horizon seat pins inlets batches (replicate 8 0)
+          → IsRunner plan n 0 horizon seat pins inlets batches (replicate ENDS 0)
       runner-start seat pins few_inlets few_batches small within plays ready pins_are = record {
         plan_is = is;
         within = omega arith;
@@ -145,6 +146,6 @@ module _ (plan : PlanRec) (is : IsPlan plan) (n : Position) (limit : Slot) where
           hears = hears-start;
           reached = λ end link at. elim (cases_lt end (length inlets)) [ inl h ↦ h | inr h ↦ absurd (none-some link (sym (none-past end h) ∙ at)) ];
           tells = tells-start;
-          behind = λ end. omega (arith, zero-at 8 end);
+          behind = λ end. omega (arith, zero-at ENDS end);
         };
       }

@@ -6,6 +6,7 @@ use Rattle.std.proofs.lemmas.Option.{none-some}
 use Rattle.xs_base.specs.Numbers.{Slot}
 use Rattle.ahead_limits.specs.declared.horizon.Seen.{Seen}
 use Rattle.ahead_limits.specs.Horizon.{HorizonRec, Sees, horizon_at, may_run, NoneStopsBelow}
+use Rattle.sys_plan.specs.declared.system_plan.TheConstants.{ENDS}
 use Rattle.ahead_limits.proofs.Ends.{may_run_exactly}
 
 true_false : true ≡ false → ⊥
@@ -17,11 +18,11 @@ within [] end x h = absurd (none-some x h)
 within (y ∷ ends) zero x h = omega arith
 within (y ∷ ends) (suc end) x h = omega (arith, within ends end x h)
 
-module _ (h : HorizonRec) (clock : Slot) (stopped : may_run h clock ≡ false) (ends : length h.ends ≡ 8) (ahead : (end : ℕ) (s : Seen) → Sees h end s → clock ≤ horizon_at s)
-    (none : NoneStopsBelow h clock 8) where
+module _ (h : HorizonRec) (clock : Slot) (stopped : may_run h clock ≡ false) (ends : length h.ends ≡ ENDS) (ahead : (end : ℕ) (s : Seen) → Sees h end s → clock ≤ horizon_at s)
+    (none : NoneStopsBelow h clock ENDS) where
   below : (end : ℕ) (s : Seen) → Sees h end s → clock < horizon_at s
   below end s there =
-      let inside : end < 8 = omega (arith, within h.ends end (Some s) there, ends) in
+      let inside : end < ENDS = omega (arith, within h.ends end (Some s) there, ends) in
       by_order (eq-or-lt_of_le (ahead end s there)) (none end s inside there)
     where
       by_order : (clock ≡ horizon_at s) ⊎ (clock < horizon_at s) → clock ≢ horizon_at s → clock < horizon_at s

@@ -4,6 +4,7 @@ use Rattle.xs_base.specs.Numbers.{Slot, Position, LinkNumber, EndNumber}
 use Rattle.xs_base.specs.Batch.{BatchRec}
 use Rattle.sys_plan.specs.declared.NodePlan.{NodePlan}
 use Rattle.sys_plan.specs.Plan.{PlanRec, IsPlan, incoming, outgoing, delay_of}
+use Rattle.sys_plan.specs.declared.system_plan.TheConstants.{ENDS}
 use Rattle.serial_model.specs.Serial.{serial, history}
 use Rattle.locality_laws.specs.Locality.{node_in, events_in}
 use Rattle.ahead_limits.specs.declared.horizon.Seen.{Seen}
@@ -35,10 +36,10 @@ pub record Tells (plan : PlanRec) (clock : Slot) (link : LinkNumber) (end : EndN
 
 -- the links of a node as they are before the slot of its clock
 pub record HasLinks (plan : PlanRec) (n : Position) (clock : Slot) (horizon : HorizonRec) (inlets : List InletRec) (batches : List BatchRec) (published : List Slot) : Type 0 where
-  pub all_ends : length horizon.ends ≡ 8
+  pub all_ends : length horizon.ends ≡ ENDS
   pub few_inlets : length inlets ≤ 8
   pub few_batches : length batches ≤ 8
-  pub all_published : length published ≡ 8
+  pub all_published : length published ≡ ENDS
   pub hears : (end : EndNumber) → Hears plan clock (incoming plan n end) (slice_index_or horizon.ends end None) (inlet_at inlets end)
   pub reached : (end : EndNumber) (link : LinkNumber) → incoming plan n end ≡ Some link → end < length inlets
   pub tells : (end : EndNumber) (link : LinkNumber) → outgoing plan n end ≡ Some link → Tells plan clock link end batches published

@@ -2,13 +2,14 @@
 use Rattle.std.specs.Prelude.{◌≡◌, ◌+◌, ◌<◌, true, List, length, replicate}
 use Rattle.xs_base.specs.Numbers.{Slot, Position}
 use Rattle.sys_plan.specs.Plan.{PlanRec, arc_count}
+use Rattle.sys_plan.specs.declared.system_plan.TheConstants.{ENDS}
 use Rattle.ahead_limits.specs.Horizon.{HorizonRec, may_run, StopsAt}
 use Rattle.ahead_limits.specs.Schedule.{horizon_of}
 use Rattle.node_runners.specs.declared.runner.Ran.{Ran}
 use Rattle.node_runners.specs.declared.runner.Ran.TheVariants.{Slot as one_slot, Blocked, AtLimit}
 
 -- the node at a position of a plan: its clock, which is the number of slots that it has run, how far it may run, and up to which slot
--- it has published what it sends, by link end (8 of them, 0 where no link leaves)
+-- it has published what it sends, by end (0 where no arc leaves)
 pub record RunnerRec : Type 0 where
   pub plan : PlanRec
   pub node : Position
@@ -23,7 +24,7 @@ new_runner plan limit n = record {
   node = n;
   clock = 0;
   horizon = horizon_of plan limit (replicate (arc_count plan) 0) n;
-  published = replicate 8 0;
+  published = replicate ENDS 0;
 }
 
 -- why a node does not run the slot of its clock

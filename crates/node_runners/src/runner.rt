@@ -2,6 +2,7 @@
 ghost use Rattle.std.specs.Prelude.{ℕ, ◌≡◌, ◌+◌, ◌<◌, ◌≤◌, Some, None, IsSome, false, [], length, slice_index, slice_index_or, slice_set, IfOk, IfErr, OnOk, OnErr};
 ghost use Rattle.xs_base.specs.Numbers.{LinkNumber};
 ghost use Rattle.sys_plan.specs.Plan.{IsPlan, outgoing, incoming};
+ghost use Rattle.sys_plan.specs.declared.system_plan.TheConstants.{ENDS};
 ghost use Rattle.serial_model.specs.Serial.{serial, history};
 ghost use Rattle.locality_laws.specs.Locality.{node_in, events_in};
 ghost use Rattle.trace_lines.specs.Kept.{Keeps};
@@ -20,7 +21,7 @@ use node_seats::{Pins, Seat};
 use std::alloc::{AllocError, Global};
 use std::marker::Model;
 use std::mem;
-use sys_plan::Plan;
+use sys_plan::{ENDS, Plan};
 use trace_lines::NodeEvents;
 use xs_base::Batch;
 
@@ -51,7 +52,7 @@ pub struct NodeRunner {
     inlets: Vec<Inlet>,
     // What was sent and not published, by link end, as far as the last by which a link leaves.
     batches: Vec<Batch>,
-    published: [u32; 8],
+    published: [u32; ENDS],
 }
 
 impl Model for NodeRunner {
@@ -88,7 +89,7 @@ impl NodeRunner {
             pins,
             inlets,
             batches,
-            published: [0; 8],
+            published: [0; ENDS],
         })
     }
 
@@ -200,7 +201,7 @@ impl NodeRunner {
 fn stopped(horizon: &Horizon, clock: u32) -> Ran
     requires stopped { may_run horizon.now clock ≡ false }
     requires within { clock ≤ horizon.now.limit }
-    requires ends { length horizon.now.ends ≡ 8 }
+    requires ends { length horizon.now.ends ≡ ENDS }
     requires ahead { (end : ℕ) (s : Seen) → Sees horizon.now end s → clock ≤ horizon_at s }
     ensures stops { Stops horizon.now clock result }
 {

@@ -1,7 +1,8 @@
 -- A play before its first step.
 use Rattle.std.proofs.Common.{◌≡◌, ℕ, zero, suc, Option, Some, None, List, length, map, replicate, get_or, refl, sym, ap, ◌∙◌, subst}
 use Rattle.xs_base.specs.Numbers.{Slot}
-use Rattle.sys_plan.specs.Plan.{PlanRec, arc_count, outgoing, link_ends}
+use Rattle.sys_plan.specs.Plan.{PlanRec, arc_count, outgoing, ends_out}
+use Rattle.sys_plan.specs.declared.system_plan.TheConstants.{ENDS}
 use Rattle.ahead_limits.specs.Schedule.{schedule_at_start, horizon_of}
 use Rattle.play_model.specs.Play.{number_by}
 use Rattle.node_runners.specs.Runner.{RunnerRec, new_runner}
@@ -18,8 +19,8 @@ none_by : (count : ℕ) (x : Option ℕ) → number_by (replicate count 0) x ≡
 none_by count None = refl
 none_by count (Some k) = none_at count k
 
-none_published : (plan : PlanRec) (count n : ℕ) → published_at plan (replicate count 0) n ≡ replicate 8 0
-none_published plan count n = λ i. map (λ end. none_by count (outgoing plan n end) i) link_ends
+none_published : (plan : PlanRec) (count n : ℕ) → published_at plan (replicate count 0) n ≡ replicate ENDS 0
+none_published plan count n = λ i. map (λ end. none_by count (outgoing plan n end) i) (ends_out plan n)
 
 module _ (plan : PlanRec) (limit : Slot) (runners : List RunnerRec) (lanes : List Lane)
     (node_count : length runners ≡ length plan.nodes) (nodes : AllAt (λ n r. r ≡ new_runner plan limit n) runners)

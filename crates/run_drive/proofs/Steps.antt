@@ -17,7 +17,7 @@ use Rattle.node_runners.specs.Runner.{RunnerRec}
 use Rattle.run_drive.specs.declared.lane.Lane.{Lane}
 use Rattle.run_drive.specs.Stages.{AllAt, published_at, IsRunner, IsLane, clocks_of, seen_of, published_of, numbers_of, AreAt}
 use Rattle.run_drive.proofs.Places.{all_at_set}
-use Rattle.sys_plan.proofs.Routes.{at-link-end, leaves-once, comes-once}
+use Rattle.sys_plan.proofs.Routes.{at-end-in, at-end-out, leaves-once, comes-once}
 use Rattle.run_drive.proofs.Routes.{elsewhere, at_node}
 
 -- a link is not another one
@@ -39,7 +39,7 @@ module _ (plan : PlanRec) (limit : Slot) (seen : List Slot) (node end link to : 
       ap f (elsewhere (incoming plan) (λ n m e f l. comes-once plan l n m e f) node end link here (option_map (seen_of_link plan seen)) (option_map (seen_of_link plan (set seen link to))) seen_apart m apart)
 
   noted : end < 8 → get_or (horizon_of plan limit seen node).ends end None ≡ Some (seen_of_link plan seen link)
-  noted inside = at-link-end (λ e. option_map (seen_of_link plan seen) (incoming plan node e)) None end inside ∙ ap (option_map (seen_of_link plan seen)) here
+  noted inside = at-end-in plan node (λ e. option_map (seen_of_link plan seen) (incoming plan node e)) None end inside ∙ ap (option_map (seen_of_link plan seen)) here
 
   pub seen_here : end < 8 → seen_at (horizon_of plan limit seen node) end ≡ get_or seen link 0
   seen_here inside = ap seen_by_end (noted inside)
@@ -66,7 +66,7 @@ module _ (plan : PlanRec) (published : List Slot) (node end link to : ℕ) (here
       elsewhere (outgoing plan) (λ n m e f l. leaves-once plan l n m e f) node end link here (number_by published) (number_by (set published link to)) published_apart m apart
 
   pub published_then : end < 8 → get_or (published_at plan published node) end 0 ≡ get_or published link 0
-  published_then inside = at-link-end (λ e. number_by published (outgoing plan node e)) 0 end inside ∙ ap (number_by published) here
+  published_then inside = at-end-out plan node (λ e. number_by published (outgoing plan node e)) 0 end inside ∙ ap (number_by published) here
 
   pub published_here : end < 8 → published_at plan (set published link to) node ≡ set (published_at plan published node) end to
   published_here inside =

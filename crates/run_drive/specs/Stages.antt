@@ -2,7 +2,7 @@
 use Rattle.std.specs.Prelude.{ℕ, ◌≡◌, ◌<◌, None, List, length, map, slice_index_or}
 use Rattle.xs_base.specs.Numbers.{Slot, Position, LinkNumber}
 use Rattle.sys_plan.specs.declared.Step.{Step}
-use Rattle.sys_plan.specs.Plan.{PlanRec, arc_count, outgoing, link_ends}
+use Rattle.sys_plan.specs.Plan.{PlanRec, arc_count, outgoing, ends_out}
 use Rattle.link_logs.specs.Logs.{Writes, Reads}
 use Rattle.ahead_limits.specs.Schedule.{ScheduleRec, horizon_of, after_step}
 use Rattle.play_model.specs.Play.{number_by, played_step}
@@ -20,7 +20,7 @@ AllAt {X} P xs = (k : ℕ) (x : X) → k < length xs → P k (slice_index_or xs 
 
 -- what a node has published by each of its link ends, 0 where no link leaves
 abbrev pub published_at : PlanRec → List Slot → Position → List Slot
-published_at plan published n = map (λ end. number_by published (outgoing plan n end)) link_ends
+published_at plan published n = map (λ end. number_by published (outgoing plan n end)) (ends_out plan n)
 
 -- the node at a position, by what is seen and what is published of each arc
 pub record IsRunner (plan : PlanRec) (limit : Slot) (seen published : List Slot) (n : Position) (runner : RunnerRec) : Type 0 where

@@ -5,7 +5,7 @@ use Rattle.std.specs.List.{AllByRecursion, list_any}
 use Rattle.std.specs.Int.{bit_at}
 use Rattle.std.proofs.lemmas.Bool.Decides.{nat_tests}
 use Rattle.std.proofs.lemmas.Nat.Bits.{bit_at-zero}
-use Rattle.sys_plan.specs.Plan.{PlanRec, WaysLead, outgoing, directions, first_link, leaves_by, comes_to}
+use Rattle.sys_plan.specs.Plan.{PlanRec, WaysLead, outgoing, link_arcs, first_arc, leaves_by, comes_to}
 use Rattle.system_model.specs.declared.frame_line.EndName.{EndName}
 use Rattle.system_model.specs.declared.frame_line.GivenNode.{GivenNode}
 use Rattle.system_model.specs.declared.frame_line.LinkLine.{LinkLine}
@@ -28,7 +28,7 @@ at_place : (place : ℕ → ℕ) (x y e d : ℕ) → ((x == y) && (e == d)) ≡ 
 at_place place x y e d h = grind (arith, nat_tests)
 
 pub leaves : (nodes : List GivenNode) (number end : ℕ) (links : List LinkLine) (n : ℕ) → has_link_end links (record { node = number; end = end }) ≡ true →
-    IsSome (first_link (leaves_by (position_by_number nodes number) end) n (directions (map (link_plan nodes) links)))
+    IsSome (first_arc (leaves_by (position_by_number nodes number) end) n (link_arcs (map (link_plan nodes) links)))
 leaves nodes number end [] n e = absurd cc
 leaves nodes number end (link ∷ links) n e =
     let name : EndName = record { node = number; end = end } in
@@ -47,7 +47,7 @@ coming false true rest false false first second later e f g h = cc (g refl)
 coming false false rest false false first second later e f g h = h e
 
 pub comes : (nodes : List GivenNode) (number end : ℕ) (links : List LinkLine) (n : ℕ) → has_link_end links (record { node = number; end = end }) ≡ true →
-    IsSome (first_link (comes_to (position_by_number nodes number) end) n (directions (map (link_plan nodes) links)))
+    IsSome (first_arc (comes_to (position_by_number nodes number) end) n (link_arcs (map (link_plan nodes) links)))
 comes nodes number end [] n e = absurd cc
 comes nodes number end (link ∷ links) n e =
     let name : EndName = record { node = number; end = end } in

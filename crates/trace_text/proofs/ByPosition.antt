@@ -36,9 +36,9 @@ pub number_at-is : (nodes : List NodePlan) (k : ℕ) (node : NodePlan) → k < l
 number_at-is nodes k node below is = ap (λ (n : NodePlan). n.number) is ∙ sym (get_or-map (λ (n : NodePlan). n.number) nodes k node 0 below)
 
 -- each link is two directed links
-pub directions-length : (links : List LinkPlan) → length (link_arcs links) ≡ 2 * length links
-directions-length [] = refl
-directions-length (link ∷ links) = omega (arith, directions-length links)
+pub arcs-length : (links : List LinkPlan) → length (link_arcs links) ≡ 2 * length links
+arcs-length [] = refl
+arcs-length (link ∷ links) = omega (arith, directions-length links)
 
 -- two pieces for each link
 module _ (piece : ℕ → Arc → List ℕ) where
