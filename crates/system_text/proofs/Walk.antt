@@ -1,5 +1,5 @@
 -- The frame of lines, line by line.
-use Rattle.std.proofs.Common.{◌≡◌, ℕ, ◌+◌, Bool, true, false, not, List, [], ◌∷◌, ◌++◌, length, Option, Some, None, Result, Ok, Err, refl, sym, ap, ◌∙◌, cond, append_assoc, append-nil, arith}
+use Rattle.std.proofs.Common.{◌≡◌, ℕ, ◌+◌, Bool, true, false, not, List, [], ◌∷◌, ◌++◌, length, Option, Some, None, Result, Ok, Err, refl, sym, ap, ◌∙◌, cond, append_assoc, append-nil, arith, subst}
 use Rattle.std.specs.Prelude.{option_map}
 use Rattle.std.proofs.lemmas.Bool.{cond-true, cond-false}
 use Rattle.xs_text.specs.Bytes.{all_allowed}
@@ -19,6 +19,7 @@ use Rattle.system_text.specs.declared.system_error.SystemError.TheVariants.{Fram
 use Rattle.system_text.specs.Judged.{said_by, with_section}
 use Rattle.system_text.specs.Reads.{ReadsFrame, ReadsLine}
 use Rattle.system_text.specs.Sections.{IsTextKind, Section, section_of, with_line}
+use Rattle.system_text.specs.Wants.{HasGoodEnd, IsKept, MayWant}
 use Rattle.system_text.proofs.Judged.{fault_is}
 use Rattle.system_text.proofs.Sections.{section_of-cons, section_of-none}
 
@@ -203,3 +204,11 @@ not_true false c e h = refl
 pub not_false : (b c : Bool) → c ≡ not b → c ≡ false → b ≡ true
 not_false true c e h = refl
 not_false false c e h = cc
+
+-- a section that ends, by a line whose bytes are all allowed
+pub good_end : (found : Option Section) (section : Section) → Some section ≡ found → all_allowed section.end ≡ true → HasGoodEnd found
+good_end found section is good = subst HasGoodEnd is good
+
+-- a line without a fault of which something is kept
+pub may_want : (given : Given) (l : List ℕ) (after : List (List ℕ)) (what : Said) → fault_of given l ≡ None → says given l ≡ said_by what → IsKept after (said_by what) → MayWant given l after
+may_want given l after what sound is kept = record { sound = sound; kept = subst (IsKept after) (sym is) kept }

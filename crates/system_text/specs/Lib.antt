@@ -5,5 +5,6 @@ pub mod Ranges
 pub mod Judged
 pub mod Sections
 pub mod Reads
+pub mod Wants
 pub mod Accepted
 pub mod Plans

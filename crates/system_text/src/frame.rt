@@ -1,4 +1,4 @@
-ghost use Rattle.std.specs.Prelude.{◌≡◌, ◌≤◌, ℕ, true, false, ◌==◌, ◌||◌, ◌&&◌, nat_lt, None, [], length, option_map, OnOk};
+ghost use Rattle.std.specs.Prelude.{◌≡◌, ◌≤◌, ℕ, true, false, ◌==◌, ◌||◌, ◌&&◌, nat_lt, None, [], length, option_map, IsErr, List, OnOk};
 ghost use Rattle.std.specs.List.{list_any, prefix_len};
 ghost use Rattle.xs_text.specs.Lines.{lines_of};
 ghost use Rattle.xs_text.specs.Words.{words_of_line};
@@ -6,6 +6,7 @@ ghost use Rattle.system_model.specs.Frame.{Given, Form, End, says, nothing_given
 ghost use Rattle.system_model.specs.System.{section_lines};
 ghost use Rattle.system_text.specs.Judged.{Judges, IsFormless, IsFormOf, IsPlaying, NamesNoNode, said_by, later_fault, with_section};
 ghost use Rattle.system_text.specs.Ranges.{IsShortSource};
+ghost use Rattle.system_text.specs.Wants.{IsKept};
 
 use crate::end_numbers::stands_twice;
 use crate::frame_lines::frame_line;
@@ -283,10 +284,12 @@ impl<'a> Frame<'a> {
         holds(&self.sections, kind)
     }
 
-    // What a line without a fault gives, but for one that begins a source or a script.
+    // What a line without a fault gives, but for one that begins a source or a script. Memory may be wanting only where
+    // something is kept of the line.
     pub fn add(&mut self, line: u32, said: Said) -> Result<(), AllocError>
         requires { (kind : SectionKind) → said_by said ≡ Form (FrameLine.Section kind) → kind ≡ SectionKind.Play }
-        ensures { OnOk result (self.new ≡ given_with line [] (said_by said) self.old) }
+        ensures given { OnOk result (self.new ≡ given_with line [] (said_by said) self.old) }
+        ensures memory { (after : List (List ℕ)) → IsErr result → IsKept after (said_by said) }
     {
         match said {
             Said::Header => self.begun = true,

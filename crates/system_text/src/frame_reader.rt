@@ -1,10 +1,12 @@
-ghost use Rattle.std.specs.Prelude.{◌≡◌, ◌≤◌, ◌+◌, ◌∷◌, [], not, length};
+ghost use Rattle.std.specs.Prelude.{◌≡◌, ◌≤◌, ◌+◌, ◌∷◌, [], false, not, length, IsErrOf};
 ghost use Rattle.xs_text.specs.Lines.{lines_of, bytes_left, line_bytes};
 ghost use Rattle.system_model.specs.Frame.{framed, frame_from, nothing_given, have_no_words, at_the_end, given_with};
 ghost use Rattle.system_text.specs.Judged.{said_by};
 ghost use Rattle.system_text.specs.Ranges.{IsShortSource};
 ghost use Rattle.system_text.specs.Reads.{ReadsFrame, ReadsLine, frame_of_rest};
-ghost use Rattle.system_text.specs.Sections.{IsTextKind, with_reading};
+ghost use Rattle.system_text.specs.Sections.{IsTextKind, section_of, with_reading};
+ghost use Rattle.system_text.specs.Wants.{HasGoodEnd, IsKept, MayWant};
+ghost use Rattle.system_text.specs.declared.system_error.SystemError.TheVariants as errors;
 
 use crate::frame::{Frame, Said, SectionText};
 use crate::section::read_section;
@@ -14,10 +16,11 @@ use std::alloc::Global;
 use system_model::{FrameLine, SectionKind, SysKind};
 use xs_text::{Line, Lines, all_allowed};
 
-// The frame of a text.
+// The frame of a text. Memory may be wanting only where a line has words.
 pub fn read_frame<'a>(alloc: Global, text: &'a [u8]) -> Result<Frame<'a>, SystemError>
     requires { IsShortSource text.now }
-    ensures { ReadsFrame (framed (lines_of text.now)) result }
+    ensures read { ReadsFrame (framed (lines_of text.now)) result }
+    ensures memory { IsErrOf result errors.Memory → have_no_words (lines_of text.now) ≡ false }
 {
     if has_words(text) {
         read_lines(alloc, text)
@@ -56,7 +59,8 @@ fn read_lines<'a>(alloc: Global, text: &'a [u8]) -> Result<Frame<'a>, SystemErro
     whole(frame)
 }
 
-// Adds what a line gives, with the source or the script that it may begin.
+// Adds what a line gives, with the source or the script that it may begin. Memory may be wanting only where the line has no
+// fault and something is kept of it.
 fn read_line<'a>(
     text: &'a [u8],
     line: Line,
@@ -69,6 +73,7 @@ fn read_line<'a>(
     requires in_text { line.to ≤ length text.now }
     requires numbered { lines.old.number ≡ line.number }
     ensures read { ReadsLine (frame_from line.number frame.old (line_bytes text.now line ∷ lines_of (bytes_left lines.old))) (frame_of_rest lines.new frame.new) result }
+    ensures memory { IsErrOf result errors.Memory → MayWant frame.old (line_bytes text.now line) (lines_of (bytes_left lines.old)) }
     ensures same_text { lines.new.text ≡ lines.old.text }
     ensures onward { lines.old.at ≤ lines.new.at }
 {
@@ -89,6 +94,7 @@ fn read_said<'a>(
     requires same_text { lines.old.text ≡ text.now }
     requires short { IsShortSource text.now }
     ensures read { ReadsLine (frame_of_rest lines.old (given_with number [] (said_by said) frame.old)) (frame_of_rest lines.new frame.new) result }
+    ensures memory { IsErrOf result errors.Memory → IsKept (lines_of (bytes_left lines.old)) (said_by said) }
     ensures same_text { lines.new.text ≡ lines.old.text }
     ensures onward { lines.old.at ≤ lines.new.at }
 {
@@ -118,6 +124,7 @@ fn add_section<'a>(
     requires short { IsShortSource text.now }
     requires text { IsTextKind kind }
     ensures read { ReadsLine (frame_of_rest lines.old (with_reading kind first frame.old)) (frame_of_rest lines.new frame.new) result }
+    ensures memory { IsErrOf result errors.Memory → HasGoodEnd (section_of (lines_of (bytes_left lines.old))) }
     ensures same_text { lines.new.text ≡ lines.old.text }
     ensures onward { lines.old.at ≤ lines.new.at }
 {
@@ -135,9 +142,10 @@ fn add_section<'a>(
     Ok(())
 }
 
-// The frame at the end of the text, if the section `play` has ended and each node has a source.
+// The frame at the end of the text, if the section `play` has ended and each node has a source. It takes no memory.
 fn whole(frame: Frame) -> Result<Frame, SystemError>
-    ensures { ReadsFrame (at_the_end frame.entry frame.entry.reading) result }
+    ensures read { ReadsFrame (at_the_end frame.entry frame.entry.reading) result }
+    ensures memory { ¬ IsErrOf result errors.Memory }
 {
     if let Some(line) = frame.unended() {
         return Err(refusal(line, SysKind::SectionNotEnded));

@@ -4,4 +4,4 @@ use Rattle.system_text.proofs.Walk.{frame_by, frame_ends}
 use Rattle.system_text.proofs.frame_reader.read_lines.Goals as goal
 
 pub returns : goal.returns
-returns c = frame_by _ _ c.whole.result (sym c.loop-line.invariant.left ∙ frame_ends _ _ _ (lines_of-nothing _ (c.in_default.ensures.end.0 refl))) c.whole.ensures
+returns c = frame_by _ _ c.whole.result (sym c.loop-line.invariant.left ∙ frame_ends _ _ _ (lines_of-nothing _ (c.in_default.ensures.end.0 refl))) c.whole.ensures.read
