@@ -1,9 +1,10 @@
 -- The link ends of a node as it starts.
-use Rattle.std.proofs.Common.{ℕ, zero, suc, ◌≡◌, ◌<◌, Bool, false, cond, eqb, List, [], ◌∷◌, Option, Some, None, refl, ap, sym, subst, ◌∙◌, replicate, get_or, arith}
+use Rattle.std.proofs.Common.{ℕ, zero, suc, ◌≡◌, ◌<◌, Bool, false, cond, eqb, List, [], ◌∷◌, Option, Some, None, refl, ap, sym, subst, ◌∙◌, replicate, arith}
 use Rattle.std.proofs.lemmas.Bool.Decides.{nat_tests}
 use Rattle.std.specs.Prelude.{map, IfSome}
 use Rattle.std.specs.List.{AllByRecursion}
-use Rattle.xs_model.specs.Record.{off_port}
+use Rattle.xs_model.specs.Record.{CoreRec, off_port}
+use Rattle.xs_model.specs.Ports.{levels_of}
 use Rattle.step_model.specs.Start.{link_with_gap, node_of}
 use Rattle.net_model.specs.Links.{fresh_link}
 use Rattle.link_ends.specs.Counts.{EndCounts, fresh_counts}
@@ -51,17 +52,11 @@ sent_before_start (zero ∷ gaps) = (tt, sent_before_start gaps)
 sent_before_start (suc gap ∷ gaps) =
     (subst (λ w. IfSome w (λ counts. IfSome counts.last_sent (λ s. s < 0))) (sym (some_counts gap)) tt, sent_before_start gaps)
 
--- no port has a strobe
-no_strobe : (n p strobe : ℕ) → (get_or (replicate n off_port) p off_port).strobe ≡ Some strobe → ⊥
-no_strobe zero p strobe is = cc
-no_strobe (suc n) zero strobe is = cc
-no_strobe (suc n) (suc p) strobe is = no_strobe n p strobe is
-
-pub stands_at_start : (value : CoreValue) (plan : NodePlan) (gaps : List ℕ) → value.core ≡ (node_of plan gaps).core → value.inputs ≡ (node_of plan gaps).inputs → value.links ≡ map counts_with_gap gaps → StandsAt value (node_of plan gaps) 0
-stands_at_start value plan gaps core inputs links = record {
+pub stands_at_start : (value : CoreValue) (plan : NodePlan) (gaps : List ℕ) → value.core ≡ (node_of plan gaps).core → value.outside ≡ replicate 29 0 → value.inputs ≡ (node_of plan gaps).inputs → value.links ≡ map counts_with_gap gaps → StandsAt value (node_of plan gaps) 0
+stands_at_start value plan gaps core outside inputs links = record {
   stands = record {
     core = core;
-    high = λ p strobe is. absurd (no_strobe 29 p strobe is);
+    levels = ap (λ (c : CoreRec). levels_of c.ports value.outside) core ∙ ap (levels_of (replicate 29 off_port)) outside;
     inputs = inputs;
     links = subst (λ row. AllCountsOf row (map link_with_gap gaps)) (sym links) (counts_of_start gaps);
   };

@@ -12,7 +12,6 @@ use Rattle.xs_model.specs.Record.{CoreRec, NodeRec, LinkRec, ChanRec}
 use Rattle.xs_model.specs.Outside.{Emitted, in_slot}
 use Rattle.xs_model.specs.AtWork.{AtWork, slot_begins, emitted_in}
 use Rattle.xs_model.specs.Ports.{levels_of}
-use Rattle.buffered_ports.specs.Keeps.{HighAre}
 use Rattle.net_model.specs.Links.{latest}
 use Rattle.net_model.specs.Switch.{is_busy_among}
 use Rattle.link_ends.specs.Counts.{EndCounts, CountsOf, NeverFall}
@@ -86,18 +85,18 @@ links_before slot (Some counts ∷ row) (Some link ∷ links) of sent credited =
 -- ---- The phases
 
 -- what contracts see of a core with these parts
-abbrev value_with : Fixed → CoreRec → ℕ → NetworkRec → CoreValue
-value_with fixed core high n = record { fixed = fixed; core = core; high = high; inputs = n.switch.inputs; links = n.links }
+abbrev value_with : Fixed → CoreRec → List ℕ → NetworkRec → CoreValue
+value_with fixed core outside n = record { fixed = fixed; core = core; outside = outside; inputs = n.switch.inputs; links = n.links }
 
 -- the node as its slot begins, after the edges
 abbrev pub edged : NodeRec → Slot → PinView → AtWork
 edged rec slot pins = ports_step slot pins (slot_begins rec)
 
 -- a core that stands for a node before a slot stands for the node after the edges, which change ports alone
-pub begins : (fixed : Fixed) (core : CoreRec) (high : ℕ) (n : NetworkRec) (rec : NodeRec) (slot : ℕ) (pins : PinView) (chans : List ChanRec) (out : Emitted)
-    → StandsAt (value_with fixed core high n) rec slot → chans ≡ core.chans → out ≡ emitted_in slot (edged rec slot pins)
+pub begins : (fixed : Fixed) (core : CoreRec) (outside : List ℕ) (n : NetworkRec) (rec : NodeRec) (slot : ℕ) (pins : PinView) (chans : List ChanRec) (out : Emitted)
+    → StandsAt (value_with fixed core outside n) rec slot → chans ≡ core.chans → out ≡ emitted_in slot (edged rec slot pins)
     → NetworkStands slot n chans out (edged rec slot pins)
-begins fixed core high n rec slot pins chans out at same gives = record {
+begins fixed core outside n rec slot pins chans out at same gives = record {
   parts = record {
     inputs = at.stands.inputs;
     chans = same ∙ ap (λ (c : CoreRec). c.chans) at.stands.core;
@@ -125,13 +124,12 @@ module _ (fixed : Fixed) (rec : NodeRec) (slot : ℕ) (arrivals : Arrivals) (pin
     issue_is = ap (λ (c : CoreRec). issued fixed.code its_setting c) (core_is ∙ sym (ap (λ (r : NodeRec). r.core) b.rest))
 
     -- so the core stands for the node after the slot
-    pub stepped : (any : Fixed) (new : CoreRec) (high : ℕ) → new ≡ (issued fixed.code its_setting core).core → HighAre high new.ports (levels_of new.ports pins.level) → SentBy slot n.links → StandsAt (value_with any new high n) (node_step fixed rec slot arrivals pins).rec (slot + 1)
+    pub stepped : (any : Fixed) (new : CoreRec) → new ≡ (issued fixed.code its_setting core).core → SentBy slot n.links → StandsAt (value_with any new pins.level n) (node_step fixed rec slot arrivals pins).rec (slot + 1)
     unfolding node_step
-    stepped any new high made highs sent = record {
+    stepped any new made sent = record {
       stands = record {
         core = made ∙ ap (λ (i : Issued). i.core) issue_is;
-        high =
-            subst (λ (c : CoreRec). HighAre high c.ports (levels_of c.ports pins.level)) (made ∙ ap (λ (i : Issued). i.core) issue_is) highs;
+        levels = ap (λ (c : CoreRec). levels_of c.ports pins.level) (made ∙ ap (λ (i : Issued). i.core) issue_is);
         inputs = b.stands.parts.inputs;
         links = b.stands.parts.links;
       };

@@ -1,27 +1,28 @@
 -- What contracts see of a core, and the node record that it stands for.
 use Rattle.std.specs.Prelude.{ℕ, ◌≡◌, ◌<◌, false, List, Option, None, IfSome, slice_index_or}
 use Rattle.std.specs.List.{AllByRecursion}
-use Rattle.xs_base.specs.Numbers.{Slot}
+use Rattle.xs_base.specs.Numbers.{Slot, Word}
 use Rattle.xs_model.specs.declared.outside.Arrivals.{Arrivals}
 use Rattle.xs_model.specs.Record.{CoreRec, NodeRec, LinkRec, InputRec}
+use Rattle.xs_model.specs.Ports.{levels_of}
 use Rattle.link_ends.specs.Counts.{EndCounts}
-use Rattle.buffered_ports.specs.Keeps.{HighAre}
 use Rattle.switch_routes.specs.Rows.{AllCountsOf}
 use Rattle.step_model.specs.Fixed.{Fixed}
 
--- what of its node's plan a core keeps, its units, which strobes were high at the end of the slot before, the states of its
+-- what of its node's plan a core keeps, its units, what its pins showed from outside in the slot before, the states of its
 -- switch's inputs, and the counts of its link ends
 pub record CoreValue : Type 0 where
   pub fixed : Fixed
   pub core : CoreRec
-  pub high : ℕ  -- bit p for port p
+  pub outside : List Word  -- 29
   pub inputs : List InputRec  -- 40
   pub links : List (Option EndCounts)  -- 8
 
--- the core keeps what the record says; of what the pins showed it keeps what strobes did, since nothing else asks for it
+-- the core keeps what the record says; the levels of all pins at the end of the slot before are those that ports drive, and
+-- else those from outside
 pub record StandsFor (value : CoreValue) (rec : NodeRec) : Type 0 where
   pub core : value.core ≡ rec.core
-  pub high : HighAre value.high rec.core.ports rec.levels
+  pub levels : levels_of value.core.ports value.outside ≡ rec.levels
   pub inputs : value.inputs ≡ rec.inputs
   pub links : AllCountsOf value.links rec.links
 

@@ -26,8 +26,8 @@ pub struct Core {
     program: Program,
     units: Processor,
     network: Network,
-    // The strobes that were high at the end of the slot before.
-    high: u32,
+    // What the pins showed from outside in the slot before. With what the ports drive these are all levels at its end.
+    outside: PinView,
 }
 
 impl Model for Core {
@@ -57,7 +57,7 @@ impl Core {
             program: Program::new(plan.id, plan.edition, code),
             units: Processor::first(plan.id, plan.image.entry(), plan.image.cp_at(), ram),
             network: Network::new(plan.id, plan.ways, plan.nets, gaps),
-            high: 0,
+            outside: PinView { level: [0; 29] },
         })
     }
 
@@ -121,22 +121,25 @@ impl Core {
         ensures after { SlotsBefore self.new (slot + 1) }
     {
         out.clear();
+        let high = high_before(&self.units, &self.outside);
         // What arrives changes no port, so it may come after the edges.
-        self.units.edges(slot, pins, self.high, out);
+        self.units.edges(slot, pins, high, out);
         self.network
             .bring(&mut self.units, arrives, slot, arrivals, out);
         self.units
             .issue(&self.program, slot, pins, &self.network, out);
-        note_high(&mut self.high, &self.units, pins);
+        self.outside = *pins;
     }
 }
 
-// Notes which strobes are high at the end of a slot. Where no port has one, the mask may stay.
+// Which strobes were high at the end of the slot before, when the pins showed this from outside.
 #[inline]
-fn note_high(high: &mut u32, units: &Processor, pins: &PinView)
-    ensures { HighAre high.new units.now.ports (levels_of units.now.ports pins.now.level) }
+fn high_before(units: &Processor, outside: &PinView) -> u32
+    ensures { HighAre result units.now.ports (levels_of units.now.ports outside.now.level) }
 {
     if units.has_strobe() {
-        *high = units.high(pins);
+        units.high(outside)
+    } else {
+        0
     }
 }

@@ -1,4 +1,4 @@
-use Rattle.std.proofs.Common.{◌≡◌, List, ℕ, ap, sym, ◌∙◌, subst, arith}
+use Rattle.std.proofs.Common.{◌≡◌, List, ℕ, refl, ap, sym, ◌∙◌, subst, arith}
 use Rattle.std.proofs.lemmas.Grind.{common_steps}
 use Rattle.net_model.specs.Switch.{Routes}
 use Rattle.core_step.specs.Core.{SentBefore}
@@ -16,7 +16,7 @@ returns-clause-fixed c =
 
 pub returns-clause-start : goal.returns-clause-start
 returns-clause-start c =
-    stands_at_start _ c.args.plan.now c.args.gaps.now (grind (arith, common_steps)) (ap (λ (n : NetworkRec). n.switch.inputs) c.new-3.ensures) (ap (λ (n : NetworkRec). n.links) c.new-3.ensures)
+    stands_at_start _ c.args.plan.now c.args.gaps.now (grind (arith, common_steps)) refl (ap (λ (n : NetworkRec). n.switch.inputs) c.new-3.ensures) (ap (λ (n : NetworkRec). n.links) c.new-3.ensures)
 
 pub returns-clause-before : goal.returns-clause-before
 returns-clause-before c = subst (SentBefore 0) (sym (ap (λ (n : NetworkRec). n.links) c.new-3.ensures)) (sent_before_start c.args.gaps.now)
