@@ -23,6 +23,14 @@ arrives slot arrivals switch chans row after m counts credited at = record {
   credited = credited m.rec.links at.credited;
 }
 
+-- the routes are known by the id, the ways, the networks and the gaps
+pub same_routes : (i j : ℕ) (w v n o g h : List ℕ) → i ≡ j → w ≡ v → n ≡ o → g ≡ h → (λ (id : ℕ) (ways nets gaps : List ℕ). let r : Routes = record { id = id; ways = ways; nets = nets; gaps = gaps } in r) i w n g ≡ (λ (id : ℕ) (ways nets gaps : List ℕ). let r : Routes = record { id = id; ways = ways; nets = nets; gaps = gaps } in r) j v o h
+same_routes i j w v n o g h e f b d =
+    ap (λ (x : ℕ). let r : Routes = record { id = x; ways = w; nets = n; gaps = g } in r) e
+    ∙ ap (λ (y : List ℕ). let r : Routes = record { id = j; ways = y; nets = n; gaps = g } in r) f
+    ∙ ap (λ (y : List ℕ). let r : Routes = record { id = j; ways = v; nets = y; gaps = g } in r) b
+    ∙ ap (λ (z : List ℕ). let r : Routes = record { id = j; ways = v; nets = o; gaps = z } in r) d
+
 -- inputs and channel ends that stand for a node's are all that a node has of them
 parts_are : (rec : NodeRec) (inputs : List InputRec) (chans : List ChanRec) (links : List (Option LinkRec)) → inputs ≡ rec.inputs → chans ≡ rec.core.chans → record rec { links = links } ≡ with_parts rec inputs chans links
 parts_are rec inputs chans links i c =

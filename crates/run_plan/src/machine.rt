@@ -71,11 +71,16 @@ impl SerialMachine {
         ensures plan { self.new.plan ≡ self.old.plan }
         ensures passed { OnOk result (self.new.now ≡ self.old.now + 1) }
         ensures stepped { OnOk result (self.new.system ≡ system_step self.old.plan self.old.now self.old.system) }
-        ensures is_serial { IsSerial self.old → IsSerial self.new }
+        ensures is_serial { OnOk result (IsSerial self.old → IsSerial self.new) }
         ensures err { OnErr result (self.new ≡ self.old) }
     {
-        pass_slot(&mut self.stations, &mut self.tracks, self.clock)?;
-        self.system = self.system.stepped(&self.plan, self.clock);
+        pass_slot(
+            &self.plan,
+            &mut self.stations,
+            &mut self.tracks,
+            &mut self.system,
+            self.clock,
+        )?;
         self.clock += 1;
         Ok(())
     }

@@ -1,9 +1,8 @@
 -- Plans of nodes that do nothing, and how they are joined.
-use Rattle.std.specs.Prelude.{◌+◌, ℕ, List, [], ◌∷◌, replicate}
+use Rattle.std.specs.Prelude.{◌+◌, ℕ, [], ◌∷◌, replicate}
 use Rattle.xs_instructions.specs.Image.{ImageRec}
 use Rattle.sys_plan.specs.declared.NodePlan.{NodePlan}
 use Rattle.sys_plan.specs.declared.LinkPlan.{LinkPlan}
-use Rattle.sys_plan.specs.declared.Step.{Step}
 use Rattle.sys_plan.specs.NodePlans.{plain_plan}
 use Rattle.sys_plan.specs.Plan.{PlanRec}
 
@@ -22,9 +21,9 @@ bare_node number = plain_plan number number empty_image (replicate 16 0)
 abbrev pub link_on : ℕ → ℕ → LinkPlan
 link_on first delay = record { a = first; a_end = 7; b = first + 1; b_end = 0; delay = delay; gap = 4 }
 
--- two nodes with a link between them, and a schedule
-abbrev pub pair : ℕ → List Step → PlanRec
-pair delay steps = record { nodes = bare_node 0 ∷ bare_node 1 ∷ []; links = link_on 0 delay ∷ []; script = []; steps = steps }
+-- two nodes with a link between them
+abbrev pub pair : ℕ → PlanRec
+pair delay = record { nodes = bare_node 0 ∷ bare_node 1 ∷ []; links = link_on 0 delay ∷ []; script = []; steps = [] }
 
 -- three nodes in a row, with a link from each to the next one
 abbrev pub row_of_three : ℕ → PlanRec

@@ -2,14 +2,12 @@
 #![tactic(auto)]
 
 ghost use Rattle.std.specs.Prelude.{◌≡◌, ◌<◌, ◌≤◌, [], IfOk};
-ghost use Rattle.std.specs.List.{AllByRecursion};
 ghost use Rattle.xs_instructions.specs.Image.{IsImage};
-ghost use Rattle.sys_plan.specs.Plan.{NamesWhatIsThere};
 ghost use Rattle.test_plans.specs.Plans as plans;
 
 use pin_scripts::Script;
 use std::alloc::{AllocError, Global};
-use sys_plan::{LinkPlan, NodePlan, Plan, Step};
+use sys_plan::{LinkPlan, NodePlan, Plan};
 use xs_instructions::{Image, Instr, Symbols};
 
 /// A node with this code and these data bytes, without labels, whose constant pool begins at an address. Its number is 0. For each bit
@@ -45,10 +43,10 @@ pub fn bare_node(alloc: Global, number: u8) -> NodePlan
     NodePlan::plain(number, u16::from(number), image, [0; 16])
 }
 
-// A link from link end 7 of the node at a position to link end 0 of the next one.
-fn link_on(first: u8, delay: u32) -> LinkPlan
+/// A link from link end 7 of the node at a position, 0 to 14, to link end 0 of the next one, with a gap of 4 slots. It takes no memory.
+pub fn link_on(first: u8, delay: u32) -> LinkPlan
     requires { first < 15 }
-    ensures { result ≡ plans.link_on first delay }
+    ensures value { result ≡ plans.link_on first delay }
 {
     LinkPlan {
         a: first,
@@ -65,24 +63,14 @@ fn link_on(first: u8, delay: u32) -> LinkPlan
 pub fn pair(alloc: Global, delay: u32) -> Result<Plan, AllocError>
     requires least { 1 ≤ delay }
     requires most { delay ≤ 1000 }
-    ensures value { IfOk result (λ plan. plan ≡ plans.pair delay []) }
-{
-    played_pair(alloc, delay, Vec::new(alloc))
-}
-
-/// The same with a schedule, whose steps name nodes and link ends that are there. The error is want of memory.
-pub fn played_pair(alloc: Global, delay: u32, steps: Vec<Step>) -> Result<Plan, AllocError>
-    requires least { 1 ≤ delay }
-    requires most { delay ≤ 1000 }
-    requires steps { AllByRecursion (NamesWhatIsThere (plans.pair delay steps.items)) steps.items }
-    ensures value { IfOk result (λ plan. plan ≡ plans.pair delay steps.items) }
+    ensures value { IfOk result (λ plan. plan ≡ plans.pair delay) }
 {
     let mut nodes = Vec::new(alloc);
     nodes.push(bare_node(alloc, 0))?;
     nodes.push(bare_node(alloc, 1))?;
     let mut links = Vec::new(alloc);
     links.push(link_on(0, delay))?;
-    Ok(Plan::of(nodes, links, Script::empty(), steps))
+    Ok(Plan::of(nodes, links, Script::empty(), Vec::new(alloc)))
 }
 
 /// Three bare nodes in a row, and a link from link end 7 of each to link end 0 of the next, with a delay of 1 to 1,000 slots and a gap

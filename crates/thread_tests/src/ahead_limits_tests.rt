@@ -1,8 +1,9 @@
 //! Horizons, and the numbers of a schedule, worked out by hand.
 use ahead_limits::{Horizon, Numbers};
+use pin_scripts::Script;
 use std::test::Fail;
-use sys_plan::Step;
-use test_plans::played_pair;
+use sys_plan::{Plan, Step};
+use test_plans::{bare_node, link_on};
 
 #[test]
 fn a_node_runs_as_far_as_its_links_are_known(rt: HostRuntime) {
@@ -44,6 +45,11 @@ fn a_node_runs_as_far_as_its_links_are_known(rt: HostRuntime) {
 
 #[test]
 fn a_node_takes_what_the_other_has_sent(rt: HostRuntime) -> Result<(), Fail> {
+    let mut nodes = Vec::new(rt.alloc());
+    nodes.push(bare_node(rt.alloc(), 0))?;
+    nodes.push(bare_node(rt.alloc(), 1))?;
+    let mut links = Vec::new(rt.alloc());
+    links.push(link_on(0, 5))?;
     let mut steps = Vec::new(rt.alloc());
     steps.push(Step::Run { node: 0, count: 3 })?;
     steps.push(Step::Send { node: 0, end: 7 })?;
@@ -52,7 +58,7 @@ fn a_node_takes_what_the_other_has_sent(rt: HostRuntime) -> Result<(), Fail> {
         node: 0,
         count: 1_000_000,
     })?;
-    let plan = played_pair(rt.alloc(), 5, steps)?;
+    let plan = Plan::of(nodes, links, Script::empty(), steps);
     let numbers = Numbers::of(rt.alloc(), &plan, 40)?;
     // No count is run further than 5 slots, of which 3 were sent.
     let clocks = [numbers.clock(0), numbers.clock(1)];

@@ -62,7 +62,7 @@ far_id = 0x00050002
 
 -- a channel end that sends to node 5, with these tokens in its two buffers
 abbrev pub far_chan : List Token → List Token → ChanRec
-far_chan output input = record { used = true; dest = Some far_id; output = output; input = input }
+far_chan output input = record { used = true; net = 0; dest = Some far_id; output = output; input = input }
 
 -- thread 0 of a node after slot 1, and channel end 0
 abbrev pub thread_in_1 : Instr → NodeRec → Thread

@@ -1,6 +1,8 @@
-use Rattle.std.proofs.Common.{length, refl, sym, ◌∙◌, subst, Ok, Err}
+use Rattle.std.proofs.Common.{◌+◌, length, refl, sym, ◌∙◌, subst, Ok, Err}
 use Rattle.std.specs.Prelude.{OnErr, Result}
 use Rattle.std.specs.List.{AllByRecursion}
+use Rattle.serial_model.specs.Serial.{SystemRec}
+use Rattle.run_plan.specs.Run.{AreReady}
 use Rattle.run_plan.specs.Stations.{IsStation, StationSteps}
 use Rattle.run_plan.specs.Passes.{SameStation, SameTrack, IsReadyTrack}
 use Rattle.run_plan.proofs.Through.{zip-refl, zip-length}
@@ -14,12 +16,12 @@ on_err (Err e) p = p
 pub returns-in_err-make_event_room-clause-err : goal.returns-in_err-make_event_room-clause-err
 returns-in_err-make_event_room-clause-err c =
     on_err c.from_residual.result
-    (λ plan whole ready. ready-same plan c.args.slot whole _ _ _ _ ready c.make_event_room.ensures.same (zip-refl SameTrack (λ x. refl) c.args.tracks.now))
+    (λ ready. ready-same c.args.plan.now.value c.args.slot c.args.system.now.whole _ _ _ _ ready c.make_event_room.ensures.same (zip-refl SameTrack (λ x. refl) c.args.tracks.now))
 
 pub returns-in_err-make_entry_room-clause-err : goal.returns-in_err-make_entry_room-clause-err
 returns-in_err-make_entry_room-clause-err c =
     on_err c.from_residual-in_err-make_entry_room.result
-    (λ plan whole ready. ready-same plan c.args.slot whole _ _ _ _ ready c.make_event_room.ensures.same c.make_entry_room.ensures.same)
+    (λ ready. ready-same c.args.plan.now.value c.args.slot c.args.system.now.whole _ _ _ _ ready c.make_event_room.ensures.same c.make_entry_room.ensures.same)
 
 pub step_all-requires-clause-stations : goal.step_all-requires-clause-stations
 step_all-requires-clause-stations c =
@@ -37,6 +39,9 @@ advance_all-requires-clause-tracks c =
     (tracks-same c.args.slot (length c.args.stations.now) c.args.tracks.now tracks c.make_entry_room.ensures.same c.requires.tracks)
 
 pub returns-clause-ok : goal.returns-clause-ok
-returns-clause-ok c = λ plan whole ready.
-    ready-next plan c.args.slot whole _ _ _ _ _ (ready-same plan c.args.slot whole _ _ _ _ ready c.make_event_room.ensures.same c.make_entry_room.ensures.same)
-    c.step_all.ensures.steps c.advance_all.ensures.same c.advance_all.ensures.advances
+returns-clause-ok c = λ ready.
+    let plan = c.args.plan.now.value in
+    let whole = c.args.system.now.whole in
+    let roomy = ready-same plan c.args.slot whole _ _ _ _ ready c.make_event_room.ensures.same c.make_entry_room.ensures.same in
+    subst (λ (w : SystemRec). AreReady plan (c.args.slot + 1) w c.advance_all.new.stations c.advance_all.new.tracks) (sym c.stepped.ensures)
+    (ready-next plan c.args.slot whole _ _ _ _ _ roomy c.step_all.ensures.steps c.advance_all.ensures.same c.advance_all.ensures.advances)
