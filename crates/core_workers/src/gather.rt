@@ -32,7 +32,7 @@ pub(crate) fn gather(
     let plan = Known::of(cells.plan());
     let (runners, ends) = take_apart(alloc, parts)?;
     let logs = cells.logs(alloc, ends)?;
-    let totals = totals_of(alloc, &logs)?;
+    let totals = totals_of(alloc, logs)?;
     Ok(FinishedRun::of_runners(plan, limit, runners, totals))
 }
 
@@ -53,10 +53,10 @@ fn take_apart(alloc: Global, parts: Vec<Part>) -> Result<(Vec<NodeRunner>, Vec<E
 }
 
 // How many tokens, and how many credits, each of these logs has. The error is want of memory.
-fn totals_of(alloc: Global, logs: &[Log<PlanStory>]) -> Result<Vec<(u64, u64)>, AllocError>
-    ensures { IfOk result (λ totals. totals.items ≡ map sent_in logs.now) }
+fn totals_of(alloc: Global, logs: Vec<Log<PlanStory>>) -> Result<Vec<(u64, u64)>, AllocError>
+    ensures { IfOk result (λ totals. totals.items ≡ map sent_in logs.items) }
 {
-    let mut totals = Vec::with_capacity(alloc, logs.len())?;
+    let mut totals = Vec::new(alloc);
     for log in logs {
         totals.push(count_sent(log.entries()))?;
     }

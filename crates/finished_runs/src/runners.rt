@@ -92,7 +92,8 @@ impl Runners {
         ensures tokens { result.0 ≡ tokens_sent (history self.now.plan link 0 self.now.limit) }
         ensures credits { result.1 ≡ credits_sent (history self.now.plan link 0 self.now.limit) }
     {
-        self.totals[link as usize]
+        let sent = &self.totals[link as usize];
+        *sent
     }
 
     /// What is kept of the events of each node, by position. Nothing else is left. The error is want of memory.

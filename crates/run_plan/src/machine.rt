@@ -89,6 +89,7 @@ impl SerialMachine {
     /// memory, and leaves the machine at a whole slot before the limit.
     // Not inlined, so that its caller's variables take no registers from the loop.
     #[inline(never)]
+    #[tactic(auto, using(crate::proofs::Steps::gone_nowhere, crate::proofs::Steps::gone_on))]
     pub fn run(&mut self, limit: u32) -> Result<(), AllocError>
         ensures plan { self.new.plan ≡ self.old.plan }
         ensures ran { OnOk result (self.new.now ≡ max self.old.now limit) }

@@ -7,3 +7,6 @@ returns-clause-keeps g c = stop_keeps cause.Memory c.args.self.now c.stop.new.se
 
 pub returns-clause-ended : goal.returns-clause-ended
 returns-clause-ended g c = all_closed cause.Memory c.args.self.now.ends.outgoing.items c.stop.new.self.ends.outgoing.items c.stop.ensures.closed c.requires.open
+
+pub returns-clause-shuts : goal.returns-clause-shuts
+returns-clause-shuts g c = record { closed = c.stop.ensures.closed; rest = c.stop.ensures.rest }

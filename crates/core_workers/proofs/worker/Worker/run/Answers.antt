@@ -3,7 +3,8 @@ use Rattle.link_logs.specs.declared.answers.Cause.TheVariants as cause
 use Rattle.core_workers.specs.declared.turn.Turn.{Turn}
 use Rattle.core_workers.specs.declared.turn.Turn.TheVariants as turn
 use Rattle.core_workers.specs.Worker.{Answers}
-use Rattle.core_workers.specs.Turns.{IsOneOfMore}
+use Rattle.core_workers.specs.declared.ended.Ended.{Ended}
+use Rattle.core_workers.specs.Turns.{IsOneOfMore, RunsBy}
 use Rattle.core_workers.proofs.Running.{keeps_all, keeps_then, turn_keeps, stop_keeps, stopped_by}
 use Rattle.core_workers.proofs.Turns.{no_turn, one_turn_more, last_turn}
 use Rattle.core_workers.proofs.worker.Worker.run.Goals as goal
@@ -58,3 +59,10 @@ returns-in-Stopped-clause-turns g c =
     let takes = last_turn c.args.self.now c.loop.self c.turn.result (turn.Stopped c.in-Stopped.link) c.turn.new.self c.loop.invariant.taken c.in-Stopped.is
     (record { still_open = c.loop.invariant.still_open; stays = c.turn.ensures.stays; exchanged = c.turn.ensures.exchanged; answer = c.turn.ensures.answer }) in
     (c.in-Stopped.link, record { turned = c.turn.new.self; takes = takes; shuts = record { closed = c.stop.ensures.closed; rest = c.stop.ensures.rest } })
+
+pub returns-in-Memory-clause-turns : goal.returns-in-Memory-clause-turns
+returns-in-Memory-clause-turns g c =
+    let takes = last_turn c.args.self.now c.loop.self c.turn.result turn.Memory c.turn.new.self c.loop.invariant.taken c.in-Memory.is
+    (record { still_open = c.loop.invariant.still_open; stays = c.turn.ensures.stays; exchanged = c.turn.ensures.exchanged; answer = c.turn.ensures.answer }) in
+    subst (λ (e : Ended). RunsBy c.args.self.now e c.give_up.new.self) (sym c.give_up.ensures.memory)
+    (record { turned = c.turn.new.self; takes = takes; shuts = c.give_up.ensures.shuts })
