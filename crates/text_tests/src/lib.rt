@@ -1,27 +1,27 @@
 //! Tests of the crates that read and write texts, of those below them, and of plans: each file has those of the crate whose
-//! name it has. They show what no contract says: values from outside, texts as they are printed, and that each call does its
+//! name it bears. They show what no contract says: values from outside, texts as they are printed, and that each call does its
 //! work where memory is ample.
 #![tactic(auto)]
 
 #[cfg(test)]
-mod line_text;
+mod line_text_tests;
 #[cfg(test)]
-mod pin_scripts;
+mod pin_scripts_tests;
 #[cfg(test)]
-mod sys_plan;
+mod sys_plan_tests;
 #[cfg(test)]
-mod system_text;
+mod system_text_tests;
 #[cfg(test)]
-mod trace_lines;
+mod trace_lines_tests;
 #[cfg(test)]
-mod trace_merge;
+mod trace_merge_tests;
 #[cfg(test)]
-mod xs_assembler;
+mod xs_assembler_tests;
 #[cfg(test)]
-mod xs_base;
+mod xs_base_tests;
 #[cfg(test)]
-mod xs_instructions;
+mod xs_instructions_tests;
 #[cfg(test)]
-mod xs_printer;
+mod xs_printer_tests;
 #[cfg(test)]
-mod xs_text;
+mod xs_text_tests;
