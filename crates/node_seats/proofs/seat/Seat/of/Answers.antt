@@ -9,13 +9,15 @@ use Rattle.node_seats.specs.Seats.{Plays}
 use Rattle.node_seats.proofs.Seats.{ways-at}
 use Rattle.node_seats.proofs.seat.Seat.of.Goals as goal
 
-pub seat_of-requires-clause-node : goal.seat_of-requires-clause-node
-seat_of-requires-clause-node c =
+pub seat_of-requires : goal.seat_of-requires
+seat_of-requires c =
     let plan = c.args.plan.now in
     let n = c.args.n in
     let node = c.index-nodes-n.result in
     let item : node ≡ get_or plan.nodes n node = c.index-nodes-n.is ∙ ap (λ (xs : List NodePlan). get_or xs n node) c.nodes-nodes.ensures.value in
-    subst (λ (x : NodePlan). WaysLead plan n x.ways) (sym item) (ways-at plan 0 plan.nodes n n node c.nodes-nodes.ensures.plan.ways (omega (arith, c.requires.node)) (omega arith))
+    record {
+      node = subst (λ (x : NodePlan). WaysLead plan n x.ways) (sym item) (ways-at plan 0 plan.nodes n n node c.nodes-nodes.ensures.plan.ways (omega (arith, c.requires.node)) (omega arith));
+    }
 
 if_ok : {T E : Type 0} (P Q : T → Type 0) (r : Result T E) → ((x : T) → P x → Q x) → IfOk r P → IfOk r Q
 if_ok P Q (Ok x) f p = f x p
