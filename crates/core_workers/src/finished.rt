@@ -7,7 +7,6 @@ ghost use Rattle.locality_laws.specs.Locality.{node_in, events_in};
 ghost use Rattle.trace_lines.specs.Kept.{Keeps};
 ghost use Rattle.trace_model.specs.Trace.{tokens_sent, credits_sent};
 ghost use Rattle.core_step.specs.Core.{StandsAt};
-ghost use Rattle.run_plan.specs.Machine.{IsSerial};
 
 use crate::way::Way;
 use core_step::Core;
@@ -35,9 +34,8 @@ impl Model for Finished {
 }
 
 impl Finished {
-    /// The run that a serial machine made from slot 0 on. It takes no memory.
+    /// The run that a serial machine made. It takes no memory.
     pub fn of_serial(machine: SerialMachine) -> Finished
-        requires is_serial { IsSerial machine }
         ensures { result ≡ record { plan = machine.plan; limit = machine.now; way = Way.Serial } }
     {
         Finished {

@@ -8,7 +8,6 @@ ghost use Rattle.locality_laws.specs.Locality.{node_in, events_in};
 ghost use Rattle.trace_lines.specs.Kept.{Keeps};
 ghost use Rattle.trace_model.specs.Trace.{tokens_sent, credits_sent};
 ghost use Rattle.core_step.specs.Core.{StandsAt};
-ghost use Rattle.run_plan.specs.Machine.{IsSerial};
 ghost use Rattle.node_runners.specs.Runner.{RunnerRec};
 ghost use Rattle.finished_runs.specs.Limit.{Totals, HasRun, HasSent};
 
@@ -51,7 +50,6 @@ impl Model for FinishedRun {
 impl FinishedRun {
     /// The run that a serial machine made from slot 0 on. It takes no memory.
     pub fn of_serial(machine: SerialMachine) -> FinishedRun
-        requires is_serial { IsSerial machine }
         ensures { result ≡ record { plan = machine.plan; limit = machine.now } }
     {
         FinishedRun {

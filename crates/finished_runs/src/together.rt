@@ -7,7 +7,6 @@ ghost use Rattle.locality_laws.specs.Locality.{node_in, events_in};
 ghost use Rattle.trace_lines.specs.Kept.{Keeps};
 ghost use Rattle.trace_model.specs.Trace.{tokens_sent, credits_sent};
 ghost use Rattle.core_step.specs.Core.{StandsAt};
-ghost use Rattle.run_plan.specs.Machine.{IsSerial};
 
 use crate::sent::count_sent;
 use core_step::Core;
@@ -30,17 +29,12 @@ impl Model for Together {
 
     ghost Value = { FinishedRunRec };
 
-    ghost use Rattle.run_plan.specs.Machine.{IsSerial};
-
     ghost view = { λ t. record { plan = t.machine.plan; limit = t.machine.now } };
-
-    ghost invariant = { λ t. IsSerial t.machine };
 }
 
 impl Together {
     /// The run that a serial machine made from slot 0 on. It takes no memory.
     pub(crate) fn of(machine: SerialMachine) -> Together
-        requires is_serial { IsSerial machine }
         ensures { result ≡ record { plan = machine.plan; limit = machine.now } }
     {
         Together { machine }

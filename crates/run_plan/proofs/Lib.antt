@@ -2,6 +2,6 @@ pub mod Tracks
 pub mod Through
 pub mod Due
 pub mod Systems
-pub mod Starts
 pub mod Steps
+pub mod Starts
 pub mod Arrivals

@@ -6,7 +6,6 @@ mod machine;
 mod passes;
 mod station;
 mod track;
-mod whole;
 mod wiring;
 
 pub use machine::SerialMachine;

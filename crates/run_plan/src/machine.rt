@@ -2,7 +2,7 @@
 ghost use Rattle.std.specs.Prelude.{◌≡◌, ◌+◌, ◌-◌, ◌^◌, ◌<◌, ◌≤◌, max, [], length, slice_index_or, IfOk, OnOk, OnErr};
 ghost use Rattle.std.specs.List.{AllZip};
 ghost use Rattle.sys_plan.specs.Plan.{arc_count};
-ghost use Rattle.serial_model.specs.Serial.{system_at_start, system_step};
+ghost use Rattle.serial_model.specs.Serial.{serial};
 ghost use Rattle.trace_lines.specs.Kept.{Keeps};
 ghost use Rattle.core_step.specs.Core.{StandsAt};
 ghost use Rattle.xs_model.specs.Record.{first_node};
@@ -10,7 +10,6 @@ ghost use Rattle.xs_model.specs.Record.{first_node};
 use crate::passes::pass_slot;
 use crate::station::Station;
 use crate::track::Track;
-use crate::whole::Whole;
 use crate::wiring::{stations_of, tracks_of};
 use core_step::Core;
 use known_value::Known;
@@ -20,14 +19,12 @@ use sys_plan::Plan;
 use trace_lines::NodeEvents;
 use xs_base::Entry;
 
-/// All nodes of a system, stepped together slot by slot. Contracts see the plan, how many slots have passed since slot 0, and what the
-/// system is: each slot moves it by `system_step` of `Rattle.serial_model.specs.Serial`, so that a machine which began at slot 0 is
-/// `serial` there. See docs/MACHINE.md.
+/// All nodes of a system, stepped together slot by slot from slot 0 on. Contracts see the plan and how many slots
+/// have passed; what the machine has become is `serial` of `Rattle.serial_model.specs.Serial`. See docs/MACHINE.md.
 #[derive(Drop)]
 pub struct SerialMachine {
     plan: Known<Plan>,
     clock: u32,
-    system: Whole,
     stations: Vec<Station>,
     tracks: Vec<Track>,
 }
@@ -39,27 +36,22 @@ impl Model for SerialMachine {
 
     ghost use Rattle.run_plan.specs.Inside.{IsMachine};
 
-    ghost view = { λ m. record { plan = m.plan.value; now = m.clock; system = m.system.whole } };
+    ghost view = { λ m. record { plan = m.plan.value; now = m.clock } };
 
     ghost invariant = { IsMachine };
 }
 
 impl SerialMachine {
-    ghost use Rattle.run_plan.specs.Machine.{IsSerial, system_steps};
-
     /// The nodes of a plan as they start. The error is want of memory.
     pub fn new(alloc: Global, plan: &Plan) -> Result<SerialMachine, AllocError>
         ensures plan { IfOk result (λ m. m.plan ≡ plan.now) }
         ensures now { IfOk result (λ m. m.now ≡ 0) }
-        ensures system { IfOk result (λ m. m.system ≡ system_at_start plan.now) }
-        ensures is_serial { IfOk result (λ m. IsSerial m) }
     {
         let stations = stations_of(alloc, plan)?;
         let tracks = tracks_of(alloc, plan)?;
         Ok(SerialMachine {
             plan: Known::of(plan),
             clock: 0,
-            system: Whole::at_start(plan),
             stations,
             tracks,
         })
@@ -70,17 +62,9 @@ impl SerialMachine {
         requires now { self.old.now < 2 ^ 32 - 1 }
         ensures plan { self.new.plan ≡ self.old.plan }
         ensures passed { OnOk result (self.new.now ≡ self.old.now + 1) }
-        ensures stepped { OnOk result (self.new.system ≡ system_step self.old.plan self.old.now self.old.system) }
-        ensures is_serial { OnOk result (IsSerial self.old → IsSerial self.new) }
         ensures err { OnErr result (self.new ≡ self.old) }
     {
-        pass_slot(
-            &self.plan,
-            &mut self.stations,
-            &mut self.tracks,
-            &mut self.system,
-            self.clock,
-        )?;
+        pass_slot(&mut self.stations, &mut self.tracks, self.clock)?;
         self.clock += 1;
         Ok(())
     }
@@ -89,13 +73,10 @@ impl SerialMachine {
     /// memory, and leaves the machine at a whole slot before the limit.
     // Not inlined, so that its caller's variables take no registers from the loop.
     #[inline(never)]
-    #[tactic(auto, using(crate::proofs::Steps::gone_nowhere, crate::proofs::Steps::gone_on))]
     pub fn run(&mut self, limit: u32) -> Result<(), AllocError>
         ensures plan { self.new.plan ≡ self.old.plan }
         ensures ran { OnOk result (self.new.now ≡ max self.old.now limit) }
         ensures on { self.old.now ≤ self.new.now }
-        ensures stepped { self.new.system ≡ system_steps self.old.plan self.old.now (self.new.now - self.old.now) self.old.system }
-        ensures is_serial { IsSerial self.old → IsSerial self.new }
         ensures err { OnErr result (self.new.now < limit) }
     {
         // By the clock alone: with a range beside it, another number would be counted up in every slot.
@@ -115,7 +96,7 @@ impl SerialMachine {
     /// The core of the node at a position.
     pub fn core(&self, node: u8) -> &Core
         requires node { node < length self.now.plan.nodes }
-        ensures stands { StandsAt result.now (slice_index_or self.now.system.nodes node (first_node 0 0 [])) self.now.now }
+        ensures stands { StandsAt result.now (slice_index_or (serial self.now.plan self.now.now).nodes node (first_node 0 0 [])) self.now.now }
     {
         let station = &self.stations[node as usize];
         &station.seat.core
@@ -124,7 +105,7 @@ impl SerialMachine {
     /// The history of the arc with a number: what was sent on it so far, in order.
     pub fn history(&self, link: u32) -> &[Entry]
         requires link { link < arc_count self.now.plan }
-        ensures value { result.now ≡ slice_index_or self.now.system.histories link [] }
+        ensures value { result.now ≡ slice_index_or (serial self.now.plan self.now.now).histories link [] }
     {
         let track = &self.tracks[link as usize];
         track.history.entries()
@@ -133,7 +114,7 @@ impl SerialMachine {
     /// What is kept of the events of the node at a position.
     pub fn events(&self, node: u8) -> &NodeEvents
         requires node { node < length self.now.plan.nodes }
-        ensures keeps { Keeps result.now (slice_index_or self.now.system.events node []) }
+        ensures keeps { Keeps result.now (slice_index_or (serial self.now.plan self.now.now).events node []) }
     {
         let station = &self.stations[node as usize];
         &station.seat.events
@@ -142,7 +123,7 @@ impl SerialMachine {
     /// What is kept of the events of each node, by position. Nothing else is left of the machine. The error is want of
     /// memory.
     pub fn into_events(self, alloc: Global) -> Result<Vec<NodeEvents>, AllocError>
-        ensures keeps { IfOk result (λ v. AllZip Keeps v.items self.system.events) }
+        ensures keeps { IfOk result (λ v. AllZip Keeps v.items (serial self.plan self.now).events) }
         ensures nodes { IfOk result (λ v. length v.items ≡ length self.plan.nodes) }
     {
         let mut all = Vec::new(alloc);

@@ -1,37 +1,30 @@
 //! The passes of a slot over all nodes and all arcs.
 ghost use Rattle.std.specs.Prelude.{◌≡◌, ◌+◌, ◌-◌, ◌^◌, ◌<◌, length, OnOk, OnErr};
 ghost use Rattle.std.specs.List.{AllByRecursion, AllZip};
-ghost use Rattle.serial_model.specs.Serial.{system_step};
+ghost use Rattle.sys_plan.specs.Plan.{PlanRec};
+ghost use Rattle.serial_model.specs.Serial.{serial};
 ghost use Rattle.run_plan.specs.Stations.{IsStation, StationSteps};
 ghost use Rattle.run_plan.specs.Passes.{HasRoomForEvents, HasEntryRoom, SameStation, SameTrack, IsReadyTrack, Advances, SameButDue};
 ghost use Rattle.run_plan.specs.Run.{AreReady};
 
 use crate::station::Station;
 use crate::track::Track;
-use crate::whole::Whole;
-use known_value::Known;
 use std::alloc::AllocError;
-use sys_plan::Plan;
 
 // How many entries a slot can add to a history at most: a token and a credit.
 const MOST_ENTRIES: usize = 2;
 
-/// One slot of all nodes and all arcs, and of the whole system that they are. The error is want of memory, and changes nothing but the
-/// room.
+/// One slot of all nodes and all arcs. The error is want of memory, and changes nothing but the room.
 pub(crate) fn pass_slot(
-    plan: &Known<Plan>,
     stations: &mut [Station],
     tracks: &mut [Track],
-    system: &mut Whole,
     slot: u32,
 ) -> Result<(), AllocError>
     requires slot { slot < 2 ^ 32 - 1 }
     requires stations { AllByRecursion (IsStation slot (length tracks.old)) stations.old }
     requires tracks { AllByRecursion (IsReadyTrack slot (length stations.old)) tracks.old }
-    ensures ok { OnOk result (AreReady plan.now.value slot system.old.whole stations.old tracks.old → AreReady plan.now.value (slot + 1) system.new.whole stations.new tracks.new) }
-    ensures stepped { OnOk result (system.new.whole ≡ system_step plan.now.value slot system.old.whole) }
-    ensures err { OnErr result (AreReady plan.now.value slot system.old.whole stations.old tracks.old → AreReady plan.now.value slot system.new.whole stations.new tracks.new) }
-    ensures same { OnErr result (system.new.whole ≡ system.old.whole) }
+    ensures ok { OnOk result ((plan : PlanRec) → AreReady plan slot (serial plan slot) stations.old tracks.old → AreReady plan (slot + 1) (serial plan (slot + 1)) stations.new tracks.new) }
+    ensures err { OnErr result ((plan : PlanRec) → AreReady plan slot (serial plan slot) stations.old tracks.old → AreReady plan slot (serial plan slot) stations.new tracks.new) }
     ensures stations { length stations.new ≡ length stations.old }
     ensures tracks { length tracks.new ≡ length tracks.old }
 {
@@ -39,7 +32,6 @@ pub(crate) fn pass_slot(
     make_entry_room(tracks)?;
     step_all(stations, tracks, slot);
     advance_all(tracks, stations, slot);
-    *system = system.stepped(plan, slot);
     Ok(())
 }
 

@@ -1,11 +1,12 @@
 use Rattle.std.proofs.Common.{◌+◌, length, refl, sym, ◌∙◌, subst, Ok, Err}
 use Rattle.std.specs.Prelude.{OnErr, Result}
 use Rattle.std.specs.List.{AllByRecursion}
-use Rattle.serial_model.specs.Serial.{SystemRec}
+use Rattle.serial_model.specs.Serial.{SystemRec, serial}
 use Rattle.run_plan.specs.Run.{AreReady}
 use Rattle.run_plan.specs.Stations.{IsStation, StationSteps}
 use Rattle.run_plan.specs.Passes.{SameStation, SameTrack, IsReadyTrack}
 use Rattle.run_plan.proofs.Through.{zip-refl, zip-length}
+use Rattle.run_plan.proofs.Steps.{serial_next}
 use Rattle.run_plan.proofs.Systems.{stations-same, tracks-same, ready-same, ready-next}
 use Rattle.run_plan.proofs.passes.pass_slot.Goals as goal
 
@@ -16,12 +17,12 @@ on_err (Err e) p = p
 pub returns-in_err-make_event_room-clause-err : goal.returns-in_err-make_event_room-clause-err
 returns-in_err-make_event_room-clause-err c =
     on_err c.from_residual.result
-    (λ ready. ready-same c.args.plan.now.value c.args.slot c.args.system.now.whole _ _ _ _ ready c.make_event_room.ensures.same (zip-refl SameTrack (λ x. refl) c.args.tracks.now))
+    (λ plan ready. ready-same plan c.args.slot (serial plan c.args.slot) _ _ _ _ ready c.make_event_room.ensures.same (zip-refl SameTrack (λ x. refl) c.args.tracks.now))
 
 pub returns-in_err-make_entry_room-clause-err : goal.returns-in_err-make_entry_room-clause-err
 returns-in_err-make_entry_room-clause-err c =
     on_err c.from_residual-in_err-make_entry_room.result
-    (λ ready. ready-same c.args.plan.now.value c.args.slot c.args.system.now.whole _ _ _ _ ready c.make_event_room.ensures.same c.make_entry_room.ensures.same)
+    (λ plan ready. ready-same plan c.args.slot (serial plan c.args.slot) _ _ _ _ ready c.make_event_room.ensures.same c.make_entry_room.ensures.same)
 
 pub step_all-requires-clause-stations : goal.step_all-requires-clause-stations
 step_all-requires-clause-stations c =
@@ -39,9 +40,8 @@ advance_all-requires-clause-tracks c =
     (tracks-same c.args.slot (length c.args.stations.now) c.args.tracks.now tracks c.make_entry_room.ensures.same c.requires.tracks)
 
 pub returns-clause-ok : goal.returns-clause-ok
-returns-clause-ok c = λ ready.
-    let plan = c.args.plan.now.value in
-    let whole = c.args.system.now.whole in
-    let roomy = ready-same plan c.args.slot whole _ _ _ _ ready c.make_event_room.ensures.same c.make_entry_room.ensures.same in
-    subst (λ (w : SystemRec). AreReady plan (c.args.slot + 1) w c.advance_all.new.stations c.advance_all.new.tracks) (sym c.stepped.ensures)
-    (ready-next plan c.args.slot whole _ _ _ _ _ roomy c.step_all.ensures.steps c.advance_all.ensures.same c.advance_all.ensures.advances)
+returns-clause-ok c = λ plan ready.
+    let before = serial plan c.args.slot in
+    subst (λ (whole : SystemRec). AreReady plan (c.args.slot + 1) whole c.advance_all.new.stations c.advance_all.new.tracks) (serial_next plan c.args.slot)
+    (ready-next plan c.args.slot before _ _ _ _ _ (ready-same plan c.args.slot before _ _ _ _ ready c.make_event_room.ensures.same c.make_entry_room.ensures.same)
+    c.step_all.ensures.steps c.advance_all.ensures.same c.advance_all.ensures.advances)
