@@ -124,8 +124,12 @@ impl NodeRunner {
         make_room(&mut self.batches)?;
         let arrived = arrive_all(&mut self.inlets, self.clock);
         self.pins.look(self.clock);
-        self.seat
-            .step(self.clock, arrived.some, &arrived.arrivals, self.pins.view());
+        self.seat.step(
+            self.clock,
+            arrived.some,
+            &arrived.arrivals,
+            self.pins.view(),
+        );
         put_all(&mut self.batches, self.clock, &self.seat.given);
         self.clock += 1;
         Ok(Ran::Slot)

@@ -171,20 +171,15 @@ fn code(rt: HostRuntime) -> Result<(), Fail> {
     let text =
         b"# from 3\n.globl gone\nmain : ldc r0, 0x3\nloop: sub r0, r0, r1\r\n bt r0, loop\nstw lr , dp [ x ]\n.align 3\nbu end\nend:\nadd: .word:\n.data\n.byte 1\n.align 4\nx:";
     let image = assemble(rt.alloc(), text)?;
-    assert!(rt;
-        matches!(
-            image.code(),
-            [
-                Instr::Words(WordIns::Ldc(0, 3)),
-                Instr::Words(WordIns::Sub(0, 0, 1)),
-                Instr::Flow(FlowIns::Bt(0, 1)),
-                Instr::Memory(MemIns::StwDp(15, 1)),
-                Instr::Words(WordIns::Nop),
-                Instr::Words(WordIns::Nop),
-                Instr::Flow(FlowIns::Bu(7)),
-            ]
-        )
-    );
+    let code = image.code();
+    assert_eq!(rt; code.len(), 7);
+    assert!(rt; matches!(code[0], Instr::Words(WordIns::Ldc(0, 3))));
+    assert!(rt; matches!(code[1], Instr::Words(WordIns::Sub(0, 0, 1))));
+    assert!(rt; matches!(code[2], Instr::Flow(FlowIns::Bt(0, 1))));
+    assert!(rt; matches!(code[3], Instr::Memory(MemIns::StwDp(15, 1))));
+    assert!(rt; matches!(code[4], Instr::Words(WordIns::Nop)));
+    assert!(rt; matches!(code[5], Instr::Words(WordIns::Nop)));
+    assert!(rt; matches!(code[6], Instr::Flow(FlowIns::Bu(7))));
     for (k, name, address) in [
         (0, "main", 0x0004_0000),
         (1, "loop", 0x0004_0004),
@@ -230,17 +225,12 @@ fn rows_of_one_thread(rt: HostRuntime) -> Result<(), Fail> {
     let text =
         b"lmul r0, r1, r2, r3, r4, r5\nldw r3, cp[z]\nldaw r0, r1[ - 2 ]\nbl end\nldw spc, sp[1]\nend:\n.data\n.byte 1\n.cp\n.word 0\nz: .byte 2";
     let image = assemble(rt.alloc(), text)?;
-    assert!(rt;
-        matches!(
-            image.code(),
-            [
-                Instr::Words(WordIns::Lmul(0, 1, 2, 3, 4, 5)),
-                Instr::Memory(MemIns::LdwCp(3, 1)),
-                Instr::Memory(MemIns::LdawBackImm(0, 1, 2)),
-                Instr::Flow(FlowIns::Bl(5)),
-                Instr::Kernel(KernelIns::LdwSpc),
-            ]
-        )
-    );
+    let code = image.code();
+    assert_eq!(rt; code.len(), 5);
+    assert!(rt; matches!(code[0], Instr::Words(WordIns::Lmul(0, 1, 2, 3, 4, 5))));
+    assert!(rt; matches!(code[1], Instr::Memory(MemIns::LdwCp(3, 1))));
+    assert!(rt; matches!(code[2], Instr::Memory(MemIns::LdawBackImm(0, 1, 2))));
+    assert!(rt; matches!(code[3], Instr::Flow(FlowIns::Bl(5))));
+    assert!(rt; matches!(code[4], Instr::Kernel(KernelIns::LdwSpc)));
     Ok(())
 }

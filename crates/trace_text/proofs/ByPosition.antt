@@ -38,7 +38,7 @@ number_at-is nodes k node below is = ap (λ (n : NodePlan). n.number) is ∙ sym
 -- each link is two directed links
 pub arcs-length : (links : List LinkPlan) → length (link_arcs links) ≡ 2 * length links
 arcs-length [] = refl
-arcs-length (link ∷ links) = omega (arith, directions-length links)
+arcs-length (link ∷ links) = omega (arith, arcs-length links)
 
 -- two pieces for each link
 module _ (piece : ℕ → Arc → List ℕ) where

@@ -103,4 +103,3 @@ pub fn kret(thread: &mut Thread)
     thread.sr = thread.ssr;
     thread.ed = thread.sed;
 }
-

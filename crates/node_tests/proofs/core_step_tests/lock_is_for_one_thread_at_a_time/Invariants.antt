@@ -3,4 +3,4 @@ use Rattle.node_tests.proofs.core_step_tests.lock_is_for_one_thread_at_a_time.Gi
 
 -- the slots that the core keeps are before the next one
 abbrev pub invariant-loop-slot : goal.invariant-loop-slot
-invariant-loop-slot g l = SlotsBefore l.core l.slot
+invariant-loop-slot g l = SlotsBefore l.core l.slot-counter
