@@ -8,3 +8,7 @@ pub mod TravelKept
 pub mod SerialPlan
 pub mod SerialSteps
 pub mod TravelSerial
+pub mod WindowEnds
+pub mod WindowLists
+pub mod WindowMoves
+pub mod WindowStep

@@ -1,13 +1,11 @@
 -- A directed link of a plan: the one that goes back, the link ends that it joins, and their gaps.
-use Rattle.std.proofs.Common.{◌≡◌, ◌≢◌, ℕ, zero, suc, ◌+◌, ◌-◌, ◌%◌, ◌<◌, ◌≤◌, Bool, true, false, ◌&&◌, eqb, Some, List, [], ◌∷◌}
-use Rattle.std.proofs.Common.{length, map, get_or, slice_get, slice_index, option_map, refl, sym, ap, ◌∙◌, subst, arith, inl, inr}
+use Rattle.std.proofs.Common.{◌≡◌, ℕ, zero, suc, ◌+◌, ◌-◌, ◌%◌, true, false, eqb, Some, List, [], ◌∷◌}
+use Rattle.std.proofs.Common.{slice_get, refl, ap, arith, inl, inr}
 use mathlib.Core.Logic.{◌⊎◌}
-use Rattle.std.specs.List.{AllByRecursion}
-use Rattle.std.proofs.lemmas.Bool.{eq-eqb, ne_eqb, eqb-true, eqb-false, cases_Bool, and_left, and_right}
-use Rattle.std.proofs.lemmas.Option.{none-some, same_Some, slice_get-map, get_or_from_slice_get}
+use Rattle.std.proofs.lemmas.Bool.{eq-eqb, ne_eqb, eqb-true, eqb-false, cases_Bool}
+use Rattle.std.proofs.lemmas.Option.{none-some, same_Some}
 use Rattle.sys_plan.specs.declared.LinkPlan.{LinkPlan}
-use Rattle.sys_plan.specs.Plan.{PlanRec, Arc, IsPlan, IsLink, AreDistinct, forth, back, link_arcs, places_of, leaves_by}
-use Rattle.sys_plan.specs.Plan.{comes_to, first_arc, outgoing, incoming, delay_of, gap_of, gap_by, gaps_of, link_ends}
+use Rattle.sys_plan.specs.Plan.{Arc, forth, back, link_arcs}
 use Rattle.link_laws.specs.Travel.{opposite}
 
 -- ---- The directed link that goes back

@@ -51,7 +51,7 @@ may_as_before : (gap : ℕ) (slot : Slot) (before now : LinkRec) →
     now.sent ≡ before.sent → now.credited ≡ before.credited → may_send gap slot now ≡ may_send gap slot before
 may_as_before gap slot before now sent credited = ap₂ (may_by gap slot) sent credited
 
-latest_is : (slots : List Slot) (slot : Slot) → latest (slots ++ slot ∷ []) ≡ Some slot
+pub latest_is : (slots : List Slot) (slot : Slot) → latest (slots ++ slot ∷ []) ≡ Some slot
 latest_is [] slot = refl
 latest_is (s ∷ []) slot = refl
 latest_is (s ∷ r ∷ rest) slot = latest_is (r ∷ rest) slot

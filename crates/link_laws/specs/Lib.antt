@@ -1,2 +1,3 @@
 pub mod LinkSlot
 pub mod Travel
+pub mod Windows
