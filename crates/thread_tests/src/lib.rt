@@ -4,8 +4,6 @@
 #[cfg(test)]
 mod ahead_limits_tests;
 #[cfg(test)]
-mod core_workers_tests;
-#[cfg(test)]
 mod link_logs_tests;
 #[cfg(test)]
 mod log_cells_tests;
