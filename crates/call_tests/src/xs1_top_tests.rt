@@ -1,8 +1,5 @@
 //! Calls with faults of the source and of the sink, with the longest input, with workers that run at the same time, and with
 //! long runs by both drives.
-ghost use Rattle.std.specs.Prelude.{◌≡◌, false, map, string_bytes, IfOk};
-ghost use Rattle.answer_model.specs.Forms.{form_may_wait, form_of_words};
-
 use load_maker::make_system;
 use std::alloc::{AllocError, Global};
 use std::sync::Wait;
@@ -12,7 +9,7 @@ use std::thread::{Threads, yield_now};
 use xs_edge::{
     CountingSource, FailingSink, FailingSource, Gate, ListSink, ListSource, OpenGate, Sink, Source,
 };
-use xs1_top::{Status, top, top_counted, top_plain};
+use xs1_top::{Status, top, top_counted};
 
 const SUM: &[u8] =
     b"xs1 1\nnode 0 id 0\nsource 0\nmain: ldc r0, 5\n  ldc r1, 7\n  add r2, r0, r1 // 12\n  stw r2, dp[0]\n  freet\nend\n";
@@ -109,24 +106,17 @@ fn owned(alloc: Global, words: &[&str]) -> Result<Vec<String>, AllocError> {
     Ok(owned)
 }
 
-// The words of a serial run of 40 slots, which waits for nobody.
-fn serial_words(alloc: Global) -> Result<Vec<String>, AllocError>
-    ensures { IfOk result (λ words. form_may_wait (form_of_words (map string_bytes words.items)) ≡ false) }
-{
-    let mut words = Vec::new(alloc);
-    words.push(String::from_str(alloc, "run")?)?;
-    words.push(String::from_str(alloc, "40")?)?;
-    words.push(String::from_str(alloc, "serial")?)?;
-    Ok(words)
-}
-
-// Nothing waits, so this call takes no runtime.
 #[test]
 fn writes_the_trace_of_a_serial_run(rt: HostRuntime) -> Result<(), Fail> {
-    let words = serial_words(rt.alloc())?;
     let mut source = ListSource::new(PAIR.to_vec(rt.alloc())?);
     let mut sink = ListSink::with_room(rt.alloc(), 256)?;
-    let ended = top_plain(rt.alloc(), &words, &mut source, &mut sink, &OpenGate);
+    let ended = call(
+        &rt,
+        rt.alloc(),
+        &["run", "40", "serial"],
+        &mut source,
+        &mut sink,
+    )?;
     assert!(rt; ended == Status::Done && sink.bytes() == PAIR_FOR_40);
     Ok(())
 }
