@@ -7,7 +7,7 @@ use Rattle.std.proofs.lemmas.List.Edits.{map_over_more}
 use Rattle.xs_base.specs.Ids.{port_width}
 use Rattle.xs_model.specs.Masks.{in_mask}
 use Rattle.xs_model.specs.Choices.{port_is_ready}
-use Rattle.xs_model.specs.PortRows.{restarted}
+use Rattle.xs_model.specs.PortActions.{restarted}
 use Rattle.xs_model.specs.Record.{PortRec, off_port}
 use Rattle.buffered_ports.specs.Asks.{port_at}
 use Rattle.single_port.specs.Keeps.{PortOf, IsPlaced, IsPlain, ServesAs, KeepsRole}

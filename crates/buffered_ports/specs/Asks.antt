@@ -2,7 +2,7 @@
 use Rattle.std.specs.Prelude.{Bool, true, if◌then◌else◌, Some, List, replicate, slice_index_or}
 use Rattle.xs_base.specs.Numbers.{Word, PortNumber}
 use Rattle.xs_model.specs.Record.{PortRec, off_port}
-use Rattle.xs_model.specs.PortRows.{Acted, Refused, may_strobe}
+use Rattle.xs_model.specs.PortActions.{Acted, Refused, may_strobe}
 use Rattle.single_port.specs.declared.answers.Ask.{Ask}
 use Rattle.single_port.specs.declared.answers.Ask.TheVariants as ask
 pub use Rattle.single_port.specs.Asks.{IsClock, IsStrobe, IsAsk, acted, answer_of, port_after, wait_of, FitsTransfer}

@@ -6,7 +6,7 @@ use Rattle.xs_model.specs.declared.clock.Clock.TheVariants.{Reference, Block}
 use Rattle.xs_model.specs.Record.{PortRec}
 use Rattle.xs_model.specs.Masks.{in_mask}
 use Rattle.xs_model.specs.Choices.{port_is_ready}
-use Rattle.xs_model.specs.PortRows.{restarted}
+use Rattle.xs_model.specs.PortActions.{restarted}
 use Rattle.buffered_ports.specs.Asks.{port_at}
 use Rattle.single_port.specs.Keeps.{IsPlain}
 pub use Rattle.single_port.specs.Keeps.{ServesAs}

@@ -19,7 +19,7 @@ units_of u = record (core_with u.threads u.slots.last u.ram) {
   syncs = u.syncs.syncs;
   locks = u.syncs.locks;
   ports = u.ports;
-  events = u.events;
+  enabled = u.events;
 }
 
 -- there are eight threads

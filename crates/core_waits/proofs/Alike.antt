@@ -82,12 +82,12 @@ module _ (core : CoreRec) (slot other : ℕ) (alike : AreAlike core.timers core.
   goes_alike (Paused wait) = holds_alike wait
   goes_alike Halted = refl
 
-  mode_alike : (k : ℕ) (interrupt : Bool) → choice_in_mode k (ready_in core slot) core.events interrupt ≡ choice_in_mode k (ready_in core other) core.events interrupt
+  mode_alike : (k : ℕ) (interrupt : Bool) → choice_in_mode k (ready_in core slot) core.enabled interrupt ≡ choice_in_mode k (ready_in core other) core.enabled interrupt
   mode_alike k interrupt =
       ap (λ timer.
-      first_of (first_ready (gives_to k interrupt) (ready_in core slot).chans 0 core.events.chans)
-      (first_of timer (first_ready (gives_to k interrupt) (ready_in core slot).ports 0 core.events.ports)))
-      (first_alike (gives_to k interrupt) (ready_in core slot).timers (ready_in core other).timers alike.timers 0 core.events.timers)
+      first_of (first_ready (gives_to k interrupt) (ready_in core slot).chans 0 core.enabled.chans)
+      (first_of timer (first_ready (gives_to k interrupt) (ready_in core slot).ports 0 core.enabled.ports)))
+      (first_alike (gives_to k interrupt) (ready_in core slot).timers (ready_in core other).timers alike.timers 0 core.enabled.timers)
 
   choice_alike : (k : ℕ) → choice core slot k ≡ choice core other k
   choice_alike k =

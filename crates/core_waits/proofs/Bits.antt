@@ -8,7 +8,7 @@ use Rattle.xs_model.specs.declared.status.Status.{Status}
 use Rattle.xs_model.specs.declared.status.TheConstants.{EEBLE, IEBLE}
 use Rattle.xs_model.specs.Masks.{in_mask}
 use Rattle.xs_model.specs.Status.{has_bits}
-use Rattle.xs_model.specs.Record.{EventsRec}
+use Rattle.xs_model.specs.Record.{EnabledRec}
 use Rattle.xs_model.specs.Choices.{ReadyRec, choice_by, first_of, allowed_choice, choice_in_mode}
 
 either : (x y : ℕ) → x < 2 → y < 2 → (max x y == 1) ≡ (x == 1 || y == 1)
@@ -48,7 +48,7 @@ fewer_bits : (sr : Status) (some all : ℕ) → bit_and all some ≡ some → ha
 fewer_bits sr some all within none =
     ap (λ n. not (n == 0)) (ap (bit_and sr.bits) (sym within) ∙ sym (and_assoc some sr.bits all) ∙ ap (λ n. bit_and n some) (none_set (bit_and sr.bits all) none))
 
-pub no_choice : (k : ℕ) (sr : Status) (ready : ReadyRec) (events : EventsRec) → has_bits sr (EEBLE + IEBLE) ≡ false → choice_by k sr ready events ≡ None
+pub no_choice : (k : ℕ) (sr : Status) (ready : ReadyRec) (events : EnabledRec) → has_bits sr (EEBLE + IEBLE) ≡ false → choice_by k sr ready events ≡ None
 no_choice k sr ready events none =
     ap₂ (λ interrupts lets. first_of (allowed_choice interrupts (choice_in_mode k ready events true)) (allowed_choice lets (choice_in_mode k ready events false)))
     (fewer_bits sr IEBLE (EEBLE + IEBLE) refl none) (fewer_bits sr EEBLE (EEBLE + IEBLE) refl none)

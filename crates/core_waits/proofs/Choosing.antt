@@ -4,7 +4,7 @@ use Rattle.std.specs.Prelude.{◌&&◌, ◌+◌, is_some}
 use Rattle.xs_model.specs.declared.thread.Thread.{Thread}
 use Rattle.xs_model.specs.declared.status.TheConstants.{EEBLE, IEBLE}
 use Rattle.xs_model.specs.Status.{has_bits}
-use Rattle.xs_model.specs.Record.{EventsRec}
+use Rattle.xs_model.specs.Record.{EnabledRec}
 use Rattle.xs_model.specs.Choices.{ReadyRec, choice_by}
 use Rattle.xs_model.specs.Picks.{is_paused}
 use Rattle.core_waits.specs.Parts.{may_choose}
@@ -16,6 +16,6 @@ left_out true true has only = refl
 left_out true false has only = sym (only refl)
 left_out false lets has only = refl
 
-pub lets_choice : (k : ℕ) (th : Thread) (ready : ReadyRec) (events : EventsRec) → (may_choose th && is_some (choice_by k th.sr ready events)) ≡ (is_paused th.run && is_some (choice_by k th.sr ready events))
+pub lets_choice : (k : ℕ) (th : Thread) (ready : ReadyRec) (events : EnabledRec) → (may_choose th && is_some (choice_by k th.sr ready events)) ≡ (is_paused th.run && is_some (choice_by k th.sr ready events))
 lets_choice k th ready events =
     left_out (is_paused th.run) (has_bits th.sr (EEBLE + IEBLE)) (is_some (choice_by k th.sr ready events)) (λ none. ap (λ choice. is_some choice) (no_choice k th.sr ready events none))

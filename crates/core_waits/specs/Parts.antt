@@ -3,7 +3,7 @@ use Rattle.std.specs.Prelude.{ℕ, ◌≡◌, ◌<◌, ◌≤◌, ◌+◌, Bool,
 use Rattle.xs_base.specs.Numbers.{Slot}
 use Rattle.xs_base.specs.declared.numbers.TheConstants.{THREADS, TIMERS}
 use Rattle.xs_model.specs.declared.thread.Thread.{Thread}
-use Rattle.xs_model.specs.Record.{CoreRec, SlotsRec, ChanRec, TimerRec, PortRec, EventsRec}
+use Rattle.xs_model.specs.Record.{CoreRec, SlotsRec, ChanRec, TimerRec, PortRec, EnabledRec}
 use Rattle.xs_model.specs.Masks.{in_mask}
 use Rattle.xs_model.specs.Status.{has_bits}
 use Rattle.xs_model.specs.declared.status.TheConstants.{EEBLE, IEBLE}
@@ -15,14 +15,14 @@ use Rattle.sync_locks.specs.Syncs.{SyncsRec}
 use Rattle.core_waits.specs.declared.able.Able.{Able}
 
 -- a core has these parts
-pub record HasParts (core : CoreRec) (its_threads : List Thread) (its_slots : SlotsRec) (its_chans : List ChanRec) (its_timers : List TimerRec) (its_syncs : SyncsRec) (its_ports : List PortRec) (its_events : EventsRec) : Type 0 where
+pub record HasParts (core : CoreRec) (its_threads : List Thread) (its_slots : SlotsRec) (its_chans : List ChanRec) (its_timers : List TimerRec) (its_syncs : SyncsRec) (its_ports : List PortRec) (its_events : EnabledRec) : Type 0 where
   pub threads : core.threads ≡ its_threads
   pub slots : core.slots ≡ its_slots
   pub chans : core.chans ≡ its_chans
   pub timers : core.timers ≡ its_timers
   pub syncs : core.syncs ≡ its_syncs.syncs
   pub locks : core.locks ≡ its_syncs.locks
-  pub events : core.events ≡ its_events
+  pub events : core.enabled ≡ its_events
   pub ports : core.ports ≡ its_ports
 
 -- the slots for which it is known: from the one in which it was found up to the last one, that one too

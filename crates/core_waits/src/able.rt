@@ -4,7 +4,7 @@ ghost use Rattle.xs_base.specs.declared.numbers.TheConstants.{THREADS};
 ghost use Rattle.xs_model.specs.Masks.{in_mask};
 ghost use Rattle.xs_model.specs.Status.{no_status};
 ghost use Rattle.xs_model.specs.Threads.{fresh_thread};
-ghost use Rattle.xs_model.specs.Record.{CoreRec, SlotsRec, EventsRec, thread_of};
+ghost use Rattle.xs_model.specs.Record.{CoreRec, SlotsRec, EnabledRec, thread_of};
 ghost use Rattle.xs_model.specs.Waits.{holds};
 ghost use Rattle.xs_model.specs.Choices.{choice, choice_by, ready_in};
 ghost use Rattle.xs_model.specs.Picks.{goes_or_holds, is_paused};
@@ -151,7 +151,7 @@ fn going(
     ports: &Ports,
     slot: u32,
 ) -> u8
-    ensures { (core : CoreRec) (events : EventsRec) → HasParts core threads.now slots.now chans.now timers.now syncs.now ports.now events →
+    ensures { (core : CoreRec) (events : EnabledRec) → HasParts core threads.now slots.now chans.now timers.now syncs.now ports.now events →
         (k : ℕ) → k < THREADS → in_mask result k ≡ goes_or_holds core slot (thread_of core k).run }
 {
     let mut going = no_threads();
@@ -236,7 +236,7 @@ fn goes(
     ports: &Ports,
     slot: u32,
 ) -> bool
-    ensures { (core : CoreRec) (events : EventsRec) → HasParts core threads.now slots.now chans.now timers.now syncs.now ports.now events →
+    ensures { (core : CoreRec) (events : EnabledRec) → HasParts core threads.now slots.now chans.now timers.now syncs.now ports.now events →
         result ≡ goes_or_holds core slot run }
 {
     match run {
@@ -257,7 +257,7 @@ fn holds(
     ports: &Ports,
     slot: u32,
 ) -> bool
-    ensures { (core : CoreRec) (events : EventsRec) → HasParts core threads.now slots.now chans.now timers.now syncs.now ports.now events →
+    ensures { (core : CoreRec) (events : EnabledRec) → HasParts core threads.now slots.now chans.now timers.now syncs.now ports.now events →
         result ≡ holds core slot wait }
 {
     match wait {

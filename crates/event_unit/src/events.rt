@@ -24,7 +24,7 @@ const EVENTS: Status = Status { bits: EEBLE };
 const INTERRUPTS: Status = Status { bits: IEBLE };
 
 /// What the 32 channel ends, 10 timers and 29 ports of a core give where they are ready: an event or an interrupt, to
-/// the thread that enabled it, with a vector and an environment. Contracts see an `EventsRec` of
+/// the thread that enabled it, with a vector and an environment. Contracts see an `EnabledRec` of
 /// `Rattle.xs_model.specs.Record`. See docs/EVENTS.md.
 #[derive(Drop)]
 pub struct Events {
@@ -34,9 +34,9 @@ pub struct Events {
 }
 
 impl Model for Events {
-    ghost use Rattle.xs_model.specs.Record.{EventsRec};
+    ghost use Rattle.xs_model.specs.Record.{EnabledRec};
 
-    ghost Value = { EventsRec };
+    ghost Value = { EnabledRec };
 
     ghost view = { λ events. record { chans = events.chans; timers = events.timers; ports = events.ports } };
 }

@@ -1,1 +1,1 @@
-pub mod Local
+pub mod Own

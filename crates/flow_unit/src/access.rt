@@ -6,7 +6,7 @@ ghost use Rattle.xs_model.specs.Memory.{store_word};
 ghost use Rattle.step_model.specs.Effect.{after_it};
 ghost use Rattle.step_model.specs.MemoryRows.{stores, loads_word, loads_half, loads_byte, stores_word, stores_half, stores_byte};
 ghost use Rattle.step_model.specs.Outcomes.{EndsAs};
-ghost use Rattle.flow_unit.specs.Local.{local};
+ghost use Rattle.flow_unit.specs.Own.{own};
 
 use core_memory::Ram;
 use core_state::{Outcome, Thread};
@@ -48,7 +48,7 @@ pub(crate) fn set(g: u8, word: u32, thread: &mut Thread) -> Outcome
 #[inline]
 pub(crate) fn load_word(g: u8, at: u32, thread: &mut Thread, ram: &Ram) -> Outcome
     requires { g < 16 }
-    ensures row { EndsAs result (local thread.old ram.now) (local thread.new ram.now) (loads_word (local thread.old ram.now) g at) }
+    ensures row { EndsAs result (own thread.old ram.now) (own thread.new ram.now) (loads_word (own thread.old ram.now) g at) }
     ensures run { thread.new.run ≡ thread.old.run }
 {
     match ram.load32(at) {
@@ -61,7 +61,7 @@ pub(crate) fn load_word(g: u8, at: u32, thread: &mut Thread, ram: &Ram) -> Outco
 #[inline]
 pub(crate) fn store_word(g: u8, at: u32, thread: &mut Thread, ram: &mut Ram) -> Outcome
     requires { g < 16 }
-    ensures row { EndsAs result (local thread.old ram.old) (local thread.new ram.new) (stores_word (local thread.old ram.old) g at) }
+    ensures row { EndsAs result (own thread.old ram.old) (own thread.new ram.new) (stores_word (own thread.old ram.old) g at) }
     ensures run { thread.new.run ≡ thread.old.run }
 {
     put_word(thread.reg(g), at, thread, ram)
@@ -70,7 +70,7 @@ pub(crate) fn store_word(g: u8, at: u32, thread: &mut Thread, ram: &mut Ram) -> 
 /// Stores a word at an address.
 #[inline]
 pub(crate) fn put_word(word: u32, at: u32, thread: &mut Thread, ram: &mut Ram) -> Outcome
-    ensures row { EndsAs result (local thread.old ram.old) (local thread.new ram.new) (stores at (store_word ram.old at word) (after_it thread.old)) }
+    ensures row { EndsAs result (own thread.old ram.old) (own thread.new ram.new) (stores at (store_word ram.old at word) (after_it thread.old)) }
     ensures run { thread.new.run ≡ thread.old.run }
 {
     match ram.store32(at, word) {
@@ -83,7 +83,7 @@ pub(crate) fn put_word(word: u32, at: u32, thread: &mut Thread, ram: &mut Ram) -
 #[inline]
 pub(crate) fn load_half(g: u8, at: u32, thread: &mut Thread, ram: &Ram) -> Outcome
     requires { g < 16 }
-    ensures row { EndsAs result (local thread.old ram.now) (local thread.new ram.now) (loads_half (local thread.old ram.now) g at) }
+    ensures row { EndsAs result (own thread.old ram.now) (own thread.new ram.now) (loads_half (own thread.old ram.now) g at) }
     ensures run { thread.new.run ≡ thread.old.run }
 {
     match ram.load16s(at) {
@@ -96,7 +96,7 @@ pub(crate) fn load_half(g: u8, at: u32, thread: &mut Thread, ram: &Ram) -> Outco
 #[inline]
 pub(crate) fn load_byte(g: u8, at: u32, thread: &mut Thread, ram: &Ram) -> Outcome
     requires { g < 16 }
-    ensures row { EndsAs result (local thread.old ram.now) (local thread.new ram.now) (loads_byte (local thread.old ram.now) g at) }
+    ensures row { EndsAs result (own thread.old ram.now) (own thread.new ram.now) (loads_byte (own thread.old ram.now) g at) }
     ensures run { thread.new.run ≡ thread.old.run }
 {
     match ram.load8u(at) {
@@ -109,7 +109,7 @@ pub(crate) fn load_byte(g: u8, at: u32, thread: &mut Thread, ram: &Ram) -> Outco
 #[inline]
 pub(crate) fn store_half(g: u8, at: u32, thread: &mut Thread, ram: &mut Ram) -> Outcome
     requires { g < 16 }
-    ensures row { EndsAs result (local thread.old ram.old) (local thread.new ram.new) (stores_half (local thread.old ram.old) g at) }
+    ensures row { EndsAs result (own thread.old ram.old) (own thread.new ram.new) (stores_half (own thread.old ram.old) g at) }
     ensures run { thread.new.run ≡ thread.old.run }
 {
     match ram.store16(at, thread.reg(g)) {
@@ -122,7 +122,7 @@ pub(crate) fn store_half(g: u8, at: u32, thread: &mut Thread, ram: &mut Ram) -> 
 #[inline]
 pub(crate) fn store_byte(g: u8, at: u32, thread: &mut Thread, ram: &mut Ram) -> Outcome
     requires { g < 16 }
-    ensures row { EndsAs result (local thread.old ram.old) (local thread.new ram.new) (stores_byte (local thread.old ram.old) g at) }
+    ensures row { EndsAs result (own thread.old ram.old) (own thread.new ram.new) (stores_byte (own thread.old ram.old) g at) }
     ensures run { thread.new.run ≡ thread.old.run }
 {
     match ram.store8(at, thread.reg(g)) {

@@ -6,7 +6,7 @@ ghost use Rattle.step_model.specs.Effect.{after_it};
 ghost use Rattle.step_model.specs.MemoryRows.{loads};
 ghost use Rattle.step_model.specs.FlowRows.{flow_row, after_branch, called, enters, returns};
 ghost use Rattle.step_model.specs.Outcomes.{EndsAs};
-ghost use Rattle.flow_unit.specs.Local.{local};
+ghost use Rattle.flow_unit.specs.Own.{own};
 
 use crate::access::{go_on, refused};
 use crate::address::{after_next, down, place_address, up};
@@ -18,7 +18,7 @@ use xs_instructions::FlowIns;
 #[inline]
 pub(crate) fn control(thread: &mut Thread, ram: &mut Ram, ins: FlowIns) -> Outcome
     requires { FlowInRange ins }
-    ensures row { EndsAs result (local thread.old ram.old) (local thread.new ram.new) (flow_row (local thread.old ram.old) ins) }
+    ensures row { EndsAs result (own thread.old ram.old) (own thread.new ram.new) (flow_row (own thread.old ram.old) ins) }
     ensures run { thread.new.run ≡ thread.old.run }
 {
     match ins {
@@ -76,7 +76,7 @@ fn call(at: u32, thread: &mut Thread) -> Outcome
 /// Calls what the word at an address is the address of.
 #[inline]
 fn call_by_word(at: u32, thread: &mut Thread, ram: &Ram) -> Outcome
-    ensures row { EndsAs result (local thread.old ram.now) (local thread.new ram.now) (loads (local thread.old ram.now) at (load_word ram.now at) (called thread.old)) }
+    ensures row { EndsAs result (own thread.old ram.now) (own thread.new ram.now) (loads (own thread.old ram.now) at (load_word ram.now at) (called thread.old)) }
     ensures run { thread.new.run ≡ thread.old.run }
 {
     match ram.load32(at) {
@@ -88,7 +88,7 @@ fn call_by_word(at: u32, thread: &mut Thread, ram: &Ram) -> Outcome
 /// Enters a function whose frame has `u` words.
 #[inline]
 fn enter(u: u32, thread: &mut Thread, ram: &mut Ram) -> Outcome
-    ensures row { EndsAs result (local thread.old ram.old) (local thread.new ram.new) (enters (local thread.old ram.old) u) }
+    ensures row { EndsAs result (own thread.old ram.old) (own thread.new ram.new) (enters (own thread.old ram.old) u) }
     ensures run { thread.new.run ≡ thread.old.run }
 {
     if u == 0 {
@@ -103,7 +103,7 @@ fn enter(u: u32, thread: &mut Thread, ram: &mut Ram) -> Outcome
 /// Returns from a function whose frame has `u` words.
 #[inline]
 fn leave(u: u32, thread: &mut Thread, ram: &Ram) -> Outcome
-    ensures row { EndsAs result (local thread.old ram.now) (local thread.new ram.now) (returns (local thread.old ram.now) u) }
+    ensures row { EndsAs result (own thread.old ram.now) (own thread.new ram.now) (returns (own thread.old ram.now) u) }
     ensures run { thread.new.run ≡ thread.old.run }
 {
     if u == 0 {

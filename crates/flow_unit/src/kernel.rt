@@ -7,7 +7,7 @@ ghost use Rattle.xs_instructions.specs.Instr.{KernelInRange};
 ghost use Rattle.step_model.specs.Effect.{after_it};
 ghost use Rattle.step_model.specs.KernelRows.{kernel_row, calls_where, enters_kernel, leaves_kernel, loads_from_stack, stores_to_stack};
 ghost use Rattle.step_model.specs.Outcomes.{EndsAs};
-ghost use Rattle.flow_unit.specs.Local.{local, is_no_return, with_saved};
+ghost use Rattle.flow_unit.specs.Own.{own, is_no_return, with_saved};
 
 use crate::access::{go_on, put_word, refused, set};
 use crate::address::{down, up};
@@ -36,7 +36,7 @@ pub(crate) enum Saved {
 pub(crate) fn kernel(thread: &mut Thread, id: u8, ram: &mut Ram, ins: KernelIns) -> Outcome
     requires part { IsTrue (is_no_return ins) }
     requires range { KernelInRange ins }
-    ensures row { EndsAs result (local thread.old ram.old) (local thread.new ram.new) (kernel_row id (local thread.old ram.old) ins) }
+    ensures row { EndsAs result (own thread.old ram.old) (own thread.new ram.new) (kernel_row id (own thread.old ram.old) ins) }
     ensures run { thread.new.run ≡ thread.old.run }
 {
     match ins {
@@ -81,7 +81,7 @@ fn kernel_call(value: u32) -> Outcome
 /// Calls the exception handler where something holds, and else goes on.
 #[inline]
 fn call_where(holds: bool, value: u32, thread: &mut Thread) -> Outcome
-    ensures row { (memory : List ℕ) → EndsAs result (local thread.old memory) (local thread.new memory) (calls_where (local thread.old memory) holds value) }
+    ensures row { (memory : List ℕ) → EndsAs result (own thread.old memory) (own thread.new memory) (calls_where (own thread.old memory) holds value) }
     ensures run { thread.new.run ≡ thread.old.run }
 {
     if holds {
@@ -96,7 +96,7 @@ fn call_where(holds: bool, value: u32, thread: &mut Thread) -> Outcome
 /// Goes over to the kernel's stack, `u` words below the first one, which keeps sp.
 #[inline]
 fn enter_kernel(u: u32, thread: &mut Thread, ram: &mut Ram) -> Outcome
-    ensures row { EndsAs result (local thread.old ram.old) (local thread.new ram.new) (enters_kernel (local thread.old ram.old) u) }
+    ensures row { EndsAs result (own thread.old ram.old) (own thread.new ram.new) (enters_kernel (own thread.old ram.old) u) }
     ensures run { thread.new.run ≡ thread.old.run }
 {
     match ram.store32(thread.ksp, thread.sp) {
@@ -111,7 +111,7 @@ fn enter_kernel(u: u32, thread: &mut Thread, ram: &mut Ram) -> Outcome
 /// Leaves the kernel's stack, whose first word lies `u` words above sp and is sp again.
 #[inline]
 fn leave_kernel(u: u32, thread: &mut Thread, ram: &Ram) -> Outcome
-    ensures row { EndsAs result (local thread.old ram.now) (local thread.new ram.now) (leaves_kernel (local thread.old ram.now) u) }
+    ensures row { EndsAs result (own thread.old ram.now) (own thread.new ram.now) (leaves_kernel (own thread.old ram.now) u) }
     ensures run { thread.new.run ≡ thread.old.run }
 {
     let stack_end = up(thread.sp, 4, u);
@@ -168,7 +168,7 @@ fn settable(u: u16) -> Status
 /// Loads a register of traps from the `n`-th word above sp.
 #[inline]
 fn load_saved(n: u32, saved: Saved, thread: &mut Thread, ram: &Ram) -> Outcome
-    ensures row { EndsAs result (local thread.old ram.now) (local thread.new ram.now) (loads_from_stack (local thread.old ram.now) n (with_saved thread.old saved)) }
+    ensures row { EndsAs result (own thread.old ram.now) (own thread.new ram.now) (loads_from_stack (own thread.old ram.now) n (with_saved thread.old saved)) }
     ensures run { thread.new.run ≡ thread.old.run }
 {
     let at = up(thread.sp, 4, n);
@@ -197,7 +197,7 @@ fn set_saved(saved: Saved, word: u32, thread: &mut Thread)
 /// Stores a word `n` words above sp.
 #[inline]
 fn store_on_stack(n: u32, word: u32, thread: &mut Thread, ram: &mut Ram) -> Outcome
-    ensures row { EndsAs result (local thread.old ram.old) (local thread.new ram.new) (stores_to_stack (local thread.old ram.old) n word) }
+    ensures row { EndsAs result (own thread.old ram.old) (own thread.new ram.new) (stores_to_stack (own thread.old ram.old) n word) }
     ensures run { thread.new.run ≡ thread.old.run }
 {
     put_word(word, up(thread.sp, 4, n), thread, ram)

@@ -4,8 +4,8 @@
 ghost use Rattle.std.specs.Prelude.{◌≡◌, IsTrue};
 ghost use Rattle.xs_instructions.specs.Instr.{InRange};
 ghost use Rattle.step_model.specs.Outcomes.{EndsAs, IsDoneOrTraps};
-ghost use Rattle.step_model.specs.Rows.{local_row};
-ghost use Rattle.flow_unit.specs.Local.{local, is_local};
+ghost use Rattle.step_model.specs.Rows.{own_row};
+ghost use Rattle.flow_unit.specs.Own.{own, is_own};
 
 mod access;
 mod address;
@@ -23,10 +23,10 @@ use xs_instructions::Instr;
 #[inline]
 #[tactic(auto, using(crate::proofs::Ends::done_or_traps))]
 pub fn flow(thread: &mut Thread, id: u8, ram: &mut Ram, ins: Instr) -> Outcome
-    requires part { IsTrue (is_local ins) }
+    requires part { IsTrue (is_own ins) }
     requires range { InRange ins }
-    ensures row { EndsAs result (local thread.old ram.old) (local thread.new ram.new) (local_row id (local thread.old ram.old) ins) }
-    ensures ends { IsDoneOrTraps result (local thread.old ram.old) (local thread.new ram.new) }
+    ensures row { EndsAs result (own thread.old ram.old) (own thread.new ram.new) (own_row id (own thread.old ram.old) ins) }
+    ensures ends { IsDoneOrTraps result (own thread.old ram.old) (own thread.new ram.new) }
     ensures run { thread.new.run ≡ thread.old.run }
 {
     match ins {

@@ -3,7 +3,7 @@ ghost use Rattle.std.specs.Prelude.{◌≡◌};
 ghost use Rattle.xs_instructions.specs.Instr.{MemoryInRange};
 ghost use Rattle.step_model.specs.MemoryRows.{memory_row};
 ghost use Rattle.step_model.specs.Outcomes.{EndsAs};
-ghost use Rattle.flow_unit.specs.Local.{local};
+ghost use Rattle.flow_unit.specs.Own.{own};
 
 use crate::access::{load_byte, load_half, load_word, set, store_byte, store_half, store_word};
 use crate::address::{down, place_address, up};
@@ -15,7 +15,7 @@ use xs_instructions::MemIns;
 #[inline]
 pub(crate) fn memory(thread: &mut Thread, ram: &mut Ram, ins: MemIns) -> Outcome
     requires { MemoryInRange ins }
-    ensures row { EndsAs result (local thread.old ram.old) (local thread.new ram.new) (memory_row (local thread.old ram.old) ins) }
+    ensures row { EndsAs result (own thread.old ram.old) (own thread.new ram.new) (memory_row (own thread.old ram.old) ins) }
     ensures run { thread.new.run ≡ thread.old.run }
 {
     match ins {

@@ -5,7 +5,7 @@ use Rattle.std.proofs.lemmas.Bool.{both_ways}
 use Rattle.xs_base.specs.Numbers.{Word, PortNumber}
 use Rattle.xs_model.specs.declared.clock.Clock.{Clock}
 use Rattle.xs_model.specs.Record.{PortRec, TransferRec, Condition}
-use Rattle.xs_model.specs.PortRows.{cleared, turned_in, turned_out, taken}
+use Rattle.xs_model.specs.PortActions.{cleared, turned_in, turned_out, taken}
 use Rattle.port_laws.specs.Facts.{AreBeats, IsShift, IsTransfer, Is16Bits, IsOn}
 use Rattle.port_laws.proofs.Bits.{no_shift}
 

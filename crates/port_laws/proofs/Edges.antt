@@ -12,7 +12,7 @@ use Rattle.xs_model.specs.Record.{PortRec, TransferRec, ClockRec, off_port}
 use Rattle.xs_model.specs.Bits.{bits_of, value_of}
 use Rattle.xs_model.specs.Time.{edge_at}
 use Rattle.xs_model.specs.Ports.{level_of, is_high, Edged, came_in, counter_after, beat_out, is_due, next_out, outputs, falls, is_met, is_condition, emptied, takes_level, takes_if_met, takes_in_time, takes_by_time, samples, is_complete, keeps_or_takes, completes, shifts_in, begins, samples_buffered, sampled, lets_sample, rises, at_edge, port_edge, edges_from}
-use Rattle.xs_model.specs.PortRows.{on_port}
+use Rattle.xs_model.specs.PortActions.{on_port}
 use Rattle.xs_model.specs.Outside.{LevelsFitFrom}
 use Rattle.port_laws.specs.Facts.{AreBeats, IsTransfer, IsOn, HasFacts, is_off, is_on}
 use Rattle.port_laws.specs.Ports.{IsWidth, AllHaveFacts}

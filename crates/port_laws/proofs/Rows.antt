@@ -11,7 +11,7 @@ use Rattle.xs_model.specs.declared.modes.TheConstants.{OFF, ON, NO_CONDITION, EQ
 use Rattle.xs_model.specs.Record.{PortRec, TransferRec, Condition, Always, Equal, NotEqual, off_port}
 use Rattle.xs_model.specs.Bits.{value_of}
 use Rattle.xs_model.specs.Ports.{came_in}
-use Rattle.xs_model.specs.PortRows.{Acted, Did, where_on, with_condition, set_mode, in_mode, set_clock, set_strobe, is_transfer_width, with_transfer_width, set_transfer_width, set_value, set_time, clear_time, has_left, is_idle, turned_in, wanting, take_transfer, turn_in, take_in, is_part, take_part, let_go, cut_short, end_transfer, end_in, turned_out, fill, put_bits, put_out, put_part, sync, goes_by, restarted}
+use Rattle.xs_model.specs.PortActions.{Acted, Did, where_on, with_condition, set_mode, in_mode, set_clock, set_strobe, is_transfer_width, with_transfer_width, set_transfer_width, set_value, set_time, clear_time, has_left, is_idle, turned_in, wanting, take_transfer, turn_in, take_in, is_part, take_part, let_go, cut_short, end_transfer, end_in, turned_out, fill, put_bits, put_out, put_part, sync, goes_by, restarted}
 use Rattle.port_laws.specs.Facts.{AreBeats, IsTransfer, Is16Bits, IsOn, HasFacts, is_off, is_on}
 use Rattle.port_laws.specs.Ports.{IsWidth, LeavesFacts, EachKeeps}
 use Rattle.port_laws.proofs.Bits.{multiple_some, beats_mod, no_shift}

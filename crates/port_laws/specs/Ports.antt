@@ -6,7 +6,7 @@ use Rattle.xs_model.specs.declared.clock.Clock.{Clock}
 use Rattle.xs_model.specs.declared.clock.Edge.{Edge}
 use Rattle.xs_model.specs.Record.{PortRec, ClockRec, off_port}
 use Rattle.xs_model.specs.Ports.{port_edge, edges_from}
-use Rattle.xs_model.specs.PortRows.{Acted, Did, Got, Waits, Refused, on_port, in_mode, set_clock, set_strobe, set_transfer_width, set_value, set_time, clear_time, tell_value, tell_stamp, peek, take_in, take_part, end_in, put_out, put_part, sync, restarted}
+use Rattle.xs_model.specs.PortActions.{Acted, Did, Got, Waits, Refused, on_port, in_mode, set_clock, set_strobe, set_transfer_width, set_value, set_time, clear_time, tell_value, tell_stamp, peek, take_in, take_part, end_in, put_out, put_part, sync, restarted}
 use Rattle.xs_model.specs.Outside.{LevelsFitFrom}
 use Rattle.port_laws.specs.Facts.{HasFacts}
 

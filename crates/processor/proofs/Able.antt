@@ -49,12 +49,12 @@ same_all p q same (k ∷ ks) = ap (λ b. b && list_all p ks) (same k) ∙ ap (λ
 
 -- whether thread k of a core is able, were it as this
 abbrev able_as : CoreRec → ℕ → ℕ → Thread → Bool
-able_as core slot k th = goes_or_holds core slot th.run || (is_paused th.run && is_some (choice_by k th.sr (ready_in core slot) core.events))
+able_as core slot k th = goes_or_holds core slot th.run || (is_paused th.run && is_some (choice_by k th.sr (ready_in core slot) core.enabled))
 
 -- one that goes is
 goes_able : (core : CoreRec) (slot k : ℕ) (th : Thread) → th.run ≡ Going → able_as core slot k th ≡ true
 goes_able core slot k th goes =
-    ap (λ run. goes_or_holds core slot run || (is_paused run && is_some (choice_by k th.sr (ready_in core slot) core.events))) goes
+    ap (λ run. goes_or_holds core slot run || (is_paused run && is_some (choice_by k th.sr (ready_in core slot) core.enabled))) goes
 
 same_able : (core : CoreRec) (slot k : ℕ) (one other : Thread) → GoAlike one other → able_as core slot k one ≡ able_as core slot k other
 same_able core slot k one other (inl same) = ap (able_as core slot k) same
@@ -91,7 +91,7 @@ module _ (core : CoreRec) (threads : List Thread) (slots : SlotsRec) (memory : L
   able_still : (slot k : ℕ) → is_able (with_these core threads slots memory) k slot ≡ is_able core k slot
   able_still slot k =
       let th = thread_at threads k in
-      ap (λ goes. goes || (is_paused th.run && is_some (choice_by k th.sr (ready_in core slot) core.events))) (goes_still slot th.run)
+      ap (λ goes. goes || (is_paused th.run && is_some (choice_by k th.sr (ready_in core slot) core.enabled))) (goes_still slot th.run)
       ∙ same_able core slot k th (thread_at core.threads k) (alike k)
 
   pub known_still : (able : Option Able) → IfSome able (AreAble core) → IfSome able (AreAble (with_these core threads slots memory))

@@ -9,10 +9,10 @@ use Rattle.xs_model.specs.Threads.{fresh_thread}
 use Rattle.xs_model.specs.Record.{CoreRec, thread_of, with_thread}
 use Rattle.xs_instructions.specs.declared.instr.Instr.{Instr}
 use Rattle.xs_instructions.specs.declared.instr.Instr.TheVariants.{Words, Memory, Flow, Kernel, Threads, Resources}
-use Rattle.step_model.specs.Effect.{Setting, Leaving, Leaves, Traps, Local, local_of, with_local, on_registers, on_local, after_it}
-use Rattle.step_model.specs.Rows.{effect, local_row}
+use Rattle.step_model.specs.Effect.{Setting, Leaving, Leaves, Traps, Own, own_of, with_own, on_registers, on_own, after_it}
+use Rattle.step_model.specs.Rows.{effect, own_row}
 use Rattle.step_model.specs.Outcomes.{EndsAs}
-use Rattle.flow_unit.specs.Local.{is_local, local}
+use Rattle.flow_unit.specs.Own.{is_own, own}
 use Rattle.core_units.specs.Units.{Ends}
 use Rattle.processor.specs.Issue.{gone_on}
 
@@ -29,23 +29,23 @@ module _ (core : CoreRec) (k : ℕ) where
   registers_end (outcome.Pause wait) after row is = absurd is
   registers_end outcome.Gone after row is = absurd is
 
-  part_end : (o : Outcome) (after : Local) (row : Leaving Local) → EndsAs o (local_of core k) after row → Ends o core (with_local core k after) (on_local core k row)
-  part_end outcome.Done after (Leaves l) is = ap (with_local core k) is
+  part_end : (o : Outcome) (after : Own) (row : Leaving Own) → EndsAs o (own_of core k) after row → Ends o core (with_own core k after) (on_own core k row)
+  part_end outcome.Done after (Leaves l) is = ap (with_own core k) is
   part_end outcome.Done after (Traps number value) is = absurd is
-  part_end (outcome.Trap et ed) after (Traps number value) is = (is.0, is.1, ap (with_local core k) is.2 ∙ same_thread core k)
+  part_end (outcome.Trap et ed) after (Traps number value) is = (is.0, is.1, ap (with_own core k) is.2 ∙ same_thread core k)
   part_end (outcome.Trap et ed) after (Leaves l) is = absurd is
   part_end (outcome.Pause wait) after row is = absurd is
   part_end outcome.Gone after row is = absurd is
 
-  pub local_end : (here : Setting) (ins : Instr) (o : Outcome) (after : Local) → IsTrue (is_local ins) → EndsAs o (local_of core k) after (local_row k (local_of core k) ins) → Ends o core (with_local core k after) (effect here core k ins)
-  local_end here (Memory ins) o after part is = part_end o after (local_row k (local_of core k) (Memory ins)) is
-  local_end here (Flow ins) o after part is = part_end o after (local_row k (local_of core k) (Flow ins)) is
-  local_end here (Kernel ins) o after part is = part_end o after (local_row k (local_of core k) (Kernel ins)) is
-  local_end here (Words ins) o after part is = cc
-  local_end here (Threads ins) o after part is = cc
-  local_end here (Resources ins) o after part is = cc
+  pub own_end : (here : Setting) (ins : Instr) (o : Outcome) (after : Own) → IsTrue (is_own ins) → EndsAs o (own_of core k) after (own_row k (own_of core k) ins) → Ends o core (with_own core k after) (effect here core k ins)
+  own_end here (Memory ins) o after part is = part_end o after (own_row k (own_of core k) (Memory ins)) is
+  own_end here (Flow ins) o after part is = part_end o after (own_row k (own_of core k) (Flow ins)) is
+  own_end here (Kernel ins) o after part is = part_end o after (own_row k (own_of core k) (Kernel ins)) is
+  own_end here (Words ins) o after part is = cc
+  own_end here (Threads ins) o after part is = cc
+  own_end here (Resources ins) o after part is = cc
 
   -- the same of a thread that was read with another default
-  pub local_end_of : (here : Setting) (ins : Instr) (o : Outcome) (default : Thread) (after : Local) → k < length core.threads → IsTrue (is_local ins) → EndsAs o (local (get_or core.threads k default) core.memory) after (local_row k (local (get_or core.threads k default) core.memory) ins) → Ends o core (with_local core k after) (effect here core k ins)
-  local_end_of here ins o default after within part is = local_end here ins o after part
-      (subst (λ (th : Thread). EndsAs o (local th core.memory) after (local_row k (local th core.memory) ins)) (get_or_default core.threads k default fresh_thread within) is)
+  pub own_end_of : (here : Setting) (ins : Instr) (o : Outcome) (default : Thread) (after : Own) → k < length core.threads → IsTrue (is_own ins) → EndsAs o (own (get_or core.threads k default) core.memory) after (own_row k (own (get_or core.threads k default) core.memory) ins) → Ends o core (with_own core k after) (effect here core k ins)
+  own_end_of here ins o default after within part is = own_end here ins o after part
+      (subst (λ (th : Thread). EndsAs o (own th core.memory) after (own_row k (own th core.memory) ins)) (get_or_default core.threads k default fresh_thread within) is)

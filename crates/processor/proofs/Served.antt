@@ -59,12 +59,12 @@ module _ (core : CoreRec) (ports : List PortRec) (same : (p : ℕ) → ServesAs 
   ready_served : (p : ℕ) → port_is_ready (port_at ports p) ≡ port_is_ready (port_at core.ports p)
   ready_served p = ap₂ (λ output full. not output && full) (same p).output (same p).transfer
 
-  mode_served : (slot k : ℕ) (interrupt : Bool) → choice_in_mode k (ready_in (with_ports core ports) slot) core.events interrupt ≡ choice_in_mode k (ready_in core slot) core.events interrupt
+  mode_served : (slot k : ℕ) (interrupt : Bool) → choice_in_mode k (ready_in (with_ports core ports) slot) core.enabled interrupt ≡ choice_in_mode k (ready_in core slot) core.enabled interrupt
   mode_served slot k interrupt =
       ap (λ port.
-      first_of (first_ready (gives_to k interrupt) (ready_in core slot).chans 0 core.events.chans)
-      (first_of (first_ready (gives_to k interrupt) (ready_in core slot).timers 0 core.events.timers) port))
-      (first_served (gives_to k interrupt) (ready_in (with_ports core ports) slot).ports (ready_in core slot).ports ready_served 0 core.events.ports)
+      first_of (first_ready (gives_to k interrupt) (ready_in core slot).chans 0 core.enabled.chans)
+      (first_of (first_ready (gives_to k interrupt) (ready_in core slot).timers 0 core.enabled.timers) port))
+      (first_served (gives_to k interrupt) (ready_in (with_ports core ports) slot).ports (ready_in core slot).ports ready_served 0 core.enabled.ports)
 
   choice_served : (slot k : ℕ) → choice (with_ports core ports) slot k ≡ choice core slot k
   choice_served slot k =

@@ -18,7 +18,7 @@ ghost use Rattle.processor.specs.Knows.{StaysKnown};
 
 use crate::processor::Processor;
 use crate::program::Program;
-use crate::rows::{kret, local, words};
+use crate::rows::{kret, own, words};
 use core_units::{Ended, Holders, Units};
 use event_unit::Choice;
 use resource_rows::on_resources;
@@ -185,7 +185,7 @@ impl Processor {
                 kret(&mut self.units, k);
                 Outcome::Done
             }
-            Instr::Memory(_) | Instr::Flow(_) | Instr::Kernel(_) => local(&mut self.units, k, ins),
+            Instr::Memory(_) | Instr::Flow(_) | Instr::Kernel(_) => own(&mut self.units, k, ins),
             Instr::Threads(ins) => {
                 self.able = None;
                 on_threads(&mut self.units, id, slot, k, ins)

@@ -8,7 +8,7 @@ ghost use Rattle.xs_instructions.specs.Instr.{InRange, WordsInRange};
 ghost use Rattle.step_model.specs.Effect.{Setting, on_registers};
 ghost use Rattle.step_model.specs.WordRows.{words_row};
 ghost use Rattle.step_model.specs.Rows.{effect};
-ghost use Rattle.flow_unit.specs.Local.{is_local};
+ghost use Rattle.flow_unit.specs.Own.{is_own};
 ghost use Rattle.core_units.specs.Units.{Ends};
 ghost use Rattle.processor.specs.Issue.{gone_on};
 ghost use Rattle.processor.specs.Knows.{StaysKnown};
@@ -36,10 +36,10 @@ pub(crate) fn words(units: &mut Units, k: u8, ins: WordIns) -> Outcome
 
 // A row on memory, on the flow of control or on the kernel, but for the return.
 #[inline]
-pub(crate) fn local(units: &mut Units, k: u8, ins: Instr) -> Outcome
+pub(crate) fn own(units: &mut Units, k: u8, ins: Instr) -> Outcome
     requires thread { k < THREADS }
     requires going { (thread_of units.old k).run ≡ Going }
-    requires part { IsTrue (is_local ins) }
+    requires part { IsTrue (is_own ins) }
     requires range { InRange ins }
     ensures row { (here : Setting) → Ends result units.old units.new (effect here units.old k ins) }
     ensures known { StaysKnown units.old units.new }

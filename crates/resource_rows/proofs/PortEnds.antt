@@ -10,7 +10,7 @@ use Rattle.xs_model.specs.declared.thread.Wait.{Wait}
 use Rattle.xs_model.specs.declared.traps.TheConstants.{ILLEGAL_RESOURCE, RESOURCE_DEPENDENCY}
 use Rattle.xs_model.specs.Record.{CoreRec, PortRec, off_port, port_of, with_port}
 use Rattle.xs_model.specs.Ports.{pin_happens}
-use Rattle.xs_model.specs.PortRows.{Acted, Did, Got, Waits, Refused}
+use Rattle.xs_model.specs.PortActions.{Acted, Did, Got, Waits, Refused}
 use Rattle.step_model.specs.Effect.{Done, Pause, Trap}
 use Rattle.step_model.specs.PortRows.{ends_at_port, goes_on_taking}
 use Rattle.buffered_ports.specs.answers.Answer.{Answer}

@@ -5,7 +5,7 @@ use Rattle.xs_model.specs.declared.thread.Thread.{Thread}
 use Rattle.xs_model.specs.declared.thread.Wait.{Wait}
 use Rattle.xs_model.specs.Record.{CoreRec, PortRec}
 use Rattle.xs_model.specs.Waits.{is_waited_at}
-use Rattle.xs_model.specs.PortRows.{Acted}
+use Rattle.xs_model.specs.PortActions.{Acted}
 use Rattle.step_model.specs.PortRows.{takes_no_word, takes_word, shifts_in_from_above, shifts_out_below}
 use Rattle.buffered_ports.specs.answers.Ask.{Ask}
 use Rattle.buffered_ports.specs.Asks.{asked}

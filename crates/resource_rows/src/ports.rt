@@ -5,12 +5,12 @@ ghost use Rattle.xs_base.specs.declared.numbers.TheConstants.{THREADS, PORTS};
 ghost use Rattle.xs_base.specs.Ids.{port_with};
 ghost use Rattle.xs_model.specs.declared.modes.TheConstants.{OFF, ON};
 ghost use Rattle.xs_model.specs.declared.resource.Res.TheVariants as res;
-ghost use Rattle.xs_model.specs.Record.{PortRec, port_of, with_events};
+ghost use Rattle.xs_model.specs.Record.{PortRec, port_of, with_enabled};
 ghost use Rattle.xs_model.specs.Enabling.{forgotten};
 ghost use Rattle.xs_model.specs.Outside.{LevelsFit};
 ghost use Rattle.step_model.specs.Effect.{reg};
 ghost use Rattle.step_model.specs.PortRows.{at_port, at_named_port, takes_no_word, goes_on_taking, clock_named, sets_clock, sets_strobe};
-ghost use Rattle.step_model.specs.EventRows.{port_in_mode, turns_port};
+ghost use Rattle.step_model.specs.ModeRows.{port_in_mode, turns_port};
 ghost use Rattle.core_units.specs.Ended.{IsEnded};
 ghost use Rattle.core_units.specs.Units.{EndsWith};
 ghost use Rattle.buffered_ports.specs.Asks.{asked, wait_of, IsAsk, IsClock};
@@ -239,7 +239,7 @@ fn turn_port(units: &mut Units, k: u8, name: u32, port: u8, mode: u32, pins: &Pi
 // What was set of a port's events is forgotten.
 fn forget_port(units: &mut Units, port: u8)
     requires { port < PORTS }
-    ensures { units.new ≡ with_events units.old (forgotten units.old.events (res.Port port)) }
+    ensures { units.new ≡ with_enabled units.old (forgotten units.old.enabled (res.Port port)) }
 {
     units.events.forget(Res::Port(port));
 }

@@ -9,7 +9,7 @@ ghost use Rattle.step_model.specs.Effect.{reg};
 ghost use Rattle.step_model.specs.Named.{resource_named};
 ghost use Rattle.step_model.specs.TimeRows.{timer_becomes, clock_becomes, takes_time};
 ghost use Rattle.step_model.specs.ResourceRows.{sets_data, tells_data};
-ghost use Rattle.step_model.specs.EventRows.{clock_in_mode, with_restarted};
+ghost use Rattle.step_model.specs.ModeRows.{clock_in_mode, with_restarted};
 ghost use Rattle.core_units.specs.Ended.{IsEnded};
 ghost use Rattle.core_units.specs.Units.{Ends, EndsWith};
 ghost use Rattle.resource_rows.specs.Changed.{IsChanged};

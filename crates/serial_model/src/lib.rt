@@ -1,3 +1,3 @@
 //! The serial machine as a definition: what all nodes of a system, stepped together, have become after so many
-//! slots. See docs/DEFINITIONS.md.
+//! slots. See docs/inside/DEFINITIONS.md.
 #![tactic(auto)]

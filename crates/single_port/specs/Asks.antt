@@ -7,7 +7,7 @@ use Rattle.xs_model.specs.declared.clock.Clock.{Clock}
 use Rattle.xs_model.specs.declared.clock.Clock.TheVariants.{Reference, Block}
 use Rattle.xs_model.specs.declared.thread.Wait.{Wait}
 use Rattle.xs_model.specs.Record.{PortRec}
-use Rattle.xs_model.specs.PortRows.{Acted, Did, Got, Waits, Refused, in_mode, set_clock, set_strobe, set_transfer_width, set_value, set_time, clear_time, tell_value, tell_stamp, peek, take_in, take_part, put_out, put_part, end_in, sync}
+use Rattle.xs_model.specs.PortActions.{Acted, Did, Got, Waits, Refused, in_mode, set_clock, set_strobe, set_transfer_width, set_value, set_time, clear_time, tell_value, tell_stamp, peek, take_in, take_part, put_out, put_part, end_in, sync}
 use Rattle.single_port.specs.declared.answers.Ask.{Ask}
 use Rattle.single_port.specs.declared.answers.Ask.TheVariants as ask
 use Rattle.single_port.specs.declared.answers.Reply.{Reply}

@@ -2,7 +2,7 @@
 ghost use Rattle.std.specs.Prelude.{ℕ, ◌≡◌, ◌<◌, ◌≤◌, ◌^◌, Option, Some, None, true, false, IfSome};
 ghost use Rattle.xs_base.specs.Ids.{port_width};
 ghost use Rattle.xs_model.specs.Record.{TransferRec};
-ghost use Rattle.xs_model.specs.PortRows.{turned_in, wanting, taken, take_transfer, turn_in, take_in, is_part, take_part, cut_short, end_transfer, end_in};
+ghost use Rattle.xs_model.specs.PortActions.{turned_in, wanting, taken, take_transfer, turn_in, take_in, is_part, take_part, cut_short, end_transfer, end_in};
 ghost use Rattle.single_port.specs.Asks.{answer_of, port_after, IsBelow};
 
 use crate::answers::Answer;

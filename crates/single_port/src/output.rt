@@ -1,7 +1,7 @@
 //! How a thread puts out words.
 ghost use Rattle.std.specs.Prelude.{◌≡◌, ◌<◌, ◌≤◌, true};
 ghost use Rattle.xs_base.specs.Ids.{port_width};
-ghost use Rattle.xs_model.specs.PortRows.{turned_out, filled, fill, put_bits, put_out, put_part, sync};
+ghost use Rattle.xs_model.specs.PortActions.{turned_out, filled, fill, put_bits, put_out, put_part, sync};
 ghost use Rattle.single_port.specs.Asks.{answer_of, port_after};
 
 use crate::answers::Answer;

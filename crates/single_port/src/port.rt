@@ -2,7 +2,7 @@
 ghost use Rattle.std.specs.Prelude.{◌≡◌, ◌<◌, ◌≤◌, ◌^◌, ◌||◌, ◌&&◌, not, true, false, is_some, nat_lt, length, if◌then◌else◌};
 ghost use Rattle.xs_model.specs.Record.{off_port};
 ghost use Rattle.xs_model.specs.Ports.{level_of};
-ghost use Rattle.xs_model.specs.PortRows.{on_port, has_left, is_idle};
+ghost use Rattle.xs_model.specs.PortActions.{on_port, has_left, is_idle};
 ghost use Rattle.xs_model.specs.Choices.{port_is_ready};
 ghost use Rattle.single_port.specs.Asks.{IsClock, IsStrobe};
 ghost use Rattle.single_port.specs.Keeps.{IsPort, IsPlain};

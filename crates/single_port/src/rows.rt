@@ -5,7 +5,7 @@ ghost use Rattle.xs_base.specs.Ids.{port_width};
 ghost use Rattle.xs_base.specs.declared.numbers.TheConstants.{PORTS};
 ghost use Rattle.single_port.specs.Asks.{IsAsk, FitsTransfer, acted, answer_of, port_after, wait_of};
 ghost use Rattle.single_port.specs.Keeps.{IsPlaced};
-ghost use Rattle.xs_model.specs.PortRows.{take_in, put_bits, sync};
+ghost use Rattle.xs_model.specs.PortActions.{take_in, put_bits, sync};
 
 use crate::answers::{Answer, Ask};
 use crate::port::Port;

@@ -3,7 +3,7 @@ ghost use Rattle.std.specs.Prelude.{◌≡◌, ◌<◌, ◌≤◌, ◌%◌, ◌^
 ghost use Rattle.xs_base.specs.Ids.{port_width};
 ghost use Rattle.xs_base.specs.declared.numbers.TheConstants.{PORTS};
 ghost use Rattle.xs_model.specs.Record.{Always, Equal, NotEqual};
-ghost use Rattle.xs_model.specs.PortRows.{in_mode, turned_on, turned_off, let_go, set_mode, with_condition, resampled, cleared, unbuffered, buffered, set_clock, set_strobe, set_transfer_width, is_transfer_width, set_value, set_time, clear_time, goes_by, restarted};
+ghost use Rattle.xs_model.specs.PortActions.{in_mode, turned_on, turned_off, let_go, set_mode, with_condition, resampled, cleared, unbuffered, buffered, set_clock, set_strobe, set_transfer_width, is_transfer_width, set_value, set_time, clear_time, goes_by, restarted};
 ghost use Rattle.single_port.specs.Asks.{answer_of, port_after, IsClock, IsStrobe};
 ghost use Rattle.single_port.specs.Keeps.{IsPlaced, KeepsRole, ServesAs, IsPlain, is_width};
 ghost use Rattle.single_port.specs.Inside.{condition_of};

@@ -4,10 +4,10 @@ use Rattle.xs_base.specs.Numbers.{ThreadNumber, Identifier}
 use Rattle.xs_model.specs.declared.thread.Thread.{Thread}
 use Rattle.xs_model.specs.declared.traps.TheConstants.{ILLEGAL_RESOURCE}
 use Rattle.xs_model.specs.Record.{CoreRec}
-use Rattle.step_model.specs.Effect.{Effect, Done, Pause, Trap, Gone, allowed_where, Leaving, Leaves, Traps, Local, on_local, on_registers}
+use Rattle.step_model.specs.Effect.{Effect, Done, Pause, Trap, Gone, allowed_where, Leaving, Leaves, Traps, Own, on_own, on_registers}
 use Rattle.step_laws.specs.StatusBits.{AllKnown}
 use Rattle.step_laws.proofs.Threads.{on_known, with_thread_known}
-use Rattle.step_laws.proofs.Rows.{LeftKnown, LocalKnown}
+use Rattle.step_laws.proofs.Rows.{LeftKnown, OwnKnown}
 
 -- where an effect has a core
 abbrev pub EffectKnown : Effect → Type 0
@@ -29,6 +29,6 @@ module _ (core : CoreRec) (k : ThreadNumber) (all : AllKnown core.threads) where
   on_registers_known (Leaves th) h = with_thread_known core k _ all (on_known th h)
   on_registers_known (Traps number value) h = tt
 
-  pub on_local_known : (left : Leaving Local) → LocalKnown left → EffectKnown (on_local core k left)
-  on_local_known (Leaves l) h = with_thread_known core k _ all h
-  on_local_known (Traps number value) h = tt
+  pub on_own_known : (left : Leaving Own) → OwnKnown left → EffectKnown (on_own core k left)
+  on_own_known (Leaves l) h = with_thread_known core k _ all h
+  on_own_known (Traps number value) h = tt

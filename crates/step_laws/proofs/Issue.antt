@@ -13,22 +13,22 @@ use Rattle.xs_model.specs.Picks.{picked}
 use Rattle.xs_instructions.specs.declared.instr.Instr.{Instr}
 use Rattle.xs_instructions.specs.declared.instr.Instr.TheVariants.{Words, Memory, Flow, Kernel, Threads, Resources}
 use Rattle.xs_instructions.specs.Code.{code_at}
-use Rattle.step_model.specs.Effect.{Setting, Effect, Done, Pause, Trap, Gone, local_of}
+use Rattle.step_model.specs.Effect.{Setting, Effect, Done, Pause, Trap, Gone, own_of}
 use Rattle.step_model.specs.Rows.{effect}
 use Rattle.step_model.specs.Step.{halt_unless, trap, settled, executed, issue_begins, issued_with, issued_by, issued}
 use Rattle.step_laws.specs.StatusBits.{AllKnown}
 use Rattle.step_laws.proofs.Threads.{known, trapped_known, entered_known, with_thread_known, with_run_known}
 use Rattle.step_laws.proofs.Rows.{words_known, memory_known, flow_known, kernel_known}
-use Rattle.step_laws.proofs.Effects.{EffectKnown, on_registers_known, on_local_known}
+use Rattle.step_laws.proofs.Effects.{EffectKnown, on_registers_known, on_own_known}
 use Rattle.step_laws.proofs.ThreadRows.{threads_known}
 use Rattle.step_laws.proofs.ResourceRows.{resources_known}
 
 module _ (core : CoreRec) (k : ThreadNumber) (all : AllKnown core.threads) where
   effect_known : (here : Setting) (ins : Instr) → EffectKnown (effect here core k ins)
   effect_known here (Words ins) = on_registers_known core k all _ (words_known (thread_of core k) ins (all k))
-  effect_known here (Memory ins) = on_local_known core k all _ (memory_known (local_of core k) ins (all k))
-  effect_known here (Flow ins) = on_local_known core k all _ (flow_known (local_of core k) ins (all k))
-  effect_known here (Kernel ins) = on_local_known core k all _ (kernel_known k (local_of core k) ins (all k))
+  effect_known here (Memory ins) = on_own_known core k all _ (memory_known (own_of core k) ins (all k))
+  effect_known here (Flow ins) = on_own_known core k all _ (flow_known (own_of core k) ins (all k))
+  effect_known here (Kernel ins) = on_own_known core k all _ (kernel_known k (own_of core k) ins (all k))
   effect_known here (Threads ins) = threads_known here core k all ins
   effect_known here (Resources ins) = resources_known here core k all ins
 

@@ -14,7 +14,8 @@ use Rattle.xs_model.specs.Enabling.{in_mode}
 use Rattle.net_model.specs.Chans.{freed_chan}
 use Rattle.step_model.specs.Effect.{Setting}
 use Rattle.step_model.specs.TimeRows.{timer_becomes, clock_becomes}
-use Rattle.step_model.specs.EventRows.{eventful, with_changed, in_event_mode, timer_in_mode, with_restarted, clock_in_mode, resource_in_mode}
+use Rattle.step_model.specs.EventRows.{eventful, with_changed}
+use Rattle.step_model.specs.ModeRows.{in_event_mode, timer_in_mode, with_restarted, clock_in_mode, resource_in_mode}
 use Rattle.step_model.specs.ResourceRows.{without_chan, without_timer, without_sync, without_lock, without}
 use Rattle.step_laws.proofs.PinsAfter.{PinsAfter, pins_stay, restart}
 

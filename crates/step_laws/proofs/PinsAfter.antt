@@ -10,7 +10,7 @@ use Rattle.xs_model.specs.declared.pins.PinChange.{PinChange}
 use Rattle.xs_model.specs.declared.pins.PinChange.TheVariants.{Drive, Float}
 use Rattle.xs_model.specs.Record.{PortRec, off_port}
 use Rattle.xs_model.specs.Ports.{pin_happens}
-use Rattle.xs_model.specs.PortRows.{goes_by, restarted}
+use Rattle.xs_model.specs.PortActions.{goes_by, restarted}
 use Rattle.xs_model.specs.Events.{NamesWhatIsThere}
 use Rattle.step_laws.proofs.Tells.{Fits, Tells, tells_other, tells_change, change_few, change_not_on}
 use Rattle.step_laws.proofs.PortActs.{LetsGo}

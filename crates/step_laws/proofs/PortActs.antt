@@ -8,7 +8,7 @@ use Rattle.xs_model.specs.declared.modes.TheConstants.{OFF, ON, NO_CONDITION, EQ
 use Rattle.xs_model.specs.declared.pins.PinChange.{PinChange}
 use Rattle.xs_model.specs.declared.pins.PinChange.TheVariants.{Drive, Float}
 use Rattle.xs_model.specs.Record.{PortRec, TransferRec, Condition, Always, Equal, NotEqual}
-use Rattle.xs_model.specs.PortRows.{Acted, Did, Got, Waits, Refused, turned_on, turned_off, with_condition, set_mode, in_mode, set_clock, set_strobe, is_transfer_width, set_transfer_width, set_value, set_time, clear_time, tell_value, tell_stamp, peek, has_left, is_idle, turned_in, wanting, take_transfer, turn_in, take_in, is_part, take_part, end_transfer, end_in, turned_out, fill, put_bits, put_out, put_part, sync}
+use Rattle.xs_model.specs.PortActions.{Acted, Did, Got, Waits, Refused, turned_on, turned_off, with_condition, set_mode, in_mode, set_clock, set_strobe, is_transfer_width, set_transfer_width, set_value, set_time, clear_time, tell_value, tell_stamp, peek, has_left, is_idle, turned_in, wanting, take_transfer, turn_in, take_in, is_part, take_part, end_transfer, end_in, turned_out, fill, put_bits, put_out, put_part, sync}
 
 -- what a port drives after such a change
 abbrev pub LetsGo : Option Word → Option PinChange → Option Word → Type 0

@@ -14,14 +14,14 @@ use Rattle.xs_model.specs.declared.resource.Resource.{Resource}
 use Rattle.xs_model.specs.declared.resource.Resource.TheVariants as resource
 use Rattle.xs_model.specs.declared.resource.Res.TheVariants as res
 use Rattle.xs_model.specs.Threads.{HasKnownBits}
-use Rattle.xs_model.specs.Record.{CoreRec, ChanRec, PortRec, EnablingRec, EventsRec, thread_of, timer_of, clock_of, lock_of, port_of, with_port, with_events}
+use Rattle.xs_model.specs.Record.{CoreRec, ChanRec, PortRec, EnablingRec, EnabledRec, thread_of, timer_of, clock_of, lock_of, port_of, with_port, with_enabled}
 use Rattle.xs_model.specs.Free.{lowest_free}
 use Rattle.xs_model.specs.Syncs.{is_sync_used, Claimed, Owns, IsHeld, IsRefused, claimed, released}
 use Rattle.xs_model.specs.Time.{time_at, timer_holds, with_value, divided_by}
 use Rattle.xs_model.specs.Enabling.{with_vector, with_environment, enabled_for, forgotten}
 use Rattle.xs_model.specs.Ports.{pin_happens}
-use Rattle.xs_model.specs.PortRows.{Acted, Did, Got as Gives, Waits as PausesAt, Refused as Refuses}
-use Rattle.xs_model.specs.PortRows.{in_mode, set_value, tell_value, take_in, take_part, put_out, end_in, sync, tell_stamp, set_time, clear_time}
+use Rattle.xs_model.specs.PortActions.{Acted, Did, Got as Gives, Waits as PausesAt, Refused as Refuses}
+use Rattle.xs_model.specs.PortActions.{in_mode, set_value, tell_value, take_in, take_part, put_out, end_in, sync, tell_stamp, set_time, clear_time}
 use Rattle.xs_model.specs.Waits.{is_waited_at, is_paused_on}
 use Rattle.xs_instructions.specs.declared.instr.ResIns.{ResIns}
 use Rattle.xs_instructions.specs.declared.instr.ResIns.TheVariants as resources
@@ -29,7 +29,8 @@ use Rattle.net_model.specs.Chans.{Found, Got, Waits, Refused, free_chan, put_tok
 use Rattle.step_model.specs.Effect.{Setting, Done, Pause, Trap, reg, goes_on_with, goes_on_in, pauses_at}
 use Rattle.step_model.specs.ThreadRows.{thread_to_get, with_got_thread}
 use Rattle.step_model.specs.TimeRows.{tells, takes_time}
-use Rattle.step_model.specs.EventRows.{eventful, with_changed, in_event_mode, sets_events, resource_in_mode, turns_port, port_in_mode, sets_mode, clears, waits_where}
+use Rattle.step_model.specs.EventRows.{eventful, with_changed, sets_events, clears, waits_where}
+use Rattle.step_model.specs.ModeRows.{in_event_mode, resource_in_mode, turns_port, port_in_mode, sets_mode}
 use Rattle.step_model.specs.PortRows.{ends_at_port, at_port, at_named_port, on_port, takes_no_word, takes_word, shifts_in_from_above, shifts_out_below, sets_clock, sets_strobe, sets_transfer_width, puts_word, puts_part, peeks, at_any}
 use Rattle.step_model.specs.ResourceRows.{resources_row, resource_got, chan_was_got, sync_was_got, thread_was_got, timer_was_got, lock_was_got, without_lock, without, freed, found_there, on_named, room, tokens, no_wait, takes_nothing, takes_into, claimed_there, takes_in, puts_out, sets_data, tells_data, named_in}
 use Rattle.step_laws.specs.StatusBits.{AllKnown}
@@ -121,17 +122,17 @@ module _ (here : Setting) (core : CoreRec) (k : ThreadNumber) (all : AllKnown co
 
   -- ---- Rows on a port
 
-  ends_known : (events : EventsRec) (name : Identifier) (p : PortNumber) (takes : Word → Thread → Thread) → TakesKnown takes → (acted : Acted) → EffectKnown (ends_at_port (with_events core events) k name p takes acted)
+  ends_known : (events : EnabledRec) (name : Identifier) (p : PortNumber) (takes : Word → Thread → Thread) → TakesKnown takes → (acted : Acted) → EffectKnown (ends_at_port (with_enabled core events) k name p takes acted)
   ends_known events name p takes h (Did port change) =
       with_thread_known (with_port core p port) k _ all (on_known _ (h 0 (thread_of core k) (all k)))
   ends_known events name p takes h (Gives port word) =
       with_thread_known (with_port core p port) k _ all (on_known _ (h word (thread_of core k) (all k)))
   ends_known events name p takes h (PausesAt port wait change) =
-      branch_known (is_waited_at core wait) (Trap RESOURCE_DEPENDENCY name) (Pause (with_port (with_events core events) p port) wait (pin_happens p change)) tt all
+      branch_known (is_waited_at core wait) (Trap RESOURCE_DEPENDENCY name) (Pause (with_port (with_enabled core events) p port) wait (pin_happens p change)) tt all
   ends_known events name p takes h Refuses = tt
 
   at_known : (name : Identifier) (p : PortNumber) (takes : PortRec → Word → Thread → Thread) → ((port : PortRec) → TakesKnown (takes port)) → (acts : PortRec → Acted) → EffectKnown (at_port core k name p takes acts)
-  at_known name p takes h acts = ends_known core.events name p (takes (port_of core p)) (h (port_of core p)) (acts (port_of core p))
+  at_known name p takes h acts = ends_known core.enabled name p (takes (port_of core p)) (h (port_of core p)) (acts (port_of core p))
 
   at_named_known : (name : Identifier) (takes : PortRec → Word → Thread → Thread) → ((port : PortRec) → TakesKnown (takes port)) → (acts : PortNumber → PortRec → Acted) → (named : Option PortNumber) → EffectKnown (at_named_port core k name takes acts named)
   at_named_known name takes h acts None = tt
@@ -196,10 +197,10 @@ module _ (here : Setting) (core : CoreRec) (k : ThreadNumber) (all : AllKnown co
 
   -- ---- The rows on events
 
-  turned_known : (name : Identifier) (p : PortNumber) (mode : Word) (is_off : Bool) (acted : Acted) → EffectKnown (ends_at_port (if is_off then with_events core (forgotten core.events (res.Port p)) else core) k name p (takes_no_word (port_of core p)) acted)
+  turned_known : (name : Identifier) (p : PortNumber) (mode : Word) (is_off : Bool) (acted : Acted) → EffectKnown (ends_at_port (if is_off then with_enabled core (forgotten core.enabled (res.Port p)) else core) k name p (takes_no_word (port_of core p)) acted)
   turned_known name p mode true acted =
-      ends_known (forgotten core.events (res.Port p)) name p (takes_no_word (port_of core p)) (λ word th h. h) acted
-  turned_known name p mode false acted = ends_known core.events name p (takes_no_word (port_of core p)) (λ word th h. h) acted
+      ends_known (forgotten core.enabled (res.Port p)) name p (takes_no_word (port_of core p)) (λ word th h. h) acted
+  turned_known name p mode false acted = ends_known core.enabled name p (takes_no_word (port_of core p)) (λ word th h. h) acted
 
   port_mode_known : (name : Identifier) (p : PortNumber) (mode : Word) → EffectKnown (port_in_mode core k name p mode)
   port_mode_known name p mode =

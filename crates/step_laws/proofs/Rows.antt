@@ -12,7 +12,7 @@ use Rattle.xs_instructions.specs.declared.instr.FlowIns.{FlowIns}
 use Rattle.xs_instructions.specs.declared.instr.FlowIns.TheVariants as flow
 use Rattle.xs_instructions.specs.declared.instr.KernelIns.{KernelIns}
 use Rattle.xs_instructions.specs.declared.instr.KernelIns.TheVariants as kernel
-use Rattle.step_model.specs.Effect.{Leaving, Leaves, Local}
+use Rattle.step_model.specs.Effect.{Leaving, Leaves, Own}
 use Rattle.step_model.specs.WordRows.{words_row, sets_two, divides, divides_long}
 use Rattle.step_model.specs.MemoryRows.{reg, memory_row, loads, stores}
 use Rattle.step_model.specs.FlowRows.{after_branch, flow_row}
@@ -25,9 +25,9 @@ abbrev pub LeftKnown : Leaving Thread → Type 0
 LeftKnown (Leaves th) = HasKnownBits th
 LeftKnown _ = Unit {0}
 
-abbrev pub LocalKnown : Leaving Local → Type 0
-LocalKnown (Leaves l) = HasKnownBits l.thread
-LocalKnown _ = Unit {0}
+abbrev pub OwnKnown : Leaving Own → Type 0
+OwnKnown (Leaves l) = HasKnownBits l.thread
+OwnKnown _ = Unit {0}
 
 two_known : (th : Thread) (d e : Register) (both : Word × Word) → HasKnownBits th → LeftKnown (sets_two th d e both)
 two_known th d e both h = register_known _ e both.1 (register_known th d both.0 h)
@@ -84,15 +84,15 @@ words_known th (words.Maccs d e x y) h = two_known th d e _ h
 words_known th (words.Ldc d u) h = register_known th d _ h
 words_known th words.Nop h = h
 
-loads_known : (l : Local) (at : Word) (found : Option Word) (after : Word → Thread) → ((word : Word) → HasKnownBits (after word)) → LocalKnown (loads l at found after)
+loads_known : (l : Own) (at : Word) (found : Option Word) (after : Word → Thread) → ((word : Word) → HasKnownBits (after word)) → OwnKnown (loads l at found after)
 loads_known l at None after h = tt
 loads_known l at (Some word) after h = h word
 
-stores_known : (at : Word) (found : Option (List ℕ)) (th : Thread) → HasKnownBits th → LocalKnown (stores at found th)
+stores_known : (at : Word) (found : Option (List ℕ)) (th : Thread) → HasKnownBits th → OwnKnown (stores at found th)
 stores_known at None th h = tt
 stores_known at (Some bytes) th h = h
 
-pub memory_known : (l : Local) (ins : MemIns) → HasKnownBits l.thread → LocalKnown (memory_row l ins)
+pub memory_known : (l : Own) (ins : MemIns) → HasKnownBits l.thread → OwnKnown (memory_row l ins)
 memory_known l (memory.LdwImm d x i) h = loads_known l _ _ _ (λ word. sets_known l.thread d word h)
 memory_known l (memory.Ldw d x y) h = loads_known l _ _ _ (λ word. sets_known l.thread d word h)
 memory_known l (memory.LdwDp g u) h = loads_known l _ _ _ (λ word. sets_known l.thread g word h)
@@ -118,7 +118,7 @@ memory_known l (memory.Lda16Back d x y) h = sets_known l.thread d _ h
 memory_known l (memory.Ldap p) h = known _ h.sr h.ssr
 
 -- a row of two cases
-branch_known : (holds : Bool) (x y : Leaving Local) → LocalKnown x → LocalKnown y → LocalKnown (if holds then x else y)
+branch_known : (holds : Bool) (x y : Leaving Own) → OwnKnown x → OwnKnown y → OwnKnown (if holds then x else y)
 branch_known true x y one other = one
 branch_known false x y one other = other
 
@@ -126,7 +126,7 @@ after_branch_known : (taken : Bool) (place : ℕ) (th : Thread) → HasKnownBits
 after_branch_known true place th h = known _ h.sr h.ssr
 after_branch_known false place th h = on_known th h
 
-pub flow_known : (l : Local) (ins : FlowIns) → HasKnownBits l.thread → LocalKnown (flow_row l ins)
+pub flow_known : (l : Own) (ins : FlowIns) → HasKnownBits l.thread → OwnKnown (flow_row l ins)
 flow_known l (flow.Bt s p) h = after_branch_known (not (reg l s == 0)) p l.thread h
 flow_known l (flow.Bf s p) h = after_branch_known (reg l s == 0) p l.thread h
 flow_known l (flow.Bu p) h = known _ h.sr h.ssr
@@ -143,11 +143,11 @@ flow_known l (flow.SetSp s) h = known _ h.sr h.ssr
 flow_known l (flow.SetDp s) h = known _ h.sr h.ssr
 flow_known l (flow.SetCp s) h = known _ h.sr h.ssr
 
-calls_known : (l : Local) (holds : Bool) (value : Word) → HasKnownBits l.thread → LocalKnown (calls_where l holds value)
+calls_known : (l : Own) (holds : Bool) (value : Word) → HasKnownBits l.thread → OwnKnown (calls_where l holds value)
 calls_known l true value h = tt
 calls_known l false value h = on_known _ h
 
-pub kernel_known : (k : ThreadNumber) (l : Local) (ins : KernelIns) → HasKnownBits l.thread → LocalKnown (kernel_row k l ins)
+pub kernel_known : (k : ThreadNumber) (l : Own) (ins : KernelIns) → HasKnownBits l.thread → OwnKnown (kernel_row k l ins)
 kernel_known k l (kernel.KcallImm u) h = tt
 kernel_known k l (kernel.Kcall s) h = tt
 kernel_known k l kernel.Kret h = known _ h.ssr h.ssr

@@ -16,11 +16,11 @@ use Rattle.xs_model.specs.declared.resource.Resource.{Resource}
 use Rattle.xs_model.specs.declared.resource.Resource.TheVariants as resource
 use Rattle.xs_model.specs.declared.resource.Res.TheVariants as res
 use Rattle.xs_model.specs.Threads.{fresh_thread, with_register}
-use Rattle.xs_model.specs.Record.{CoreRec, ChanRec, PortRec, EnablingRec, EventsRec, thread_of, timer_of, clock_of, sync_of, port_of, with_thread, with_run, with_events}
+use Rattle.xs_model.specs.Record.{CoreRec, ChanRec, PortRec, EnablingRec, EnabledRec, thread_of, timer_of, clock_of, sync_of, port_of, with_thread, with_run, with_enabled}
 use Rattle.xs_model.specs.Syncs.{is_thread, Claimed, Owns, IsHeld, IsRefused}
 use Rattle.xs_model.specs.Time.{timer_holds}
 use Rattle.xs_model.specs.Enabling.{with_vector, with_environment, enabled_for, forgotten}
-use Rattle.xs_model.specs.PortRows.{Acted, Did, Got as Gives, Waits as PausesAt, Refused as Refuses, in_mode, set_clock, set_strobe, set_value, tell_value, take_in, take_part, put_out, end_in, sync, tell_stamp, set_time, clear_time}
+use Rattle.xs_model.specs.PortActions.{Acted, Did, Got as Gives, Waits as PausesAt, Refused as Refuses, in_mode, set_clock, set_strobe, set_value, tell_value, take_in, take_part, put_out, end_in, sync, tell_stamp, set_time, clear_time}
 use Rattle.xs_model.specs.Waits.{is_in, all_in, is_waited_at, is_paused_on}
 use Rattle.xs_instructions.specs.declared.instr.Instr.{Instr}
 use Rattle.xs_instructions.specs.declared.instr.Instr.TheVariants.{Words, Memory, Flow, Kernel, Threads, Resources}
@@ -29,11 +29,12 @@ use Rattle.xs_instructions.specs.declared.instr.ThreadIns.TheVariants as threads
 use Rattle.xs_instructions.specs.declared.instr.ResIns.{ResIns}
 use Rattle.xs_instructions.specs.declared.instr.ResIns.TheVariants as resources
 use Rattle.net_model.specs.Chans.{Found, Got, Waits, Refused, put_token, take_byte, take_ctrl, check_token, look, look_word}
-use Rattle.step_model.specs.Effect.{Setting, Effect, Done, Pause, Trap, Gone, Leaving, Leaves, Traps, Local, on_local, on_registers, reg, goes_on_in, pauses_at}
+use Rattle.step_model.specs.Effect.{Setting, Effect, Done, Pause, Trap, Gone, Leaving, Leaves, Traps, Own, on_own, on_registers, reg, goes_on_in, pauses_at}
 use Rattle.step_model.specs.Named.{resource_named}
 use Rattle.step_model.specs.ThreadRows.{is_taken, thread_to_get, slave_got, by_master, as_master, slaves_go, slaves_are_freed, when_all_in, on_named_thread, on_thread, is_slave, may_start, sets_other, threads_row}
 use Rattle.step_model.specs.TimeRows.{takes_time}
-use Rattle.step_model.specs.EventRows.{eventful, in_event_mode, resource_in_mode, sets_events, turns_port, port_in_mode, sets_mode, waits_where}
+use Rattle.step_model.specs.EventRows.{eventful, sets_events, waits_where}
+use Rattle.step_model.specs.ModeRows.{in_event_mode, resource_in_mode, turns_port, port_in_mode, sets_mode}
 use Rattle.step_model.specs.PortRows.{ends_at_port, at_port, at_named_port, on_port, takes_no_word, takes_word, shifts_in_from_above, shifts_out_below, sets_where, sets_clock, sets_strobe, sets_transfer_width, puts_word, puts_part, peeks, at_any}
 use Rattle.step_model.specs.ResourceRows.{resources_row, resource_got, chan_was_got, sync_was_got, thread_was_got, timer_was_got, lock_was_got, freed, claimed_there, takes_in, puts_out, sets_data, tells_data, named_in, found_there, on_named, room, tokens, no_wait, takes_nothing, takes_into}
 use Rattle.step_model.specs.Rows.{effect}
@@ -72,9 +73,9 @@ module _ (here : Setting) (core : CoreRec) (k : ThreadNumber) where
   on_registers_after (Leaves th) = stays
   on_registers_after (Traps number value) = tt
 
-  on_local_after : (left : Leaving Local) → EffectAfter core here.slot (on_local core k left)
-  on_local_after (Leaves l) = stays
-  on_local_after (Traps number value) = tt
+  on_own_after : (left : Leaving Own) → EffectAfter core here.slot (on_own core k left)
+  on_own_after (Leaves l) = stays
+  on_own_after (Traps number value) = tt
 
   -- ---- The rows on threads
 
@@ -174,7 +175,7 @@ module _ (here : Setting) (core : CoreRec) (k : ThreadNumber) where
 
   -- ---- Rows on a port
 
-  ends_after : (events : EventsRec) (name : Identifier) (p : PortNumber) (takes : Word → Thread → Thread) (acted : Acted) → p < PORTS → ActsWell (port_of core p).driven acted → EffectAfter core here.slot (ends_at_port (with_events core events) k name p takes acted)
+  ends_after : (events : EnabledRec) (name : Identifier) (p : PortNumber) (takes : Word → Thread → Thread) (acted : Acted) → p < PORTS → ActsWell (port_of core p).driven acted → EffectAfter core here.slot (ends_at_port (with_enabled core events) k name p takes acted)
   ends_after events name p takes (Did port change) there well = (as_before, acts p port change there well)
   ends_after events name p takes (Gives port word) there well = (as_before, acts p port None there well)
   ends_after events name p takes (PausesAt port wait change) there well =
@@ -182,7 +183,7 @@ module _ (here : Setting) (core : CoreRec) (k : ThreadNumber) where
   ends_after events name p takes Refuses there well = tt
 
   at_port_after : (name : Identifier) (p : PortNumber) (takes : PortRec → Word → Thread → Thread) (does : PortRec → Acted) → p < PORTS → ActsWell (port_of core p).driven (does (port_of core p)) → EffectAfter core here.slot (at_port core k name p takes does)
-  at_port_after name p takes does there well = ends_after core.events name p (takes (port_of core p)) (does (port_of core p)) there well
+  at_port_after name p takes does there well = ends_after core.enabled name p (takes (port_of core p)) (does (port_of core p)) there well
 
   at_named_after : (name : Identifier) (takes : PortRec → Word → Thread → Thread) (does : PortNumber → PortRec → Acted) → ((p : PortNumber) (port : PortRec) → ActsWell port.driven (does p port)) → (named : Option PortNumber) → IsPort named → EffectAfter core here.slot (at_named_port core k name takes does named)
   at_named_after name takes does well None there = tt
@@ -239,10 +240,10 @@ module _ (here : Setting) (core : CoreRec) (k : ThreadNumber) where
   events_after : (name : Identifier) (change : EnablingRec → EnablingRec) (named : Option Resource) → EffectAfter core here.slot (sets_events core k name change named)
   events_after name change named = goes_on_after name _ (changed_keeps core change (eventful core named))
 
-  turned_after : (name : Identifier) (p : PortNumber) (is_off : Bool) (acted : Acted) → p < PORTS → ActsWell (port_of core p).driven acted → EffectAfter core here.slot (ends_at_port (if is_off then with_events core (forgotten core.events (res.Port p)) else core) k name p (takes_no_word (port_of core p)) acted)
+  turned_after : (name : Identifier) (p : PortNumber) (is_off : Bool) (acted : Acted) → p < PORTS → ActsWell (port_of core p).driven acted → EffectAfter core here.slot (ends_at_port (if is_off then with_enabled core (forgotten core.enabled (res.Port p)) else core) k name p (takes_no_word (port_of core p)) acted)
   turned_after name p true acted there well =
-      ends_after (forgotten core.events (res.Port p)) name p (takes_no_word (port_of core p)) acted there well
-  turned_after name p false acted there well = ends_after core.events name p (takes_no_word (port_of core p)) acted there well
+      ends_after (forgotten core.enabled (res.Port p)) name p (takes_no_word (port_of core p)) acted there well
+  turned_after name p false acted there well = ends_after core.enabled name p (takes_no_word (port_of core p)) acted there well
 
   port_mode_after : (name : Identifier) (p : PortNumber) (mode : Word) → p < PORTS → EffectAfter core here.slot (port_in_mode core k name p mode)
   port_mode_after name p mode there =
@@ -309,8 +310,8 @@ module _ (here : Setting) (core : CoreRec) (k : ThreadNumber) where
 
   pub effect_after : (ins : Instr) → EffectAfter core here.slot (effect here core k ins)
   effect_after (Words ins) = on_registers_after _
-  effect_after (Memory ins) = on_local_after _
-  effect_after (Flow ins) = on_local_after _
-  effect_after (Kernel ins) = on_local_after _
+  effect_after (Memory ins) = on_own_after _
+  effect_after (Flow ins) = on_own_after _
+  effect_after (Kernel ins) = on_own_after _
   effect_after (Threads ins) = threads_after ins
   effect_after (Resources ins) = resources_after ins

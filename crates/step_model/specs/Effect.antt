@@ -71,20 +71,20 @@ abbrev pub traps_where : {A : Type 0} → Bool → ℕ → Word → A → Leavin
 traps_where holds number value after = if holds then Traps number value else Leaves after
 
 -- the thread that issues, and the memory
-pub record Local : Type 0 where
+pub record Own : Type 0 where
   pub thread : Thread
   pub memory : List ℕ
 
-abbrev pub local_of : CoreRec → ThreadNumber → Local
-local_of core k = record { thread = thread_of core k; memory = core.memory }
+abbrev pub own_of : CoreRec → ThreadNumber → Own
+own_of core k = record { thread = thread_of core k; memory = core.memory }
 
-abbrev pub with_local : CoreRec → ThreadNumber → Local → CoreRec
-with_local core k l = record (with_thread core k l.thread) { memory = l.memory }
+abbrev pub with_own : CoreRec → ThreadNumber → Own → CoreRec
+with_own core k l = record (with_thread core k l.thread) { memory = l.memory }
 
 -- what a row on the thread and the memory does to the core
-abbrev pub on_local : CoreRec → ThreadNumber → Leaving Local → Effect
-on_local core k (Leaves l) = Done (with_local core k l) []
-on_local core k (Traps number value) = Trap number value
+abbrev pub on_own : CoreRec → ThreadNumber → Leaving Own → Effect
+on_own core k (Leaves l) = Done (with_own core k l) []
+on_own core k (Traps number value) = Trap number value
 
 -- what a row on the thread's registers alone does to the core: the thread goes on to its next instruction
 abbrev pub on_registers : CoreRec → ThreadNumber → Leaving Thread → Effect

@@ -7,7 +7,7 @@ use Rattle.xs_model.specs.Memory.{load_word, store_word}
 use Rattle.xs_instructions.specs.declared.instr.FlowIns.{FlowIns}
 use Rattle.xs_instructions.specs.declared.instr.FlowIns.TheVariants as flow
 use Rattle.xs_instructions.specs.Code.{place_address}
-use Rattle.step_model.specs.Effect.{Leaving, Local, after_it}
+use Rattle.step_model.specs.Effect.{Leaving, Own, after_it}
 use Rattle.step_model.specs.MemoryRows.{up, down, becomes, reg, loads, stores}
 
 -- a thread that goes to a place of the code where its branch is taken, and else on
@@ -19,13 +19,13 @@ abbrev pub called : Thread → Word → Thread
 called th at = record th { lr = word_sum th.pc 4; pc = at }
 
 -- a row that enters a function: where its frame has words, the first keeps lr, and then sp falls by the frame
-abbrev pub enters : Local → ℕ → Leaving Local
+abbrev pub enters : Own → ℕ → Leaving Own
 enters l u =
     let th = l.thread in
     if u == 0 then becomes l (after_it th) else stores th.sp (store_word l.memory th.sp th.lr) (after_it (record th { sp = down th.sp 4 u }))
 
 -- a row that returns from a function: where its frame has words, sp rises by the frame, and then the first one is lr again
-abbrev pub returns : Local → ℕ → Leaving Local
+abbrev pub returns : Own → ℕ → Leaving Own
 returns l u =
     let th = l.thread in
     let frame_end = up th.sp 4 u in
@@ -33,7 +33,7 @@ returns l u =
     then becomes l (record th { pc = th.lr })
     else loads l frame_end (load_word l.memory frame_end) (λ word. record th { sp = frame_end; lr = word; pc = word })
 
-abbrev pub flow_row : Local → FlowIns → Leaving Local
+abbrev pub flow_row : Own → FlowIns → Leaving Own
 flow_row l (flow.Bt s p) = becomes l (after_branch (not (reg l s == 0)) p l.thread)
 flow_row l (flow.Bf s p) = becomes l (after_branch (reg l s == 0) p l.thread)
 flow_row l (flow.Bu p) = becomes l (record l.thread { pc = place_address p })

@@ -10,37 +10,37 @@ use Rattle.xs_model.specs.Memory.{load_word, store_word}
 use Rattle.xs_model.specs.Entry.{returned}
 use Rattle.xs_instructions.specs.declared.instr.KernelIns.{KernelIns}
 use Rattle.xs_instructions.specs.declared.instr.KernelIns.TheVariants as kernel
-use Rattle.step_model.specs.Effect.{Leaving, Traps, traps_where, Local, after_it}
+use Rattle.step_model.specs.Effect.{Leaving, Traps, traps_where, Own, after_it}
 use Rattle.step_model.specs.MemoryRows.{up, down, becomes, reg, loads, stores, sets}
 
 -- a row that calls the exception handler where something holds, and else goes on
-abbrev pub calls_where : Local → Bool → Word → Leaving Local
+abbrev pub calls_where : Own → Bool → Word → Leaving Own
 calls_where l holds value = traps_where holds ECALL value (record l { thread = after_it l.thread })
 
 -- a load into a register of traps from the n-th word above sp, and a store of one to it
-abbrev pub loads_from_stack : Local → ℕ → (Word → Thread) → Leaving Local
+abbrev pub loads_from_stack : Own → ℕ → (Word → Thread) → Leaving Own
 loads_from_stack l n with_word = let at = up l.thread.sp 4 n in loads l at (load_word l.memory at) (λ word. after_it (with_word word))
 
-abbrev pub stores_to_stack : Local → ℕ → Word → Leaving Local
+abbrev pub stores_to_stack : Own → ℕ → Word → Leaving Own
 stores_to_stack l n word = let at = up l.thread.sp 4 n in stores at (store_word l.memory at word) (after_it l.thread)
 
 -- a row that goes over to the kernel's stack, whose first word keeps sp
-abbrev pub enters_kernel : Local → ℕ → Leaving Local
+abbrev pub enters_kernel : Own → ℕ → Leaving Own
 enters_kernel l u =
     let th = l.thread in stores th.ksp (store_word l.memory th.ksp th.sp) (after_it (record th { sp = down th.ksp 4 u }))
 
 -- a row that leaves the kernel's stack, from whose first word sp comes
-abbrev pub leaves_kernel : Local → ℕ → Leaving Local
+abbrev pub leaves_kernel : Own → ℕ → Leaving Own
 leaves_kernel l u =
     let th = l.thread in
     let stack_end = up th.sp 4 u in
     loads l stack_end (load_word l.memory stack_end) (λ word. after_it (record th { ksp = stack_end; sp = word }))
 
 -- a row that sets the status
-abbrev pub sets_status : Local → Status → Leaving Local
+abbrev pub sets_status : Own → Status → Leaving Own
 sets_status l sr = becomes l (after_it (record l.thread { sr = sr }))
 
-abbrev pub kernel_row : ThreadNumber → Local → KernelIns → Leaving Local
+abbrev pub kernel_row : ThreadNumber → Own → KernelIns → Leaving Own
 kernel_row k l (kernel.KcallImm u) = Traps KERNEL_CALL u
 kernel_row k l (kernel.Kcall s) = Traps KERNEL_CALL (reg l s)
 kernel_row k l kernel.Kret = becomes l (returned l.thread)

@@ -10,6 +10,7 @@ pub mod ThreadRows
 pub mod TimeRows
 pub mod PortRows
 pub mod EventRows
+pub mod ModeRows
 pub mod ResourceRows
 pub mod Rows
 pub mod Start

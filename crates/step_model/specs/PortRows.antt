@@ -12,7 +12,7 @@ use Rattle.xs_model.specs.declared.traps.TheConstants.{ILLEGAL_RESOURCE, RESOURC
 use Rattle.xs_model.specs.Threads.{register, with_register}
 use Rattle.xs_model.specs.Record.{CoreRec, PortRec, thread_of, clock_of, port_of, with_thread, with_port}
 use Rattle.xs_model.specs.Ports.{pin_happens}
-use Rattle.xs_model.specs.PortRows.{Acted, Did, Got, Waits, Refused, set_clock, set_strobe, may_strobe, set_transfer_width, peek, put_out, put_part}
+use Rattle.xs_model.specs.PortActions.{Acted, Did, Got, Waits, Refused, set_clock, set_strobe, may_strobe, set_transfer_width, peek, put_out, put_part}
 use Rattle.xs_model.specs.Waits.{is_waited_at}
 use Rattle.step_model.specs.Effect.{Effect, Done, Pause, Trap, after_it, reg}
 use Rattle.step_model.specs.Named.{resource_named}

@@ -14,12 +14,12 @@ use Rattle.xs_model.specs.declared.resource.Resource.{Resource}
 use Rattle.xs_model.specs.declared.resource.Resource.TheVariants as resource
 use Rattle.xs_model.specs.declared.resource.Res.TheVariants as res
 use Rattle.xs_model.specs.Threads.{with_register}
-use Rattle.xs_model.specs.Record.{CoreRec, ChanRec, TimerRec, SyncRec, LockRec, thread_of, chan_of, timer_of, clock_of, sync_of, lock_of, with_thread, with_chan, with_timer, with_sync, with_lock, with_events}
+use Rattle.xs_model.specs.Record.{CoreRec, ChanRec, TimerRec, SyncRec, LockRec, thread_of, chan_of, timer_of, clock_of, sync_of, lock_of, with_thread, with_chan, with_timer, with_sync, with_lock, with_enabled}
 use Rattle.xs_model.specs.Free.{lowest_free}
 use Rattle.xs_model.specs.Syncs.{is_sync_used, got_sync, freed_sync, free_lock, Claimed, Owns, IsHeld, IsRefused, claimed, released, freed_lock}
 use Rattle.xs_model.specs.Time.{got_timer, freed_timer, with_value, divided_by}
 use Rattle.xs_model.specs.Enabling.{with_vector, with_environment, forgotten}
-use Rattle.xs_model.specs.PortRows.{set_value, tell_value, take_in, take_part, put_out, end_in, sync, tell_stamp, set_time, clear_time}
+use Rattle.xs_model.specs.PortActions.{set_value, tell_value, take_in, take_part, put_out, end_in, sync, tell_stamp, set_time, clear_time}
 use Rattle.xs_model.specs.Waits.{is_paused_on}
 use Rattle.xs_instructions.specs.declared.instr.ResIns.{ResIns}
 use Rattle.xs_instructions.specs.declared.instr.ResIns.TheVariants as resources
@@ -27,7 +27,8 @@ use Rattle.net_model.specs.Chans.{Found, Got, Waits, Refused, got_chan, free_cha
 use Rattle.step_model.specs.Effect.{Setting, Effect, Done, Pause, Trap, reg, after_it, goes_on, goes_on_with, goes_on_in, pauses_at}
 use Rattle.step_model.specs.Named.{resource_named}
 use Rattle.step_model.specs.TimeRows.{timer_becomes, clock_becomes, tells, takes_time}
-use Rattle.step_model.specs.EventRows.{sets_mode, sets_events, enables, clears, waits_where}
+use Rattle.step_model.specs.EventRows.{sets_events, enables, clears, waits_where}
+use Rattle.step_model.specs.ModeRows.{sets_mode}
 use Rattle.step_model.specs.PortRows.{at_port, on_port, takes_no_word, takes_word, shifts_in_from_above, shifts_out_below, sets_clock, sets_strobe, sets_transfer_width, puts_word, puts_part, peeks, at_any}
 use Rattle.step_model.specs.ThreadRows.{thread_id, thread_to_get, with_got_thread}
 
@@ -71,11 +72,11 @@ resource_got here core k d kind =
 -- the core without a resource: None where it may not be freed by thread k
 abbrev pub without_chan : CoreRec → ChanNumber → Option ChanRec → Option CoreRec
 without_chan core c None = None
-without_chan core c (Some chan) = Some (with_events (with_chan core c chan) (forgotten core.events (res.Chan c)))
+without_chan core c (Some chan) = Some (with_enabled (with_chan core c chan) (forgotten core.enabled (res.Chan c)))
 
 abbrev pub without_timer : CoreRec → ℕ → Option TimerRec → Option CoreRec
 without_timer core n None = None
-without_timer core n (Some timer) = Some (with_events (with_timer core n timer) (forgotten core.events (res.Timer n)))
+without_timer core n (Some timer) = Some (with_enabled (with_timer core n timer) (forgotten core.enabled (res.Timer n)))
 
 abbrev pub without_sync : CoreRec → ℕ → Option SyncRec → Option CoreRec
 without_sync core n None = None

@@ -3,7 +3,7 @@ use Rattle.xs_base.specs.Numbers.{ThreadNumber}
 use Rattle.xs_model.specs.Record.{CoreRec, thread_of}
 use Rattle.xs_instructions.specs.declared.instr.Instr.{Instr}
 use Rattle.xs_instructions.specs.declared.instr.Instr.TheVariants.{Words, Memory, Flow, Kernel, Threads, Resources}
-use Rattle.step_model.specs.Effect.{Setting, Effect, Leaving, Leaves, Local, local_of, on_local, on_registers}
+use Rattle.step_model.specs.Effect.{Setting, Effect, Leaving, Leaves, Own, own_of, on_own, on_registers}
 use Rattle.step_model.specs.WordRows.{words_row}
 use Rattle.step_model.specs.MemoryRows.{memory_row}
 use Rattle.step_model.specs.FlowRows.{flow_row}
@@ -13,17 +13,17 @@ use Rattle.step_model.specs.ResourceRows.{resources_row}
 
 -- What a row on memory, on the flow of control or on the kernel leaves of its thread, which has the number k, and of the
 -- memory. No other row is asked for.
-abbrev pub local_row : ThreadNumber → Local → Instr → Leaving Local
-local_row k l (Memory ins) = memory_row l ins
-local_row k l (Flow ins) = flow_row l ins
-local_row k l (Kernel ins) = kernel_row k l ins
-local_row k l _ = Leaves l
+abbrev pub own_row : ThreadNumber → Own → Instr → Leaving Own
+own_row k l (Memory ins) = memory_row l ins
+own_row k l (Flow ins) = flow_row l ins
+own_row k l (Kernel ins) = kernel_row k l ins
+own_row k l _ = Leaves l
 
 -- what an instruction does where thread k issues it
 abbrev pub effect : Setting → CoreRec → ThreadNumber → Instr → Effect
 effect here core k (Words ins) = on_registers core k (words_row (thread_of core k) ins)
-effect here core k (Memory ins) = on_local core k (local_row k (local_of core k) (Memory ins))
-effect here core k (Flow ins) = on_local core k (local_row k (local_of core k) (Flow ins))
-effect here core k (Kernel ins) = on_local core k (local_row k (local_of core k) (Kernel ins))
+effect here core k (Memory ins) = on_own core k (own_row k (own_of core k) (Memory ins))
+effect here core k (Flow ins) = on_own core k (own_row k (own_of core k) (Flow ins))
+effect here core k (Kernel ins) = on_own core k (own_row k (own_of core k) (Kernel ins))
 effect here core k (Threads ins) = threads_row here core k ins
 effect here core k (Resources ins) = resources_row here core k ins

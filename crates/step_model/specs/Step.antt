@@ -77,7 +77,7 @@ issued_by code here core (Some k) =
 abbrev pub issued : List Instr → Setting → CoreRec → Issued
 issued code here core = issued_by code here core (picked core here.slot)
 
--- ---- The four phases of a slot. Phase 1 is `arrive`, and phase 3 `moves`.
+-- ---- A slot reads from top to bottom as its four phases. Phase 1 is `arrive`, and phase 3 `moves`.
 
 -- Phase 2: the edges of the ports' clocks, which are those of the clock blocks as the slot begins. The levels of strobes
 -- are those of the end of the slot before.
@@ -111,13 +111,22 @@ issue fixed slot pins m = and_issued m (issued fixed.code (setting_of fixed slot
 abbrev pub note_levels : PinView → AtWork → AtWork
 note_levels pins m = record m { rec = record m.rec { levels = levels_of m.rec.core.ports pins.level } }
 
--- the node in a slot before its issue, after the three other phases
+-- the node in a slot before its issue
 abbrev pub before_issue : Fixed → NodeRec → Slot → Arrivals → PinView → AtWork
-before_issue fixed rec slot arrivals pins = moves fixed.routes slot (ports_step slot pins (arrive slot arrivals (slot_begins rec)))
+before_issue fixed rec slot arrivals pins =
+    -- 1. what comes by links is put into the buffers, and credits are counted
+    let arrived = arrive slot arrivals (slot_begins rec) in
+    -- 2. the edges of the ports' clocks
+    let edged = ports_step slot pins arrived in
+    -- 3. the inputs of the switch, from the lowest up
+    moves fixed.routes slot edged
 
 -- the node in a slot, after its four phases
 abbrev pub after_phases : Fixed → NodeRec → Slot → Arrivals → PinView → AtWork
-after_phases fixed rec slot arrivals pins = note_levels pins (issue fixed slot pins (before_issue fixed rec slot arrivals pins))
+after_phases fixed rec slot arrivals pins =
+    let moved = before_issue fixed rec slot arrivals pins in
+    -- 4. at most one issue; then what the pins show is noted
+    note_levels pins (issue fixed slot pins moved)
 
 -- a node after a slot, and what the slot gave to the outside
 pub record Stepped : Type 0 where

@@ -12,7 +12,7 @@ use Rattle.xs_model.specs.declared.traps.TheConstants.{ILLEGAL_RESOURCE}
 use Rattle.xs_model.specs.declared.resource.Resource.{Resource}
 use Rattle.xs_model.specs.declared.resource.Resource.TheVariants as resource
 use Rattle.xs_model.specs.Threads.{fresh_thread, with_register}
-use Rattle.xs_model.specs.Record.{CoreRec, thread_of, sync_of, with_thread, with_run, with_last, with_sync, with_events}
+use Rattle.xs_model.specs.Record.{CoreRec, thread_of, sync_of, with_thread, with_run, with_last, with_sync, with_enabled}
 use Rattle.xs_model.specs.Free.{lowest_free}
 use Rattle.xs_model.specs.Syncs.{is_thread, sync_with, with_bound, unbound}
 use Rattle.xs_model.specs.Enabling.{without_thread, without_threads}
@@ -72,11 +72,11 @@ slaves_go core n = with_slaves_run core n Going
 abbrev pub slaves_are_freed : CoreRec → ℕ → CoreRec
 slaves_are_freed core n =
     let slaves = (sync_of core n).slaves in
-    with_events (with_sync (with_slaves_run core n Free) n (unbound (sync_of core n))) (without_threads slaves core.events)
+    with_enabled (with_sync (with_slaves_run core n Free) n (unbound (sync_of core n))) (without_threads slaves core.enabled)
 
 -- thread k is free; what it enabled is disabled
 abbrev pub thread_is_freed : CoreRec → ThreadNumber → CoreRec
-thread_is_freed core k = with_events (with_run core k Free) (without_thread k core.events)
+thread_is_freed core k = with_enabled (with_run core k Free) (without_thread k core.enabled)
 
 -- the master waits until all its slaves are in, and then this becomes of them
 abbrev pub when_all_in : CoreRec → ThreadNumber → (CoreRec → ℕ → CoreRec) → ℕ → Effect

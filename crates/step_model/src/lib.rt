@@ -1,2 +1,2 @@
-//! What each instruction does, and one slot of a node: definitions alone. See docs/DEFINITIONS.md.
+//! What each instruction does, and one slot of a node: definitions alone. See docs/inside/DEFINITIONS.md.
 #![tactic(auto)]

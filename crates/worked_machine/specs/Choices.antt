@@ -5,7 +5,7 @@ use Rattle.xs_base.specs.declared.token.Token.TheVariants.{Ctrl}
 use Rattle.xs_model.specs.declared.resource.Res.{Res}
 use Rattle.xs_model.specs.declared.resource.Res.TheVariants.{Chan, Timer, Port}
 use Rattle.xs_model.specs.Status.{status}
-use Rattle.xs_model.specs.Record.{CoreRec, ChanRec, PortRec, EnablingRec, EventsRec, unused_chan, unused_timer, off_port, none_enabled}
+use Rattle.xs_model.specs.Record.{CoreRec, ChanRec, PortRec, EnablingRec, EnabledRec, unused_chan, unused_timer, off_port, none_enabled}
 use Rattle.xs_model.specs.Enabling.{with_enabling}
 use Rattle.xs_model.specs.Choices.{choice}
 use Rattle.net_model.specs.Chans.{got_chan}
@@ -23,13 +23,13 @@ with_transfer = record off_port { on = true; transfer = Some (record { value = 1
 
 -- Channel ends 3, 4 and 31 are ready; timers 0, 2 and 9, the last of which is not in use; and ports 1 and 28. The
 -- conditions of the other timers do not hold before slot 12, and port 5 puts a transfer out. Thread 0 has this status.
-abbrev pub core_of : ℕ → EventsRec → CoreRec
+abbrev pub core_of : ℕ → EnabledRec → CoreRec
 core_of bits events = record start.core {
   threads = record first { sr = status bits } ∷ replicate 7 (record first { sr = status 1 });
   chans = unused_chan ∷ got_chan ∷ unused_chan ∷ with_token ∷ with_token ∷ (replicate 26 unused_chan ++ with_token ∷ []);
   timers = timer 0 false ∷ timer 2 true ∷ timer 5 false ∷ (replicate 6 (timer 2 true) ++ unused_timer ∷ []);
   ports = off_port ∷ with_transfer ∷ off_port ∷ off_port ∷ off_port ∷ record with_transfer { output = true } ∷ (replicate 22 off_port ++ with_transfer ∷ []);
-  events = events;
+  enabled = events;
 }
 
 -- a thread enabled it for events, or for interrupts; its vector and its environment tell it from others
@@ -40,7 +40,7 @@ abbrev pub interrupt : ℕ → ThreadNumber → EnablingRec
 interrupt n k = record { vector = n; environment = n; interrupt = true; thread = Some k }
 
 -- these two are enabled, and thread 0 with this status takes this
-abbrev pub both : Res → EnablingRec → Res → EnablingRec → EventsRec
+abbrev pub both : Res → EnablingRec → Res → EnablingRec → EnabledRec
 both r e s f = with_enabling (with_enabling none_enabled r e) s f
 
 abbrev pub Takes : ℕ → Res → EnablingRec → Res → EnablingRec → Option EnablingRec → Type 0

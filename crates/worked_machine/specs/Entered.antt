@@ -43,7 +43,7 @@ stuck e mine = with_state (record start {
     timers = replicate 10 (timer 2 true);
     syncs = unused_sync ∷ record { master = Some 0; slaves = 5 ∷ [] } ∷ replicate 5 unused_sync;
     locks = unused_lock ∷ unused_lock ∷ record { used = true; owner = Some 1 } ∷ unused_lock ∷ [];
-    events = record { chans = e ∷ replicate 31 not_enabled; timers = replicate 10 not_enabled; ports = replicate 29 not_enabled };
+    enabled = record { chans = e ∷ replicate 31 not_enabled; timers = replicate 10 not_enabled; ports = replicate 29 not_enabled };
   };
 }) 10 (Local 3)
 
@@ -110,7 +110,7 @@ sends_to_itself mine = record start {
   core = record start.core {
     threads = mine ∷ replicate 7 (other Halted);
     chans = record got_chan { dest = Some 0x002; output = Ctrl 1 ∷ [] } ∷ replicate 31 unused_chan;
-    events = record { chans = given false 0x00040008 ∷ replicate 31 not_enabled; timers = replicate 10 not_enabled; ports = replicate 29 not_enabled };
+    enabled = record { chans = given false 0x00040008 ∷ replicate 31 not_enabled; timers = replicate 10 not_enabled; ports = replicate 29 not_enabled };
   };
 }
 
@@ -132,7 +132,7 @@ paused_at wait bits one = record start {
     threads = record (with_three 0x102 0x001 0) { sr = status bits; ed = 6; run = Paused wait } ∷ one ∷ replicate 6 (other Halted);
     chans = unused_chan ∷ got_chan ∷ replicate 30 unused_chan;
     timers = timer 0 false ∷ replicate 9 (timer 2 true);
-    events = record { chans = replicate 32 not_enabled; timers = given true 0x00040004 ∷ replicate 9 not_enabled; ports = replicate 29 not_enabled };
+    enabled = record { chans = replicate 32 not_enabled; timers = given true 0x00040004 ∷ replicate 9 not_enabled; ports = replicate 29 not_enabled };
   };
 }
 

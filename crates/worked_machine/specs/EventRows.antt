@@ -4,7 +4,7 @@ use Rattle.xs_model.specs.declared.thread.Thread.{Thread}
 use Rattle.xs_model.specs.declared.thread.Run.TheVariants.{Free, Halted, Paused}
 use Rattle.xs_model.specs.declared.thread.Wait.TheVariants.{Choice}
 use Rattle.xs_model.specs.Status.{status}
-use Rattle.xs_model.specs.Record.{NodeRec, EventsRec, unused_sync, not_enabled}
+use Rattle.xs_model.specs.Record.{NodeRec, EnabledRec, unused_sync, not_enabled}
 use Rattle.xs_instructions.specs.declared.instr.Instr.{Instr}
 use Rattle.xs_instructions.specs.declared.instr.Instr.TheVariants.{Kernel, Threads, Resources}
 use Rattle.xs_instructions.specs.declared.instr.KernelIns.{KernelIns}
@@ -53,7 +53,7 @@ abbrev pub waitef_of : ℕ → Instr
 waitef_of x = Resources (resources.Waitef x)
 
 -- what thread 0 enabled, and thread 1
-abbrev pub some_enabled : EventsRec
+abbrev pub some_enabled : EnabledRec
 some_enabled = set_of own_event other_event own_interrupt own_event other_interrupt not_enabled not_enabled
 
 -- thread 0 with the first status pauses at the instruction, and has the second
@@ -111,7 +111,7 @@ abbrev pub mjoin : Instr
 mjoin = Threads (threads.Mjoin 0)
 
 -- the threads after mjoin, at synchroniser 1 with slaves 2 and 4
-abbrev pub joined : EventsRec → NodeRec
+abbrev pub joined : EnabledRec → NodeRec
 joined events = record (eight (next (named 0x103) ∷ other Halted ∷ replicate 6 (other Free)) events) {
   core = record (eight (next (named 0x103) ∷ other Halted ∷ replicate 6 (other Free)) events).core {
     syncs = unused_sync ∷ record { master = Some 0; slaves = [] } ∷ replicate 5 unused_sync;

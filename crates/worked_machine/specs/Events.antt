@@ -2,7 +2,7 @@
 use Rattle.std.specs.Prelude.{ℕ, ◌≡◌, Bool, true, false, Some, None, List, [], ◌∷◌, ◌++◌, replicate}
 use Rattle.xs_model.specs.declared.thread.Thread.{Thread}
 use Rattle.xs_model.specs.declared.thread.Run.TheVariants.{Free, Unstarted, AtSync, Halted}
-use Rattle.xs_model.specs.Record.{NodeRec, EnablingRec, EventsRec, unused_chan, unused_timer, unused_sync, not_enabled}
+use Rattle.xs_model.specs.Record.{NodeRec, EnablingRec, EnabledRec, unused_chan, unused_timer, unused_sync, not_enabled}
 use Rattle.xs_instructions.specs.declared.instr.Instr.{Instr}
 use Rattle.xs_instructions.specs.declared.instr.Instr.TheVariants.{Resources}
 use Rattle.xs_instructions.specs.declared.instr.ResIns.TheVariants as resources
@@ -36,7 +36,7 @@ abbrev pub other_interrupt : EnablingRec
 other_interrupt = gives true 1
 
 -- these of channel ends 0, 1 and 31, of timers 0, 1 and 9, and of port 28
-abbrev pub set_of : EnablingRec → EnablingRec → EnablingRec → EnablingRec → EnablingRec → EnablingRec → EnablingRec → EventsRec
+abbrev pub set_of : EnablingRec → EnablingRec → EnablingRec → EnablingRec → EnablingRec → EnablingRec → EnablingRec → EnabledRec
 set_of c0 c1 c31 t0 t1 t9 p28 = record {
   chans = c0 ∷ c1 ∷ (replicate 29 not_enabled ++ c31 ∷ []);
   timers = t0 ∷ t1 ∷ (replicate 7 not_enabled ++ t9 ∷ []);
@@ -44,14 +44,14 @@ set_of c0 c1 c31 t0 t1 t9 p28 = record {
 }
 
 -- this of channel end 0, or of timer 0, and what stays as it is of others
-abbrev pub of_chan : EnablingRec → EventsRec
+abbrev pub of_chan : EnablingRec → EnabledRec
 of_chan e = set_of e other_event not_enabled own_interrupt not_enabled other_interrupt own_event
 
-abbrev pub of_timer : EnablingRec → EventsRec
+abbrev pub of_timer : EnablingRec → EnabledRec
 of_timer e = set_of own_interrupt other_event not_enabled e not_enabled other_interrupt own_event
 
 -- eight threads, of which the first goes; channel end 0 and timers 0 and 9 are in use, whose conditions do not hold
-abbrev pub eight : List Thread → EventsRec → NodeRec
+abbrev pub eight : List Thread → EnabledRec → NodeRec
 eight threads events = record start {
   core = record start.core {
     threads = threads;
@@ -60,12 +60,12 @@ eight threads events = record start {
     clocks = replicate 6 (rests_by 1);
     locks = replicate 4 (record { used = true; owner = None });
     syncs = unused_sync ∷ record { master = Some 0; slaves = 2 ∷ 4 ∷ [] } ∷ replicate 5 unused_sync;
-    events = events;
+    enabled = events;
   };
 }
 
 -- threads 2 and 4 are unstarted, or are in
-abbrev pub lone : Thread → EventsRec → NodeRec
+abbrev pub lone : Thread → EnabledRec → NodeRec
 lone mine events = eight (mine ∷ other Halted ∷ other Unstarted ∷ other Free ∷ other AtSync ∷ replicate 3 (other Free)) events
 
 -- thread 0 has a name in r0, 7 in r1, 0 in r2 and 0x77 in r11

@@ -8,17 +8,17 @@ use Rattle.xs_instructions.specs.declared.instr.Instr.TheVariants.{Words, Flow}
 use Rattle.xs_instructions.specs.declared.instr.WordIns.TheVariants as words
 use Rattle.xs_instructions.specs.declared.instr.FlowIns.{FlowIns}
 use Rattle.xs_instructions.specs.declared.instr.FlowIns.TheVariants as flow
-use Rattle.step_model.specs.Effect.{Leaving, Leaves, Traps, Local}
-use Rattle.step_model.specs.Rows.{local_row}
+use Rattle.step_model.specs.Effect.{Leaving, Leaves, Traps, Own}
+use Rattle.step_model.specs.Rows.{own_row}
 use Rattle.worked_machine.specs.Slots.{first, with_three, start_as, thread_after, events_of, halted, trap_and_halt}
 use Rattle.worked_machine.specs.Memory.{with_memory, first_four, next_four, last_four, twelve, stores, lr_four, with_bases, bytes_after}
 
 -- what a row makes of a thread and the bytes 0x11, 0x22 to 0xcc
-abbrev pub row_of : FlowIns → Thread → Leaving Local
-row_of ins th = local_row 0 (with_memory th twelve) (Flow ins)
+abbrev pub row_of : FlowIns → Thread → Leaving Own
+row_of ins th = own_row 0 (with_memory th twelve) (Flow ins)
 
 -- the thread is this, and the memory is as before
-abbrev pub leaves : Thread → Leaving Local
+abbrev pub leaves : Thread → Leaving Own
 leaves th = Leaves (with_memory th twelve)
 
 -- where thread 0 is after one instruction at 0x00040000, with this in r0

@@ -13,14 +13,14 @@ use Rattle.xs_instructions.specs.declared.instr.Instr.TheVariants.{Words, Kernel
 use Rattle.xs_instructions.specs.declared.instr.WordIns.TheVariants as words
 use Rattle.xs_instructions.specs.declared.instr.KernelIns.{KernelIns}
 use Rattle.xs_instructions.specs.declared.instr.KernelIns.TheVariants as kernel
-use Rattle.step_model.specs.Effect.{Leaving, Leaves, Traps, Local}
-use Rattle.step_model.specs.Rows.{local_row}
+use Rattle.step_model.specs.Effect.{Leaving, Leaves, Traps, Own}
+use Rattle.step_model.specs.Rows.{own_row}
 use Rattle.worked_machine.specs.Slots.{first, with_three, start_as, start_two, after_slots, thread_after, events_of}
 use Rattle.worked_machine.specs.Memory.{with_memory, first_four, next_four, last_four, twelve, goes_on, stores, stored_four, with_r11}
 
 -- what a row makes of a thread, with the number 5, and the bytes 0x11, 0x22 to 0xcc
-abbrev pub row_of : KernelIns → Thread → Leaving Local
-row_of ins th = local_row 5 (with_memory th twelve) (Kernel ins)
+abbrev pub row_of : KernelIns → Thread → Leaving Own
+row_of ins th = own_row 5 (with_memory th twelve) (Kernel ins)
 
 -- a thread whose registers of traps are all different
 abbrev pub busy : Thread
@@ -66,7 +66,7 @@ pub record WorkedKernelStack : Type 0 where
   pub krestsp_above : row_of (kernel.Krestsp 1) first ≡ Traps 5 0x00020000
 
 -- `busy` after a row that sets its r11
-abbrev pub gives : ℕ → Leaving Local
+abbrev pub gives : ℕ → Leaving Own
 gives word = goes_on (record busy { r = replicate 11 3 ++ word ∷ [] })
 
 -- the same thread with this in sp
@@ -74,11 +74,11 @@ abbrev pub busy_at : ℕ → Thread
 busy_at sp = record busy { sp = sp }
 
 -- what `ldw ssr, sp[2]` leaves where the word there has these bytes
-abbrev pub ssr_from : List ℕ → Leaving Local
-ssr_from bytes = local_row 5 (with_memory (busy_at 0x0000fff8) bytes) (Kernel kernel.LdwSsr)
+abbrev pub ssr_from : List ℕ → Leaving Own
+ssr_from bytes = own_row 5 (with_memory (busy_at 0x0000fff8) bytes) (Kernel kernel.LdwSsr)
 
 -- the thread with this ssr, at its next instruction
-abbrev pub has_ssr : List ℕ → ℕ → Leaving Local
+abbrev pub has_ssr : List ℕ → ℕ → Leaving Own
 has_ssr bytes bits = Leaves (with_memory (record (busy_at 0x0000fff8) { ssr = status bits; pc = 0x00040004 }) bytes)
 
 pub record WorkedKernelRegisters : Type 0 where

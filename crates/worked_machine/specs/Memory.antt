@@ -6,12 +6,12 @@ use Rattle.xs_instructions.specs.declared.instr.Instr.{Instr}
 use Rattle.xs_instructions.specs.declared.instr.Instr.TheVariants.{Memory}
 use Rattle.xs_instructions.specs.declared.instr.MemIns.{MemIns}
 use Rattle.xs_instructions.specs.declared.instr.MemIns.TheVariants as memory
-use Rattle.step_model.specs.Effect.{Leaving, Leaves, Traps, Local}
-use Rattle.step_model.specs.Rows.{local_row}
+use Rattle.step_model.specs.Effect.{Leaving, Leaves, Traps, Own}
+use Rattle.step_model.specs.Rows.{own_row}
 use Rattle.worked_machine.specs.Slots.{first, with_three, start, start_as, after_slots, thread_after}
 
 -- a thread with this memory
-abbrev pub with_memory : Thread → List ℕ → Local
+abbrev pub with_memory : Thread → List ℕ → Own
 with_memory th bytes = record { thread = th; memory = bytes }
 
 -- a memory's first twelve bytes: the rows see no more of it here
@@ -28,21 +28,21 @@ abbrev pub twelve : List ℕ
 twelve = first_four ++ (next_four ++ last_four)
 
 -- what a row makes of a thread and these bytes
-abbrev pub row_of : MemIns → Thread → Leaving Local
-row_of ins th = local_row 0 (with_memory th twelve) (Memory ins)
+abbrev pub row_of : MemIns → Thread → Leaving Own
+row_of ins th = own_row 0 (with_memory th twelve) (Memory ins)
 
-abbrev pub row : MemIns → ℕ → ℕ → ℕ → Leaving Local
+abbrev pub row : MemIns → ℕ → ℕ → ℕ → Leaving Own
 row ins a b c = row_of ins (with_three a b c)
 
 -- the thread is at its next instruction, and the memory is as before
-abbrev pub goes_on : Thread → Leaving Local
+abbrev pub goes_on : Thread → Leaving Own
 goes_on th = Leaves (with_memory (record th { pc = 0x00040004 }) twelve)
 
-abbrev pub leaves : ℕ → ℕ → ℕ → Leaving Local
+abbrev pub leaves : ℕ → ℕ → ℕ → Leaving Own
 leaves a b c = goes_on (with_three a b c)
 
 -- the thread is at its next instruction, and the memory's bytes are these
-abbrev pub stores : Thread → List ℕ → List ℕ → List ℕ → Leaving Local
+abbrev pub stores : Thread → List ℕ → List ℕ → List ℕ → Leaving Own
 stores th a b c = Leaves (with_memory (record th { pc = 0x00040004 }) (a ++ (b ++ c)))
 
 -- the bytes of 0xa4a3a2a1

@@ -13,7 +13,7 @@ use Rattle.xs_model.specs.Outside.{in_slot, low_pins}
 use Rattle.xs_model.specs.Record.{NodeRec, PortRec, Equal, first_node, thread_of}
 use Rattle.xs_model.specs.Time.{edge_at}
 use Rattle.xs_model.specs.Ports.{came_in, level_of, port_edge}
-use Rattle.xs_model.specs.PortRows.{Did, Got, Waits, Refused, on_port, turned_out, filled, with_condition, buffered, with_transfer_width, set_time, set_transfer_width, take_in, take_part, put_out, end_in, sync, in_mode}
+use Rattle.xs_model.specs.PortActions.{Did, Got, Waits, Refused, on_port, turned_out, filled, with_condition, buffered, with_transfer_width, set_time, set_transfer_width, take_in, take_part, put_out, end_in, sync, in_mode}
 use Rattle.xs_instructions.specs.declared.instr.Instr.{Instr}
 use Rattle.xs_instructions.specs.declared.instr.Instr.TheVariants.{Words, Memory, Threads, Resources}
 use Rattle.xs_instructions.specs.declared.instr.WordIns.TheVariants as words

@@ -156,7 +156,7 @@ pub record WorkedTimerModes : Type 0 where
 abbrev pub of_timer_1 : NodeRec → EnablingRec → NodeRec
 of_timer_1 rec e = record rec {
   core = record rec.core {
-    events = record { chans = replicate 32 not_enabled; timers = not_enabled ∷ e ∷ replicate 8 not_enabled; ports = replicate 29 not_enabled };
+    enabled = record { chans = replicate 32 not_enabled; timers = not_enabled ∷ e ∷ replicate 8 not_enabled; ports = replicate 29 not_enabled };
   };
 }
 

@@ -5,7 +5,7 @@ use Rattle.xs_base.specs.declared.token.Token.{Token}
 use Rattle.xs_model.specs.declared.status.Status.{Status}
 use Rattle.xs_model.specs.declared.status.TheConstants.{EEBLE, IEBLE}
 use Rattle.xs_model.specs.Status.{has_bits}
-use Rattle.xs_model.specs.Record.{CoreRec, ChanRec, PortRec, EnablingRec, EventsRec, thread_of, chan_of, timer_of, port_of}
+use Rattle.xs_model.specs.Record.{CoreRec, ChanRec, PortRec, EnablingRec, EnabledRec, thread_of, chan_of, timer_of, port_of}
 use Rattle.xs_model.specs.Time.{timer_holds}
 use Rattle.xs_model.specs.Enabling.{gives_to}
 
@@ -49,7 +49,7 @@ first_ready gives is_ready n [] = None
 first_ready gives is_ready n (e ∷ rest) = if gives e && is_ready n then Some e else first_ready gives is_ready (n + 1) rest
 
 -- what gives interrupts to thread k, or events: channel ends come before timers, and those before ports
-abbrev pub choice_in_mode : ThreadNumber → ReadyRec → EventsRec → Bool → Option EnablingRec
+abbrev pub choice_in_mode : ThreadNumber → ReadyRec → EnabledRec → Bool → Option EnablingRec
 choice_in_mode k ready events interrupt =
     first_of (first_ready (gives_to k interrupt) ready.chans 0 events.chans)
     (first_of (first_ready (gives_to k interrupt) ready.timers 0 events.timers)
@@ -60,11 +60,11 @@ allowed_choice true choice = choice
 allowed_choice false choice = None
 
 -- what thread k takes, whose status is this: interrupts come before events, and each needs its status bit
-abbrev pub choice_by : ThreadNumber → Status → ReadyRec → EventsRec → Option EnablingRec
+abbrev pub choice_by : ThreadNumber → Status → ReadyRec → EnabledRec → Option EnablingRec
 choice_by k sr ready events =
     first_of (allowed_choice (has_bits sr IEBLE) (choice_in_mode k ready events true))
     (allowed_choice (has_bits sr EEBLE) (choice_in_mode k ready events false))
 
 -- what thread k takes in a slot
 abbrev pub choice : CoreRec → Slot → ThreadNumber → Option EnablingRec
-choice core slot k = choice_by k (thread_of core k).sr (ready_in core slot) core.events
+choice core slot k = choice_by k (thread_of core k).sr (ready_in core slot) core.enabled

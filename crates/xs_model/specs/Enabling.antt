@@ -3,15 +3,15 @@ use Rattle.std.specs.Prelude.{Bool, true, false, ◌&&◌, not, if◌then◌else
 use Rattle.xs_base.specs.Numbers.{Word, ThreadNumber}
 use Rattle.xs_model.specs.declared.resource.Res.{Res}
 use Rattle.xs_model.specs.declared.resource.Res.TheVariants.{Chan, Timer, Port}
-use Rattle.xs_model.specs.Record.{EnablingRec, EventsRec, not_enabled}
+use Rattle.xs_model.specs.Record.{EnablingRec, EnabledRec, not_enabled}
 use Rattle.xs_model.specs.Syncs.{is_thread}
 
-abbrev pub enabling_of : EventsRec → Res → EnablingRec
+abbrev pub enabling_of : EnabledRec → Res → EnablingRec
 enabling_of events (Chan c) = slice_index_or events.chans c not_enabled
 enabling_of events (Timer n) = slice_index_or events.timers n not_enabled
 enabling_of events (Port p) = slice_index_or events.ports p not_enabled
 
-abbrev pub with_enabling : EventsRec → Res → EnablingRec → EventsRec
+abbrev pub with_enabling : EnabledRec → Res → EnablingRec → EnabledRec
 with_enabling events (Chan c) e = record events { chans = slice_set events.chans c e }
 with_enabling events (Timer n) e = record events { timers = slice_set events.timers n e }
 with_enabling events (Port p) e = record events { ports = slice_set events.ports p e }
@@ -38,11 +38,11 @@ enabled_for k true e = record e { thread = Some k }
 enabled_for k false e = disabled e
 
 -- one of them is changed so
-abbrev pub changed : EventsRec → Res → (EnablingRec → EnablingRec) → EventsRec
+abbrev pub changed : EnabledRec → Res → (EnablingRec → EnablingRec) → EnabledRec
 changed events r change = with_enabling events r (change (enabling_of events r))
 
 -- all that was set is forgotten
-abbrev pub forgotten : EventsRec → Res → EventsRec
+abbrev pub forgotten : EnabledRec → Res → EnabledRec
 forgotten events r = with_enabling events r not_enabled
 
 -- ---- All that a thread enabled
@@ -51,7 +51,7 @@ abbrev pub disabled_where : (EnablingRec → Bool) → EnablingRec → EnablingR
 disabled_where test e = if test e then disabled e else e
 
 -- those that pass a test are disabled
-abbrev pub all_disabled_where : (EnablingRec → Bool) → EventsRec → EventsRec
+abbrev pub all_disabled_where : (EnablingRec → Bool) → EnabledRec → EnabledRec
 all_disabled_where test events = record {
   chans = map (disabled_where test) events.chans;
   timers = map (disabled_where test) events.timers;
@@ -68,14 +68,14 @@ abbrev pub gives_to : ThreadNumber → Bool → EnablingRec → Bool
 gives_to k interrupt e = is_thread k e.thread && is_mode interrupt e.interrupt
 
 -- thread k disables what it enabled and gives events; what gives interrupts stays
-abbrev pub cleared_by : ThreadNumber → EventsRec → EventsRec
+abbrev pub cleared_by : ThreadNumber → EnabledRec → EnabledRec
 cleared_by k events = all_disabled_where (gives_to k false) events
 
 -- thread k is freed: what it enabled is disabled
-abbrev pub without_thread : ThreadNumber → EventsRec → EventsRec
+abbrev pub without_thread : ThreadNumber → EnabledRec → EnabledRec
 without_thread k events = all_disabled_where (λ e. is_thread k e.thread) events
 
 -- so are some threads
-unfoldable pub without_threads : List ThreadNumber → EventsRec → EventsRec
+unfoldable pub without_threads : List ThreadNumber → EnabledRec → EnabledRec
 without_threads [] events = events
 without_threads (k ∷ rest) events = without_threads rest (without_thread k events)

@@ -9,7 +9,7 @@ pub mod Syncs
 pub mod Time
 pub mod Bits
 pub mod Ports
-pub mod PortRows
+pub mod PortActions
 pub mod Enabling
 pub mod Choices
 pub mod Outside

@@ -124,12 +124,12 @@ abbrev pub not_enabled : EnablingRec
 not_enabled = record { vector = 0; environment = 0; interrupt = false; thread = None }
 
 -- what each channel end, timer and port gives
-pub record EventsRec : Type 0 where
+pub record EnabledRec : Type 0 where
   pub chans : List EnablingRec  -- 32
   pub timers : List EnablingRec  -- 10
   pub ports : List EnablingRec  -- 29
 
-abbrev pub none_enabled : EventsRec
+abbrev pub none_enabled : EnabledRec
 none_enabled = record { chans = replicate 32 not_enabled; timers = replicate 10 not_enabled; ports = replicate 29 not_enabled }
 
 -- what one of the switch's inputs is at
@@ -169,7 +169,7 @@ pub record CoreRec : Type 0 where
   pub syncs : List SyncRec  -- 7
   pub locks : List LockRec  -- 4
   pub ports : List PortRec  -- 29
-  pub events : EventsRec
+  pub enabled : EnabledRec
 
 -- a node: its core, its switch, and what is at its edges
 pub record NodeRec : Type 0 where
@@ -193,7 +193,7 @@ core_with threads last memory = record {
   syncs = replicate 7 unused_sync;
   locks = replicate 4 unused_lock;
   ports = replicate 29 off_port;
-  events = none_enabled;
+  enabled = none_enabled;
 }
 
 -- a node with this core and these link ends: every input of its switch is idle, and its pins showed 0
@@ -256,8 +256,8 @@ with_clock core n clock = record core { clocks = slice_set core.clocks n clock }
 abbrev pub with_port : CoreRec → PortNumber → PortRec → CoreRec
 with_port core p port = record core { ports = slice_set core.ports p port }
 
-abbrev pub with_events : CoreRec → EventsRec → CoreRec
-with_events core events = record core { events = events }
+abbrev pub with_enabled : CoreRec → EnabledRec → CoreRec
+with_enabled core enabled = record core { enabled = enabled }
 
 abbrev pub with_sync : CoreRec → ℕ → SyncRec → CoreRec
 with_sync core n sync = record core { syncs = slice_set core.syncs n sync }

@@ -15,7 +15,7 @@ use Rattle.xs_model.specs.declared.thread.Wait.TheVariants.{Room, Tokens, PortFu
 use Rattle.xs_model.specs.declared.resource.Resource.{Resource}
 use Rattle.xs_model.specs.declared.resource.Resource.TheVariants as resource
 use Rattle.xs_model.specs.Time.{timer_holds}
-use Rattle.xs_model.specs.PortRows.{is_idle}
+use Rattle.xs_model.specs.PortActions.{is_idle}
 use Rattle.xs_model.specs.Record.{CoreRec, thread_of, chan_of, timer_of, sync_of, lock_of, port_of}
 
 -- whether so many tokens more fit into a buffer

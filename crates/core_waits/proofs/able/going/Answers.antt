@@ -4,7 +4,7 @@ use Rattle.std.proofs.lemmas.List.{get_or_default}
 use Rattle.xs_model.specs.declared.thread.Thread.{Thread}
 use Rattle.xs_model.specs.Masks.{in_mask}
 use Rattle.xs_model.specs.Threads.{fresh_thread}
-use Rattle.xs_model.specs.Record.{CoreRec, EventsRec, thread_of}
+use Rattle.xs_model.specs.Record.{CoreRec, EnabledRec, thread_of}
 use Rattle.xs_model.specs.Picks.{goes_or_holds}
 use Rattle.core_waits.specs.Parts.{HasParts}
 use Rattle.core_waits.proofs.Told.{IsTold, with_one, without_one}
@@ -12,7 +12,7 @@ use Rattle.core_waits.proofs.able.going.Goals as goal
 use Rattle.core_waits.proofs.able.going.Goals.{Joined-goes, then-goes, else-goes}
 
 -- what is told of this thread is what is told of the one with its number
-told_here : (c : Joined-goes) (core : CoreRec) (events : EventsRec) → HasParts core c.args.threads.now c.args.slots.now c.args.chans.now c.args.timers.now c.args.syncs.now c.args.ports.now events → c.goes.result ≡ goes_or_holds core c.args.slot (thread_of core c.loop-k.k).run
+told_here : (c : Joined-goes) (core : CoreRec) (events : EnabledRec) → HasParts core c.args.threads.now c.args.slots.now c.args.chans.now c.args.timers.now c.args.syncs.now c.args.ports.now events → c.goes.result ≡ goes_or_holds core c.args.slot (thread_of core c.loop-k.k).run
 told_here c core events parts =
     c.goes.ensures core events parts
     ∙ ap (λ (th : Thread). goes_or_holds core c.args.slot th.run) (get_or_default c.args.threads.now c.loop-k.k _ fresh_thread (omega (arith, c.loop-k-test.true, c.told-threads)))

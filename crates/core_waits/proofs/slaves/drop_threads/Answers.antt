@@ -1,11 +1,11 @@
 use Rattle.std.proofs.Common.{◌≡◌, ℕ, ◌+◌, ◌∷◌, List, refl, ap, sym, ◌∙◌, arith}
-use Rattle.xs_model.specs.Record.{EventsRec}
+use Rattle.xs_model.specs.Record.{EnabledRec}
 use Rattle.xs_model.specs.Enabling.{without_thread, without_threads}
 use Rattle.core_waits.proofs.Members.{members_from, member, no_member, no_more}
 use Rattle.core_waits.proofs.slaves.drop_threads.Goals as goal
 use Rattle.core_waits.proofs.slaves.drop_threads.Goals.{then-is_member, else-is_member}
 
-first_dropped : (k : ℕ) (rest : List ℕ) (events : EventsRec) → without_threads (k ∷ rest) events ≡ without_threads rest (without_thread k events)
+first_dropped : (k : ℕ) (rest : List ℕ) (events : EnabledRec) → without_threads (k ∷ rest) events ≡ without_threads rest (without_thread k events)
 unfolding without_threads
 first_dropped k rest events = refl
 

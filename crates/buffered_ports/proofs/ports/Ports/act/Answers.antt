@@ -1,7 +1,7 @@
 use Rattle.std.proofs.Common.{ap, sym, subst, ◌∙◌, ◌<◌, length, arith}
 use Rattle.std.proofs.lemmas.Bool.{cond-true}
 use Rattle.std.specs.Prelude.{is_some}
-use Rattle.xs_model.specs.PortRows.{Refused}
+use Rattle.xs_model.specs.PortActions.{Refused}
 use Rattle.single_port.specs.Asks.{acted, port_after}
 use Rattle.buffered_ports.specs.Asks.{port_at}
 use Rattle.buffered_ports.proofs.Row.{IsNoted, read, replaced, row_replaced, by_bit}

@@ -1,5 +1,5 @@
 use Rattle.std.proofs.Common.{◌≡◌, ◌++◌, map, take, drop}
-use Rattle.xs_model.specs.PortRows.{restarted}
+use Rattle.xs_model.specs.PortActions.{restarted}
 use Rattle.buffered_ports.proofs.ports.Ports.restart_block.Given as goal
 
 -- the ports below p are restarted, and the others are as they were

@@ -1,6 +1,6 @@
 use Rattle.std.proofs.Common.{◌<◌, false, ap, ◌∙◌, refl, length, arith}
 use Rattle.std.proofs.lemmas.Bool.{false≢true}
-use Rattle.xs_model.specs.PortRows.{restarted}
+use Rattle.xs_model.specs.PortActions.{restarted}
 use Rattle.single_port.specs.Keeps.{PortOf}
 use Rattle.buffered_ports.proofs.Row.{read, replaced, row_edged}
 use Rattle.buffered_ports.proofs.ports.Ports.restart_port.Goals as goal

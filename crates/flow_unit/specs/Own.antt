@@ -7,12 +7,12 @@ use Rattle.xs_instructions.specs.declared.instr.Instr.{Instr}
 use Rattle.xs_instructions.specs.declared.instr.Instr.TheVariants.{Memory, Flow, Kernel}
 use Rattle.xs_instructions.specs.declared.instr.KernelIns.{KernelIns}
 use Rattle.xs_instructions.specs.declared.instr.KernelIns.TheVariants as kernel
-use Rattle.step_model.specs.Effect.{Local}
+use Rattle.step_model.specs.Effect.{Own}
 use Rattle.flow_unit.specs.declared.kernel.Saved.{Saved}
 use Rattle.flow_unit.specs.declared.kernel.Saved.TheVariants as saved
 
-abbrev pub local : Thread → List ℕ → Local
-local thread memory = record { thread = thread; memory = memory }
+abbrev pub own : Thread → List ℕ → Own
+own thread memory = record { thread = thread; memory = memory }
 
 -- whether a row on the kernel is another than the return
 abbrev pub is_no_return : KernelIns → Bool
@@ -20,11 +20,11 @@ is_no_return kernel.Kret = false
 is_no_return _ = true
 
 -- whether a row is one of those on memory, on the flow of control or on the kernel, other than the return from the kernel
-abbrev pub is_local : Instr → Bool
-is_local (Memory ins) = true
-is_local (Flow ins) = true
-is_local (Kernel ins) = is_no_return ins
-is_local _ = false
+abbrev pub is_own : Instr → Bool
+is_own (Memory ins) = true
+is_own (Flow ins) = true
+is_own (Kernel ins) = is_no_return ins
+is_own _ = false
 
 -- the thread with a word in a register of traps
 abbrev pub with_saved : Thread → Saved → Word → Thread
