@@ -1,9 +1,8 @@
 //! `ChanEnd`, one channel end.
 ghost use Rattle.std.specs.Prelude.{◌≡◌, ◌↔◌, ◌<◌, ◌||◌, true, false, nat_lt, if◌then◌else◌, Some, None, [], ◌∷◌, ◌++◌, length, take, drop, slice_get, IsOk, OnOk, OnErr, IsTrue, IsFalse};
 ghost use Rattle.std.specs.List.{list_any};
-ghost use Rattle.xs_model.specs.Record.{unused_chan};
 ghost use Rattle.xs_model.specs.Waits.{has_room, has_tokens, is_control};
-ghost use Rattle.net_model.specs.Chans.{Got, Refused, got_chan, freed_chan, found_at, chan_after, take_dest, put_tokens, put_token, bytes_of_word, put_word};
+ghost use Rattle.net_model.specs.Chans.{Got, Refused, got_chan, put_away, freed_chan, found_at, chan_after, take_dest, put_tokens, put_token, bytes_of_word, put_word};
 ghost use Rattle.net_model.specs.Chans.{joined, take_word, take_byte, take_ctrl, check_token, look, control_place, look_word};
 ghost use Rattle.chan_ends.specs.Ends.{has_output, chan_where_freed};
 ghost use Rattle.xs_model.specs.Choices.{chan_is_ready};
@@ -64,10 +63,10 @@ impl ChanEnd {
         self.input.clear();
     }
 
-    /// Puts it out of use, with no destination: refused exactly where it is not in use, a buffer is not empty, or the
+    /// Puts it out of use, with no destination; its network stays. It is refused exactly where it is not in use, a buffer is not empty, or the
     /// switch is at work with it.
     pub(crate) fn free(&mut self, held: bool) -> Result<(), Bad>
-        ensures ok { OnOk result (freed_chan held self.old ≡ Some unused_chan) }
+        ensures ok { OnOk result (freed_chan held self.old ≡ Some (put_away self.old)) }
         ensures err { OnErr result (freed_chan held self.old ≡ None) }
         ensures after { self.new ≡ chan_where_freed self.old (freed_chan held self.old) }
         ensures allowed { IsOk result ↔ ((self.old.used ≡ true) × (self.old.output ≡ []) × (self.old.input ≡ []) × (held ≡ false)) }
@@ -76,7 +75,9 @@ impl ChanEnd {
         if !self.used || !self.output.is_empty() || !self.input.is_empty() || held {
             return Err(Bad);
         }
+        let net = self.net;
         *self = ChanEnd::default();
+        self.net = net;
         Ok(())
     }
 

@@ -4,7 +4,7 @@ ghost use Rattle.xs_base.specs.declared.numbers.TheConstants.{CHAN_ENDS};
 ghost use Rattle.xs_model.specs.Record.{unused_chan};
 ghost use Rattle.xs_model.specs.Masks.{in_mask};
 ghost use Rattle.xs_model.specs.Waits.{has_room, has_tokens};
-ghost use Rattle.net_model.specs.Chans.{Got, Refused, free_chan, freed_chan, found_at, put_token, put_word, take_word, take_byte, take_ctrl, check_token, look, look_word, take_dest};
+ghost use Rattle.net_model.specs.Chans.{Got, Refused, free_chan, put_away, freed_chan, found_at, put_token, put_word, take_word, take_byte, take_ctrl, check_token, look, look_word, take_dest};
 ghost use Rattle.chan_ends.specs.Ends.{chan_at, has_output, with_got, with_freed, chans_after};
 ghost use Rattle.xs_model.specs.Choices.{chan_is_ready};
 ghost use Rattle.chan_ends.specs.Answers.{put_answer, take_answer};
@@ -68,12 +68,12 @@ impl ChanEnds {
         free
     }
 
-    /// Frees channel end `c`, 0 to 31: it is not in use then, and has no destination. `held` says that the switch is
+    /// Frees channel end `c`, 0 to 31: it is not in use then, and has no destination; it keeps its network until it is got again. `held` says that the switch is
     /// at work with it. `Bad` comes exactly where it is not in use, a buffer is not empty or `held` is true, and then
     /// nothing changes. See docs/LINKS.md.
     pub fn free(&mut self, c: u8, held: bool) -> Result<(), Bad>
         requires { c < CHAN_ENDS }
-        ensures ok { OnOk result (freed_chan held (chan_at self.old c) ≡ Some unused_chan) }
+        ensures ok { OnOk result (freed_chan held (chan_at self.old c) ≡ Some (put_away (chan_at self.old c))) }
         ensures err { OnErr result (freed_chan held (chan_at self.old c) ≡ None) }
         ensures after { self.new ≡ with_freed self.old c (freed_chan held (chan_at self.old c)) }
         ensures allowed { IsOk result ↔ (((chan_at self.old c).used ≡ true) × ((chan_at self.old c).output ≡ []) × ((chan_at self.old c).input ≡ []) × (held ≡ false)) }

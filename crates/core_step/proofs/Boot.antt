@@ -10,7 +10,8 @@ use Rattle.net_model.specs.Links.{fresh_link}
 use Rattle.link_ends.specs.Counts.{EndCounts, fresh_counts}
 use Rattle.switch_routes.specs.Rows.{end_gap, end_gaps, IsCountsOf, AllCountsOf}
 use Rattle.sys_plan.specs.declared.NodePlan.{NodePlan}
-use Rattle.core_step.specs.Core.{CoreValue, StandsAt, IsLinkBefore, SentBefore}
+use Rattle.net_model.specs.Links.{IsLinkBefore}
+use Rattle.core_step.specs.Core.{CoreValue, StandsAt, SentBefore}
 use Rattle.core_step.specs.Network.{counts_with_gap}
 
 not_zero : (gap : ℕ) → eqb (suc gap) 0 ≡ false

@@ -20,7 +20,8 @@ use Rattle.step_model.specs.Fixed.{Fixed}
 use Rattle.step_model.specs.Effect.{Setting}
 use Rattle.step_model.specs.Step.{Issued, node_step, issued, setting_of, before_issue, ports_step}
 use Rattle.processor.specs.Issue.{and_happened}
-use Rattle.core_step.specs.Core.{CoreValue, StandsAt, SentBefore, IsLinkBefore}
+use Rattle.net_model.specs.Links.{IsLinkBefore}
+use Rattle.core_step.specs.Core.{CoreValue, StandsAt, SentBefore}
 use Rattle.core_step.specs.Network.{NetworkRec, NetworkStands, Brings}
 
 -- ---- The slots that link ends keep

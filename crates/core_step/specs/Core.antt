@@ -5,6 +5,7 @@ use Rattle.xs_base.specs.Numbers.{Slot, Word}
 use Rattle.xs_model.specs.declared.outside.Arrivals.{Arrivals}
 use Rattle.xs_model.specs.Record.{CoreRec, NodeRec, LinkRec, InputRec}
 use Rattle.xs_model.specs.Ports.{levels_of}
+use Rattle.net_model.specs.Links.{IsLinkBefore}
 use Rattle.link_ends.specs.Counts.{EndCounts}
 use Rattle.switch_routes.specs.Rows.{AllCountsOf}
 use Rattle.step_model.specs.Fixed.{Fixed}
@@ -30,11 +31,6 @@ pub record StandsFor (value : CoreValue) (rec : NodeRec) : Type 0 where
 pub record NothingArrives (arrivals : Arrivals) : Type 0 where
   pub tokens : (end : ℕ) → slice_index_or arrivals.tokens end None ≡ None
   pub credits : (end : ℕ) → slice_index_or arrivals.credits end false ≡ false
-
--- every slot that the link end keeps is before this one
-pub record IsLinkBefore (slot : Slot) (link : LinkRec) : Type 0 where
-  pub sent : AllByRecursion (λ s. s < slot) link.sent
-  pub credited : AllByRecursion (λ s. s < slot) link.credited
 
 -- the core stands for the record, as it is before this slot: every slot that its link ends keep is earlier
 pub record StandsAt (value : CoreValue) (rec : NodeRec) (slot : Slot) : Type 0 where

@@ -1,4 +1,4 @@
-pub mod Ended
+pub mod Ending
 pub mod Units
 pub mod Found
 pub mod Lends

@@ -5,8 +5,8 @@ use Rattle.xs_model.specs.declared.thread.Outcome.{Outcome}
 use Rattle.xs_model.specs.declared.thread.Outcome.TheVariants as outcome
 use Rattle.xs_model.specs.Record.{CoreRec, core_with}
 use Rattle.step_model.specs.Effect.{Effect, Done, Pause, Trap, Gone}
-use Rattle.core_units.specs.declared.ended.Ended.{Ended}
-use Rattle.core_units.specs.declared.ended.Ended.TheVariants as ended
+use Rattle.core_units.specs.declared.ending.Ending.{Ending}
+use Rattle.core_units.specs.declared.ending.Ending.TheVariants as ending
 use Rattle.core_units.specs.declared.units.Units.TheInside.{Inside}
 
 -- the core record
@@ -38,9 +38,9 @@ Ends outcome.Gone old new (Gone after []) = new ≡ after
 Ends outcome.Gone old new _ = ⊥
 
 -- so is it of an instruction by which this happens, if anything
-abbrev pub EndsWith : Ended → CoreRec → CoreRec → Effect → Type 0
-EndsWith (ended.Quietly o) old new effect = Ends o old new effect
-EndsWith (ended.Done what) old new (Done after happened) = (what ∷ [] ≡ happened) × (new ≡ after)
-EndsWith (ended.Done what) old new _ = ⊥
-EndsWith (ended.Pause wait what) old new (Pause after waited happened) = (wait ≡ waited) × (what ∷ [] ≡ happened) × (new ≡ after)
-EndsWith (ended.Pause wait what) old new _ = ⊥
+abbrev pub EndsWith : Ending → CoreRec → CoreRec → Effect → Type 0
+EndsWith (ending.Quietly o) old new effect = Ends o old new effect
+EndsWith (ending.Done what) old new (Done after happened) = (what ∷ [] ≡ happened) × (new ≡ after)
+EndsWith (ending.Done what) old new _ = ⊥
+EndsWith (ending.Pause wait what) old new (Pause after waited happened) = (wait ≡ waited) × (what ∷ [] ≡ happened) × (new ≡ after)
+EndsWith (ending.Pause wait what) old new _ = ⊥

@@ -2,7 +2,7 @@
 //! gives events), and what all rows share: registers, what words name, refusals, and how an issue ends. See docs/MACHINE.md.
 #![tactic(auto)]
 
-mod ended;
+mod ending;
 mod holders;
 mod named;
 mod refused;
@@ -10,7 +10,7 @@ mod threads;
 mod units;
 
 pub use core_memory::{BadAddress, Ram};
-pub use ended::Ended;
+pub use ending::Ending;
 pub use holders::Holders;
 pub use named::{chan_named, resource_named};
 pub use refused::illegal;

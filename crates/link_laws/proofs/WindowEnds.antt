@@ -10,7 +10,8 @@ use Rattle.xs_base.specs.declared.token.Token.{Token}
 use Rattle.xs_model.specs.Record.{LinkRec}
 use Rattle.net_model.specs.Links.{token_arrives, credit_arrives, link_after_arrivals, gap_is_over, may_send}
 use Rattle.net_model.specs.Switch.{Routes, buffer_of_link, link_without_first, sent_in, end_may_send}
-use Rattle.link_laws.specs.Windows.{AreAlike, Paired, IsLinkBefore}
+use Rattle.net_model.specs.Links.{IsLinkBefore}
+use Rattle.link_laws.specs.Windows.{LinksAlike, Paired}
 use Rattle.link_laws.proofs.SlotAtEnd.{latest_is}
 
 -- ---- Lists of slots
@@ -53,7 +54,7 @@ one_more slot slots =
 
 -- alike, also in the tokens and credits that `may_send` counts; and neither keeps a slot after this one
 pub record AlikeIn (slot : Slot) (link other : LinkRec) : Type 0 where
-  pub alike : AreAlike link other
+  pub alike : LinksAlike link other
   pub open_tokens : length (filter (λ s. nat_lt s slot) link.sent) + length (filter (λ s. nat_le s slot) other.credited)
       ≡ length (filter (λ s. nat_lt s slot) other.sent) + length (filter (λ s. nat_le s slot) link.credited)
   pub one_before : IsLinkBefore (slot + 1) link
@@ -65,7 +66,7 @@ still_before slot link before = record {
   credited = later_on slot link.credited before.credited;
 }
 
-pub begins : (slot : Slot) (link other : LinkRec) → IsLinkBefore slot link → IsLinkBefore slot other → AreAlike link other → AlikeIn slot link other
+pub begins : (slot : Slot) (link other : LinkRec) → IsLinkBefore slot link → IsLinkBefore slot other → LinksAlike link other → AlikeIn slot link other
 begins slot link other one two h =
     let sent = all_before slot link.sent one.sent in
     let credited = all_so_far slot link.credited one.credited in

@@ -6,7 +6,8 @@ use Rattle.xs_base.specs.declared.token.Token.{Token}
 use Rattle.xs_model.specs.Record.{LinkRec}
 use Rattle.net_model.specs.Links.{links_after_arrivals}
 use Rattle.net_model.specs.Switch.{Routes, buffer_of_link, link_without_first, sent_in, end_may_send}
-use Rattle.link_laws.specs.Windows.{AreAlike, Paired, IsLinkBefore}
+use Rattle.net_model.specs.Links.{IsLinkBefore}
+use Rattle.link_laws.specs.Windows.{LinksAlike, Paired}
 use Rattle.link_laws.proofs.SlotAtEndLists.{changed}
 use Rattle.link_laws.proofs.WindowEnds.{AlikeIn, begins, arrives, same_buffer, taken, sent, same_may}
 
@@ -35,7 +36,7 @@ AllAlikeIn slot links others = AllZip (Paired (AlikeIn slot)) links others
 
 module _ (slot : Slot) where
   begins_one : (link other : Option LinkRec) →
-      IfSome link (IsLinkBefore slot) → IfSome other (IsLinkBefore slot) → Paired AreAlike link other → Paired (AlikeIn slot) link other
+      IfSome link (IsLinkBefore slot) → IfSome other (IsLinkBefore slot) → Paired LinksAlike link other → Paired (AlikeIn slot) link other
   begins_one None None one two h = tt
   begins_one None (Some other) one two h = absurd h
   begins_one (Some link) None one two h = absurd h
@@ -43,7 +44,7 @@ module _ (slot : Slot) where
 
   pub all_begin : (links others : List (Option LinkRec)) →
       AllByRecursion (λ link. IfSome link (IsLinkBefore slot)) links → AllByRecursion (λ link. IfSome link (IsLinkBefore slot)) others →
-      AllZip (Paired AreAlike) links others → AllAlikeIn slot links others
+      AllZip (Paired LinksAlike) links others → AllAlikeIn slot links others
   all_begin [] [] one two h = tt
   all_begin [] (other ∷ others) one two h = absurd h
   all_begin (link ∷ links) [] one two h = absurd h
@@ -81,13 +82,13 @@ module _ (slot : Slot) where
 
   -- ---- After the slot
 
-  ends_one : (link other : Option LinkRec) → Paired (AlikeIn slot) link other → Paired AreAlike link other
+  ends_one : (link other : Option LinkRec) → Paired (AlikeIn slot) link other → Paired LinksAlike link other
   ends_one None None h = tt
   ends_one None (Some other) h = absurd h
   ends_one (Some link) None h = absurd h
   ends_one (Some link) (Some other) h = h.alike
 
-  pub all_end : (links others : List (Option LinkRec)) → AllAlikeIn slot links others → AllZip (Paired AreAlike) links others
+  pub all_end : (links others : List (Option LinkRec)) → AllAlikeIn slot links others → AllZip (Paired LinksAlike) links others
   all_end [] [] h = tt
   all_end [] (other ∷ others) h = absurd h
   all_end (link ∷ links) [] h = absurd h
@@ -107,10 +108,10 @@ module _ (slot : Slot) where
 
 -- ---- Each link end is alike itself
 
-itself : (link : Option LinkRec) → Paired AreAlike link link
+itself : (link : Option LinkRec) → Paired LinksAlike link link
 itself None = tt
 itself (Some link) = record { buffer = refl; window = refl; last = refl }
 
-pub all_themselves : (links : List (Option LinkRec)) → AllZip (Paired AreAlike) links links
+pub all_themselves : (links : List (Option LinkRec)) → AllZip (Paired LinksAlike) links links
 all_themselves [] = tt
 all_themselves (link ∷ links) = (itself link, all_themselves links)

@@ -1,12 +1,12 @@
 -- Nodes that differ in the slots that their link ends keep, but not in the counts of them: no step tells them apart.
-use Rattle.std.specs.Prelude.{◌≡◌, ◌+◌, ◌<◌, Option, Some, None, IfSome, List, [], ◌∷◌, length}
+use Rattle.std.specs.Prelude.{◌≡◌, ◌+◌, Option, Some, None, IfSome, List, [], ◌∷◌, length}
 use Rattle.std.specs.List.{AllByRecursion, AllZip}
 use Rattle.xs_base.specs.Numbers.{Slot}
 use Rattle.xs_model.specs.declared.outside.Arrivals.{Arrivals}
 use Rattle.xs_model.specs.declared.outside.PinView.{PinView}
 use Rattle.xs_model.specs.Record.{NodeRec, LinkRec}
 use Rattle.xs_model.specs.Outside.{Emitted}
-use Rattle.net_model.specs.Links.{latest}
+use Rattle.net_model.specs.Links.{latest, IsLinkBefore}
 use Rattle.step_model.specs.Fixed.{Fixed}
 use Rattle.step_model.specs.Step.{Stepped, node_step}
 use Rattle.serial_model.specs.Serial.{Coming}
@@ -15,7 +15,7 @@ use Rattle.serial_model.specs.Serial.{Coming}
 
 -- Two link ends at which the same tokens wait, which sent as many tokens that have no credit yet, and which sent their last
 -- token in the same slot. The tokens without a credit are those sent less those credited: told as an equation of sums.
-pub record AreAlike (link other : LinkRec) : Type 0 where
+pub record LinksAlike (link other : LinkRec) : Type 0 where
   pub buffer : link.buffer ≡ other.buffer
   pub window : length link.sent + length other.credited ≡ length other.sent + length link.credited
   pub last : latest link.sent ≡ latest other.sent
@@ -31,12 +31,7 @@ pub record NodesAlike (rec other : NodeRec) : Type 0 where
   pub core : rec.core ≡ other.core
   pub inputs : rec.inputs ≡ other.inputs
   pub levels : rec.levels ≡ other.levels
-  pub links : AllZip (Paired AreAlike) rec.links other.links
-
--- every slot that a link end keeps is before this one
-pub record IsLinkBefore (slot : Slot) (link : LinkRec) : Type 0 where
-  pub sent : AllByRecursion (λ s. s < slot) link.sent
-  pub credited : AllByRecursion (λ s. s < slot) link.credited
+  pub links : AllZip (Paired LinksAlike) rec.links other.links
 
 -- so it is of each link end of a node
 abbrev pub IsNodeBefore : Slot → NodeRec → Type 0

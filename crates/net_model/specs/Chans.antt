@@ -24,10 +24,14 @@ free_chan chans n = lowest_free (λ chan. chan.used) chans n
 abbrev pub got_chan : ChanRec
 got_chan = record unused_chan { used = true }
 
+-- a channel end that is put out of use: it keeps its network, which only being got sets anew
+abbrev pub put_away : ChanRec → ChanRec
+put_away chan = record unused_chan { net = chan.net }
+
 -- a channel end is freed where it is in use, its buffers are empty, and the switch is not at work with it
 abbrev pub freed_chan : Bool → ChanRec → Option ChanRec
 freed_chan is_busy chan =
-    if chan.used && (length chan.output == 0) && (length chan.input == 0) && not is_busy then Some unused_chan else None
+    if chan.used && (length chan.output == 0) && (length chan.input == 0) && not is_busy then Some (put_away chan) else None
 
 -- what a program finds at a channel end
 pub data Found : Type 0 where

@@ -1,5 +1,6 @@
 -- Link ends: what arrives at them, and when they may send. They count lists of slots.
-use Rattle.std.specs.Prelude.{ℕ, ◌+◌, Bool, true, false, ◌&&◌, nat_le, nat_lt, if◌then◌else◌, Option, Some, None, List, [], ◌∷◌, ◌++◌, length, filter, slice_index_or}
+use Rattle.std.specs.Prelude.{ℕ, ◌+◌, ◌<◌, Bool, true, false, ◌&&◌, nat_le, nat_lt, if◌then◌else◌, Option, Some, None, List, [], ◌∷◌, ◌++◌, length, filter, slice_index_or}
+use Rattle.std.specs.List.{AllByRecursion}
 use Rattle.xs_base.specs.Numbers.{Slot, EndNumber}
 use Rattle.xs_base.specs.declared.numbers.TheConstants.{BUFFER_TOKENS, WINDOW_TOKENS}
 use Rattle.xs_base.specs.declared.token.Token.{Token}
@@ -32,6 +33,11 @@ links_after_arrivals slot tokens credits end [] = []
 links_after_arrivals slot tokens credits end (link ∷ links) =
     link_after_arrivals slot (slice_index_or tokens end None) (slice_index_or credits end false) link
     ∷ links_after_arrivals slot tokens credits (end + 1) links
+
+-- every slot that a link end keeps is before this one
+pub record IsLinkBefore (slot : Slot) (link : LinkRec) : Type 0 where
+  pub sent : AllByRecursion (λ s. s < slot) link.sent
+  pub credited : AllByRecursion (λ s. s < slot) link.credited
 
 -- Phase 1 of a slot: what arrives by the link ends.
 abbrev pub arrive : Slot → Arrivals → AtWork → AtWork

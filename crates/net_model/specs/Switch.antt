@@ -252,6 +252,7 @@ abbrev pub want_way : Routes → Slot → InputNumber → Dest → Way → AtWor
 want_way routes slot i dest Here m = want_chan (λ n m. local_step i n (waiting_at m.rec i) m) i dest m
 want_way routes slot i dest (Behind mask) m = want_end (λ e m. out_step routes slot i e 0 dest m) i mask dest m
 
+-- a packet goes by the ways towards its destination; its network says nothing yet, since all link ends are of network 0
 abbrev pub want_step : Routes → Slot → InputNumber → Dest → AtWork → AtWork
 want_step routes slot i dest m = want_way routes slot i dest (way_to routes.id routes.ways dest.node) m
 

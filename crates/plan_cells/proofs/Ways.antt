@@ -5,7 +5,7 @@ use Rattle.sys_plan.specs.declared.LinkPlan.{LinkPlan}
 use Rattle.sys_plan.specs.Plan.{PlanRec, IsPlan, forth, back, arcs, arc_count, link_arcs}
 use Rattle.sys_plan.proofs.Arcs.{arcs_length}
 use Rattle.sys_plan.proofs.Routes.{directed}
-use Rattle.plan_cells.specs.Inside.{IsWay}
+use Rattle.plan_cells.specs.Inside.{AreArcEnds}
 
 -- an even number leads from the first end of a link to the second, and an odd one back
 forth_at : (links : List LinkPlan) (k : LinkNumber) (d : LinkPlan) → k < 2 * length links → k % 2 ≡ 0 → slice_get (link_arcs links) k ≡ Some (forth (get_or links (k / 2) d))
@@ -32,14 +32,14 @@ module _ (plan : PlanRec) (is : IsPlan plan) (links : List LinkPlan) (are : link
   few : k < 2 * length links
   few = omega (arith, arcs_length plan.links, ap (length {A = LinkPlan}) are)
 
-  pub way_forth : k % 2 ≡ 0 → IsWay plan k (record { from = link.a; from_end = link.a_end; to = link.b; to_end = link.b_end })
-  way_forth even =
+  pub ends_forth : k % 2 ≡ 0 → AreArcEnds plan k (record { from = link.a; from_end = link.a_end; to = link.b; to_end = link.b_end })
+  ends_forth even =
       let here : slice_get (arcs plan) k ≡ Some (forth link) = ap (λ (ls : List LinkPlan). slice_get (link_arcs ls) k) (sym are) ∙ forth_at links k d few even in
       let there = directed plan is k (forth link) here in
       record { arc = forth link; here = here; from = refl; from_end = refl; to = refl; to_end = refl; from_there = there.from; to_there = there.to }
 
-  pub way_back : k % 2 ≢ 0 → IsWay plan k (record { from = link.b; from_end = link.b_end; to = link.a; to_end = link.a_end })
-  way_back odd =
+  pub ends_back : k % 2 ≢ 0 → AreArcEnds plan k (record { from = link.b; from_end = link.b_end; to = link.a; to_end = link.a_end })
+  ends_back odd =
       let here : slice_get (arcs plan) k ≡ Some (back link) = ap (λ (ls : List LinkPlan). slice_get (link_arcs ls) k) (sym are) ∙ back_at links k d few odd in
       let there = directed plan is k (back link) here in
       record { arc = back link; here = here; from = refl; from_end = refl; to = refl; to_end = refl; from_there = there.from; to_there = there.to }

@@ -3,8 +3,8 @@ ghost use Rattle.std.specs.Prelude.{◌≡◌, ◌<◌, [], IfOk, OnOk, length, 
 ghost use Rattle.sys_plan.specs.Plan.{arcs, arc_count};
 ghost use Rattle.plan_cells.specs.Inside.{AreCells, IsCellOf, AreDealt, Deals, handed, outgoing_of, incoming_of, cells_of};
 
+use crate::arc_ends::ends_of;
 use crate::ends::{Ends, Incoming, Outgoing};
-use crate::way::way_of;
 use log_cells::{Cell, make_cell};
 use plan_stories::PlanStory;
 use std::alloc::{AllocError, Global};
@@ -59,22 +59,22 @@ fn deal(
     ensures cell { IfOk result (λ cell. IsCellOf plan.now.value link cell) }
     ensures deals { IfOk result (λ cell. Deals plan.now.value link cell all.old.items all.new.items) }
 {
-    let way = way_of(plan, link as usize);
+    let ends = ends_of(plan, link as usize);
     let story = PlanStory::new(plan, link)?;
     let (cell, w, r) = make_cell(alloc, story)?;
     let outgoing = Outgoing {
-        end: way.from_end,
+        end: ends.from_end,
         link,
         w,
     };
-    give_outgoing(all, way.from, outgoing)?;
+    give_outgoing(all, ends.from, outgoing)?;
     let incoming = Incoming {
-        end: way.to_end,
+        end: ends.to_end,
         link,
         r,
         hand: None,
     };
-    give_incoming(all, way.to, incoming)?;
+    give_incoming(all, ends.to, incoming)?;
     Ok(cell)
 }
 

@@ -8,8 +8,8 @@ ghost use Rattle.plan_cells.specs.declared.ends.Ends as ends;
 ghost use Rattle.plan_cells.specs.Ends.{AreEnds, IsLogOf, HasLeft};
 ghost use Rattle.plan_cells.specs.Inside.{AreCells, handed, outgoing_of, incoming_of, cells_of};
 
+use crate::arc_ends::ends_of;
 use crate::ends::{Ends, Incoming, Outgoing};
-use crate::way::way_of;
 use link_logs::Log;
 use log_cells::Cell;
 use plan_stories::PlanStory;
@@ -35,9 +35,9 @@ pub(crate) fn logs_of(
     let mut logs = Vec::new(alloc);
     // From the last arc on, whose ends are the last that its two nodes have.
     while let Some(cell) = cells.pop() {
-        let way = way_of(plan, cells.len());
-        let outgoing = last_outgoing(&mut all, way.from);
-        let incoming = last_incoming(&mut all, way.to);
+        let ends = ends_of(plan, cells.len());
+        let outgoing = last_outgoing(&mut all, ends.from);
+        let incoming = last_incoming(&mut all, ends.to);
         logs.push(cell.done(outgoing.w, incoming.r))?;
     }
     logs.reverse();

@@ -1,11 +1,11 @@
 //! The cells of a plan's arcs, one for each, and the ends of these cells by node. See docs/LOOKAHEAD.md.
 #![tactic(auto)]
 
+mod arc_ends;
 mod cells;
 mod deal;
 mod ends;
 mod gather;
-mod way;
 
 pub use cells::PlanCells;
 pub use ends::{Ends, Hand, Incoming, Outgoing};

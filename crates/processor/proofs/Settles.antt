@@ -8,8 +8,8 @@ use Rattle.xs_model.specs.Record.{CoreRec, with_run}
 use Rattle.xs_instructions.specs.declared.instr.Instr.{Instr}
 use Rattle.step_model.specs.Effect.{Effect, Done, Pause, Trap, Gone}
 use Rattle.step_model.specs.Step.{Issued, settled, trap}
-use Rattle.core_units.specs.declared.ended.Ended.{Ended}
-use Rattle.core_units.specs.declared.ended.Ended.TheVariants as ended
+use Rattle.core_units.specs.declared.ending.Ending.{Ending}
+use Rattle.core_units.specs.declared.ending.Ending.TheVariants as ending
 use Rattle.core_units.specs.Units.{Ends, EndsWith}
 use Rattle.processor.specs.Issue.{effect_of, effect_with}
 
@@ -44,17 +44,17 @@ module _ (code : List Instr) (k : ℕ) (old new : CoreRec) where
   same_settled outcome.Gone (Pause after wait happened) is = absurd is
   same_settled outcome.Gone (Trap number value) is = absurd is
 
-  pub same_settled_with : (e : Ended) (effect : Effect) → EndsWith e old new effect → settled code new k (effect_with e new) ≡ settled code old k effect
-  same_settled_with (ended.Quietly o) effect is = same_settled o effect is
-  same_settled_with (ended.Done what) (Done after happened) is =
+  pub same_settled_with : (e : Ending) (effect : Effect) → EndsWith e old new effect → settled code new k (effect_with e new) ≡ settled code old k effect
+  same_settled_with (ending.Quietly o) effect is = same_settled o effect is
+  same_settled_with (ending.Done what) (Done after happened) is =
       ap (λ (h : List Happen). happens new h) is.0 ∙ ap (λ (core : CoreRec). happens core happened) is.1
-  same_settled_with (ended.Done what) (Pause after wait happened) is = absurd is
-  same_settled_with (ended.Done what) (Trap number value) is = absurd is
-  same_settled_with (ended.Done what) (Gone after happened) is = absurd is
-  same_settled_with (ended.Pause wait what) (Pause after waited happened) is =
+  same_settled_with (ending.Done what) (Pause after wait happened) is = absurd is
+  same_settled_with (ending.Done what) (Trap number value) is = absurd is
+  same_settled_with (ending.Done what) (Gone after happened) is = absurd is
+  same_settled_with (ending.Pause wait what) (Pause after waited happened) is =
       ap (λ w. happens (with_run new k (Paused w)) (what ∷ [])) is.0
       ∙ ap (λ (h : List Happen). happens (with_run new k (Paused waited)) h) is.1
       ∙ ap (λ core. happens (with_run core k (Paused waited)) happened) is.2
-  same_settled_with (ended.Pause wait what) (Done after happened) is = absurd is
-  same_settled_with (ended.Pause wait what) (Trap number value) is = absurd is
-  same_settled_with (ended.Pause wait what) (Gone after happened) is = absurd is
+  same_settled_with (ending.Pause wait what) (Done after happened) is = absurd is
+  same_settled_with (ending.Pause wait what) (Trap number value) is = absurd is
+  same_settled_with (ending.Pause wait what) (Gone after happened) is = absurd is

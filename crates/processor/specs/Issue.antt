@@ -12,8 +12,8 @@ use Rattle.xs_instructions.specs.declared.instr.Instr.{Instr}
 use Rattle.xs_instructions.specs.declared.instr.Instr.TheVariants.{Resources}
 use Rattle.step_model.specs.Effect.{Effect, Done, Pause, Trap, Gone, after_it}
 use Rattle.event_unit.specs.declared.answers.Choice.{Choice}
-use Rattle.core_units.specs.declared.ended.Ended.{Ended}
-use Rattle.core_units.specs.declared.ended.Ended.TheVariants as ended
+use Rattle.core_units.specs.declared.ending.Ending.{Ending}
+use Rattle.core_units.specs.declared.ending.Ending.TheVariants as ending
 
 -- a thread after its row on words, which goes on where the row was done
 abbrev pub gone_on : Outcome → Thread → Thread
@@ -27,10 +27,10 @@ effect_of (outcome.Pause wait) core = Pause core wait []
 effect_of (outcome.Trap et ed) core = Trap et ed
 effect_of outcome.Gone core = Gone core []
 
-abbrev pub effect_with : Ended → CoreRec → Effect
-effect_with (ended.Quietly o) core = effect_of o core
-effect_with (ended.Done what) core = Done core (what ∷ [])
-effect_with (ended.Pause wait what) core = Pause core wait (what ∷ [])
+abbrev pub effect_with : Ending → CoreRec → Effect
+effect_with (ending.Quietly o) core = effect_of o core
+effect_with (ending.Done what) core = Done core (what ∷ [])
+effect_with (ending.Pause wait what) core = Pause core wait (what ∷ [])
 
 -- whether an instruction is none on a resource, so that nothing happens by it but a trap
 abbrev pub is_quiet : Instr → Bool

@@ -11,7 +11,7 @@ ghost use Rattle.step_model.specs.ResourceRows.{resources_row};
 ghost use Rattle.step_model.specs.Step.{issue_begins, executed, settled, trap, issued, issued_by};
 ghost use Rattle.core_units.specs.Here.{IsHere};
 ghost use Rattle.xs_model.specs.Outside.{LevelsFit};
-ghost use Rattle.core_units.specs.Ended.{IsEnded};
+ghost use Rattle.core_units.specs.Ending.{IsEnding};
 ghost use Rattle.core_units.specs.Units.{Ends, EndsWith};
 ghost use Rattle.processor.specs.Issue.{effect_of, effect_with, is_quiet, and_happened, entered_by};
 ghost use Rattle.processor.specs.Knows.{StaysKnown};
@@ -19,7 +19,7 @@ ghost use Rattle.processor.specs.Knows.{StaysKnown};
 use crate::processor::Processor;
 use crate::program::Program;
 use crate::rows::{kret, own, words};
-use core_units::{Ended, Holders, Units};
+use core_units::{Ending, Holders, Units};
 use event_unit::Choice;
 use resource_rows::on_resources;
 use thread_rows::on_threads;
@@ -111,8 +111,8 @@ impl Processor {
         match program.at(pc) {
             None => self.trap(k, program, ILLEGAL_PC, pc, slot, out),
             Some(Instr::Resources(ins)) => {
-                let ended = self.use_resource(k, program.id(), slot, pins, holders, ins);
-                self.settle(k, program, ended, slot, out);
+                let ending = self.use_resource(k, program.id(), slot, pins, holders, ins);
+                self.settle(k, program, ending, slot, out);
             }
             Some(ins) => {
                 let outcome = self.execute(k, program.id(), slot, ins);
@@ -159,18 +159,18 @@ impl Processor {
         pins: &PinView,
         holders: &H,
         ins: ResIns,
-    ) -> Ended
+    ) -> Ending
         requires thread { k < THREADS }
         requires range { ResourcesInRange ins }
         requires levels { LevelsFit pins.now.level }
         ensures row { (here : Setting) → IsHere id slot pins.now (H.busy holders.now) here → EndsWith result self.old self.new (resources_row here self.old k ins) }
-        ensures within { IsEnded result }
+        ensures within { IsEnding result }
     {
         self.able = None;
         on_resources(&mut self.units, id, slot, k, pins, holders, ins)
     }
 
-    // What another instruction does when thread k issues it. It answers by less than an `Ended`, since nothing happens by it
+    // What another instruction does when thread k issues it. It answers by less than an `Ending`, since nothing happens by it
     // but a trap.
     fn execute(&mut self, k: u8, id: u16, slot: u32, ins: Instr) -> Outcome
         requires thread { k < THREADS }
@@ -195,17 +195,17 @@ impl Processor {
     }
 
     // What the end of its instruction makes of thread k, and what happens by it.
-    fn settle(&mut self, k: u8, program: &Program, ended: Ended, slot: u32, out: &mut Emissions)
+    fn settle(&mut self, k: u8, program: &Program, ending: Ending, slot: u32, out: &mut Emissions)
         requires thread { k < THREADS }
-        requires within { IsEnded ended }
+        requires within { IsEnding ending }
         requires room { length out.old.events + ISSUE_EVENTS ≤ EVENT_ROOM }
-        ensures units { self.new ≡ (settled program.now.code self.old k (effect_with ended self.old)).core }
-        ensures events { out.new ≡ and_happened out.old slot (settled program.now.code self.old k (effect_with ended self.old)).happened }
+        ensures units { self.new ≡ (settled program.now.code self.old k (effect_with ending self.old)).core }
+        ensures events { out.new ≡ and_happened out.old slot (settled program.now.code self.old k (effect_with ending self.old)).happened }
     {
-        match ended {
-            Ended::Quietly(outcome) => self.settle_quietly(k, program, outcome, slot, out),
-            Ended::Done(what) => out.add_event(Event { slot, what }),
-            Ended::Pause(wait, what) => {
+        match ending {
+            Ending::Quietly(outcome) => self.settle_quietly(k, program, outcome, slot, out),
+            Ending::Done(what) => out.add_event(Event { slot, what }),
+            Ending::Pause(wait, what) => {
                 self.set_run(k, Run::Paused(wait));
                 out.add_event(Event { slot, what });
             }

@@ -8,7 +8,7 @@ ghost use Rattle.step_model.specs.Named.{resource_named};
 ghost use Rattle.step_model.specs.EventRows.{eventful, with_changed, sets_events, enables, clears, waits_where};
 ghost use Rattle.step_model.specs.ModeRows.{in_event_mode, timer_in_mode, resource_in_mode, sets_mode};
 ghost use Rattle.xs_model.specs.Outside.{LevelsFit};
-ghost use Rattle.core_units.specs.Ended.{IsEnded};
+ghost use Rattle.core_units.specs.Ending.{IsEnding};
 ghost use Rattle.core_units.specs.Units.{Ends, EndsWith};
 ghost use Rattle.core_units.specs.Named.{IsWithin};
 ghost use Rattle.resource_rows.specs.Changed.{IsChanged};
@@ -17,7 +17,7 @@ ghost use Rattle.resource_rows.specs.Changes.{makes, IsChange};
 use crate::ports::port_in_mode;
 use crate::times::{clock_in_mode, set_after};
 use bitflags::Flags;
-use core_units::{Ended, Units, resource_named};
+use core_units::{Ending, Units, resource_named};
 use event_unit::Events;
 use xs_model::modes::{AFTER, EVENT, INTERRUPT, NO_CONDITION};
 use xs_model::{EEBLE, INENB, Outcome, PinView, Res, Resource, Status, WAITING, Wait};
@@ -111,11 +111,18 @@ fn change_given(units: &mut Units, resource: Option<Res>, change: Change) -> boo
 // ---- `setc`
 
 /// Puts what register s names into a mode.
-pub(crate) fn set_mode(units: &mut Units, id: u16, k: u8, s: u8, mode: u32, pins: &PinView) -> Ended
+pub(crate) fn set_mode(
+    units: &mut Units,
+    id: u16,
+    k: u8,
+    s: u8,
+    mode: u32,
+    pins: &PinView,
+) -> Ending
     requires thread { k < THREADS }
     requires source { s < 12 }
     requires levels { LevelsFit pins.now.level }
-    ensures within { IsEnded result }
+    ensures within { IsEnding result }
     ensures row { EndsWith result units.old units.new (sets_mode units.old k (reg units.old k s) mode (resource_named id (reg units.old k s))) }
 {
     let name = units.reg(k, s);
@@ -124,7 +131,7 @@ pub(crate) fn set_mode(units: &mut Units, id: u16, k: u8, s: u8, mode: u32, pins
         Some(Resource::Port { port }) => port_in_mode(units, k, name, port, mode, pins),
         _ => {
             let set = resource_in_mode(units, mode, named);
-            Ended::Quietly(units.end(k, name, set))
+            Ending::Quietly(units.end(k, name, set))
         }
     }
 }

@@ -3,33 +3,33 @@ ghost use Rattle.std.specs.Prelude.{◌≡◌, ◌<◌, Some, [], ◌∷◌};
 ghost use Rattle.xs_base.specs.declared.numbers.TheConstants.{PORTS};
 ghost use Rattle.xs_model.specs.Events.{NamesWhatIsThere};
 ghost use Rattle.xs_model.specs.Ports.{pin_happens};
-ghost use Rattle.core_units.specs.Ended.{IsEnded};
+ghost use Rattle.core_units.specs.Ending.{IsEnding};
 ghost use Rattle.resource_rows.specs.Ends.{ended_done, ended_pause};
 
-use core_units::Ended;
+use core_units::Ending;
 use xs_model::{Happen, Outcome, PinChange, Wait};
 
 /// Its row at a port, 0 to 28, is done, by which the port's pins change, if they do.
-pub(crate) fn done(port: u8, change: Option<PinChange>) -> Ended
+pub(crate) fn done(port: u8, change: Option<PinChange>) -> Ending
     requires { port < PORTS }
     ensures value { result ≡ ended_done (pin_happens port change) }
-    ensures within { IsEnded result }
+    ensures within { IsEnding result }
 {
     match change {
-        None => Ended::Quietly(Outcome::Done),
-        Some(change) => Ended::Done(happening(port, change)),
+        None => Ending::Quietly(Outcome::Done),
+        Some(change) => Ending::Done(happening(port, change)),
     }
 }
 
 /// Its thread has to wait at a port, by which the port's pins change, if they do.
-pub(crate) fn pause(port: u8, wait: Wait, change: Option<PinChange>) -> Ended
+pub(crate) fn pause(port: u8, wait: Wait, change: Option<PinChange>) -> Ending
     requires { port < PORTS }
     ensures value { result ≡ ended_pause wait (pin_happens port change) }
-    ensures within { IsEnded result }
+    ensures within { IsEnding result }
 {
     match change {
-        None => Ended::Quietly(Outcome::Pause(wait)),
-        Some(change) => Ended::Pause(wait, happening(port, change)),
+        None => Ending::Quietly(Outcome::Pause(wait)),
+        Some(change) => Ending::Pause(wait, happening(port, change)),
     }
 }
 

@@ -11,7 +11,7 @@ ghost use Rattle.xs_model.specs.Outside.{LevelsFit};
 ghost use Rattle.step_model.specs.Effect.{reg};
 ghost use Rattle.step_model.specs.PortRows.{at_port, at_named_port, takes_no_word, goes_on_taking, clock_named, sets_clock, sets_strobe};
 ghost use Rattle.step_model.specs.ModeRows.{port_in_mode, turns_port};
-ghost use Rattle.core_units.specs.Ended.{IsEnded};
+ghost use Rattle.core_units.specs.Ending.{IsEnding};
 ghost use Rattle.core_units.specs.Units.{EndsWith};
 ghost use Rattle.buffered_ports.specs.Asks.{asked, wait_of, IsAsk, IsClock};
 ghost use Rattle.resource_rows.specs.Ports.{taking, IsTakes, acts, would_wait};
@@ -19,7 +19,7 @@ ghost use Rattle.resource_rows.specs.Ports.{taking, IsTakes, acts, would_wait};
 use crate::events::in_event_mode;
 use crate::port_ends::{done, pause};
 use buffered_ports::{Ask, Reply};
-use core_units::{Ended, Units, illegal, resource_named};
+use core_units::{Ending, Units, illegal, resource_named};
 use xs_base::{port_of, shl, shr};
 use xs_model::modes::{EVENT, INTERRUPT, OFF, ON};
 use xs_model::traps::RESOURCE_DEPENDENCY;
@@ -48,20 +48,20 @@ pub(crate) fn on_port(
     takes: Takes,
     ask: Ask,
     pins: &PinView,
-) -> Ended
+) -> Ending
     requires thread { k < THREADS }
     requires source { s < 12 }
     requires target { IsTakes takes }
     requires ask { IsAsk ask }
     requires levels { LevelsFit pins.now.level }
-    ensures within { IsEnded result }
+    ensures within { IsEnding result }
     ensures row { EndsWith result units.old units.new
         (at_named_port units.old k (reg units.old k s) (taking takes) (acts units.old pins.now.level ask) (port_with (reg units.old k s))) }
 {
     let name = units.reg(k, s);
     match port_of(name) {
         Some(port) => at_port(units, k, name, port, takes, ask, pins),
-        None => Ended::Quietly(illegal(name)),
+        None => Ending::Quietly(illegal(name)),
     }
 }
 
@@ -74,17 +74,17 @@ pub(crate) fn at_port(
     takes: Takes,
     ask: Ask,
     pins: &PinView,
-) -> Ended
+) -> Ending
     requires thread { k < THREADS }
     requires within { port < PORTS }
     requires target { IsTakes takes }
     requires ask { IsAsk ask }
     requires levels { LevelsFit pins.now.level }
-    ensures within { IsEnded result }
+    ensures within { IsEnding result }
     ensures row { EndsWith result units.old units.new (at_port units.old k name port (taking takes) (acts units.old pins.now.level ask port)) }
 {
     if is_waited_for(units, port, ask) {
-        return Ended::Quietly(Outcome::Trap {
+        return Ending::Quietly(Outcome::Trap {
             et: RESOURCE_DEPENDENCY,
             ed: name,
         });
@@ -98,10 +98,10 @@ pub(crate) fn at_port(
         }
         Reply::Got(word) => {
             take_word(units, k, takes, bits, word);
-            Ended::Quietly(Outcome::Done)
+            Ending::Quietly(Outcome::Done)
         }
         Reply::Pause(wait) => pause(port, wait, answer.pin),
-        Reply::Bad => Ended::Quietly(illegal(name)),
+        Reply::Bad => Ending::Quietly(illegal(name)),
     }
 }
 
@@ -141,19 +141,19 @@ fn take_word(units: &mut Units, k: u8, takes: Takes, bits: u32, word: u32)
 // ---- What rows set a port to
 
 /// The port that register s names goes by the clock that register x names.
-pub(crate) fn set_clock(units: &mut Units, id: u16, k: u8, s: u8, x: u8, pins: &PinView) -> Ended
+pub(crate) fn set_clock(units: &mut Units, id: u16, k: u8, s: u8, x: u8, pins: &PinView) -> Ending
     requires thread { k < THREADS }
     requires source { s < 12 }
     requires value { x < 12 }
     requires levels { LevelsFit pins.now.level }
-    ensures within { IsEnded result }
+    ensures within { IsEnding result }
     ensures row { EndsWith result units.old units.new
         (at_named_port units.old k (reg units.old k s) takes_no_word (sets_clock id units.old (reg units.old k x)) (port_with (reg units.old k s))) }
 {
     let word = units.reg(k, x);
     match clock_named(units, id, word) {
         Some(clock) => on_port(units, k, s, Takes::Nothing, Ask::Clock(clock), pins),
-        None => Ended::Quietly(illegal(units.reg(k, s))),
+        None => Ending::Quietly(illegal(units.reg(k, s))),
     }
 }
 
@@ -172,12 +172,12 @@ fn clock_named(units: &Units, id: u16, word: u32) -> Option<Clock>
 }
 
 /// The port that register s names has the port that register x names as its strobe, or none.
-pub(crate) fn set_strobe(units: &mut Units, k: u8, s: u8, x: u8, pins: &PinView) -> Ended
+pub(crate) fn set_strobe(units: &mut Units, k: u8, s: u8, x: u8, pins: &PinView) -> Ending
     requires thread { k < THREADS }
     requires source { s < 12 }
     requires value { x < 12 }
     requires levels { LevelsFit pins.now.level }
-    ensures within { IsEnded result }
+    ensures within { IsEnding result }
     ensures row { EndsWith result units.old units.new
         (at_named_port units.old k (reg units.old k s) takes_no_word (sets_strobe units.old (reg units.old k x)) (port_with (reg units.old k s))) }
 {
@@ -187,7 +187,7 @@ pub(crate) fn set_strobe(units: &mut Units, k: u8, s: u8, x: u8, pins: &PinView)
     }
     match port_of(word) {
         Some(port) => on_port(units, k, s, Takes::Nothing, Ask::Strobe(Some(port)), pins),
-        None => Ended::Quietly(illegal(units.reg(k, s))),
+        None => Ending::Quietly(illegal(units.reg(k, s))),
     }
 }
 
@@ -201,17 +201,17 @@ pub(crate) fn port_in_mode(
     port: u8,
     mode: u32,
     pins: &PinView,
-) -> Ended
+) -> Ending
     requires thread { k < THREADS }
     requires within { port < PORTS }
     requires levels { LevelsFit pins.now.level }
-    ensures within { IsEnded result }
+    ensures within { IsEnding result }
     ensures row { EndsWith result units.old units.new (port_in_mode units.old k name port mode) }
 {
     match mode {
         EVENT | INTERRUPT => {
             let set = in_event_mode(units, mode, Some(Resource::Port { port }));
-            Ended::Quietly(units.end(k, name, set))
+            Ending::Quietly(units.end(k, name, set))
         }
         OFF | ON => turn_port(units, k, name, port, mode, pins),
         _ => at_port(units, k, name, port, Takes::Nothing, Ask::Mode(mode), pins),
@@ -219,16 +219,16 @@ pub(crate) fn port_in_mode(
 }
 
 // A port is turned on or off, while no thread is paused on it.
-fn turn_port(units: &mut Units, k: u8, name: u32, port: u8, mode: u32, pins: &PinView) -> Ended
+fn turn_port(units: &mut Units, k: u8, name: u32, port: u8, mode: u32, pins: &PinView) -> Ending
     requires thread { k < THREADS }
     requires within { port < PORTS }
     requires levels { LevelsFit pins.now.level }
     requires turn { (mode ≡ OFF) ⊎ (mode ≡ ON) }
-    ensures within { IsEnded result }
+    ensures within { IsEnding result }
     ensures row { EndsWith result units.old units.new (turns_port units.old k name port mode) }
 {
     if units.is_paused_on(Resource::Port { port }) {
-        return Ended::Quietly(illegal(name));
+        return Ending::Quietly(illegal(name));
     }
     if mode == OFF && units.ports.on(port) {
         forget_port(units, port);

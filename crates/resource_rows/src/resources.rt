@@ -10,7 +10,7 @@ ghost use Rattle.step_model.specs.Named.{resource_named};
 ghost use Rattle.step_model.specs.ResourceRows.{resources_row, resource_got, without, without_chan, without_timer, freed, takes_in, puts_out};
 ghost use Rattle.core_units.specs.Here.{IsHere, AreBusy};
 ghost use Rattle.xs_model.specs.Outside.{LevelsFit};
-ghost use Rattle.core_units.specs.Ended.{IsEnded};
+ghost use Rattle.core_units.specs.Ending.{IsEnding};
 ghost use Rattle.core_units.specs.Units.{Ends, EndsWith};
 ghost use Rattle.resource_rows.specs.Resources.{is_quiet};
 ghost use Rattle.core_units.specs.Named.{IsWithin};
@@ -24,7 +24,7 @@ use crate::locks::{claim, release};
 use crate::ports::{Takes, at_port, on_port, set_clock, set_strobe};
 use crate::times::{set_data, take_time, tell_data};
 use buffered_ports::Ask;
-use core_units::{Ended, Holders, Units, illegal, resource_named};
+use core_units::{Ending, Holders, Units, illegal, resource_named};
 use xs_base::numbers::{CHAN_END_KIND, LOCK_KIND, SYNCHRONISER_KIND, THREAD_KIND, TIMER_KIND};
 use xs_base::{Token, res_id};
 use xs_instructions::ResIns;
@@ -40,11 +40,11 @@ pub fn on_resources<H: Holders>(
     pins: &PinView,
     holders: &H,
     ins: ResIns,
-) -> Ended
+) -> Ending
     requires thread { k < THREADS }
     requires range { ResourcesInRange ins }
     requires levels { LevelsFit pins.now.level }
-    ensures within { IsEnded result }
+    ensures within { IsEnding result }
     ensures row { (here : Setting) → IsHere id slot pins.now (H.busy holders.now) here → EndsWith result units.old units.new (resources_row here units.old k ins) }
 {
     match ins {
@@ -84,7 +84,7 @@ pub fn on_resources<H: Holders>(
             let ask = Ask::Width(units.reg(k, x));
             on_port(units, k, s, Takes::Nothing, ask, pins)
         }
-        _ => Ended::Quietly(on_other_resources(units, id, slot, k, holders, ins)),
+        _ => Ending::Quietly(on_other_resources(units, id, slot, k, holders, ins)),
     }
 }
 
@@ -234,50 +234,50 @@ fn free_timer(units: &mut Units, timer: u8) -> bool
 
 // A word from the channel end or the port that register s names goes into register d, or the time, where it names a timer;
 // or thread k owns the lock that it names.
-fn take_in(units: &mut Units, id: u16, slot: u32, k: u8, d: u8, s: u8, pins: &PinView) -> Ended
+fn take_in(units: &mut Units, id: u16, slot: u32, k: u8, d: u8, s: u8, pins: &PinView) -> Ending
     requires thread { k < THREADS }
     requires target { d < 12 }
     requires source { s < 12 }
     requires levels { LevelsFit pins.now.level }
-    ensures within { IsEnded result }
+    ensures within { IsEnding result }
     ensures row { EndsWith result units.old units.new (takes_in slot units.old k d (reg units.old k s) (resource_named id (reg units.old k s))) }
 {
     let name = units.reg(k, s);
     match resource_named(id, name) {
         Some(Resource::Chan { chan }) => {
-            Ended::Quietly(at_chan(units, k, name, chan, Action::TakeWord, Some(d)))
+            Ending::Quietly(at_chan(units, k, name, chan, Action::TakeWord, Some(d)))
         }
         Some(Resource::Timer { timer }) => {
-            Ended::Quietly(take_time(units, slot, k, d, name, timer))
+            Ending::Quietly(take_time(units, slot, k, d, name, timer))
         }
-        Some(Resource::Lock { lock }) => Ended::Quietly(claim(units, k, d, name, lock)),
+        Some(Resource::Lock { lock }) => Ending::Quietly(claim(units, k, d, name, lock)),
         Some(Resource::Port { port }) => {
             at_port(units, k, name, port, Takes::Into(d), Ask::In, pins)
         }
-        _ => Ended::Quietly(illegal(name)),
+        _ => Ending::Quietly(illegal(name)),
     }
 }
 
 // The word of register x goes to the channel end or the port that register s names, or thread k gives up the lock that it
 // names.
-fn put_out(units: &mut Units, id: u16, k: u8, s: u8, x: u8, pins: &PinView) -> Ended
+fn put_out(units: &mut Units, id: u16, k: u8, s: u8, x: u8, pins: &PinView) -> Ending
     requires thread { k < THREADS }
     requires source { s < 12 }
     requires value { x < 12 }
     requires levels { LevelsFit pins.now.level }
-    ensures within { IsEnded result }
+    ensures within { IsEnding result }
     ensures row { EndsWith result units.old units.new (puts_out units.old k (reg units.old k s) (reg units.old k x) (resource_named id (reg units.old k s))) }
 {
     let (name, word) = (units.reg(k, s), units.reg(k, x));
     match resource_named(id, name) {
         Some(Resource::Chan { chan }) => {
-            Ended::Quietly(at_chan(units, k, name, chan, Action::PutWord(word), None))
+            Ending::Quietly(at_chan(units, k, name, chan, Action::PutWord(word), None))
         }
-        Some(Resource::Lock { lock }) => Ended::Quietly(release(units, k, name, lock)),
+        Some(Resource::Lock { lock }) => Ending::Quietly(release(units, k, name, lock)),
         Some(Resource::Port { port }) => {
             at_port(units, k, name, port, Takes::Nothing, Ask::Out(word), pins)
         }
-        _ => Ended::Quietly(illegal(name)),
+        _ => Ending::Quietly(illegal(name)),
     }
 }
 

@@ -10,7 +10,7 @@ ghost use Rattle.step_model.specs.Named.{resource_named};
 ghost use Rattle.step_model.specs.TimeRows.{timer_becomes, clock_becomes, takes_time};
 ghost use Rattle.step_model.specs.ResourceRows.{sets_data, tells_data};
 ghost use Rattle.step_model.specs.ModeRows.{clock_in_mode, with_restarted};
-ghost use Rattle.core_units.specs.Ended.{IsEnded};
+ghost use Rattle.core_units.specs.Ending.{IsEnding};
 ghost use Rattle.core_units.specs.Units.{Ends, EndsWith};
 ghost use Rattle.resource_rows.specs.Changed.{IsChanged};
 
@@ -18,7 +18,7 @@ use crate::actions::Action;
 use crate::chans::{at_chan, wait};
 use crate::ports::{Takes, at_port};
 use buffered_ports::Ask;
-use core_units::{Ended, Units, illegal, resource_named};
+use core_units::{Ending, Units, illegal, resource_named};
 use timers_clocks::Timers;
 use xs_model::modes::{OFF, ON, START, STOP};
 use xs_model::{Clock, Outcome, PinView, Resource, Wait};
@@ -43,60 +43,60 @@ pub(crate) fn take_time(units: &mut Units, slot: u32, k: u8, d: u8, name: u32, t
 
 /// The channel end that register s names takes the word of register x as its destination, the timer or the port takes it
 /// as its value, or the clock block as its divider.
-pub(crate) fn set_data(units: &mut Units, id: u16, k: u8, s: u8, x: u8, pins: &PinView) -> Ended
+pub(crate) fn set_data(units: &mut Units, id: u16, k: u8, s: u8, x: u8, pins: &PinView) -> Ending
     requires thread { k < THREADS }
     requires source { s < 12 }
     requires value { x < 12 }
     requires levels { LevelsFit pins.now.level }
-    ensures within { IsEnded result }
+    ensures within { IsEnding result }
     ensures row { EndsWith result units.old units.new (sets_data units.old k (reg units.old k s) (reg units.old k x) (resource_named id (reg units.old k s))) }
 {
     let (name, word) = (units.reg(k, s), units.reg(k, x));
     match resource_named(id, name) {
         Some(Resource::Chan { chan }) => {
-            Ended::Quietly(at_chan(units, k, name, chan, Action::SetDest(word), None))
+            Ending::Quietly(at_chan(units, k, name, chan, Action::SetDest(word), None))
         }
         Some(Resource::Timer { timer }) => {
             let set = set_value(units, timer, word);
-            Ended::Quietly(units.end(k, name, set))
+            Ending::Quietly(units.end(k, name, set))
         }
         Some(Resource::Clock { clock }) => {
             let set = set_divider(units, clock, word);
-            Ended::Quietly(units.end(k, name, set))
+            Ending::Quietly(units.end(k, name, set))
         }
         Some(Resource::Port { port }) => {
             at_port(units, k, name, port, Takes::Nothing, Ask::Value(word), pins)
         }
-        _ => Ended::Quietly(illegal(name)),
+        _ => Ending::Quietly(illegal(name)),
     }
 }
 
 /// What of these is set goes into register d.
-pub(crate) fn tell_data(units: &mut Units, id: u16, k: u8, d: u8, s: u8, pins: &PinView) -> Ended
+pub(crate) fn tell_data(units: &mut Units, id: u16, k: u8, d: u8, s: u8, pins: &PinView) -> Ending
     requires thread { k < THREADS }
     requires target { d < 12 }
     requires source { s < 12 }
     requires levels { LevelsFit pins.now.level }
-    ensures within { IsEnded result }
+    ensures within { IsEnding result }
     ensures row { EndsWith result units.old units.new (tells_data units.old k d (reg units.old k s) (resource_named id (reg units.old k s))) }
 {
     let name = units.reg(k, s);
     match resource_named(id, name) {
         Some(Resource::Chan { chan }) => {
-            Ended::Quietly(at_chan(units, k, name, chan, Action::TellDest, Some(d)))
+            Ending::Quietly(at_chan(units, k, name, chan, Action::TellDest, Some(d)))
         }
         Some(Resource::Timer { timer }) => {
             let (used, value) = (units.timers.used(timer), units.timers.value(timer));
-            Ended::Quietly(units.tell(k, d, name, used, value))
+            Ending::Quietly(units.tell(k, d, name, used, value))
         }
         Some(Resource::Clock { clock }) => {
             let (on, divider) = (units.clocks.used(clock), units.clocks.div(clock));
-            Ended::Quietly(units.tell(k, d, name, on, divider))
+            Ending::Quietly(units.tell(k, d, name, on, divider))
         }
         Some(Resource::Port { port }) => {
             at_port(units, k, name, port, Takes::Into(d), Ask::GetValue, pins)
         }
-        _ => Ended::Quietly(illegal(name)),
+        _ => Ending::Quietly(illegal(name)),
     }
 }
 

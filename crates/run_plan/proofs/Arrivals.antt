@@ -6,8 +6,8 @@ use Rattle.xs_base.specs.declared.token.Token.{Token}
 use Rattle.core_step.specs.Core.{NothingArrives}
 use Rattle.crossings.specs.declared.crossing.Crossing.{Crossing}
 use Rattle.run_plan.specs.declared.track.Track.{Track}
-use Rattle.run_plan.specs.declared.incoming.TheConstants.{NOTHING}
-use Rattle.run_plan.specs.Incoming.{IsNowhere, Gathers, arrived_by, arrivals_by}
+use Rattle.run_plan.specs.declared.inbound.TheConstants.{NOTHING}
+use Rattle.run_plan.specs.Inbound.{IsNowhere, Gathers, arrived_by, arrivals_by}
 
 module _ (tracks : List Track) where
   -- one more link end is looked at

@@ -12,8 +12,8 @@ use Rattle.crossings.specs.declared.crossing.Crossing.{Crossing}
 use Rattle.crossings.specs.Crossings.{no_crossing}
 use Rattle.run_plan.specs.declared.track.Track.{Track}
 use Rattle.run_plan.specs.declared.station.Station.{Station}
-use Rattle.run_plan.specs.declared.incoming.TheConstants.{NOTHING}
-use Rattle.run_plan.specs.Incoming.{incoming_of, arrived_of, arrived_by, arrivals_by}
+use Rattle.run_plan.specs.declared.inbound.TheConstants.{NOTHING}
+use Rattle.run_plan.specs.Inbound.{incoming_of, arrived_of, arrived_by, arrivals_by}
 use Rattle.run_plan.specs.Stations.{taken_by}
 use Rattle.run_plan.specs.Tracks.{GoesOn}
 use Rattle.run_plan.specs.Passes.{Through, Advances, SameStation, SameTrack, SameButDue, given_at, due_at, IsHeeded}

@@ -16,7 +16,7 @@ use Rattle.crossings.specs.declared.crossing.Crossing.{Crossing}
 use Rattle.run_plan.specs.declared.track.Track.{Track}
 use Rattle.run_plan.specs.declared.station.Station.{Station}
 use Rattle.crossings.specs.Crossings.{crossing_of, no_crossing}
-use Rattle.run_plan.specs.Incoming.{IncomingRec, IsBelow, incoming_of, arrived_of, arrived_by, arrivals_by}
+use Rattle.run_plan.specs.Inbound.{InboundRec, IsBelow, incoming_of, arrived_of, arrived_by, arrivals_by}
 use Rattle.node_seats.specs.Seats.{Plays}
 use Rattle.node_seats.proofs.Seats.{own_step, given-is, plays-next, plays-same, ready-same as seat-ready-same}
 use Rattle.node_seats.proofs.Shown.{shows, pins-next}
@@ -124,7 +124,7 @@ play-same plan slot n [] [] [] [] [] play zip = tt
 play-same plan slot n [] [] [] [] (a ∷ afters) play zip = absurd zip
 play-same plan slot n (node ∷ nodes) (station ∷ stations) (rec ∷ recs) (es ∷ all_events) [] play zip = absurd zip
 play-same plan slot n (node ∷ nodes) (station ∷ stations) (rec ∷ recs) (es ∷ all_events) (a ∷ afters) play zip = (
-  record { plays = plays-same plan slot n node station.seat a.seat rec es play.0.plays zip.0.seat; pins = subst (ArePins plan n slot) (sym zip.0.pins) play.0.pins; incoming = ap (λ (i : IncomingRec). i.links) zip.0.incoming ∙ play.0.incoming },
+  record { plays = plays-same plan slot n node station.seat a.seat rec es play.0.plays zip.0.seat; pins = subst (ArePins plan n slot) (sym zip.0.pins) play.0.pins; incoming = ap (λ (i : InboundRec). i.links) zip.0.incoming ∙ play.0.incoming },
   play-same plan slot (n + 1) nodes stations recs all_events afters play.1 zip.1,
 )
 play-same plan slot n _ _ _ _ _ play zip = absurd play
@@ -135,7 +135,7 @@ stations-stay slot count stations after =
     (λ x y s h. record {
       here = seat-ready-same slot x.seat y.seat h.here s.seat;
       shown = subst (IsShown slot) (sym s.pins) h.shown;
-      incoming = subst (λ (i : IncomingRec). AllByRecursion (IsBelow count) i.links) (sym s.incoming) h.incoming;
+      incoming = subst (λ (i : InboundRec). AllByRecursion (IsBelow count) i.links) (sym s.incoming) h.incoming;
     }) stations after
 
 same-node : (before after : Station) → SameButDue before after → SameNode before after

@@ -1,5 +1,5 @@
 pub mod Tracks
-pub mod Incoming
+pub mod Inbound
 pub mod Stations
 pub mod Passes
 pub mod Run

@@ -12,7 +12,7 @@ use Rattle.node_seats.specs.Seats.{Plays}
 use Rattle.node_seats.specs.Shown.{ArePins}
 use Rattle.run_plan.specs.declared.track.Track.{Track}
 use Rattle.run_plan.specs.declared.station.Station.{Station}
-use Rattle.run_plan.specs.Incoming.{incoming_of}
+use Rattle.run_plan.specs.Inbound.{incoming_of}
 use Rattle.run_plan.specs.Stations.{IsStation}
 use Rattle.run_plan.specs.Passes.{IsReadyTrack, IsHeeded}
 

@@ -7,8 +7,8 @@ use Rattle.node_seats.specs.Seats.{IsSeat, StepsOn}
 use Rattle.node_seats.specs.Shown.{IsShown, shown_by}
 use Rattle.run_plan.specs.declared.track.Track.{Track}
 use Rattle.run_plan.specs.declared.station.Station.{Station}
-use Rattle.run_plan.specs.declared.incoming.TheConstants.{NOTHING}
-use Rattle.run_plan.specs.Incoming.{IsBelow, arrivals_by}
+use Rattle.run_plan.specs.declared.inbound.TheConstants.{NOTHING}
+use Rattle.run_plan.specs.Inbound.{IsBelow, arrivals_by}
 
 -- a node as it is before a slot, among so many arcs
 pub record IsStation (slot : Slot) (link_count : ℕ) (station : Station) : Type 0 where

@@ -1,7 +1,7 @@
 //! The serial machine: all nodes of a system, stepped together slot by slot. See docs/MACHINE.md.
 #![tactic(auto)]
 
-mod incoming;
+mod inbound;
 mod machine;
 mod passes;
 mod station;

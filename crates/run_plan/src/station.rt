@@ -3,7 +3,7 @@ ghost use Rattle.std.specs.Prelude.{◌≡◌, ◌-◌, ◌^◌, ◌<◌, true, 
 ghost use Rattle.node_seats.specs.Seats.{HasEventRoom};
 ghost use Rattle.run_plan.specs.Stations.{IsStation, StationSteps};
 
-use crate::incoming::Incoming;
+use crate::inbound::Inbound;
 use crate::track::Track;
 use node_seats::{Pins, Seat};
 
@@ -12,7 +12,7 @@ use node_seats::{Pins, Seat};
 pub(crate) struct Station {
     pub(crate) seat: Seat,
     pub(crate) pins: Pins,
-    pub(crate) incoming: Incoming,
+    pub(crate) incoming: Inbound,
     // Whether something arrives at it in this slot.
     pub(crate) due: bool,
 }

@@ -3,7 +3,7 @@ ghost use Rattle.std.specs.Prelude.{◌≡◌, ◌<◌, length, IfOk};
 ghost use Rattle.sys_plan.specs.Plan.{arcs, IsPlan};
 ghost use Rattle.run_plan.specs.Starts.{StartsAs, AllStart, track_at_start, tracks_at_start};
 
-use crate::incoming::Incoming;
+use crate::inbound::Inbound;
 use crate::station::Station;
 use crate::track::Track;
 use crossings::Crossing;
@@ -34,7 +34,7 @@ fn station_of(alloc: Global, plan: &Plan, n: u8) -> Result<Station, AllocError>
     Ok(Station {
         seat,
         pins,
-        incoming: Incoming::of(plan, n),
+        incoming: Inbound::of(plan, n),
         due: false,
     })
 }

@@ -12,8 +12,8 @@ use Rattle.worker_threads.specs.declared.node.Left.{Left}
 use Rattle.worker_threads.specs.declared.node.Returned.{Returned}
 use Rattle.worker_threads.specs.declared.node.Returned.TheVariants.{Ran, Unstarted}
 use Rattle.worker_threads.specs.declared.here.Here.{Here}
-use Rattle.worker_threads.specs.declared.seat.Seat.{Seat}
-use Rattle.worker_threads.specs.declared.seat.Seat.TheVariants.{There, Here as At, Over}
+use Rattle.worker_threads.specs.declared.place.Place.{Place}
+use Rattle.worker_threads.specs.declared.place.Place.TheVariants.{There, Here as At, Over}
 
 -- ---- One node
 
@@ -63,12 +63,12 @@ MayGoOn w None = All IsOpen w.ends.outgoing.items
 MayGoOn w (Some ended) = Unit {0}
 
 -- where the node at a position is run
-abbrev pub IsSeat : CellsRec → Slot → Position → Seat → Type 0
-IsSeat cells limit n (There handle) = (handle.promise.lanes.value ≡ cells) × (handle.promise.limit ≡ limit) × (handle.promise.node ≡ n)
-IsSeat cells limit n (At here) = IsHere cells limit n here
-IsSeat cells limit n (Over left) = IsLeft cells limit n left
+abbrev pub IsPlace : CellsRec → Slot → Position → Place → Type 0
+IsPlace cells limit n (There handle) = (handle.promise.lanes.value ≡ cells) × (handle.promise.limit ≡ limit) × (handle.promise.node ≡ n)
+IsPlace cells limit n (At here) = IsHere cells limit n here
+IsPlace cells limit n (Over left) = IsLeft cells limit n left
 
-abbrev pub IsReady : Seat → Type 0
+abbrev pub IsReady : Place → Type 0
 IsReady (There handle) = Unit {0}
 IsReady (At here) = MayGoOn here.worker here.ended
 IsReady (Over left) = Unit {0}
@@ -88,8 +88,8 @@ pub record AreAll {X : Type 0} (cells : CellsRec) (Is : Position → X → Type 
 abbrev pub AreFresh : CellsRec → Slot → List Fresh → Type 0
 AreFresh cells limit nodes = AreAll cells (IsFreshAt cells limit) nodes
 
-abbrev pub AreSeats : CellsRec → Slot → List Seat → Type 0
-AreSeats cells limit seats = AreAll cells (IsSeat cells limit) seats
+abbrev pub ArePlaces : CellsRec → Slot → List Place → Type 0
+ArePlaces cells limit places = AreAll cells (IsPlace cells limit) places
 
 abbrev pub AreLeft : CellsRec → Slot → List Left → Type 0
 AreLeft cells limit all = AreAll cells (IsLeft cells limit) all

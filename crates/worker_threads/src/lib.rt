@@ -4,7 +4,7 @@
 mod fresh;
 mod here;
 mod node;
-mod seat;
+mod place;
 mod team;
 
 pub use team::run_workers;

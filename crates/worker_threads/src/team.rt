@@ -6,11 +6,11 @@ ghost use Rattle.plan_cells.specs.declared.ends.Ends as node_ends;
 ghost use Rattle.plan_cells.specs.Ends.{CellsRec, AreNewEnds};
 ghost use Rattle.core_workers.specs.Worker.{WorkerRec};
 ghost use Rattle.core_workers.specs.Run.{IsLeftAt};
-ghost use Rattle.worker_threads.specs.Team.{AreFresh, AreSeats, AreLeft, AreParts, IsReady};
+ghost use Rattle.worker_threads.specs.Team.{AreFresh, ArePlaces, AreLeft, AreParts, IsReady};
 
 use crate::fresh::{Fresh, fresh_nodes};
 use crate::node::Left;
-use crate::seat::{Seat, seat_of};
+use crate::place::{Place, place_of};
 use core_workers::{Ended, Lanes, Part};
 use plan_cells::Ends;
 use std::alloc::{AllocError, Global};
@@ -49,9 +49,9 @@ pub fn run_workers<R: Threads + Wait + Sync, G: Gate>(
             requires { AreFresh lanes.now limit nodes.items × (length refused.now.items ≡ length lanes.now.plan.nodes) }
             ensures { IfOk result (λ all. AreLeft lanes.entry.now limit all.items) }
         {
-            let mut seats = seats_of(scope, rt, alloc, lanes, refused, gate, nodes, limit)?;
-            take_turns(rt, gate, &mut seats);
-            all_left(rt, alloc, lanes, gate, seats)
+            let mut places = places_of(scope, rt, alloc, lanes, refused, gate, nodes, limit)?;
+            take_turns(rt, gate, &mut places);
+            all_left(rt, alloc, lanes, gate, places)
         },
     )?;
     parts_of(alloc, all)
@@ -68,9 +68,9 @@ fn no_flags(alloc: Global, nodes: usize) -> Result<Vec<AtomicBool>, AllocError>
     Ok(flags)
 }
 
-// The seats of all nodes, by position. The memory for them is there before the first thread is started: none of them waits for a node
-// that has no seat.
-fn seats_of<'s, E, R: Wait + Sync, G: Gate>(
+// The places of all nodes, by position. The memory for them is there before the first thread is started: none of them waits for a node
+// that has no place.
+fn places_of<'s, E, R: Wait + Sync, G: Gate>(
     scope: &Scope<'s, E>,
     rt: &'s R,
     alloc: Global,
@@ -79,27 +79,27 @@ fn seats_of<'s, E, R: Wait + Sync, G: Gate>(
     gate: &'s G,
     nodes: Vec<Fresh>,
     limit: u32,
-) -> Result<Vec<Seat<'s>>, AllocError>
+) -> Result<Vec<Place<'s>>, AllocError>
     requires fresh { AreFresh lanes.now limit nodes.items }
     requires flags { length refused.now.items ≡ length lanes.now.plan.nodes }
-    ensures seats { IfOk result (λ seats. AreSeats lanes.now limit seats.items) }
-    ensures ready { IfOk result (λ seats. AllByRecursion IsReady seats.items) }
+    ensures places { IfOk result (λ places. ArePlaces lanes.now limit places.items) }
+    ensures ready { IfOk result (λ places. AllByRecursion IsReady places.items) }
 {
-    let mut seats = Vec::with_capacity(alloc, nodes.len())?;
+    let mut places = Vec::with_capacity(alloc, nodes.len())?;
     for node in nodes {
-        seats.push(seat_of(scope, rt, lanes, refused, gate, node, limit))?;
+        places.push(place_of(scope, rt, lanes, refused, gate, node, limit))?;
     }
-    Ok(seats)
+    Ok(places)
 }
 
 // Takes the turns of the nodes that this thread runs, one after the other, until all their runs are over.
-fn take_turns<'s, R: Wait, G: Gate>(rt: &R, gate: &G, seats: &mut Vec<Seat<'s>>)
-    requires ready { AllByRecursion IsReady seats.old.items }
-    ensures ready { AllByRecursion IsReady seats.new.items }
-    ensures seats { (cells : CellsRec) (limit : Slot) → AreSeats cells limit seats.old.items → AreSeats cells limit seats.new.items }
+fn take_turns<'s, R: Wait, G: Gate>(rt: &R, gate: &G, places: &mut Vec<Place<'s>>)
+    requires ready { AllByRecursion IsReady places.old.items }
+    ensures ready { AllByRecursion IsReady places.new.items }
+    ensures places { (cells : CellsRec) (limit : Slot) → ArePlaces cells limit places.old.items → ArePlaces cells limit places.new.items }
 {
     for _ in rt.forever() {
-        if !take_one_turn_each(rt, gate, seats) {
+        if !take_one_turn_each(rt, gate, places) {
             return;
         }
         yield_now();
@@ -107,14 +107,14 @@ fn take_turns<'s, R: Wait, G: Gate>(rt: &R, gate: &G, seats: &mut Vec<Seat<'s>>)
 }
 
 // One turn of each of them. It tells whether any of their runs goes on.
-fn take_one_turn_each<'s, R: Wait, G: Gate>(rt: &R, gate: &G, seats: &mut Vec<Seat<'s>>) -> bool
-    requires ready { AllByRecursion IsReady seats.old.items }
-    ensures ready { AllByRecursion IsReady seats.new.items }
-    ensures seats { (cells : CellsRec) (limit : Slot) → AreSeats cells limit seats.old.items → AreSeats cells limit seats.new.items }
+fn take_one_turn_each<'s, R: Wait, G: Gate>(rt: &R, gate: &G, places: &mut Vec<Place<'s>>) -> bool
+    requires ready { AllByRecursion IsReady places.old.items }
+    ensures ready { AllByRecursion IsReady places.new.items }
+    ensures places { (cells : CellsRec) (limit : Slot) → ArePlaces cells limit places.old.items → ArePlaces cells limit places.new.items }
 {
     let mut some = false;
-    for n in 0..seats.len() {
-        some = seats[n].turn(rt, gate) || some;
+    for n in 0..places.len() {
+        some = places[n].turn(rt, gate) || some;
     }
     some
 }
@@ -125,15 +125,15 @@ fn all_left<'s, R: Threads + Wait, G: Gate>(
     alloc: Global,
     lanes: &'s Lanes,
     gate: &G,
-    seats: Vec<Seat<'s>>,
+    places: Vec<Place<'s>>,
 ) -> Result<Vec<Left>, AllocError>
-    requires ready { AllByRecursion IsReady seats.items }
-    requires seats { (limit : Slot) × AreSeats lanes.now limit seats.items }
-    ensures all { (limit : Slot) → AreSeats lanes.now limit seats.entry.items → IfOk result (λ all. AreLeft lanes.now limit all.items) }
+    requires ready { AllByRecursion IsReady places.items }
+    requires places { (limit : Slot) × ArePlaces lanes.now limit places.items }
+    ensures all { (limit : Slot) → ArePlaces lanes.now limit places.entry.items → IfOk result (λ all. AreLeft lanes.now limit all.items) }
 {
-    let mut all = Vec::with_capacity(alloc, seats.len())?;
-    for seat in seats {
-        all.push(seat.left(rt, lanes, gate))?;
+    let mut all = Vec::with_capacity(alloc, places.len())?;
+    for place in places {
+        all.push(place.left(rt, lanes, gate))?;
     }
     Ok(all)
 }

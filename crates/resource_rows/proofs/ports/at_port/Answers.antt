@@ -5,7 +5,7 @@ use Rattle.xs_model.specs.Record.{CoreRec, PortRec, port_of}
 use Rattle.step_model.specs.Effect.{Effect, Trap}
 use Rattle.step_model.specs.PortRows.{at_port, goes_on_taking}
 use Rattle.buffered_ports.specs.Asks.{wait_of}
-use Rattle.core_units.specs.declared.ended.Ended.{Ended}
+use Rattle.core_units.specs.declared.ending.Ending.{Ending}
 use Rattle.core_units.specs.Units.{Ends, EndsWith, units_of}
 use Rattle.resource_rows.specs.Ports.{taking, acts, would_wait}
 use Rattle.resource_rows.proofs.PortEnds.{left, done_end, pause_end, bad_end}
@@ -30,7 +30,7 @@ returns-in-Done-clause-row c =
     in
     subst (λ (old : CoreRec). EndsWith c.done.result old c.take_word.new.units (at_port old a.k a.name a.port (taking a.takes) (acts old a.pins.now.level a.ask a.port))) c.units.view_is
     (subst (λ (after : CoreRec). EndsWith c.done.result core after (at_port core a.k a.name a.port (taking a.takes) (acts core a.pins.now.level a.ask a.port))) (sym new)
-    (subst (λ (e : Ended). EndsWith e core (goes_on_taking (left core a.k a.name a.port takes acted) a.k takes 0) (at_port core a.k a.name a.port (taking a.takes) (acts core a.pins.now.level a.ask a.port))) (sym c.done.ensures.value)
+    (subst (λ (e : Ending). EndsWith e core (goes_on_taking (left core a.k a.name a.port takes acted) a.k takes 0) (at_port core a.k a.name a.port (taking a.takes) (acts core a.pins.now.level a.ask a.port))) (sym c.done.ensures.value)
     (done_end core a.k a.name a.port takes acted c.act-answer.result c.act-answer.ensures.answer c.in-Done.is)))
 
 pub returns-in-Pause-clause-row : goal.returns-in-Pause-clause-row
@@ -44,7 +44,7 @@ returns-in-Pause-clause-row c =
     in
     subst (λ (old : CoreRec). EndsWith c.pause.result old (record core { ports = c.act-answer.new.self }) (at_port old a.k a.name a.port (taking a.takes) (acts old a.pins.now.level a.ask a.port))) c.units.view_is
     (subst (λ (after : CoreRec). EndsWith c.pause.result core after (at_port core a.k a.name a.port (taking a.takes) (acts core a.pins.now.level a.ask a.port))) (sym new)
-    (subst (λ (e : Ended). EndsWith e core (left core a.k a.name a.port takes acted) (at_port core a.k a.name a.port (taking a.takes) (acts core a.pins.now.level a.ask a.port))) (sym c.pause.ensures.value)
+    (subst (λ (e : Ending). EndsWith e core (left core a.k a.name a.port takes acted) (at_port core a.k a.name a.port (taking a.takes) (acts core a.pins.now.level a.ask a.port))) (sym c.pause.ensures.value)
     (pause_end core a.k a.name a.port takes acted c.act-answer.result c.in-Pause.wait c.act-answer.ensures.answer c.in-Pause.is (free_now c))))
 
 pub returns-in-Bad-clause-row : goal.returns-in-Bad-clause-row

@@ -1,29 +1,29 @@
 use Rattle.std.proofs.Common.{◌≡◌, ◌<◌, length, set, slice_get, Some, refl, arith, ◌∙◌}
 use Rattle.std.proofs.lemmas.List.{length-set}
 use Rattle.std.proofs.lemmas.Option.{slice_get_read}
-use Rattle.worker_threads.specs.Team.{IsReady, IsSeat}
+use Rattle.worker_threads.specs.Team.{IsReady, IsPlace}
 use Rattle.worker_threads.proofs.Teams.{one_becomes, still_all, each_is}
 use Rattle.worker_threads.proofs.team.take_one_turn_each.Goals as goal
 
 pub turn-requires-clause-ready : goal.turn-requires-clause-ready
 turn-requires-clause-ready g c κs within =
-    let seats = c.loop-n.seats.items in
-    let inside : c.loop-n.n < length seats = omega (arith, c.loop-n-test.true, c.len-n-end.ensures, c.args.seats.now.ok.0, c.loop-n.invariant.count) in
-    let at : slice_get seats c.loop-n.n ≡ Some c.index_mut.result.now = slice_get_read seats (length seats) c.loop-n.n c.index_mut.result.now refl inside c.index_mut.ensures.value in
-    each_is IsReady seats c.loop-n.n c.index_mut.result.now at c.loop-n.invariant.ready
+    let places = c.loop-n.places.items in
+    let inside : c.loop-n.n < length places = omega (arith, c.loop-n-test.true, c.len-n-end.ensures, c.args.places.now.ok.0, c.loop-n.invariant.count) in
+    let at : slice_get places c.loop-n.n ≡ Some c.index_mut.result.now = slice_get_read places (length places) c.loop-n.n c.index_mut.result.now refl inside c.index_mut.ensures.value in
+    each_is IsReady places c.loop-n.n c.index_mut.result.now at c.loop-n.invariant.ready
 
 pub loop-n-preserved : goal.loop-n-preserved
 loop-n-preserved g c =
-    let seats = c.loop-n.seats.items in
+    let places = c.loop-n.places.items in
     let was = c.loop-n.invariant in
-    let inside : c.loop-n.n < length seats = omega (arith, c.loop-n-test.true, c.len-n-end.ensures, c.args.seats.now.ok.0, was.count) in
-    let at : slice_get seats c.loop-n.n ≡ Some c.index_mut.result.now = slice_get_read seats (length seats) c.loop-n.n c.index_mut.result.now refl inside c.index_mut.ensures.value in
+    let inside : c.loop-n.n < length places = omega (arith, c.loop-n-test.true, c.len-n-end.ensures, c.args.places.now.ok.0, was.count) in
+    let at : slice_get places c.loop-n.n ≡ Some c.index_mut.result.now = slice_get_read places (length places) c.loop-n.n c.index_mut.result.now refl inside c.index_mut.ensures.value in
     record {
-      count = length-set seats c.loop-n.n c.turn.new.self ∙ was.count;
-      ready = still_all IsReady seats (set seats c.loop-n.n c.turn.new.self) c.loop-n.n c.turn.new.self refl c.turn.ensures.ready was.ready;
-      seats = λ cells limit are. record {
-        count = length-set seats c.loop-n.n c.turn.new.self ∙ (was.seats cells limit are).count;
-        each = one_becomes (IsSeat cells limit) seats (set seats c.loop-n.n c.turn.new.self) c.loop-n.n c.index_mut.result.now c.turn.new.self at refl
-            (λ m. c.turn.ensures.stays cells limit m) (was.seats cells limit are).each;
+      count = length-set places c.loop-n.n c.turn.new.self ∙ was.count;
+      ready = still_all IsReady places (set places c.loop-n.n c.turn.new.self) c.loop-n.n c.turn.new.self refl c.turn.ensures.ready was.ready;
+      places = λ cells limit are. record {
+        count = length-set places c.loop-n.n c.turn.new.self ∙ (was.places cells limit are).count;
+        each = one_becomes (IsPlace cells limit) places (set places c.loop-n.n c.turn.new.self) c.loop-n.n c.index_mut.result.now c.turn.new.self at refl
+            (λ m. c.turn.ensures.stays cells limit m) (was.places cells limit are).each;
       };
     }

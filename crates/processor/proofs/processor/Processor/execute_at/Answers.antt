@@ -22,11 +22,11 @@ its_issue g c here at =
     ∙ ap (λ ins. executed code here c.args.self.now c.args.k ins) (sym c.in-Some.is ∙ c.at.ensures.value ∙ ap (code_at code) c.pc_of-pc.ensures)
 
 its_use : (g : Over) (c : After-settle g) (here : Setting) → IsHere c.args.program.now.id c.args.slot c.args.pins.now (g.H.Holders.busy c.args.holders.now) here
-    → settled c.args.program.now.code c.use_resource-ended.new.self c.args.k (effect_with c.use_resource-ended.result c.use_resource-ended.new.self)
+    → settled c.args.program.now.code c.use_resource-ending.new.self c.args.k (effect_with c.use_resource-ending.result c.use_resource-ending.new.self)
     ≡ executed c.args.program.now.code here c.args.self.now c.args.k (code_at c.args.program.now.code (thread_of c.args.self.now c.args.k).pc)
 its_use g c here at =
     let code = c.args.program.now.code in
-    same_settled_with code c.args.k c.args.self.now c.use_resource-ended.new.self c.use_resource-ended.result (effect here c.args.self.now c.args.k (Resources c.in-Some-Resources.ins)) (c.use_resource-ended.ensures.row here (record { id = at.id ∙ sym c.id.ensures; slot = at.slot; outside = at.outside; busy = at.busy }))
+    same_settled_with code c.args.k c.args.self.now c.use_resource-ending.new.self c.use_resource-ending.result (effect here c.args.self.now c.args.k (Resources c.in-Some-Resources.ins)) (c.use_resource-ending.ensures.row here (record { id = at.id ∙ sym c.id.ensures; slot = at.slot; outside = at.outside; busy = at.busy }))
     ∙ ap (λ ins. executed code here c.args.self.now c.args.k ins) (ap Some (sym c.in-Some-Resources.field-0-is) ∙ sym c.in-Some-Resources.is ∙ c.at.ensures.value ∙ ap (code_at code) c.pc_of-pc.ensures)
 
 pub returns-in-Some-Resources-clause-units : goal.returns-in-Some-Resources-clause-units

@@ -3,8 +3,8 @@ use Rattle.xs_model.specs.declared.outside.Arrivals.{Arrivals}
 use Rattle.xs_model.specs.declared.outside.PinView.{PinView}
 use Rattle.core_step.specs.Core.{NothingArrives}
 use Rattle.node_seats.specs.Seats.{StepsOn}
-use Rattle.run_plan.specs.declared.incoming.TheConstants.{NOTHING}
-use Rattle.run_plan.specs.Incoming.{arrivals_by}
+use Rattle.run_plan.specs.declared.inbound.TheConstants.{NOTHING}
+use Rattle.run_plan.specs.Inbound.{arrivals_by}
 use Rattle.run_plan.specs.Stations.{taken_by}
 use Rattle.run_plan.proofs.Arrivals.{nothing-arrives}
 use Rattle.run_plan.proofs.station.Station.step.Goals as goal

@@ -2,8 +2,8 @@ use Rattle.std.proofs.Common.{Bool, cond, sym, ap, subst, refl, ◌∙◌}
 use Rattle.xs_model.specs.declared.outside.Arrivals.{Arrivals}
 use Rattle.xs_model.specs.declared.outside.PinView.{PinView}
 use Rattle.node_seats.specs.Seats.{StepsOn}
-use Rattle.run_plan.specs.declared.incoming.TheConstants.{NOTHING}
-use Rattle.run_plan.specs.Incoming.{arrivals_by}
+use Rattle.run_plan.specs.declared.inbound.TheConstants.{NOTHING}
+use Rattle.run_plan.specs.Inbound.{arrivals_by}
 use Rattle.run_plan.specs.Stations.{taken_by}
 use Rattle.run_plan.proofs.station.Station.step_due.Goals as goal
 

@@ -1,9 +1,9 @@
-//! `Incoming`, the arcs that come to a node's link ends, and what arrives by them.
+//! `Inbound`, the arcs that come to a node's link ends, and what arrives by them.
 ghost use Rattle.std.specs.Prelude.{◌≡◌, ◌≤◌, length, drop};
 ghost use Rattle.std.specs.List.{AllByRecursion};
 ghost use Rattle.xs_base.specs.declared.numbers.TheConstants.{LINK_ENDS};
 ghost use Rattle.sys_plan.specs.Plan.{arc_count};
-ghost use Rattle.run_plan.specs.Incoming.{arrivals_by, arrived_by, incoming_of, IsBelow, IsNowhere};
+ghost use Rattle.run_plan.specs.Inbound.{arrivals_by, arrived_by, incoming_of, IsBelow, IsNowhere};
 
 use crate::track::Track;
 use crossings::Crossing;
@@ -18,10 +18,10 @@ const NOTHING: Arrivals = Arrivals {
     credits: [false; 8],
 };
 
-/// The arcs that come to a node's link ends. Contracts see it as an `IncomingRec` of
-/// `Rattle.run_plan.specs.Incoming`.
+/// The arcs that come to a node's link ends. Contracts see it as an `InboundRec` of
+/// `Rattle.run_plan.specs.Inbound`.
 #[derive(Drop)]
-pub(crate) struct Incoming {
+pub(crate) struct Inbound {
     links: [Option<u32>; 8],
     // No link comes to a link end from this one on.
     reached: usize,
@@ -29,26 +29,26 @@ pub(crate) struct Incoming {
     nothing: Arrivals,
 }
 
-impl Model for Incoming {
-    ghost use Rattle.run_plan.specs.Incoming.{IncomingRec};
+impl Model for Inbound {
+    ghost use Rattle.run_plan.specs.Inbound.{InboundRec};
 
-    ghost Value = { IncomingRec };
+    ghost Value = { InboundRec };
 
-    ghost use Rattle.run_plan.specs.Incoming.{IsReachedBelow};
+    ghost use Rattle.run_plan.specs.Inbound.{IsReachedBelow};
 
     ghost view = { λ i. record { links = i.links } };
 
     ghost invariant = { λ i. IsReachedBelow i.reached i.links i.nothing };
 }
 
-impl Incoming {
+impl Inbound {
     /// The arcs that come to the link ends of the node at a position.
-    pub(crate) fn of(plan: &Plan, n: u8) -> Incoming
+    pub(crate) fn of(plan: &Plan, n: u8) -> Inbound
         ensures links { result.links ≡ incoming_of plan.now n }
         ensures below { AllByRecursion (IsBelow (arc_count plan.now)) result.links }
     {
         let links = links_to(plan, n);
-        Incoming {
+        Inbound {
             links,
             reached: reached_of(&links),
             nothing: NOTHING,

@@ -1,8 +1,8 @@
-//! `Seat`, where a node is run: in a thread of its own, or by the caller.
+//! `Place`, where a node is run: in a thread of its own, or by the caller.
 ghost use Rattle.std.specs.Prelude.{◌≡◌, ◌<◌, length};
 ghost use Rattle.xs_base.specs.Numbers.{Slot, Position};
 ghost use Rattle.plan_cells.specs.Ends.{CellsRec};
-ghost use Rattle.worker_threads.specs.Team.{IsFresh, IsLeft, IsReady, IsReturned, IsSeat};
+ghost use Rattle.worker_threads.specs.Team.{IsFresh, IsLeft, IsReady, IsReturned, IsPlace};
 
 use crate::fresh::Fresh;
 use crate::here::Here;
@@ -30,7 +30,7 @@ impl Promise<Returned> for OfNode {
 
 /// Where a node is run.
 #[derive(Drop)]
-pub(crate) enum Seat<'a> {
+pub(crate) enum Place<'a> {
     /// In a thread.
     There(PromisedHandle<Returned, OfNode>),
     /// By the caller.
@@ -39,9 +39,9 @@ pub(crate) enum Seat<'a> {
     Over(Left),
 }
 
-/// The seat of a node before its first slot: a thread of the scope, where one can be started. The flag of the node's position is set where
+/// The place of a node before its first slot: a thread of the scope, where one can be started. The flag of the node's position is set where
 /// none can.
-pub(crate) fn seat_of<'s, E, R: Wait + Sync, G: Gate>(
+pub(crate) fn place_of<'s, E, R: Wait + Sync, G: Gate>(
     scope: &Scope<'s, E>,
     rt: &'s R,
     lanes: &'s Lanes,
@@ -49,11 +49,11 @@ pub(crate) fn seat_of<'s, E, R: Wait + Sync, G: Gate>(
     gate: &'s G,
     node: Fresh,
     limit: u32,
-) -> Seat<'s>
+) -> Place<'s>
     requires fresh { IsFresh lanes.now node }
     requires limit { node.runner.horizon.limit ≡ limit }
     requires flag { node.runner.node < length refused.now.items }
-    ensures seat { IsSeat lanes.now limit node.runner.node result }
+    ensures place { IsPlace lanes.now limit node.runner.node result }
     ensures ready { IsReady result }
 {
     let at = node.runner.node();
@@ -70,46 +70,46 @@ pub(crate) fn seat_of<'s, E, R: Wait + Sync, G: Gate>(
             ensures { IsReturned lanes.entry.now node.runner.horizon.limit node.runner.node result }
         { run_node(rt, lanes, refused, gate, node) },
     ) {
-        Ok(handle) => Seat::There(handle),
+        Ok(handle) => Place::There(handle),
         Err(back) => {
             // The closure gives the node back where it finds this.
             refused.store(true, Ordering::SeqCst);
             match (back.value)() {
-                Returned::Unstarted(node) => Seat::Here(Here::new(lanes, node)),
-                Returned::Ran(left) => Seat::Over(left),
+                Returned::Unstarted(node) => Place::Here(Here::new(lanes, node)),
+                Returned::Ran(left) => Place::Over(left),
             }
         }
     }
 }
 
-impl<'a> Seat<'a> {
-    ghost use Rattle.worker_threads.specs.Team.{IsReady, IsSeat};
+impl<'a> Place<'a> {
+    ghost use Rattle.worker_threads.specs.Team.{IsReady, IsPlace};
 
     /// Takes a turn of a node that is run by the caller, and tells whether its run goes on.
     pub(crate) fn turn<R: Wait, G: Gate>(&mut self, rt: &R, gate: &G) -> bool
         requires ready { IsReady self.old }
         ensures ready { IsReady self.new }
-        ensures stays { (cells : CellsRec) (limit : Slot) (n : Position) → IsSeat cells limit n self.old → IsSeat cells limit n self.new }
+        ensures stays { (cells : CellsRec) (limit : Slot) (n : Position) → IsPlace cells limit n self.old → IsPlace cells limit n self.new }
     {
         match self {
-            Seat::There(_) | Seat::Over(_) => false,
-            Seat::Here(here) => here.turn(rt, gate),
+            Place::There(_) | Place::Over(_) => false,
+            Place::Here(here) => here.turn(rt, gate),
         }
     }
 
     /// Waits for the end of the node's run, and gives what is left of it.
     pub(crate) fn left<R: Threads + Wait, G: Gate>(self, rt: &R, lanes: &'a Lanes, gate: &G) -> Left
         requires ready { IsReady self }
-        requires seat { (limit : Slot) × (n : Position) × IsSeat lanes.now limit n self }
-        ensures left { (limit : Slot) (n : Position) → IsSeat lanes.now limit n self.entry → IsLeft lanes.now limit n result }
+        requires place { (limit : Slot) × (n : Position) × IsPlace lanes.now limit n self }
+        ensures left { (limit : Slot) (n : Position) → IsPlace lanes.now limit n self.entry → IsLeft lanes.now limit n result }
     {
         match self {
-            Seat::There(handle) => match handle.join(rt) {
+            Place::There(handle) => match handle.join(rt) {
                 Returned::Ran(left) => left,
                 Returned::Unstarted(node) => Here::new(lanes, node).finish(rt, gate),
             },
-            Seat::Here(here) => here.finish(rt, gate),
-            Seat::Over(left) => left,
+            Place::Here(here) => here.finish(rt, gate),
+            Place::Over(left) => left,
         }
     }
 }

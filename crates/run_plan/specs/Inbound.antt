@@ -8,7 +8,7 @@ use Rattle.xs_model.specs.declared.outside.Arrivals.{Arrivals}
 use Rattle.sys_plan.specs.Plan.{PlanRec, incoming, link_ends}
 use Rattle.crossings.specs.declared.crossing.Crossing.{Crossing}
 use Rattle.run_plan.specs.declared.track.Track.{Track}
-use Rattle.run_plan.specs.declared.incoming.TheConstants.{NOTHING}
+use Rattle.run_plan.specs.declared.inbound.TheConstants.{NOTHING}
 use Rattle.crossings.specs.Crossings.{no_crossing}
 
 -- the arcs that come to the link ends of the node at a position
@@ -20,7 +20,7 @@ abbrev pub IsNowhere : Option LinkNumber → Type 0
 IsNowhere link = link ≡ None
 
 -- the arc that comes to each link end, where one does
-pub record IncomingRec : Type 0 where
+pub record InboundRec : Type 0 where
   pub links : List (Option LinkNumber)
 
 -- nothing arrives by the link ends that no arc comes to

@@ -1,18 +1,18 @@
 use Rattle.std.proofs.Common.{◌∙◌, subst}
 use Rattle.plan_cells.specs.Ends.{CellsRec}
-use Rattle.worker_threads.specs.Team.{IsFresh, IsHere, IsSeat}
-use Rattle.worker_threads.proofs.seat.Seat.left.Goals as goal
+use Rattle.worker_threads.specs.Team.{IsFresh, IsHere, IsPlace}
+use Rattle.worker_threads.proofs.place.Place.left.Goals as goal
 
 pub new-requires : goal.new-requires
 new-requires g c =
-    let own = c.requires.seat in
-    let there = subst (IsSeat c.args.lanes.now own.0 own.1) c.in-There.is own.2 in
+    let own = c.requires.place in
+    let there = subst (IsPlace c.args.lanes.now own.0 own.1) c.in-There.is own.2 in
     record { fresh = subst (λ (cells : CellsRec). IsFresh cells c.in-Unstarted.node) there.0 c.in-Unstarted.ensures.fresh }
 
 pub returns-in-Unstarted : goal.returns-in-Unstarted
 returns-in-Unstarted g c = record {
   left = λ limit n is.
-      let there = subst (IsSeat c.args.lanes.now limit n) c.in-There.is is in
+      let there = subst (IsPlace c.args.lanes.now limit n) c.in-There.is is in
       let node = c.in-Unstarted.node in
       let fresh = c.in-Unstarted.ensures in
       c.finish.ensures.left c.args.lanes.now limit n
@@ -21,4 +21,4 @@ returns-in-Unstarted g c = record {
 }
 
 pub returns-in-Here : goal.returns-in-Here
-returns-in-Here g c = record { left = λ limit n is. c.finish-in-Here.ensures.left c.args.lanes.now limit n (subst (IsSeat c.args.lanes.now limit n) c.in-Here.is is) }
+returns-in-Here g c = record { left = λ limit n is. c.finish-in-Here.ensures.left c.args.lanes.now limit n (subst (IsPlace c.args.lanes.now limit n) c.in-Here.is is) }

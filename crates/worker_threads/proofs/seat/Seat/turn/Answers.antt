@@ -1,6 +1,0 @@
-use Rattle.std.proofs.Common.{subst}
-use Rattle.worker_threads.specs.Team.{IsSeat}
-use Rattle.worker_threads.proofs.seat.Seat.turn.Goals as goal
-
-pub returns-in-Here-clause-stays : goal.returns-in-Here-clause-stays
-returns-in-Here-clause-stays g c = λ cells limit n is. c.turn.ensures.stays cells limit n (subst (IsSeat cells limit n) c.in-Here.is is)
