@@ -45,8 +45,7 @@ impl Lanes {
         ensures nodes { IfOk result (λ made. length made.1.items ≡ length plan.now.value.nodes) }
         ensures ends { IfOk result (λ made. (n : Position) (ends : Ends) → slice_get made.1.items n ≡ Some ends → AreNewEnds made.0 n ends) }
     {
-        // What every plan keeps is told where its lists are read.
-        let _links = plan.links();
+        plan.keeps();
         let (cells, ends) = PlanCells::new(alloc, plan)?;
         Ok((Lanes { cells }, ends))
     }

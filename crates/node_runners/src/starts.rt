@@ -19,8 +19,7 @@ pub(crate) fn inlets_of(alloc: Global, plan: &Plan, n: u8) -> Result<Vec<Inlet>,
     ensures fresh { IfOk result (λ v. (end : ℕ) → end < length v.items → inlet_at v.items end ≡ first_inlet plan.now (incoming plan.now n end)) }
     ensures rest { IfOk result (λ v. (end : ℕ) → length v.items ≤ end → end < 8 → incoming plan.now n end ≡ None) }
 {
-    // What every plan keeps is told where its lists are read.
-    let _links = plan.links();
+    plan.keeps();
     let mut inlets = Vec::new(alloc);
     for end in 0..reached_of(plan, n) {
         inlets.push(inlet_of(alloc, plan, plan.incoming(n, end)))?;

@@ -46,6 +46,14 @@ impl Plan {
         }
     }
 
+    /// What every plan keeps, as a law: it does nothing.
+    #[inline]
+    pub fn keeps(&self)
+        ensures plan { IsPlan self.now }
+    {
+        let _ = &self.nodes;
+    }
+
     /// The nodes by ascending number, at most 16.
     pub fn nodes(&self) -> &[NodePlan]
         ensures value { result.now ≡ self.now.nodes }
