@@ -25,3 +25,17 @@ is_quiet (resources.Setclk s x) = false
 is_quiet (resources.Setrdy s x) = false
 is_quiet (resources.Settw s x) = false
 is_quiet _ = true
+
+-- a row on the events of a resource or of the thread that issues
+abbrev pub is_on_events : ResIns → Bool
+is_on_events (resources.Setv s) = true
+is_on_events (resources.Setev s) = true
+is_on_events (resources.Eeu s) = true
+is_on_events (resources.Edu s) = true
+is_on_events (resources.Eet x s) = true
+is_on_events (resources.Eef x s) = true
+is_on_events resources.Clre = true
+is_on_events resources.Waiteu = true
+is_on_events (resources.Waitet x) = true
+is_on_events (resources.Waitef x) = true
+is_on_events _ = false

@@ -1,26 +1,24 @@
-//! The rows on events and interrupts, and the modes. See docs/EVENTS.md.
-ghost use Rattle.std.specs.Prelude.{◌≡◌, ◌<◌, IfSome};
-ghost use Rattle.xs_base.specs.declared.numbers.TheConstants.{THREADS, TIMERS};
+//! The rows on events and interrupts. See docs/EVENTS.md.
+ghost use Rattle.std.specs.Prelude.{◌≡◌, ◌<◌, IfSome, IsTrue};
+ghost use Rattle.xs_base.specs.declared.numbers.TheConstants.{THREADS};
 ghost use Rattle.xs_model.specs.Enabling.{changed};
 ghost use Rattle.event_unit.specs.Ready.{IsRes};
-ghost use Rattle.step_model.specs.Effect.{reg, goes_on};
+ghost use Rattle.step_model.specs.Effect.{Setting, reg, goes_on};
 ghost use Rattle.step_model.specs.Named.{resource_named};
 ghost use Rattle.step_model.specs.EventRows.{eventful, with_changed, sets_events, enables, clears, waits_where};
-ghost use Rattle.step_model.specs.ModeRows.{in_event_mode, timer_in_mode, resource_in_mode, sets_mode};
-ghost use Rattle.xs_model.specs.Outside.{LevelsFit};
-ghost use Rattle.core_units.specs.Ending.{IsEnding};
-ghost use Rattle.core_units.specs.Units.{Ends, EndsWith};
+ghost use Rattle.step_model.specs.ResourceRows.{resources_row};
+ghost use Rattle.xs_instructions.specs.Instr.{ResourcesInRange};
+ghost use Rattle.core_units.specs.Units.{Ends};
 ghost use Rattle.core_units.specs.Named.{IsWithin};
 ghost use Rattle.resource_rows.specs.Changed.{IsChanged};
 ghost use Rattle.resource_rows.specs.Changes.{makes, IsChange};
+ghost use Rattle.resource_rows.specs.Resources.{is_on_events};
 
-use crate::ports::port_in_mode;
-use crate::times::{clock_in_mode, set_after};
 use bitflags::Flags;
-use core_units::{Ending, Units, resource_named};
+use core_units::{Units, resource_named};
 use event_unit::Events;
-use xs_model::modes::{AFTER, EVENT, INTERRUPT, NO_CONDITION};
-use xs_model::{EEBLE, INENB, Outcome, PinView, Res, Resource, Status, WAITING, Wait};
+use xs_instructions::ResIns;
+use xs_model::{EEBLE, INENB, Outcome, Res, Resource, Status, WAITING, Wait};
 
 // The status bits of a thread that takes no events any more, and of one that waits for an event.
 const CLEARED: Status = Status {
@@ -57,10 +55,54 @@ impl Change {
     }
 }
 
+/// A row on the events of a resource or of thread k.
+#[inline]
+pub(crate) fn on_events(units: &mut Units, id: u16, k: u8, ins: ResIns) -> Outcome
+    requires thread { k < THREADS }
+    requires range { ResourcesInRange ins }
+    requires part { IsTrue (is_on_events ins) }
+    ensures row { (here : Setting) → here.id ≡ id → Ends result units.old units.new (resources_row here units.old k ins) }
+{
+    match ins {
+        ResIns::Setv(s) => {
+            let vector = units.reg(k, 11);
+            set_events(units, id, k, s, Change::Vector(vector))
+        }
+        ResIns::Setev(s) => {
+            let environment = units.reg(k, 11);
+            set_events(units, id, k, s, Change::Environment(environment))
+        }
+        ResIns::Eeu(s) => enable(units, id, k, s, true),
+        ResIns::Edu(s) => enable(units, id, k, s, false),
+        ResIns::Eet(x, s) => {
+            let on = units.reg(k, x) != 0;
+            enable(units, id, k, s, on)
+        }
+        ResIns::Eef(x, s) => {
+            let on = units.reg(k, x) == 0;
+            enable(units, id, k, s, on)
+        }
+        ResIns::Clre => {
+            clre(units, k);
+            Outcome::Done
+        }
+        ResIns::Waiteu => wait_where(units, k, true),
+        ResIns::Waitet(x) => {
+            let holds = units.reg(k, x) != 0;
+            wait_where(units, k, holds)
+        }
+        ResIns::Waitef(x) => {
+            let holds = units.reg(k, x) == 0;
+            wait_where(units, k, holds)
+        }
+        _ => unreachable!(),
+    }
+}
+
 // ---- What a resource gives
 
-/// Changes what the channel end, the timer or the port gives that register s names.
-pub(crate) fn set_events(units: &mut Units, id: u16, k: u8, s: u8, change: Change) -> Outcome
+// Changes what the channel end, the timer or the port gives that register s names.
+fn set_events(units: &mut Units, id: u16, k: u8, s: u8, change: Change) -> Outcome
     requires thread { k < THREADS }
     requires source { s < 12 }
     requires change { IsChange change }
@@ -72,8 +114,8 @@ pub(crate) fn set_events(units: &mut Units, id: u16, k: u8, s: u8, change: Chang
     units.end(k, name, made)
 }
 
-/// Enables it for thread k, or disables it.
-pub(crate) fn enable(units: &mut Units, id: u16, k: u8, s: u8, on: bool) -> Outcome
+// Enables it for thread k, or disables it.
+fn enable(units: &mut Units, id: u16, k: u8, s: u8, on: bool) -> Outcome
     requires thread { k < THREADS }
     requires source { s < 12 }
     ensures { Ends result units.old units.new (enables units.old k (reg units.old k s) on (resource_named id (reg units.old k s))) }
@@ -81,8 +123,8 @@ pub(crate) fn enable(units: &mut Units, id: u16, k: u8, s: u8, on: bool) -> Outc
     set_events(units, id, k, s, Change::Enabled(k, on))
 }
 
-// What may give events and is in use.
-fn eventful(units: &Units, named: Option<Resource>) -> Option<Res>
+/// What may give events and is in use.
+pub(crate) fn eventful(units: &Units, named: Option<Resource>) -> Option<Res>
     requires { IfSome named IsWithin }
     ensures value { result ≡ eventful units.now named }
     ensures within { IfSome result IsRes }
@@ -95,8 +137,8 @@ fn eventful(units: &Units, named: Option<Resource>) -> Option<Res>
     }
 }
 
-// Changes what it gives, where there is something that gives it.
-fn change_given(units: &mut Units, resource: Option<Res>, change: Change) -> bool
+/// Changes what it gives, where there is something that gives it.
+pub(crate) fn change_given(units: &mut Units, resource: Option<Res>, change: Change) -> bool
     requires resource { IfSome resource IsRes }
     requires change { IsChange change }
     ensures { IsChanged result units.old units.new (with_changed units.old (makes change) resource) }
@@ -108,75 +150,10 @@ fn change_given(units: &mut Units, resource: Option<Res>, change: Change) -> boo
     true
 }
 
-// ---- `setc`
-
-/// Puts what register s names into a mode.
-pub(crate) fn set_mode(
-    units: &mut Units,
-    id: u16,
-    k: u8,
-    s: u8,
-    mode: u32,
-    pins: &PinView,
-) -> Ending
-    requires thread { k < THREADS }
-    requires source { s < 12 }
-    requires levels { LevelsFit pins.now.level }
-    ensures within { IsEnding result }
-    ensures row { EndsWith result units.old units.new (sets_mode units.old k (reg units.old k s) mode (resource_named id (reg units.old k s))) }
-{
-    let name = units.reg(k, s);
-    let named = resource_named(id, name);
-    match named {
-        Some(Resource::Port { port }) => port_in_mode(units, k, name, port, mode, pins),
-        _ => {
-            let set = resource_in_mode(units, mode, named);
-            Ending::Quietly(units.end(k, name, set))
-        }
-    }
-}
-
-// A resource other than a port is in a mode, where its kind has that mode.
-fn resource_in_mode(units: &mut Units, mode: u32, named: Option<Resource>) -> bool
-    requires { IfSome named IsWithin }
-    ensures { IsChanged result units.old units.new (resource_in_mode units.old mode named) }
-{
-    match named {
-        Some(Resource::Chan { .. }) => in_event_mode(units, mode, named),
-        Some(Resource::Timer { timer }) => timer_in_mode(units, timer, mode),
-        Some(Resource::Clock { clock }) => clock_in_mode(units, clock, mode),
-        _ => false,
-    }
-}
-
-fn timer_in_mode(units: &mut Units, timer: u8, mode: u32) -> bool
-    requires { timer < TIMERS }
-    ensures { IsChanged result units.old units.new (timer_in_mode units.old timer mode) }
-{
-    match mode {
-        NO_CONDITION => set_after(units, timer, false),
-        AFTER => set_after(units, timer, true),
-        _ => in_event_mode(units, mode, Some(Resource::Timer { timer })),
-    }
-}
-
-/// In the modes of what may give events.
-pub(crate) fn in_event_mode(units: &mut Units, mode: u32, named: Option<Resource>) -> bool
-    requires { IfSome named IsWithin }
-    ensures { IsChanged result units.old units.new (in_event_mode units.old mode (eventful units.old named)) }
-{
-    let resource = eventful(units, named);
-    match mode {
-        EVENT => change_given(units, resource, Change::Interrupts(false)),
-        INTERRUPT => change_given(units, resource, Change::Interrupts(true)),
-        _ => false,
-    }
-}
-
 // ---- The thread's own events
 
-/// Thread k takes no more events, disables what it enabled and gives events, and goes on.
-pub(crate) fn clre(units: &mut Units, k: u8)
+// Thread k takes no more events, disables what it enabled and gives events, and goes on.
+fn clre(units: &mut Units, k: u8)
     requires { k < THREADS }
     ensures { units.new ≡ goes_on (clears units.old k) k }
 {
@@ -185,8 +162,8 @@ pub(crate) fn clre(units: &mut Units, k: u8)
     units.go_on(k);
 }
 
-/// Thread k takes events and waits for one, where something holds; else it goes on.
-pub(crate) fn wait_where(units: &mut Units, k: u8, holds: bool) -> Outcome
+// Thread k takes events and waits for one, where something holds; else it goes on.
+fn wait_where(units: &mut Units, k: u8, holds: bool) -> Outcome
     requires { k < THREADS }
     ensures { Ends result units.old units.new (waits_where units.old k holds) }
 {

@@ -6,6 +6,7 @@ mod actions;
 mod chans;
 mod events;
 mod locks;
+mod modes;
 mod port_ends;
 mod ports;
 mod resources;

@@ -1,29 +1,23 @@
 //! The rows on ports. See docs/PORTS.md.
-ghost use Rattle.std.specs.Prelude.{◌≡◌, ◌<◌, ◌≤◌, ◌⊎◌, IfSome};
+ghost use Rattle.std.specs.Prelude.{◌≡◌, ◌<◌, ◌≤◌, IfSome};
 ghost use Rattle.xs_base.specs.Numbers.{Word};
 ghost use Rattle.xs_base.specs.declared.numbers.TheConstants.{THREADS, PORTS};
 ghost use Rattle.xs_base.specs.Ids.{port_with};
-ghost use Rattle.xs_model.specs.declared.modes.TheConstants.{OFF, ON};
-ghost use Rattle.xs_model.specs.declared.resource.Res.TheVariants as res;
-ghost use Rattle.xs_model.specs.Record.{PortRec, port_of, with_enabled};
-ghost use Rattle.xs_model.specs.Enabling.{forgotten};
+ghost use Rattle.xs_model.specs.Record.{PortRec, port_of};
 ghost use Rattle.xs_model.specs.Outside.{LevelsFit};
 ghost use Rattle.step_model.specs.Effect.{reg};
 ghost use Rattle.step_model.specs.PortRows.{at_port, at_named_port, takes_no_word, goes_on_taking, clock_named, sets_clock, sets_strobe};
-ghost use Rattle.step_model.specs.ModeRows.{port_in_mode, turns_port};
 ghost use Rattle.core_units.specs.Ending.{IsEnding};
 ghost use Rattle.core_units.specs.Units.{EndsWith};
 ghost use Rattle.buffered_ports.specs.Asks.{asked, wait_of, IsAsk, IsClock};
 ghost use Rattle.resource_rows.specs.Ports.{taking, IsTakes, acts, would_wait};
 
-use crate::events::in_event_mode;
 use crate::port_ends::{done, pause};
 use buffered_ports::{Ask, Reply};
 use core_units::{Ending, Units, illegal, resource_named};
 use xs_base::{port_of, shl, shr};
-use xs_model::modes::{EVENT, INTERRUPT, OFF, ON};
 use xs_model::traps::RESOURCE_DEPENDENCY;
-use xs_model::{Clock, Outcome, PinView, Res, Resource};
+use xs_model::{Clock, Outcome, PinView, Resource};
 
 // The word by which `setclk` names the reference clock.
 const REFERENCE: u32 = 1;
@@ -189,57 +183,4 @@ pub(crate) fn set_strobe(units: &mut Units, k: u8, s: u8, x: u8, pins: &PinView)
         Some(port) => on_port(units, k, s, Takes::Nothing, Ask::Strobe(Some(port)), pins),
         None => Ending::Quietly(illegal(units.reg(k, s))),
     }
-}
-
-// ---- `setc` on a port
-
-/// A port, which the word `name` names, is in a mode, where it has that mode.
-pub(crate) fn port_in_mode(
-    units: &mut Units,
-    k: u8,
-    name: u32,
-    port: u8,
-    mode: u32,
-    pins: &PinView,
-) -> Ending
-    requires thread { k < THREADS }
-    requires within { port < PORTS }
-    requires levels { LevelsFit pins.now.level }
-    ensures within { IsEnding result }
-    ensures row { EndsWith result units.old units.new (port_in_mode units.old k name port mode) }
-{
-    match mode {
-        EVENT | INTERRUPT => {
-            let set = in_event_mode(units, mode, Some(Resource::Port { port }));
-            Ending::Quietly(units.end(k, name, set))
-        }
-        OFF | ON => turn_port(units, k, name, port, mode, pins),
-        _ => at_port(units, k, name, port, Takes::Nothing, Ask::Mode(mode), pins),
-    }
-}
-
-// A port is turned on or off, while no thread is paused on it.
-fn turn_port(units: &mut Units, k: u8, name: u32, port: u8, mode: u32, pins: &PinView) -> Ending
-    requires thread { k < THREADS }
-    requires within { port < PORTS }
-    requires levels { LevelsFit pins.now.level }
-    requires turn { (mode ≡ OFF) ⊎ (mode ≡ ON) }
-    ensures within { IsEnding result }
-    ensures row { EndsWith result units.old units.new (turns_port units.old k name port mode) }
-{
-    if units.is_paused_on(Resource::Port { port }) {
-        return Ending::Quietly(illegal(name));
-    }
-    if mode == OFF && units.ports.on(port) {
-        forget_port(units, port);
-    }
-    at_port(units, k, name, port, Takes::Nothing, Ask::Mode(mode), pins)
-}
-
-// What was set of a port's events is forgotten.
-fn forget_port(units: &mut Units, port: u8)
-    requires { port < PORTS }
-    ensures { units.new ≡ with_enabled units.old (forgotten units.old.enabled (res.Port port)) }
-{
-    units.events.forget(Res::Port(port));
 }

@@ -19,8 +19,9 @@ ghost use Rattle.resource_rows.specs.Changed.{IsChanged};
 
 use crate::actions::Action;
 use crate::chans::{at_chan, got_chan, on_chan};
-use crate::events::{Change, clre, enable, set_events, set_mode, wait_where};
+use crate::events::on_events;
 use crate::locks::{claim, release};
+use crate::modes::set_mode;
 use crate::ports::{Takes, at_port, on_port, set_clock, set_strobe};
 use crate::times::{set_data, take_time, tell_data};
 use buffered_ports::Ask;
@@ -88,7 +89,8 @@ pub fn on_resources<H: Holders>(
     }
 }
 
-// The rows that no port takes part in, but for those on its events.
+// The rows that no port takes part in, but for those on its events: first those that get and free resources, and those on the
+// tokens of channel ends.
 fn on_other_resources<H: Holders>(
     units: &mut Units,
     id: u16,
@@ -127,38 +129,7 @@ fn on_other_resources<H: Holders>(
         ResIns::ChkctImm(s, i) => on_chan(units, id, k, s, Action::Check(u32::from(i)), None),
         ResIns::Testct(d, s) => on_chan(units, id, k, s, Action::Look, Some(d)),
         ResIns::Testwct(d, s) => on_chan(units, id, k, s, Action::LookWord, Some(d)),
-        ResIns::Setv(s) => {
-            let vector = units.reg(k, 11);
-            set_events(units, id, k, s, Change::Vector(vector))
-        }
-        ResIns::Setev(s) => {
-            let environment = units.reg(k, 11);
-            set_events(units, id, k, s, Change::Environment(environment))
-        }
-        ResIns::Eeu(s) => enable(units, id, k, s, true),
-        ResIns::Edu(s) => enable(units, id, k, s, false),
-        ResIns::Eet(x, s) => {
-            let on = units.reg(k, x) != 0;
-            enable(units, id, k, s, on)
-        }
-        ResIns::Eef(x, s) => {
-            let on = units.reg(k, x) == 0;
-            enable(units, id, k, s, on)
-        }
-        ResIns::Clre => {
-            clre(units, k);
-            Outcome::Done
-        }
-        ResIns::Waiteu => wait_where(units, k, true),
-        ResIns::Waitet(x) => {
-            let holds = units.reg(k, x) != 0;
-            wait_where(units, k, holds)
-        }
-        ResIns::Waitef(x) => {
-            let holds = units.reg(k, x) == 0;
-            wait_where(units, k, holds)
-        }
-        _ => unreachable!(),
+        _ => on_events(units, id, k, ins),
     }
 }
 

@@ -1,15 +1,14 @@
 //! `in` on a timer, and what is set and told of timers and clock blocks, and by the same rows of channel ends and ports. See
 //! docs/TIME.md.
-ghost use Rattle.std.specs.Prelude.{◌<◌, option_map};
+ghost use Rattle.std.specs.Prelude.{◌<◌};
 ghost use Rattle.xs_base.specs.declared.numbers.TheConstants.{THREADS, TIMERS, CLOCK_BLOCKS};
 ghost use Rattle.xs_model.specs.Record.{timer_of, clock_of};
-ghost use Rattle.xs_model.specs.Time.{with_value, with_after, divided_by, started};
+ghost use Rattle.xs_model.specs.Time.{with_value, divided_by};
 ghost use Rattle.xs_model.specs.Outside.{LevelsFit};
 ghost use Rattle.step_model.specs.Effect.{reg};
 ghost use Rattle.step_model.specs.Named.{resource_named};
 ghost use Rattle.step_model.specs.TimeRows.{timer_becomes, clock_becomes, takes_time};
 ghost use Rattle.step_model.specs.ResourceRows.{sets_data, tells_data};
-ghost use Rattle.step_model.specs.ModeRows.{clock_in_mode, with_restarted};
 ghost use Rattle.core_units.specs.Ending.{IsEnding};
 ghost use Rattle.core_units.specs.Units.{Ends, EndsWith};
 ghost use Rattle.resource_rows.specs.Changed.{IsChanged};
@@ -20,8 +19,7 @@ use crate::ports::{Takes, at_port};
 use buffered_ports::Ask;
 use core_units::{Ending, Units, illegal, resource_named};
 use timers_clocks::Timers;
-use xs_model::modes::{OFF, ON, START, STOP};
-use xs_model::{Clock, Outcome, PinView, Resource, Wait};
+use xs_model::{Outcome, PinView, Resource, Wait};
 
 /// Thread k takes the time into register d, or waits until the condition of a timer, which the word `name` names,
 /// holds.
@@ -108,47 +106,10 @@ fn set_value(units: &mut Units, timer: u8, value: u32) -> bool
     units.timers.set_value(timer, value).is_ok()
 }
 
-/// A timer has the condition, or has none, where it is in use.
-pub(crate) fn set_after(units: &mut Units, timer: u8, on: bool) -> bool
-    requires { timer < TIMERS }
-    ensures { IsChanged result units.old units.new (timer_becomes units.old timer (with_after on (timer_of units.old timer))) }
-{
-    units.timers.set_after(timer, on).is_ok()
-}
-
 // A clock block takes a divider, where it may.
 fn set_divider(units: &mut Units, clock: u8, divider: u32) -> bool
     requires { clock < CLOCK_BLOCKS }
     ensures { IsChanged result units.old units.new (clock_becomes units.old clock (divided_by divider (clock_of units.old clock))) }
 {
     units.clocks.set_div(clock, divider).is_ok()
-}
-
-/// A clock block is turned on or off, starts or stops, where it may.
-pub(crate) fn clock_in_mode(units: &mut Units, clock: u8, mode: u32) -> bool
-    requires { clock < CLOCK_BLOCKS }
-    ensures { IsChanged result units.old units.new (clock_in_mode units.old clock mode) }
-{
-    match mode {
-        ON => {
-            units.clocks.turn_on(clock);
-            true
-        }
-        OFF => units.clocks.turn_off(clock).is_ok(),
-        START => start_clock(units, clock),
-        STOP => units.clocks.stop(clock).is_ok(),
-        _ => false,
-    }
-}
-
-// A clock block starts, where it is on, and restarts the counters of the ports that go by it.
-fn start_clock(units: &mut Units, clock: u8) -> bool
-    requires { clock < CLOCK_BLOCKS }
-    ensures { IsChanged result units.old units.new (option_map (with_restarted clock) (clock_becomes units.old clock (started (clock_of units.old clock)))) }
-{
-    if units.clocks.start(clock).is_err() {
-        return false;
-    }
-    units.ports.restart(Clock::Block(clock));
-    true
 }
