@@ -1,9 +1,11 @@
 //! The rows, by `alu`: each reads its operands, works on words, and then writes what comes of it.
-ghost use Rattle.std.specs.Prelude.{◌≡◌, ◌<◌, ℕ, Bool, Some, None, if◌then◌else◌};
+ghost use Rattle.std.specs.Prelude.{◌≡◌, ◌<◌, ℕ, Bool, IsTrue, Some, None, if◌then◌else◌};
+ghost use Rattle.xs_instructions.specs.declared.rows.Row.TheVariants as row;
 ghost use Rattle.xs_instructions.specs.Instr.{WordsInRange};
 ghost use Rattle.step_model.specs.Outcomes.{EndsAs, IsDoneOrTraps};
 ghost use Rattle.xs_model.specs.Threads.{register};
-ghost use Rattle.alu_unit.specs.Ends.{TrapsAsArithmetic};
+ghost use Rattle.alu_unit.specs.Ends.{TrapsAsArithmetic, IsRow};
+ghost use Rattle.alu_unit.specs.Parts.{stands_after};
 ghost use Rattle.step_model.specs.WordRows.{words_row, sets, sets_two, divides, divides_long};
 
 use crate::words::{divs, divu, lss, maccs, maccu, rems, remu};
@@ -41,6 +43,18 @@ pub fn alu(thread: &mut Thread, ins: WordIns) -> Outcome
         WordIns::Or(d, x, y) => set(thread, d, get(thread, x) | get(thread, y)),
         WordIns::Xor(d, x, y) => set(thread, d, get(thread, x) ^ get(thread, y)),
         WordIns::AndNot(d, x) => set(thread, d, get(thread, d) & !get(thread, x)),
+        _ => compare_or_shift(thread, ins),
+    }
+}
+
+// From `eq` on: comparisons and shifts, and the parts that follow.
+#[inline]
+fn compare_or_shift(thread: &mut Thread, ins: WordIns) -> Outcome
+    requires range { WordsInRange ins }
+    requires part { IsTrue (stands_after row.AndNot ins) }
+    ensures { IsRow result thread.old thread.new (words_row thread.old ins) }
+{
+    match ins {
         WordIns::Eq(d, x, y) => set(thread, d, u32::from(get(thread, x) == get(thread, y))),
         WordIns::EqImm(d, x, i) => set(thread, d, u32::from(get(thread, x) == u32::from(i))),
         WordIns::Lss(d, x, y) => set(thread, d, lss(get(thread, x), get(thread, y))),
@@ -51,11 +65,35 @@ pub fn alu(thread: &mut Thread, ins: WordIns) -> Outcome
         WordIns::ShrImm(d, x, b) => set(thread, d, shr(get(thread, x), u32::from(b))),
         WordIns::Ashr(d, x, y) => set(thread, d, ashr(get(thread, x), get(thread, y))),
         WordIns::AshrImm(d, x, b) => set(thread, d, ashr(get(thread, x), u32::from(b))),
+        _ => multiply_or_divide(thread, ins),
+    }
+}
+
+// From `mul` on: products, quotients and what is left of them, and the parts that follow.
+#[inline]
+fn multiply_or_divide(thread: &mut Thread, ins: WordIns) -> Outcome
+    requires range { WordsInRange ins }
+    requires part { IsTrue (stands_after row.AshrImm ins) }
+    ensures { IsRow result thread.old thread.new (words_row thread.old ins) }
+{
+    match ins {
         WordIns::Mul(d, x, y) => set(thread, d, get(thread, x).wrapping_mul(get(thread, y))),
         WordIns::Divu(d, x, y) => divide(thread, d, divu(get(thread, x), get(thread, y))),
         WordIns::Remu(d, x, y) => divide(thread, d, remu(get(thread, x), get(thread, y))),
         WordIns::Divs(d, x, y) => divide(thread, d, divs(get(thread, x), get(thread, y))),
         WordIns::Rems(d, x, y) => divide(thread, d, rems(get(thread, x), get(thread, y))),
+        _ => mask_or_count(thread, ins),
+    }
+}
+
+// From `mkmsk` on: masks, words of fewer bits and the order of bits, and the part that follows.
+#[inline]
+fn mask_or_count(thread: &mut Thread, ins: WordIns) -> Outcome
+    requires range { WordsInRange ins }
+    requires part { IsTrue (stands_after row.Rems ins) }
+    ensures { IsRow result thread.old thread.new (words_row thread.old ins) }
+{
+    match ins {
         WordIns::Mkmsk(d, x) => set(thread, d, mkmsk(get(thread, x))),
         WordIns::MkmskImm(d, b) => set(thread, d, mkmsk(u32::from(b))),
         WordIns::Sext(d, x) => set(thread, d, sext(get(thread, d), get(thread, x))),
@@ -65,6 +103,18 @@ pub fn alu(thread: &mut Thread, ins: WordIns) -> Outcome
         WordIns::Bitrev(d, x) => set(thread, d, bitrev(get(thread, x))),
         WordIns::Byterev(d, x) => set(thread, d, byterev(get(thread, x))),
         WordIns::Clz(d, x) => set(thread, d, clz(get(thread, x))),
+        _ => on_two_words(thread, ins),
+    }
+}
+
+// From `ladd` on: numbers of two words, and the last two rows.
+#[inline]
+fn on_two_words(thread: &mut Thread, ins: WordIns) -> Outcome
+    requires range { WordsInRange ins }
+    requires part { IsTrue (stands_after row.Clz ins) }
+    ensures { IsRow result thread.old thread.new (words_row thread.old ins) }
+{
+    match ins {
         WordIns::Ladd(d, e, x, y, v) => {
             let both = add_carry(get(thread, x), get(thread, y), get(thread, v));
             set_two(thread, d, e, both)
@@ -94,6 +144,7 @@ pub fn alu(thread: &mut Thread, ins: WordIns) -> Outcome
         }
         WordIns::Ldc(d, u) => set(thread, d, u32::from(u)),
         WordIns::Nop => Outcome::Done,
+        _ => unreachable!(),
     }
 }
 
@@ -110,10 +161,7 @@ fn get(thread: &Thread, x: u8) -> u32
 #[inline]
 fn set(thread: &mut Thread, d: u8, word: u32) -> Outcome
     requires { d < 12 }
-    ensures row { EndsAs result thread.old thread.new (sets thread.old d word) }
-    ensures ends { IsDoneOrTraps result thread.old thread.new }
-    ensures trap { TrapsAsArithmetic result }
-    ensures stays { thread.new ≡ record thread.old { r = thread.new.r } }
+    ensures { IsRow result thread.old thread.new (sets thread.old d word) }
 {
     thread.r[d as usize] = word;
     Outcome::Done
@@ -124,10 +172,7 @@ fn set(thread: &mut Thread, d: u8, word: u32) -> Outcome
 fn set_two(thread: &mut Thread, d: u8, e: u8, both: (u32, u32)) -> Outcome
     requires left { d < 12 }
     requires right { e < 12 }
-    ensures row { EndsAs result thread.old thread.new (sets_two thread.old d e both) }
-    ensures ends { IsDoneOrTraps result thread.old thread.new }
-    ensures trap { TrapsAsArithmetic result }
-    ensures stays { thread.new ≡ record thread.old { r = thread.new.r } }
+    ensures { IsRow result thread.old thread.new (sets_two thread.old d e both) }
 {
     thread.r[d as usize] = both.0;
     thread.r[e as usize] = both.1;
@@ -155,10 +200,7 @@ fn divide(thread: &mut Thread, d: u8, quotient: Option<u32>) -> Outcome
 fn divide_long(thread: &mut Thread, d: u8, e: u8, both: Option<(u32, u32)>) -> Outcome
     requires left { d < 12 }
     requires right { e < 12 }
-    ensures row { EndsAs result thread.old thread.new (divides_long thread.old d e both) }
-    ensures ends { IsDoneOrTraps result thread.old thread.new }
-    ensures trap { TrapsAsArithmetic result }
-    ensures stays { thread.new ≡ record thread.old { r = thread.new.r } }
+    ensures { IsRow result thread.old thread.new (divides_long thread.old d e both) }
 {
     match both {
         None => NO_QUOTIENT,
