@@ -6,7 +6,7 @@ use Rattle.xs_base.specs.declared.token.Token.TheVariants.{Byte, Ctrl}
 use Rattle.xs_model.specs.declared.thread.Thread.{Thread}
 use Rattle.xs_model.specs.declared.thread.Run.TheVariants.{Paused}
 use Rattle.xs_model.specs.declared.thread.Wait.{Wait}
-use Rattle.xs_model.specs.declared.thread.Wait.TheVariants.{Room, Tokens}
+use Rattle.xs_model.specs.declared.thread.Wait.TheVariants.{Room, Tokens, Divider}
 use Rattle.xs_model.specs.declared.event.Event.{Event}
 use Rattle.xs_model.specs.declared.event.Happen.TheVariants as happen
 use Rattle.xs_model.specs.declared.outside.Arrivals.{Arrivals}
@@ -203,6 +203,8 @@ pub record WorkedDependency : Type 0 where
   pub other_side : (thread_in_1 outct_end (two_threads (Tokens 0 1) (far_chan eight_bytes []))).run ≡ Paused (Room 0 1)
   pub side_of_room : (thread_in_1 chkct_end (two_threads (Room 0 1) (far_chan eight_bytes []))).run ≡ Paused (Tokens 0 1)
   pub other_chan : (thread_in_1 chkct_end (two_threads (Tokens 1 1) got_chan)).run ≡ Paused (Tokens 0 1)
+  -- one that waits for the divider waits at no thing
+  pub divider : (thread_in_1 chkct_end (two_threads Divider got_chan)).run ≡ Paused (Tokens 0 1)
   -- a channel end without a destination is refused first, and a thread that need not wait goes on
   pub refused_first : events_in_1 outct_end (two_threads (Room 0 1) (record got_chan { output = eight_bytes })) ≡ traps_in_1 4 own_id
   pub need_not_wait : (thread_in_1 chkct_end (two_threads (Tokens 0 4) (record got_chan { input = Ctrl 1 ∷ [] }))).pc ≡ 0x00040004

@@ -5,7 +5,7 @@ use Rattle.xs_model.specs.declared.thread.Thread.{Thread}
 use Rattle.xs_model.specs.declared.thread.Run.{Run}
 use Rattle.xs_model.specs.declared.thread.Run.TheVariants.{Free, Unstarted, AtSync, Going, Halted, Paused}
 use Rattle.xs_model.specs.declared.thread.Wait.{Wait}
-use Rattle.xs_model.specs.declared.thread.Wait.TheVariants.{Room, Tokens, PortFull, Timer, Lock, Slaves, Choice}
+use Rattle.xs_model.specs.declared.thread.Wait.TheVariants.{Room, Tokens, PortFull, Timer, Lock, Slaves, Choice, Divider}
 use Rattle.xs_model.specs.declared.event.Event.{Event}
 use Rattle.xs_model.specs.declared.event.Happen.TheVariants as happen
 use Rattle.xs_model.specs.Status.{status}
@@ -33,11 +33,12 @@ given interrupt vector = record { vector = vector; environment = 44; interrupt =
 
 -- Channel end 0 has a token, and gives this. Nothing that thread 0 may wait for holds: channel end 1 has no token; the
 -- output of channel end 2 is full, and goes to channel end 3, which is full; the condition of timer 1 does not hold; thread
--- 1 owns lock 2; and a slave of synchroniser 1 is halted.
+-- 1 owns lock 2; a slave of synchroniser 1 is halted; and the core divided in slot 8.
 abbrev pub stuck : EnablingRec → Thread → NodeRec
 stuck e mine = with_state (record start {
   core = record start.core {
     threads = mine ∷ replicate 7 (other Halted);
+    slots = record start.core.slots { division = Some 8 };
     chans = record got_chan { input = Byte 5 ∷ [] } ∷ got_chan ∷ record got_chan { dest = Some 0x302; output = replicate 8 (Byte 6) } ∷
         record got_chan { input = replicate 8 (Byte 7) } ∷ replicate 28 unused_chan;
     timers = replicate 10 (timer 2 true);
@@ -85,6 +86,7 @@ pub record WorkedPauses : Type 0 where
   pub lock : Ends (Lock 2)
   pub slaves : Ends (Slaves 1)
   pub choice : Ends Choice
+  pub divider : Ends Divider
 
 -- nothing is taken for a thread that does this, with all bits of its status
 abbrev pub TakesNothing : Run → Type 0

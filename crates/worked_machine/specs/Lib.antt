@@ -19,6 +19,7 @@ pub mod Tokens
 pub mod Time
 pub mod Timers
 pub mod Modes
+pub mod Nets
 pub mod Events
 pub mod EventRows
 pub mod Choices

@@ -65,10 +65,17 @@ next th = record th { pc = 0x00040004 }
 
 -- ---- Nodes, and slot 10 of them
 
--- a node of which nobody issued yet, with these threads, synchronisers and locks, and channel end 0 in use
+-- a node of which nobody issued yet and whose core divided in slot 8, with these threads, synchronisers and locks, and channel
+-- end 0 in use
 abbrev pub team : List Thread → List SyncRec → List LockRec → NodeRec
 team threads syncs locks = record start {
-  core = record start.core { threads = threads; chans = got_chan ∷ replicate 31 unused_chan; syncs = syncs; locks = locks };
+  core = record start.core {
+    threads = threads;
+    slots = record start.core.slots { division = Some 8 };
+    chans = got_chan ∷ replicate 31 unused_chan;
+    syncs = syncs;
+    locks = locks;
+  };
 }
 
 -- synchroniser 1 is thread 0's and has these slaves; 6 is thread 0's and 2 is thread 1's, without slaves
@@ -100,9 +107,9 @@ crowd_named name = crowd (with_three name 7 0) (other Free)
 abbrev pub in_10 : Instr → NodeRec → Stepped
 in_10 ins rec = slot_of (ins ∷ []) rec 10
 
--- nothing happened, the node is this one, and these are the last issues
+-- nothing happened, the node is this one, and these are the last issues; it divided last where this one did
 abbrev pub leaves : List (Option Slot) → NodeRec → Stepped
-leaves last rec = idle (record rec { core = record rec.core { slots = never_divided last } })
+leaves last rec = idle (record rec { core = record rec.core { slots = record rec.core.slots { last = last } } })
 
 -- thread 0 alone issued, or thread 3 or 7 was got too
 abbrev pub by_0 : List (Option Slot)

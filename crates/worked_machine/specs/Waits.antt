@@ -1,18 +1,24 @@
--- What waits hold and at which thing a thread waits, worked out by hand, for rows that are not built yet too; and the
--- levels of pins that a port drives.
-use Rattle.std.specs.Prelude.{ℕ, ◌≡◌, Bool, true, false, Some, None, List, [], ◌∷◌, ◌++◌, replicate, slice_set}
+-- What waits hold and at which thing a thread waits, worked out by hand, for rows that are not built yet too; when
+-- the divider is free for a thread; and the levels of pins that a port drives.
+use Rattle.std.specs.Prelude.{ℕ, ◌≡◌, Bool, true, false, Option, Some, None, List, [], ◌∷◌, ◌++◌, replicate, slice_set}
+use Rattle.xs_base.specs.Numbers.{Slot}
 use Rattle.xs_base.specs.declared.token.Token.{Token}
 use Rattle.xs_base.specs.declared.token.Token.TheVariants.{Byte, Ctrl}
 use Rattle.xs_model.specs.declared.outside.PinView.{PinView}
+use Rattle.xs_model.specs.declared.thread.Thread.{Thread}
 use Rattle.xs_model.specs.declared.thread.Run.{Run}
 use Rattle.xs_model.specs.declared.thread.Run.TheVariants.{Unstarted, AtSync, Going, Paused, Halted}
 use Rattle.xs_model.specs.declared.thread.Wait.{Wait}
-use Rattle.xs_model.specs.declared.thread.Wait.TheVariants.{Room, Tokens, PortFull, PortEmpty, PortIdle, Timer, Lock, Slaves, Choice}
+use Rattle.xs_model.specs.declared.thread.Wait.TheVariants.{Room, Tokens, PortFull, PortEmpty, PortIdle, Timer, Lock, Slaves, Choice, Divider}
 use Rattle.xs_model.specs.Threads.{fresh_thread}
-use Rattle.xs_model.specs.Record.{CoreRec, PortRec, TransferRec, unused_chan, off_port, with_thread, with_chan}
+use Rattle.xs_model.specs.Record.{CoreRec, NodeRec, PortRec, TransferRec, SlotsRec, unused_chan, off_port, free_thread, thread_of, with_thread, with_chan, with_last}
 use Rattle.xs_model.specs.Waits.{holds, is_waited_at}
-use Rattle.worked_machine.specs.Slots.{start, node_of_code, no_arrivals}
+use Rattle.xs_model.specs.Picks.{eligible}
+use Rattle.step_model.specs.Effect.{Pause, pauses_at}
+use Rattle.step_model.specs.ThreadRows.{with_got_thread}
 use Rattle.step_model.specs.Step.{node_step}
+use Rattle.worked_machine.specs.Slots.{start, first, idle, slot_of, one_nop, node_of_code, no_arrivals}
+use Rattle.worked_machine.specs.Turns.{nobody, issuers_from}
 
 -- a timer with the condition after x: whether it holds in slots 16 to 19, whose time is 4
 abbrev pub after_holds : ℕ → ℕ → Bool
@@ -85,6 +91,53 @@ pub record WorkedThings : Type 0 where
   pub locks : is_there (Lock 3) (Lock 3) ≡ false
   pub slaves : is_there (Slaves 3) (Slaves 3) ≡ false
   pub choices : is_there Choice Choice ≡ false
+  pub dividers : is_there Divider Divider ≡ false
+  pub divider_and_lock : is_there Divider (Lock 0) ≡ false
+  pub timer_and_divider : is_there (Timer 0) Divider ≡ false
+
+-- ---- The divider
+
+-- a thread that waits for it
+abbrev pub at_divider : Thread
+at_divider = record first { run = Paused Divider }
+
+-- threads 0 and 1 do, and no other is there; the core divided last in this slot, or never
+abbrev pub divided : Option Slot → NodeRec
+divided division = record start {
+  core = record start.core {
+    threads = at_divider ∷ at_divider ∷ replicate 6 free_thread;
+    slots = record start.core.slots { division = division };
+  };
+}
+
+abbrev pub in_8 : NodeRec
+in_8 = divided (Some 8)
+
+-- the last issues, and the division in slot 8
+abbrev pub last_and_8 : List (Option Slot) → SlotsRec
+last_and_8 last = record { last = last; division = Some 8 }
+
+pub record WorkedDivider : Type 0 where
+  -- it is not free in slot 8 and in the 31 slots after it
+  pub same_slot : eligible in_8.core 0 8 ≡ false
+  pub slot_39 : eligible in_8.core 0 39 ≡ false
+  pub slot_40 : eligible in_8.core 0 40 ≡ true
+  pub slot_41 : eligible in_8.core 1 41 ≡ true
+  pub never : eligible (divided None).core 0 0 ≡ true
+  -- a division in slot 0 is one
+  pub in_slot_0 : eligible (divided (Some 0)).core 0 31 ≡ false
+  pub after_slot_0 : eligible (divided (Some 0)).core 0 32 ≡ true
+  -- both wait until then, and issue anew, one after the other
+  pub waits : slot_of one_nop in_8 39 ≡ idle in_8
+  pub issuers : issuers_from one_nop in_8 38 4 ≡ nobody ∷ nobody ∷ 0 ∷ 1 ∷ []
+  pub goes_on : thread_of (slot_of one_nop in_8 40).rec.core 0 ≡ record first { pc = 0x00040004 }
+  pub other_waits_on : thread_of (slot_of one_nop in_8 40).rec.core 1 ≡ at_divider
+  -- a second thread may wait for it: that is no trap
+  pub second : pauses_at in_8.core 7 Divider ≡ Pause in_8.core Divider []
+  -- an issue, and a thread that is got, leave the slot of the last division
+  pub issue : (slot_of one_nop in_8 40).rec.core.slots ≡ last_and_8 (Some 40 ∷ replicate 7 None)
+  pub last_issue : (with_last in_8.core 1 20).slots ≡ last_and_8 (None ∷ Some 20 ∷ replicate 6 None)
+  pub got_thread : (with_got_thread in_8.core 7 20).slots ≡ last_and_8 (replicate 7 None ++ Some 20 ∷ [])
 
 -- all pins show 1 from outside
 abbrev pub all_high : PinView

@@ -60,6 +60,7 @@ returns c = record {
     other_side = refl;
     side_of_room = refl;
     other_chan = refl;
+    divider = refl;
     refused_first = refl;
     need_not_wait = refl;
   };

@@ -50,6 +50,11 @@ returns c = record {
       interrupt = refl;
       not_let_in = refl;
     };
+    divider = record {
+      event = refl;
+      interrupt = refl;
+      not_let_in = refl;
+    };
   };
   token_comes = record {
     told = refl;

@@ -51,6 +51,29 @@ returns-clause-things c = record {
   locks = refl;
   slaves = refl;
   choices = refl;
+  dividers = refl;
+  divider_and_lock = refl;
+  timer_and_divider = refl;
+}
+
+pub returns-clause-divider : goal.returns-clause-divider
+unfolding computes
+returns-clause-divider c = record {
+  same_slot = refl;
+  slot_39 = refl;
+  slot_40 = refl;
+  slot_41 = refl;
+  never = refl;
+  in_slot_0 = refl;
+  after_slot_0 = refl;
+  waits = refl;
+  issuers = refl;
+  goes_on = refl;
+  other_waits_on = refl;
+  second = refl;
+  issue = refl;
+  last_issue = refl;
+  got_thread = refl;
 }
 
 pub returns-clause-levels : goal.returns-clause-levels
