@@ -9,6 +9,7 @@ pub mod SerialPlan
 pub mod SerialSteps
 pub mod TravelSerial
 pub mod WindowEnds
+pub mod WindowKept
 pub mod WindowLists
 pub mod WindowMoves
 pub mod WindowStep

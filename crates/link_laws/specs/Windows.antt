@@ -1,7 +1,8 @@
 -- Nodes that differ in the slots that their link ends keep, but not in the counts of them: no step tells them apart.
-use Rattle.std.specs.Prelude.{◌≡◌, ◌+◌, Option, Some, None, IfSome, List, [], ◌∷◌, length}
+use Rattle.std.specs.Prelude.{ℕ, ◌≡◌, ◌+◌, ◌<◌, Option, Some, None, IfSome, List, [], ◌∷◌, length}
 use Rattle.std.specs.List.{AllByRecursion, AllZip}
 use Rattle.xs_base.specs.Numbers.{Slot}
+use Rattle.xs_base.specs.declared.token.Token.{Token}
 use Rattle.xs_model.specs.declared.outside.Arrivals.{Arrivals}
 use Rattle.xs_model.specs.declared.outside.PinView.{PinView}
 use Rattle.xs_model.specs.Record.{NodeRec, LinkRec}
@@ -25,6 +26,38 @@ abbrev pub Paired : (LinkRec → LinkRec → Type 0) → Option LinkRec → Opti
 Paired related None None = Unit {0}
 Paired related (Some link) (Some other) = related link other
 Paired related _ _ = ⊥
+
+-- ---- What is kept
+
+-- what of a link end makes others alike it: the tokens that wait in its buffer, how many it sent that have no credit yet, and
+-- the slot in which it sent the last one, if it sent any
+pub record Kept : Type 0 where
+  pub buffer : List Token
+  pub window : ℕ
+  pub last : Option Slot
+
+-- a link end before a slot sent its last token before that slot; one that sent none has no token without a credit
+abbrev pub FitsBefore : Slot → ℕ → Option Slot → Type 0
+FitsBefore slot window None = window ≡ 0
+FitsBefore slot window (Some last) = last < slot
+
+-- a link end of which this is kept; every slot that it keeps itself is before this one
+pub record LinkOf (slot : Slot) (kept : Kept) : Type 0 where
+  pub link : LinkRec
+  pub buffer : link.buffer ≡ kept.buffer
+  pub window : length link.sent ≡ length link.credited + kept.window
+  pub last : latest link.sent ≡ kept.last
+  pub before : IsLinkBefore slot link
+
+-- there is one for whatever fits
+abbrev pub EachHasALink : Type 0
+EachHasALink = (slot : Slot) (kept : Kept) → FitsBefore slot kept.window kept.last → LinkOf slot kept
+
+-- all of them are alike
+abbrev pub ItsLinksAreAlike : Type 0
+ItsLinksAreAlike = (slot : Slot) (kept : Kept) (one other : LinkOf slot kept) → LinksAlike one.link other.link
+
+-- ---- Nodes
 
 -- two nodes that are the same but for their link ends, and those are alike, each with the other's of its number
 pub record NodesAlike (rec other : NodeRec) : Type 0 where
