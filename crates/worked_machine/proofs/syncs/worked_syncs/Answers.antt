@@ -1,5 +1,8 @@
 use Rattle.std.proofs.Common.{refl}
+use Rattle.step_model.specs.ThreadRows.{when_all_in, slaves_go, slaves_are_freed}
+use Rattle.worked_machine.specs.Syncs.{msync_0, mjoin_0}
 use Rattle.worked_machine.proofs.Computes.{computes}
+use Rattle.worked_machine.proofs.ByEffect.{refuses_no_sync}
 use Rattle.worked_machine.proofs.syncs.worked_syncs.Goals as goal
 
 pub returns : goal.returns
@@ -19,19 +22,7 @@ returns c = record {
       one_is_halted = refl;
       none_is_in = refl;
       no_slaves = refl;
-      refused = record {
-        unused = refl;
-        not_its_master = refl;
-        number_7 = refl;
-        upper_half = refl;
-        nothing = refl;
-        port = refl;
-        timer = refl;
-        chan_end = refl;
-        thread = refl;
-        lock = refl;
-        clock = refl;
-      };
+      refused = refuses_no_sync msync_0 (λ here core. when_all_in core 0 slaves_go) (λ here core. refl);
     };
     halted_slave = refl;
   };
@@ -43,19 +34,7 @@ returns c = record {
       one_is_halted = refl;
       none_is_in = refl;
       no_slaves = refl;
-      refused = record {
-        unused = refl;
-        not_its_master = refl;
-        number_7 = refl;
-        upper_half = refl;
-        nothing = refl;
-        port = refl;
-        timer = refl;
-        chan_end = refl;
-        thread = refl;
-        lock = refl;
-        clock = refl;
-      };
+      refused = refuses_no_sync mjoin_0 (λ here core. when_all_in core 0 slaves_are_freed) (λ here core. refl);
     };
     halted_slave = refl;
   };
