@@ -13,11 +13,12 @@ use Rattle.link_logs.specs.Entries.{between}
 use Rattle.log_cells.specs.Ends.{CellRec, WritesTo, ReadsOf}
 use Rattle.plan_stories.specs.Stories.{carried_at}
 use Rattle.plan_stories.proofs.Stories.{between_is_history}
+use Rattle.plan_cells.specs.declared.arc_ends.ArcEnds.{ArcEnds}
 use Rattle.plan_cells.specs.declared.ends.Outgoing.{Outgoing}
 use Rattle.plan_cells.specs.declared.ends.Incoming.{Incoming}
 use Rattle.plan_cells.specs.declared.ends.Ends.{Ends}
 use Rattle.plan_cells.specs.Ends.{LinkAt, leaves_at, comes_at, IsOutgoing, IsIncoming, AreEnds, IsLogOf, HasLeft}
-use Rattle.plan_cells.specs.Inside.{Lies, OutgoingLie, IncomingLie, from_of, to_of, from_end_of, to_end_of, handed, tables_of, cells_of, outgoing_items, incoming_items, outgoing_of, incoming_of, IsCellOf, AreCells}
+use Rattle.plan_cells.specs.Inside.{Lies, OutgoingLie, IncomingLie, from_of, to_of, from_end_of, to_end_of, handed, tables_of, cells_of, outgoing_items, incoming_items, outgoing_of, incoming_of, IsCellOf, AreCells, AreArcEnds}
 use Rattle.plan_cells.proofs.Lists.{some_at, before_push, at_push, all_give, map_at, map_or_at}
 use Rattle.plan_cells.proofs.Dealing.{take_next, length_first, some_lie, last_at, last_fit, fewer_lie}
 use Rattle.plan_cells.proofs.AtEnds.{writes_to, reads_of}
@@ -140,9 +141,13 @@ module _ (plan : PlanRec) (whole : List (CellRec PlanRec)) (given : List Ends) (
   }
 
 -- after the last
-module _ (plan : PlanRec) (whole : List (CellRec PlanRec)) (given all : List Ends) (logs : List (LogRec PlanRec)) (g : Gathers plan whole given [] all logs) (nodes : length given ≡ length plan.nodes) where
+module _ {plan : PlanRec} {whole cells : List (CellRec PlanRec)} {given all : List Ends} {logs : List (LogRec PlanRec)}
+    (so_far : Gathers plan whole given cells all logs) (none : cells ≡ []) (nodes : length given ≡ length plan.nodes) where
+  emptied : Gathers plan whole given [] all logs
+  emptied = subst (λ (cs : List (CellRec PlanRec)). Gathers plan whole given cs all logs) none so_far
+
   none_left : (n : Position) → n < length (outgoing_of all) → get_or (outgoing_of all) n [] ≡ []
-  none_left n below = map_none (get_or (outgoing_of all) n []) (g.outgoing n below).places
+  none_left n below = map_none (get_or (outgoing_of all) n []) (emptied.outgoing n below).places
     where
       map_none : (xs : List Outgoing) → map leaves_at xs ≡ [] → xs ≡ []
       map_none [] h = refl
@@ -150,17 +155,21 @@ module _ (plan : PlanRec) (whole : List (CellRec PlanRec)) (given all : List End
 
   pub all_left : (n : Position) (e : Ends) → slice_get given n ≡ Some e → AllByRecursion (HasLeft (reverse logs)) e.outgoing.items
   all_left n e h =
-      let inside : n < length (outgoing_of all) = omega (arith, slice_get_within given n e h, nodes, g.nodes, length-map all outgoing_items) in
-      let done = all_parted (LeftFrom 0 (reverse logs)) (get_or (outgoing_of given) n []) (get_or (outgoing_of all) n []) (g.left n) (none_left n inside) in
+      let inside : n < length (outgoing_of all) = omega (arith, slice_get_within given n e h, nodes, emptied.nodes, length-map all outgoing_items) in
+      let done = all_parted (LeftFrom 0 (reverse logs)) (get_or (outgoing_of given) n []) (get_or (outgoing_of all) n []) (emptied.left n) (none_left n inside) in
       subst (AllByRecursion (HasLeft (reverse logs))) (map_or_at outgoing_items given n e [] h)
       (all_give (has_left (reverse logs)) (get_or (outgoing_of given) n []) done)
 
   pub all_own : (k : LinkNumber) (log : LogRec PlanRec) → slice_get (reverse logs) k ≡ Some log → IsLogOf plan k log
-  all_own k log h = let none : 0 + k ≡ k = omega arith in subst (λ (l : LinkNumber). IsLogOf plan l log) none (g.own k log h)
+  all_own k log h = let none : 0 + k ≡ k = omega arith in subst (λ (l : LinkNumber). IsLogOf plan l log) none (emptied.own k log h)
 
--- one step: the ends of the last cell that is left
-module _ (plan : PlanRec) (whole : List (CellRec PlanRec)) (given : List Ends) (are : AreCells plan whole) (cells : List (CellRec PlanRec)) (cell : CellRec PlanRec) (all : List Ends) (logs : List (LogRec PlanRec))
-    (g : Gathers plan whole given (cells ++ cell ∷ []) all logs) where
+-- One step: the last cell that is left is popped, and the ends of the arc with its number are these.
+module _ {plan : PlanRec} {whole before : List (CellRec PlanRec)} {given all : List Ends} {logs : List (LogRec PlanRec)} {number : LinkNumber} {ends : ArcEnds}
+    (are : AreCells plan whole) (cells : List (CellRec PlanRec)) (cell : CellRec PlanRec) (popped : before ≡ cells ++ cell ∷ [])
+    (so_far : Gathers plan whole given before all logs) (last : length cells ≡ number) (w : AreArcEnds plan number ends) where
+  with_cell : Gathers plan whole given (cells ++ cell ∷ []) all logs
+  with_cell = subst (λ (cs : List (CellRec PlanRec)). Gathers plan whole given cs all logs) popped so_far
+
   abbrev ds : List Arc
   ds = arcs plan
 
@@ -174,118 +183,134 @@ module _ (plan : PlanRec) (whole : List (CellRec PlanRec)) (given : List Ends) (
   FitsIncoming = IsIncoming (cells_of plan whole)
 
   link_inside : link < length ds
-  link_inside = omega (arith, length_push cells cell, g.count)
+  link_inside = omega (arith, length_push cells cell, with_cell.count)
 
   cell_here : slice_get whole link ≡ Some cell
-  cell_here = g.each link cell (at_push cells cell link refl)
+  cell_here = with_cell.each link cell (at_push cells cell link refl)
 
-  module _ (d : Arc) (here : slice_get ds link ≡ Some d) (from_there : d.from < length plan.nodes) (to_there : d.to < length plan.nodes) where
-    first_are : take (length (cells ++ cell ∷ [])) ds ≡ take link ds ++ d ∷ []
-    first_are = ap (λ (k : ℕ). take k ds) (length_push cells cell) ∙ take_next ds link d here
+  abbrev d : Arc
+  d = w.arc
 
-    outgoing_lie : OutgoingLie FitsOutgoing (take link ds ++ d ∷ []) (outgoing_of all)
-    outgoing_lie = subst (λ (l : List Arc). OutgoingLie FitsOutgoing l (outgoing_of all)) first_are g.outgoing
+  here : slice_get ds link ≡ Some d
+  here = ap (slice_get ds) last ∙ w.here
 
-    incoming_lie : IncomingLie FitsIncoming (take link ds ++ d ∷ []) (incoming_of all)
-    incoming_lie = subst (λ (l : List Arc). IncomingLie FitsIncoming l (incoming_of all)) first_are g.incoming
+  first_are : take (length (cells ++ cell ∷ [])) ds ≡ take link ds ++ d ∷ []
+  first_are = ap (λ (k : ℕ). take k ds) (length_push cells cell) ∙ take_next ds link d here
 
-    pub some_outgoing : 0 < length (get_or (outgoing_of all) d.from [])
-    some_outgoing =
-        some_lie leaves_at from_of from_end_of FitsOutgoing (take link ds) d (outgoing_of all) outgoing_lie
-        (omega (arith, length-map all outgoing_items, g.nodes, from_there))
+  outgoing_lie : OutgoingLie FitsOutgoing (take link ds ++ d ∷ []) (outgoing_of all)
+  outgoing_lie = subst (λ (l : List Arc). OutgoingLie FitsOutgoing l (outgoing_of all)) first_are with_cell.outgoing
 
-    -- the end that writes is taken back
-    module _ (o : Outgoing) (mid : List Ends) (o_back : outgoing_of all ≡ handed (outgoing_of mid) d.from o) (i_stay : incoming_of mid ≡ incoming_of all) where
-      mid_nodes : length mid ≡ length plan.nodes
-      mid_nodes =
-          omega (
-            arith,
-            g.nodes,
-            length-map all outgoing_items,
-            length-map mid outgoing_items,
-            ap (length {A = List Outgoing}) o_back,
-            length-set (outgoing_of mid) d.from (get_or (outgoing_of mid) d.from [] ++ o ∷ []),
-          )
+  incoming_lie : IncomingLie FitsIncoming (take link ds ++ d ∷ []) (incoming_of all)
+  incoming_lie = subst (λ (l : List Arc). IncomingLie FitsIncoming l (incoming_of all)) first_are with_cell.incoming
 
-      mid_incoming : IncomingLie FitsIncoming (take link ds ++ d ∷ []) (incoming_of mid)
-      mid_incoming = subst (IncomingLie FitsIncoming (take link ds ++ d ∷ [])) (sym i_stay) incoming_lie
+  pub some_outgoing : 0 < length (get_or (outgoing_of all) ends.from [])
+  some_outgoing =
+      subst (λ (n : Position). 0 < length (get_or (outgoing_of all) n [])) (sym w.from)
+      (some_lie leaves_at from_of from_end_of FitsOutgoing (take link ds) d (outgoing_of all) outgoing_lie
+      (omega (arith, length-map all outgoing_items, with_cell.nodes, w.from_there)))
 
-      pub some_incoming : 0 < length (get_or (incoming_of mid) d.to [])
-      some_incoming =
-          some_lie comes_at to_of to_end_of FitsIncoming (take link ds) d (incoming_of mid) mid_incoming
-          (omega (arith, length-map mid incoming_items, mid_nodes, to_there))
+  -- the end that writes is taken back
+  module _ (o : Outgoing) (mid : List Ends) (o_out : outgoing_of all ≡ handed (outgoing_of mid) ends.from o) (i_stay : incoming_of mid ≡ incoming_of all) where
+    o_back : outgoing_of all ≡ handed (outgoing_of mid) d.from o
+    o_back = o_out ∙ ap (λ (n : Position). handed (outgoing_of mid) n o) w.from
 
-      from_mid : d.from < length (outgoing_of mid)
-      from_mid = omega (arith, length-map mid outgoing_items, mid_nodes, from_there)
+    mid_nodes : length mid ≡ length plan.nodes
+    mid_nodes =
+        omega (
+          arith,
+          with_cell.nodes,
+          length-map all outgoing_items,
+          length-map mid outgoing_items,
+          ap (length {A = List Outgoing}) o_back,
+          length-set (outgoing_of mid) d.from (get_or (outgoing_of mid) d.from [] ++ o ∷ []),
+        )
 
-      o_lie : OutgoingLie FitsOutgoing (take link ds ++ d ∷ []) (handed (outgoing_of mid) d.from o)
-      o_lie = subst (OutgoingLie FitsOutgoing (take link ds ++ d ∷ [])) o_back outgoing_lie
+    mid_incoming : IncomingLie FitsIncoming (take link ds ++ d ∷ []) (incoming_of mid)
+    mid_incoming = subst (IncomingLie FitsIncoming (take link ds ++ d ∷ [])) (sym i_stay) incoming_lie
 
-      first_long : length (take link ds) ≡ link
-      first_long = length_first ds link link_inside
+    pub some_incoming : 0 < length (get_or (incoming_of mid) ends.to [])
+    some_incoming =
+        subst (λ (n : Position). 0 < length (get_or (incoming_of mid) n [])) (sym w.to)
+        (some_lie comes_at to_of to_end_of FitsIncoming (take link ds) d (incoming_of mid) mid_incoming
+        (omega (arith, length-map mid incoming_items, mid_nodes, w.to_there)))
 
-      o_link : o.link ≡ link
-      o_link = ap (λ (p : LinkAt). p.1) (last_at leaves_at from_of from_end_of FitsOutgoing (take link ds) d (outgoing_of mid) o o_lie from_mid) ∙ first_long
+    from_mid : d.from < length (outgoing_of mid)
+    from_mid = omega (arith, length-map mid outgoing_items, mid_nodes, w.from_there)
 
-      table_is : slice_get (tables_of whole) link ≡ Some cell.table
-      table_is = map_at (λ (c : CellRec PlanRec). c.table) whole link cell cell_here
+    o_lie : OutgoingLie FitsOutgoing (take link ds ++ d ∷ []) (handed (outgoing_of mid) d.from o)
+    o_lie = subst (OutgoingLie FitsOutgoing (take link ds ++ d ∷ [])) o_back outgoing_lie
 
-      pub o_writes : WritesTo o.w cell
-      o_writes =
-          writes_to (cells_of plan whole) cell link table_is (are.each link cell cell_here).run (are.each link cell cell_here).number o
-          (last_fit leaves_at from_of from_end_of FitsOutgoing (take link ds) d (outgoing_of mid) o o_lie from_mid) o_link
+    first_long : length (take link ds) ≡ link
+    first_long = length_first ds link link_inside
 
-      -- and the end that reads
-      module _ (i : Incoming) (after : List Ends) (i_back : incoming_of mid ≡ handed (incoming_of after) d.to i) (o_stay : outgoing_of after ≡ outgoing_of mid) where
-        after_nodes : length after ≡ length plan.nodes
-        after_nodes =
-            omega (arith, mid_nodes, length-map after outgoing_items, length-map mid outgoing_items, ap (length {A = List Outgoing}) o_stay)
+    o_link : o.link ≡ link
+    o_link = ap (λ (p : LinkAt). p.1) (last_at leaves_at from_of from_end_of FitsOutgoing (take link ds) d (outgoing_of mid) o o_lie from_mid) ∙ first_long
 
-        to_after : d.to < length (incoming_of after)
-        to_after = omega (arith, length-map after incoming_items, after_nodes, to_there)
+    table_is : slice_get (tables_of whole) link ≡ Some cell.table
+    table_is = map_at (λ (c : CellRec PlanRec). c.table) whole link cell cell_here
 
-        i_lie : IncomingLie FitsIncoming (take link ds ++ d ∷ []) (handed (incoming_of after) d.to i)
-        i_lie = subst (IncomingLie FitsIncoming (take link ds ++ d ∷ [])) i_back mid_incoming
+    pub o_writes : WritesTo o.w cell
+    o_writes =
+        writes_to (cells_of plan whole) cell link table_is (are.each link cell cell_here).run (are.each link cell cell_here).number o
+        (last_fit leaves_at from_of from_end_of FitsOutgoing (take link ds) d (outgoing_of mid) o o_lie from_mid) o_link
 
-        i_link : i.link ≡ link
-        i_link = ap (λ (p : LinkAt). p.1) (last_at comes_at to_of to_end_of FitsIncoming (take link ds) d (incoming_of after) i i_lie to_after) ∙ first_long
+    -- and the end that reads
+    module _ (i : Incoming) (after : List Ends) (i_out : incoming_of mid ≡ handed (incoming_of after) ends.to i) (o_stay : outgoing_of after ≡ outgoing_of mid) where
+      i_back : incoming_of mid ≡ handed (incoming_of after) d.to i
+      i_back = i_out ∙ ap (λ (n : Position). handed (incoming_of after) n i) w.to
 
-        pub i_reads : ReadsOf i.r cell
-        i_reads =
-            reads_of (cells_of plan whole) cell link table_is (are.each link cell cell_here).run (are.each link cell cell_here).number i
-            (last_fit comes_at to_of to_end_of FitsIncoming (take link ds) d (incoming_of after) i i_lie to_after) i_link
+      after_nodes : length after ≡ length plan.nodes
+      after_nodes =
+          omega (arith, mid_nodes, length-map after outgoing_items, length-map mid outgoing_items, ap (length {A = List Outgoing}) o_stay)
 
-        module _ (log : LogRec PlanRec) (taken : IsTaken cell o log) where
-          reversed_are : reverse (logs ++ log ∷ []) ≡ log ∷ reverse logs
-          reversed_are = reverse-append logs (log ∷ [])
+      to_after : d.to < length (incoming_of after)
+      to_after = omega (arith, length-map after incoming_items, after_nodes, w.to_there)
 
-          own_at : (k : ℕ) (x : LogRec PlanRec) → slice_get (log ∷ reverse logs) k ≡ Some x → IsLogOf plan (link + k) x
-          own_at zero x h =
-              let none : link ≡ link + 0 = omega arith in
-              subst (λ (l : LinkNumber). IsLogOf plan l x) none (subst (IsLogOf plan link) (same_Some log x h) (log_of plan link cell o log (are.each link cell cell_here) taken))
-          own_at (suc k) x h =
-              let more : length (cells ++ cell ∷ []) + k ≡ link + suc k = omega (arith, length_push cells cell) in
-              subst (λ (l : LinkNumber). IsLogOf plan l x) more (g.own k x h)
+      i_lie : IncomingLie FitsIncoming (take link ds ++ d ∷ []) (handed (incoming_of after) d.to i)
+      i_lie = subst (IncomingLie FitsIncoming (take link ds ++ d ∷ [])) i_back mid_incoming
 
-          left_all : AllParted (LeftFrom link (log ∷ reverse logs)) (outgoing_of given) (outgoing_of mid)
-          left_all =
-              more_parted (LeftFrom (link + 1) (reverse logs)) (LeftFrom link (log ∷ reverse logs)) (left_stays link (reverse logs) log) (outgoing_of given) (outgoing_of mid) d.from o
-              (subst (λ (k : ℕ). AllParted (LeftFrom k (reverse logs)) (outgoing_of given) (handed (outgoing_of mid) d.from o)) (length_push cells cell)
-              (subst (AllParted (LeftFrom (length (cells ++ cell ∷ [])) (reverse logs)) (outgoing_of given)) o_back g.left))
-              (record { place = 0; link_is = omega (arith, o_link); log = log; log_at = refl; published = taken.published; cause = taken.cause }) from_mid
+      i_link : i.link ≡ link
+      i_link = ap (λ (p : LinkAt). p.1) (last_at comes_at to_of to_end_of FitsIncoming (take link ds) d (incoming_of after) i i_lie to_after) ∙ first_long
 
-          pub gathers_more : Gathers plan whole given cells after (logs ++ log ∷ [])
-          gathers_more = record {
-            each = λ k c h. g.each k c (before_push cells cell c k h);
-            count = omega (arith, g.count, length_push cells cell, length_push logs log);
-            nodes = after_nodes;
-            outgoing =
-                subst (OutgoingLie FitsOutgoing (take link ds)) (sym o_stay)
-                (fewer_lie leaves_at from_of from_end_of FitsOutgoing (take link ds) d (outgoing_of mid) o o_lie from_mid);
-            incoming =
-                fewer_lie comes_at to_of to_end_of FitsIncoming (take link ds) d (incoming_of after) i i_lie to_after;
-            own = subst (λ (ls : List (LogRec PlanRec)). (k : ℕ) (x : LogRec PlanRec) → slice_get ls k ≡ Some x → IsLogOf plan (link + k) x) (sym reversed_are) own_at;
-            left =
-                subst (λ (ls : List (LogRec PlanRec)). AllParted (LeftFrom link ls) (outgoing_of given) (outgoing_of after)) (sym reversed_are)
-                (subst (AllParted (LeftFrom link (log ∷ reverse logs)) (outgoing_of given)) (sym o_stay) left_all);
-          }
+      pub i_reads : ReadsOf i.r cell
+      i_reads =
+          reads_of (cells_of plan whole) cell link table_is (are.each link cell cell_here).run (are.each link cell cell_here).number i
+          (last_fit comes_at to_of to_end_of FitsIncoming (take link ds) d (incoming_of after) i i_lie to_after) i_link
+
+      module _ (log : LogRec PlanRec) (taken : IsTaken cell o log) where
+        reversed_are : reverse (logs ++ log ∷ []) ≡ log ∷ reverse logs
+        reversed_are = reverse-append logs (log ∷ [])
+
+        own_at : (k : ℕ) (x : LogRec PlanRec) → slice_get (log ∷ reverse logs) k ≡ Some x → IsLogOf plan (link + k) x
+        own_at zero x h =
+            let none : link ≡ link + 0 = omega arith in
+            subst (λ (l : LinkNumber). IsLogOf plan l x) none (subst (IsLogOf plan link) (same_Some log x h) (log_of plan link cell o log (are.each link cell cell_here) taken))
+        own_at (suc k) x h =
+            let more : length (cells ++ cell ∷ []) + k ≡ link + suc k = omega (arith, length_push cells cell) in
+            subst (λ (l : LinkNumber). IsLogOf plan l x) more (with_cell.own k x h)
+
+        left_all : AllParted (LeftFrom link (log ∷ reverse logs)) (outgoing_of given) (outgoing_of mid)
+        left_all =
+            more_parted (LeftFrom (link + 1) (reverse logs)) (LeftFrom link (log ∷ reverse logs)) (left_stays link (reverse logs) log) (outgoing_of given) (outgoing_of mid) d.from o
+            (subst (λ (k : ℕ). AllParted (LeftFrom k (reverse logs)) (outgoing_of given) (handed (outgoing_of mid) d.from o)) (length_push cells cell)
+            (subst (AllParted (LeftFrom (length (cells ++ cell ∷ [])) (reverse logs)) (outgoing_of given)) o_back with_cell.left))
+            (record { place = 0; link_is = omega (arith, o_link); log = log; log_at = refl; published = taken.published; cause = taken.cause }) from_mid
+
+        gathers_pushed : Gathers plan whole given cells after (logs ++ log ∷ [])
+        gathers_pushed = record {
+          each = λ k c h. with_cell.each k c (before_push cells cell c k h);
+          count = omega (arith, with_cell.count, length_push cells cell, length_push logs log);
+          nodes = after_nodes;
+          outgoing =
+              subst (OutgoingLie FitsOutgoing (take link ds)) (sym o_stay)
+              (fewer_lie leaves_at from_of from_end_of FitsOutgoing (take link ds) d (outgoing_of mid) o o_lie from_mid);
+          incoming =
+              fewer_lie comes_at to_of to_end_of FitsIncoming (take link ds) d (incoming_of after) i i_lie to_after;
+          own = subst (λ (ls : List (LogRec PlanRec)). (k : ℕ) (x : LogRec PlanRec) → slice_get ls k ≡ Some x → IsLogOf plan (link + k) x) (sym reversed_are) own_at;
+          left =
+              subst (λ (ls : List (LogRec PlanRec)). AllParted (LeftFrom link ls) (outgoing_of given) (outgoing_of after)) (sym reversed_are)
+              (subst (AllParted (LeftFrom link (log ∷ reverse logs)) (outgoing_of given)) (sym o_stay) left_all);
+        }
+
+        pub gathers_more : {grown : List (LogRec PlanRec)} → grown ≡ logs ++ log ∷ [] → Gathers plan whole given cells after grown
+        gathers_more pushed = subst (Gathers plan whole given cells after) (sym pushed) gathers_pushed
