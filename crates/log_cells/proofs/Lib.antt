@@ -1,3 +1,4 @@
 pub mod Seats
 pub mod Kept
 pub mod Turns
+pub mod Keeping

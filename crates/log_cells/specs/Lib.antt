@@ -1,3 +1,4 @@
 pub mod Rule
 pub mod Plays
 pub mod Ends
+pub mod Keeps

@@ -4,6 +4,7 @@
 
 mod cell;
 mod ends;
+mod keeps;
 mod plays;
 mod steps;
 #[cfg(test)]

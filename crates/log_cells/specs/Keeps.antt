@@ -1,0 +1,115 @@
+-- What every cell keeps between any two steps of any two threads, and what a step of an end leaves of what that end knows.
+use Rattle.std.specs.Prelude.{◌≡◌, ℕ, ◌≤◌, true, IsSome, slice_index, List, [], ◌∷◌, Some, None}
+use mathlib.Core.Option.{some, none}
+use lib.ListN.{get_elem?}
+use Rattle.atomic_table.specs.Table.{State, Step}
+use Rattle.xs_base.specs.Numbers.{Slot, LinkNumber}
+use Rattle.xs_base.specs.declared.entry.Entry.{Entry}
+use Rattle.link_logs.specs.Entries.{between}
+use Rattle.link_logs.specs.Logs.{LogRec, WriteRec, ReadRec, Writes, Reads}
+use Rattle.log_cells.specs.declared.view.View.TheVariants.{Writer, Reader}
+use Rattle.log_cells.specs.Ends.{CellRec, CellWriteRec, CellReadRec, WritesTo, ReadsOf, EndsAt}
+use Rattle.log_cells.specs.Rule.{WritingIn, ReadingIn, ViewIn, Turn, free, writers, readers, turn_word, Stage, seats_at, IsCell, writing_of, reading_of}
+use Rattle.log_cells.specs.Plays.{SeatIn, claims_as_writer, claims_as_reader, gives_written, gives_taken, gives_shut, gives_kept, WriterHas, HasKept, HasTaken}
+
+-- a cell's words, its log where that is in its place, and what its seats know
+abbrev pub CellState : Type 0 → Type 0
+CellState Run = State (LogRec Run) (ViewIn Run)
+
+module _ {Run : Type 0} where
+  -- ---- At a moment between two steps
+
+  -- by the rule, the log is this one: in its place, or as the end found it that has it
+  pub record IsMoment (s : CellState Run) (log : LogRec Run) : Type 0 where
+    pub rule : IsCell s
+    pub log_is : rule.fits.log ≡ log
+
+  -- who has the log: nobody, the end that writes or the end that reads
+  abbrev pub IsWith : Turn → CellState Run → WritingIn Run → ReadingIn Run → LogRec Run → Type 0
+  IsWith free s writer reader log = (s.homes ≡ some log ∷ []) × (writer.held ≡ None) × (reader.held ≡ None)
+  IsWith writers s writer reader log = (s.homes ≡ none ∷ []) × (writer.held ≡ Some log) × (reader.held ≡ None)
+  IsWith readers s writer reader log = (s.homes ≡ none ∷ []) × (writer.held ≡ None) × (reader.held ≡ Some log)
+
+  abbrev pub HasSeat : CellState Run → ViewIn Run → Type 0
+  HasSeat s view = (seat : ℕ) × (get_elem? s.views seat ≡ some view)
+
+  -- a log is of the run and the link of a cell
+  pub record IsOfLink (cell : CellRec Run) (log : LogRec Run) : Type 0 where
+    pub run : log.run ≡ cell.run
+    pub number : log.number ≡ cell.number
+
+  -- an end of a cell that is not at work has the log's published slot and cause, or has read up to a slot of the log
+  abbrev pub IsWritten : CellRec Run → LogRec Run → WriteRec Run → Type 0
+  IsWritten cell log end = IsOfLink cell log × Writes end log
+
+  abbrev pub IsRead : CellRec Run → LogRec Run → ReadRec Run → Type 0
+  IsRead cell log end = IsOfLink cell log × Reads end log × (end.shut ≡ true → EndsAt end.got log)
+
+  -- what a cell keeps, where a link carries these entries in each slot
+  pub record CellKeeps (at : Run → LinkNumber → Slot → List Entry) (cell : CellRec Run) (s : CellState Run) (log : LogRec Run) : Type 0 where
+    -- what the end that writes and the end that reads know, each by its seat or both by one
+    pub writer : WritingIn Run
+    pub reader : ReadingIn Run
+    pub stage : Stage
+    pub seats : s.views ≡ seats_at stage writer reader
+    -- one run and one link
+    pub run : (writer.run ≡ log.run) × (reader.run ≡ log.run)
+    pub number : (writer.number ≡ log.number) × (reader.number ≡ log.number)
+    -- the log begins no later than what was read ends, and that no later than what is published
+    pub base : log.base ≤ reader.got
+    pub got : reader.got ≤ log.published
+    pub published : writer.published ≡ log.published
+    -- what the link carries from the base on and before the published slot, each entry once and in order
+    pub entries : log.entries ≡ between (at log.run log.number) log.base log.published
+    -- whether it is closed, and for which cause, its writer knows; its reader has found it so where all is read alone
+    pub cause : writer.cause ≡ log.cause
+    pub shut : reader.shut ≡ true → EndsAt reader.got log
+    -- the turn word says who has it
+    pub turn : Turn
+    pub word : slice_index s.words 0 ≡ turn_word turn
+    pub with : IsWith turn s writer reader log
+    -- of an end of this cell that is not at work
+    pub written : (end : CellWriteRec Run) → WritesTo end cell → HasSeat s (Writer (writing_of end.end end.refused)) → IsWritten cell log end.end
+    pub read : (end : CellReadRec Run) → ReadsOf end cell → HasSeat s (Reader (reading_of end.end end.refused)) → IsRead cell log end.end
+
+  -- ---- From one step to the next
+
+  -- no published slot falls, and a log that is closed is published no further
+  pub record WritesOn (before after : WritingIn Run) : Type 0 where
+    pub run : after.run ≡ before.run
+    pub number : after.number ≡ before.number
+    pub published : before.published ≤ after.published
+    pub closed : IsSome before.cause → (after.published ≡ before.published) × IsSome after.cause
+
+  -- what was read is not read again, and where the close was found nothing more is
+  pub record ReadsOn (before after : ReadingIn Run) : Type 0 where
+    pub run : after.run ≡ before.run
+    pub number : after.number ≡ before.number
+    pub got : before.got ≤ after.got
+    pub shut : before.shut ≡ true → (after.got ≡ before.got) × (after.shut ≡ true)
+
+  abbrev pub WriterGoesOn : WritingIn Run → ViewIn Run → Type 0
+  WriterGoesOn before (Writer after) = WritesOn before after
+  WriterGoesOn before _ = ⊥
+
+  abbrev pub ReaderGoesOn : ReadingIn Run → ViewIn Run → Type 0
+  ReaderGoesOn before (Reader after) = ReadsOn before after
+  ReaderGoesOn before _ = ⊥
+
+  abbrev pub GoesOn : ViewIn Run → ViewIn Run → Type 0
+  GoesOn (Writer before) after = WriterGoesOn before after
+  GoesOn (Reader before) after = ReaderGoesOn before after
+  GoesOn _ after = ⊥
+
+  -- a seat of which this is so goes on by a step of this kind, whatever word it finds
+  abbrev pub GoesOnBy : (SeatIn Run → ℕ → SeatIn Run → Type 0) → (SeatIn Run → Type 0) → Type 0
+  GoesOnBy kind Is = (s : CellState Run) → IsCell s → (me me' : SeatIn Run) (found : ℕ) → HasSeat s me.0 → Is me → kind me found me' → GoesOn me.0 me'.0
+
+-- each kind of step of an end, from where its calls make it
+pub record StepsGoOn (Run : Type 0) : Type 0 where
+  pub claim_to_write : (step : Step (LogRec Run)) (view : WritingIn Run) → GoesOnBy (claims_as_writer step) (λ me. me ≡ (Writer view, []))
+  pub claim_to_read : (step : Step (LogRec Run)) (view : ReadingIn Run) → GoesOnBy (claims_as_reader step) (λ me. me ≡ (Reader view, []))
+  pub give_written : (step : Step (LogRec Run)) (end : WriteRec Run) (refused : ℕ) → GoesOnBy (gives_written step) (WriterHas end refused)
+  pub give_taken : (step : Step (LogRec Run)) (end : ReadRec Run) (refused : ℕ) → GoesOnBy (gives_taken step) (HasTaken end refused)
+  pub give_shut : (step : Step (LogRec Run)) (end : ReadRec Run) (refused : ℕ) → GoesOnBy (gives_shut step) (HasTaken end refused)
+  pub give_kept : (step : Step (LogRec Run)) (end : ReadRec Run) (refused : ℕ) → GoesOnBy (gives_kept step) (HasKept end refused)
