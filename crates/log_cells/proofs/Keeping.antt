@@ -12,7 +12,7 @@ use Rattle.log_cells.specs.declared.view.View.TheVariants.{Writer, Reader}
 use Rattle.log_cells.specs.Ends.{CellRec, CellWriteRec, CellReadRec, WritesTo, ReadsOf}
 use Rattle.log_cells.specs.Rule.{WritingIn, ReadingIn, ViewIn, Turn, free, writers, readers, home_at, writer_has, reader_has, Agrees, ReadsFrom, Fits, IsCell, write_end_of, writing_of, reading_of}
 use Rattle.log_cells.specs.Plays.{SeatIn, claims_as_writer, claims_as_reader, gives_written, gives_taken, gives_shut, gives_kept, WriterHas, ReaderHas, HasKept, HasTaken}
-use Rattle.log_cells.specs.Keeps.{CellState, IsMoment, IsWith, HasSeat, IsWritten, IsRead, CellKeeps, WritesOn, ReadsOn, GoesOn, GoesOnBy, StepsGoOn}
+use Rattle.log_cells.specs.Keeps.{CellState, IsMoment, IsWith, HasSeat, IsRead, CellKeeps, WritesOn, ReadsOn, GoesOn, GoesOnBy, StepsGoOn}
 use Rattle.log_cells.proofs.Seats.{writer_seat, reader_seat, is_writers, is_readers}
 
 by_word : {Z : Type 0} (found : ℕ) → (found ≡ 0 → Z) → (found ≢ 0 → Z) → Z
@@ -26,31 +26,27 @@ module _ {Run : Type 0} where
   with_by writers s w r home log a b c d = (a ∙ ap (λ (h : maybe.Option (LogRec Run)). h ∷ []) b, c, d)
   with_by readers s w r home log a b c d = (a ∙ ap (λ (h : maybe.Option (LogRec Run)). h ∷ []) b, c, d)
 
-  module _ (cell : CellRec Run) (s : CellState Run) (c : IsCell s) where
-    written_by : (end : CellWriteRec Run) → WritesTo end cell → HasSeat s (Writer (writing_of end.end end.refused)) → IsWritten cell c.fits.log end.end
+  module _ (cell : CellRec Run) (s : CellState Run) (c : IsCell cell.run cell.number s) where
+    written_by : (end : CellWriteRec Run) → WritesTo end cell → HasSeat s (Writer (writing_of end.end end.refused)) → Writes end.end c.fits.log
     written_by end of seat =
         let here = writer_seat c.stage c.w c.r seat.0 _ (ap (λ (l : List (ViewIn Run)). get_elem? l seat.0) (sym c.views) ∙ seat.1) in
-        let writes = subst (λ (w : WritingIn Run). Writes (write_end_of w) c.fits.log) here.2 c.fits.agrees.writes in (
-          record { run = sym writes.run ∙ of.run; number = sym writes.number ∙ of.number },
-          record { run = writes.run; number = writes.number; published = writes.published; cause = writes.cause },
-        )
+        let writes = subst (λ (w : WritingIn Run). Writes (write_end_of w) c.fits.log) here.2 c.fits.agrees.writes in
+        record { run = writes.run; number = writes.number; published = writes.published; cause = writes.cause }
 
-    read_by : (end : CellReadRec Run) → ReadsOf end cell → HasSeat s (Reader (reading_of end.end end.refused)) → IsRead cell c.fits.log end.end
+    read_by : (end : CellReadRec Run) → ReadsOf end cell → HasSeat s (Reader (reading_of end.end end.refused)) → IsRead c.fits.log end.end
     read_by end of seat =
         let here = reader_seat c.stage c.w c.r seat.0 _ (ap (λ (l : List (ViewIn Run)). get_elem? l seat.0) (sym c.views) ∙ seat.1) in
-        let reads = subst (λ (r : ReadingIn Run). ReadsFrom r c.fits.log) here.2 c.fits.agrees.reads in (
-          record { run = sym reads.run ∙ of.run; number = sym reads.number ∙ of.number },
-          record { run = reads.run; number = reads.number; base = reads.base; published = reads.published },
-          reads.shut,
-        )
+        let reads = subst (λ (r : ReadingIn Run). ReadsFrom r c.fits.log) here.2 c.fits.agrees.reads in
+        record { reads = record { run = reads.run; number = reads.number; base = reads.base; published = reads.published }; shut = reads.shut }
 
-  kept_by : (at : Run → LinkNumber → Slot → List Entry) (cell : CellRec Run) (s : CellState Run) (c : IsCell s) → c.fits.log.entries ≡ between (at c.fits.log.run c.fits.log.number) c.fits.log.base c.fits.log.published
+  kept_by : (at : Run → LinkNumber → Slot → List Entry) (cell : CellRec Run) (s : CellState Run) (c : IsCell cell.run cell.number s) → c.fits.log.entries ≡ between (at c.fits.log.run c.fits.log.number) c.fits.log.base c.fits.log.published
       → CellKeeps at cell s c.fits.log
   kept_by at cell s c own = let f = c.fits in record {
     writer = c.w;
     reader = c.r;
     stage = c.stage;
     seats = c.views;
+    link = record { run = sym f.agrees.reads.run ∙ c.of_run; number = sym f.agrees.reads.number ∙ c.of_number };
     run = (f.agrees.writes.run, f.agrees.reads.run);
     number = (f.agrees.writes.number, f.agrees.reads.number);
     base = f.agrees.reads.base;
@@ -66,7 +62,7 @@ module _ {Run : Type 0} where
     read = read_by cell s c;
   }
 
-  pub cell_keeps : (at : Run → LinkNumber → Slot → List Entry) (cell : CellRec Run) (log : LogRec Run) → log.entries ≡ between (at log.run log.number) log.base log.published → (s : CellState Run) → IsMoment s log → CellKeeps at cell s log
+  pub cell_keeps : (at : Run → LinkNumber → Slot → List Entry) (cell : CellRec Run) (log : LogRec Run) → log.entries ≡ between (at log.run log.number) log.base log.published → (s : CellState Run) → IsMoment cell s log → CellKeeps at cell s log
   cell_keeps at cell log own s moment = subst (λ (l : LogRec Run). l.entries ≡ between (at l.run l.number) l.base l.published → CellKeeps at cell s l) moment.log_is (kept_by at cell s moment.rule) own
 
   -- what two seats have as their views
@@ -74,52 +70,54 @@ module _ {Run : Type 0} where
   moves me me' before after x y e f h = subst (λ (p : ViewIn Run × ViewIn Run). GoesOn p.0 p.1) (λ i. ((sym e i).0, (sym f i).0)) h
 
   stays_writing : (v : WritingIn Run) (held : Option (LogRec Run)) (refused : ℕ) → WritesOn v (record v { held = held; refused = refused })
-  stays_writing v held refused = record { run = refl; number = refl; published = omega arith; closed = λ h. (refl, h) }
+  stays_writing v held refused = record { run = refl; number = refl; published = omega arith; closed = λ h. (refl, refl) }
 
   stays_reading : (v : ReadingIn Run) (held : Option (LogRec Run)) (refused : ℕ) → ReadsOn v (record v { held = held; refused = refused })
   stays_reading v held refused = record { run = refl; number = refl; got = omega arith; shut = λ h. (refl, h) }
 
   claims_writing : (step : Step (LogRec Run)) (v : WritingIn Run) → GoesOnBy (claims_as_writer step) (λ me. me ≡ (Writer v, []))
-  claims_writing step v s rule me me' found seat is kind = by_word found
+  claims_writing step v cell s rule me me' found seat is kind = by_word found
       (λ z. let won = (kind v is).0 z in moves me me' (Writer v) (Writer (record v { held = Some won.0 })) [] ((0, won.0) ∷ []) is won.2 (stays_writing v (Some won.0) v.refused))
       (λ n. moves me me' (Writer v) (Writer (record v { refused = v.refused + 1 })) [] [] is ((kind v is).1 n) (stays_writing v v.held (v.refused + 1)))
 
   claims_reading : (step : Step (LogRec Run)) (v : ReadingIn Run) → GoesOnBy (claims_as_reader step) (λ me. me ≡ (Reader v, []))
-  claims_reading step v s rule me me' found seat is kind = by_word found
+  claims_reading step v cell s rule me me' found seat is kind = by_word found
       (λ z. let won = (kind v is).0 z in moves me me' (Reader v) (Reader (record v { held = Some won.0 })) [] ((0, won.0) ∷ []) is won.2 (stays_reading v (Some won.0) v.refused))
       (λ n. moves me me' (Reader v) (Reader (record v { refused = v.refused + 1 })) [] [] is ((kind v is).1 n) (stays_reading v v.held (v.refused + 1)))
 
   -- where an end has the log, that agreed with both ends as it was found
-  found_by_writer : (s : CellState Run) (c : IsCell s) (me : SeatIn Run) (end : WriteRec Run) (refused : ℕ) → HasSeat s me.0 → (has : WriterHas end refused me) → Agrees has.found has.view c.r
-  found_by_writer s c me end refused seat has =
+  found_by_writer : (cell : CellRec Run) (s : CellState Run) (c : IsCell cell.run cell.number s) (me : SeatIn Run) (end : WriteRec Run) (refused : ℕ) → HasSeat s me.0 → (has : WriterHas end refused me) → Agrees has.found has.view c.r
+  found_by_writer cell s c me end refused seat has =
       let at = ap (λ (l : List (ViewIn Run)). get_elem? l seat.0) (sym c.views) ∙ seat.1 ∙ ap (λ (m : SeatIn Run). some m.0) has.me_is in
       let here = writer_seat c.stage c.w c.r seat.0 has.view at in
       (is_writers c.word c.home has.view c.r has.found (subst (λ (w : WritingIn Run). Fits c.word c.home w c.r) here.2 c.fits) has.held).2
 
-  found_by_reader : (s : CellState Run) (c : IsCell s) (me : SeatIn Run) (end : ReadRec Run) (refused : ℕ) → HasSeat s me.0 → (has : ReaderHas end refused me) → Agrees has.found c.w has.view
-  found_by_reader s c me end refused seat has =
+  found_by_reader : (cell : CellRec Run) (s : CellState Run) (c : IsCell cell.run cell.number s) (me : SeatIn Run) (end : ReadRec Run) (refused : ℕ) → HasSeat s me.0 → (has : ReaderHas end refused me) → Agrees has.found c.w has.view
+  found_by_reader cell s c me end refused seat has =
       let at = ap (λ (l : List (ViewIn Run)). get_elem? l seat.0) (sym c.views) ∙ seat.1 ∙ ap (λ (m : SeatIn Run). some m.0) has.me_is in
       let here = reader_seat c.stage c.w c.r seat.0 has.view at in
       (is_readers c.word c.home c.w has.view has.found (subst (λ (r : ReadingIn Run). Fits c.word c.home c.w r) here.2 c.fits) has.held).2
 
   writing : (step : Step (LogRec Run)) (end : WriteRec Run) (refused : ℕ) → GoesOnBy (gives_written step) (WriterHas end refused)
-  writing step end refused s rule me me' found seat has kind =
+  writing step end refused cell s rule me me' found seat has kind =
       let v = has.view in
       let log = has.log in
-      let before = (found_by_writer s rule me end refused seat has).writes in
+      let before = (found_by_writer cell s rule me end refused seat has).writes in
       moves me me' (Writer v) (Writer (record v { published = log.published; cause = log.cause; held = None })) ((0, log) ∷ []) [] has.me_is (kind v log has.me_is) record {
         run = refl;
         number = refl;
         published = omega (arith, before.published, has.follows.published);
-        closed = λ h. let ends = has.follows.closed (sym (ap is_some before.cause) ∙ h) in (ends.published ∙ sym before.published, ends.closed);
+        closed = λ h.
+            let closed = sym (ap is_some before.cause) ∙ h in
+            ((has.follows.closed closed).published ∙ sym before.published, has.follows.cause closed ∙ sym before.cause);
       }
 
   taking : (step : Step (LogRec Run)) (end : ReadRec Run) (refused : ℕ) → GoesOnBy (gives_taken step) (HasTaken end refused)
-  taking step end refused s rule me me' found seat took kind =
+  taking step end refused cell s rule me me' found seat took kind =
       let has = took.0 in
       let v = has.view in
       let log = has.log in
-      let before = (found_by_reader s rule me end refused seat has).reads in
+      let before = (found_by_reader cell s rule me end refused seat has).reads in
       moves me me' (Reader v) (Reader (record v { got = log.published; held = None })) ((0, log) ∷ []) [] has.me_is (kind v log has.me_is) record {
         run = refl;
         number = refl;
@@ -128,11 +126,11 @@ module _ {Run : Type 0} where
       }
 
   shutting : (step : Step (LogRec Run)) (end : ReadRec Run) (refused : ℕ) → GoesOnBy (gives_shut step) (HasTaken end refused)
-  shutting step end refused s rule me me' found seat took kind =
+  shutting step end refused cell s rule me me' found seat took kind =
       let has = took.0 in
       let v = has.view in
       let log = has.log in
-      let before = (found_by_reader s rule me end refused seat has).reads in
+      let before = (found_by_reader cell s rule me end refused seat has).reads in
       moves me me' (Reader v) (Reader (record v { got = log.published; shut = true; held = None })) ((0, log) ∷ []) [] has.me_is (kind v log has.me_is) record {
         run = refl;
         number = refl;
@@ -141,7 +139,7 @@ module _ {Run : Type 0} where
       }
 
   keeping : (step : Step (LogRec Run)) (end : ReadRec Run) (refused : ℕ) → GoesOnBy (gives_kept step) (HasKept end refused)
-  keeping step end refused s rule me me' found seat kept kind =
+  keeping step end refused cell s rule me me' found seat kept kind =
       let has = kept.0 in
       moves me me' (Reader has.view) (Reader (record has.view { held = None })) ((0, has.log) ∷ []) [] has.me_is (kind has.view has.log has.me_is) (stays_reading has.view None has.view.refused)
 

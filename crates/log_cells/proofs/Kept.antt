@@ -6,6 +6,7 @@ use lib.ListN.{get_elem?}
 use prog.Atomic.{either}
 use Rattle.atomic_table.specs.Table.{State, Step, step, Act, keeps, takes, gives, stepped, carried_after, Valid, Allows, Splits, Joins, opening, Final, Seen}
 use Rattle.atomic_table.proofs.Lists.{set_again, exchanged}
+use Rattle.xs_base.specs.Numbers.{LinkNumber}
 use Rattle.link_logs.specs.Logs.{LogRec, WriteRec, ReadRec, Writes}
 use Rattle.log_cells.specs.declared.view.View.TheVariants.{Whole, Writer, Reader, Joined, Spent}
 use Rattle.log_cells.specs.Rule.{WritingIn, ReadingIn, ViewIn, free, writers, readers, made, parted, joined, ReadsFrom, Agrees, Fits, IsCell, seats_at, new_view}
@@ -24,11 +25,47 @@ log_or d [] = d
 log_or d (x ∷ xs) = x.1
 
 module _ {Run : Type 0} where
-  -- a seat that is another may do what that may
-  moved : (slots id : ℕ) (me m : SeatIn Run) (f : ℕ → ℕ) (then : SeatIn Run → ℕ → SeatIn Run → Type 0) → me ≡ m → Allows IsCell slots id m 0 f (then m) → Allows IsCell slots id me 0 f (then me)
-  moved slots id me m f then e h = subst (λ (x : SeatIn Run). Allows IsCell slots id x 0 f (then x)) (sym e) h
+  -- a cell begins with its rule
+  pub begins : (words : List ℕ) (logs : List (LogRec Run)) (log : LogRec Run) (end : WriteRec Run) → words ≡ 0 ∷ 0 ∷ [] → logs ≡ log ∷ [] → Writes end log → log.base ≡ 0 → IsCell end.run end.number (opening words logs (new_view end))
+  begins words logs log end are is writes low = record {
+    word = 0;
+    news = 0;
+    home = some log;
+    stage = made;
+    w = record { run = end.run; number = end.number; published = end.published; cause = end.cause; held = None; refused = 0 };
+    r = record { run = end.run; number = end.number; got = 0; shut = false; held = None; refused = 0 };
+    words = are;
+    homes = ap (map some) is;
+    views = refl;
+    fits = record {
+      turn = free;
+      log = log;
+      word_is = refl;
+      home_is = refl;
+      writer_has = refl;
+      reader_has = refl;
+      agrees = record {
+        writes = record { run = writes.run; number = writes.number; published = writes.published; cause = writes.cause };
+        reads = record { run = writes.run; number = writes.number; base = omega (arith, low); published = omega arith; shut = λ h. absurd (true≢false (sym h)) };
+      };
+    };
+    of_run = refl;
+    of_number = refl;
+  }
 
-  module _ (s : StateIn Run) (c : IsCell s) (id : ℕ) where
+  -- the reader's seat, where the writer's has become another
+  reader_beside : (w : WritingIn Run) (r r' : ReadingIn Run) (both : ViewIn Run) (other : ℕ) → other ≢ 0 → get_elem? (both ∷ Reader r ∷ []) other ≡ some (Reader r') → (other ≡ 1) × (r ≡ r')
+  reader_beside w r r' both zero n e = absurd (n refl)
+  reader_beside w r r' both (suc zero) n e = (refl, ap (reading_or r) (some-injective (Reader r) (Reader r') e))
+  reader_beside w r r' both (suc (suc k)) n e = absurd (some-ne-none (Reader r') (sym e))
+
+-- of a cell of this run and this link
+module _ {Run : Type 0} {its_run : Run} {its_link : LinkNumber} where
+  -- a seat that is another may do what that may
+  moved : (slots id : ℕ) (me m : SeatIn Run) (f : ℕ → ℕ) (then : SeatIn Run → ℕ → SeatIn Run → Type 0) → me ≡ m → Allows (IsCell its_run its_link) slots id m 0 f (then m) → Allows (IsCell its_run its_link) slots id me 0 f (then me)
+  moved slots id me m f then e h = subst (λ (x : SeatIn Run). Allows (IsCell its_run its_link) slots id x 0 f (then x)) (sym e) h
+
+  module _ (s : StateIn Run) (c : IsCell its_run its_link s) (id : ℕ) where
     word_is : get_or s.words 0 0 ≡ c.word
     word_is = ap (λ (l : List ℕ). get_or l 0 0) c.words
 
@@ -37,7 +74,7 @@ module _ {Run : Type 0} where
 
     -- the writer's view becomes w', and the reader's stays
     writer_steps : (v w' : WritingIn Run) (word' : ℕ) (homes' : List (maybe.Option (LogRec Run))) (home' : maybe.Option (LogRec Run)) → get_elem? s.views id ≡ some (Writer v) → homes' ≡ home' ∷ [] → Fits word' home' w' c.r
-        → IsCell record { words = set s.words 0 word'; homes = homes'; views = set s.views id (Writer w') }
+        → IsCell its_run its_link record { words = set s.words 0 word'; homes = homes'; views = set s.views id (Writer w') }
     writer_steps v w' word' homes' home' at homes fits = let here = writer_seat c.stage c.w c.r id v (seat_is (Writer v) at) in record {
       word = word';
       news = c.news;
@@ -49,10 +86,12 @@ module _ {Run : Type 0} where
       homes = homes;
       views = (λ i. set (c.views i) (here.1 i) (Writer w')) ∙ (λ i. set (seats_at (here.0 i) c.w c.r) 0 (Writer w'));
       fits = fits;
+      of_run = c.of_run;
+      of_number = c.of_number;
     }
 
     reader_steps : (v r' : ReadingIn Run) (word' : ℕ) (homes' : List (maybe.Option (LogRec Run))) (home' : maybe.Option (LogRec Run)) → get_elem? s.views id ≡ some (Reader v) → homes' ≡ home' ∷ [] → Fits word' home' c.w r'
-        → IsCell record { words = set s.words 0 word'; homes = homes'; views = set s.views id (Reader r') }
+        → IsCell its_run its_link record { words = set s.words 0 word'; homes = homes'; views = set s.views id (Reader r') }
     reader_steps v r' word' homes' home' at homes fits = let here = reader_seat c.stage c.w c.r id v (seat_is (Reader v) at) in record {
       word = word';
       news = c.news;
@@ -64,6 +103,8 @@ module _ {Run : Type 0} where
       homes = homes;
       views = (λ i. set (c.views i) (here.1 i) (Reader r')) ∙ (λ i. set (seats_at (here.0 i) c.w c.r) 1 (Reader r'));
       fits = fits;
+      of_run = fits.agrees.reads.run ∙ sym fits.agrees.writes.run ∙ c.fits.agrees.writes.run ∙ sym c.fits.agrees.reads.run ∙ c.of_run;
+      of_number = fits.agrees.reads.number ∙ sym fits.agrees.writes.number ∙ c.fits.agrees.writes.number ∙ sym c.fits.agrees.reads.number ∙ c.of_number;
     }
 
     fits_writer : (v : WritingIn Run) → get_elem? s.views id ≡ some (Writer v) → Fits c.word c.home v c.r
@@ -73,8 +114,8 @@ module _ {Run : Type 0} where
     fits_reader v at = let here = reader_seat c.stage c.w c.r id v (seat_is (Reader v) at) in subst (λ (r : ReadingIn Run). Fits c.word c.home c.w r) here.2 c.fits
 
   -- a claim by the writer
-  writer_hits : (slots id : ℕ) (v : WritingIn Run) (s : StateIn Run) (c : IsCell s) → get_elem? s.views id ≡ some (Writer v) → get_or s.words 0 0 ≡ 0
-      → (w : ViewIn Run) × (a : Act (LogRec Run)) × Valid s.homes [] a × IsCell (stepped s 0 1 id [] w a) × claims_as_writer a_step (Writer v, []) (get_or s.words 0 0) (w, carried_after [] a)
+  writer_hits : (slots id : ℕ) (v : WritingIn Run) (s : StateIn Run) (c : IsCell its_run its_link s) → get_elem? s.views id ≡ some (Writer v) → get_or s.words 0 0 ≡ 0
+      → (w : ViewIn Run) × (a : Act (LogRec Run)) × Valid s.homes [] a × IsCell its_run its_link (stepped s 0 1 id [] w a) × claims_as_writer a_step (Writer v, []) (get_or s.words 0 0) (w, carried_after [] a)
   writer_hits slots id v s c at zero_there =
       let home = is_free c.word c.home v c.r (fits_writer s c id v at) (sym (word_is s c id) ∙ zero_there) in
       let w' : WritingIn Run = record v { held = Some home.log } in (
@@ -94,8 +135,8 @@ module _ {Run : Type 0} where
             ((λ _. (home.log, home.agrees.writes, refl)), (λ n. absurd (n zero_there)))),
       )
 
-  writer_misses : (slots id : ℕ) (v : WritingIn Run) (s : StateIn Run) (c : IsCell s) → get_elem? s.views id ≡ some (Writer v) → get_or s.words 0 0 ≢ 0
-      → (w : ViewIn Run) × (a : Act (LogRec Run)) × Valid s.homes [] a × IsCell (stepped s 0 (get_or s.words 0 0) id [] w a) × claims_as_writer a_step (Writer v, []) (get_or s.words 0 0) (w, carried_after [] a)
+  writer_misses : (slots id : ℕ) (v : WritingIn Run) (s : StateIn Run) (c : IsCell its_run its_link s) → get_elem? s.views id ≡ some (Writer v) → get_or s.words 0 0 ≢ 0
+      → (w : ViewIn Run) × (a : Act (LogRec Run)) × Valid s.homes [] a × IsCell its_run its_link (stepped s 0 (get_or s.words 0 0) id [] w a) × claims_as_writer a_step (Writer v, []) (get_or s.words 0 0) (w, carried_after [] a)
   writer_misses slots id v s c at held_there =
       let f = fits_writer s c id v at in
       let w' : WritingIn Run = record v { refused = v.refused + 1 } in (
@@ -115,14 +156,14 @@ module _ {Run : Type 0} where
             ((λ n. absurd (held_there n)), (λ _. refl))),
       )
 
-  writer_claims_there : (slots id : ℕ) (v : WritingIn Run) → Allows IsCell slots id (Writer v, []) 0 (λ n. either (eqb n 0) 1 n) (claims_as_writer a_step (Writer v, []))
+  writer_claims_there : (slots id : ℕ) (v : WritingIn Run) → Allows (IsCell its_run its_link) slots id (Writer v, []) 0 (λ n. either (eqb n 0) 1 n) (claims_as_writer a_step (Writer v, []))
   writer_claims_there slots id v s c len at small =
-      exchanged (get_or s.words 0 0) 0 1 (λ k. (w : ViewIn Run) × (a : Act (LogRec Run)) × Valid s.homes [] a × IsCell (stepped s 0 k id [] w a) × claims_as_writer a_step (Writer v, []) (get_or s.words 0 0) (w, carried_after [] a))
+      exchanged (get_or s.words 0 0) 0 1 (λ k. (w : ViewIn Run) × (a : Act (LogRec Run)) × Valid s.homes [] a × IsCell its_run its_link (stepped s 0 k id [] w a) × claims_as_writer a_step (Writer v, []) (get_or s.words 0 0) (w, carried_after [] a))
       (writer_hits slots id v s c at) (writer_misses slots id v s c at)
 
   -- a claim by the reader
-  reader_hits : (slots id : ℕ) (v : ReadingIn Run) (s : StateIn Run) (c : IsCell s) → get_elem? s.views id ≡ some (Reader v) → get_or s.words 0 0 ≡ 0
-      → (w : ViewIn Run) × (a : Act (LogRec Run)) × Valid s.homes [] a × IsCell (stepped s 0 2 id [] w a) × claims_as_reader a_step (Reader v, []) (get_or s.words 0 0) (w, carried_after [] a)
+  reader_hits : (slots id : ℕ) (v : ReadingIn Run) (s : StateIn Run) (c : IsCell its_run its_link s) → get_elem? s.views id ≡ some (Reader v) → get_or s.words 0 0 ≡ 0
+      → (w : ViewIn Run) × (a : Act (LogRec Run)) × Valid s.homes [] a × IsCell its_run its_link (stepped s 0 2 id [] w a) × claims_as_reader a_step (Reader v, []) (get_or s.words 0 0) (w, carried_after [] a)
   reader_hits slots id v s c at zero_there =
       let home = is_free c.word c.home c.w v (fits_reader s c id v at) (sym (word_is s c id) ∙ zero_there) in
       let r' : ReadingIn Run = record v { held = Some home.log } in (
@@ -142,8 +183,8 @@ module _ {Run : Type 0} where
             ((λ _. (home.log, home.agrees.reads, refl)), (λ n. absurd (n zero_there)))),
       )
 
-  reader_misses : (slots id : ℕ) (v : ReadingIn Run) (s : StateIn Run) (c : IsCell s) → get_elem? s.views id ≡ some (Reader v) → get_or s.words 0 0 ≢ 0
-      → (w : ViewIn Run) × (a : Act (LogRec Run)) × Valid s.homes [] a × IsCell (stepped s 0 (get_or s.words 0 0) id [] w a) × claims_as_reader a_step (Reader v, []) (get_or s.words 0 0) (w, carried_after [] a)
+  reader_misses : (slots id : ℕ) (v : ReadingIn Run) (s : StateIn Run) (c : IsCell its_run its_link s) → get_elem? s.views id ≡ some (Reader v) → get_or s.words 0 0 ≢ 0
+      → (w : ViewIn Run) × (a : Act (LogRec Run)) × Valid s.homes [] a × IsCell its_run its_link (stepped s 0 (get_or s.words 0 0) id [] w a) × claims_as_reader a_step (Reader v, []) (get_or s.words 0 0) (w, carried_after [] a)
   reader_misses slots id v s c at held_there =
       let f = fits_reader s c id v at in
       let r' : ReadingIn Run = record v { refused = v.refused + 1 } in (
@@ -163,14 +204,14 @@ module _ {Run : Type 0} where
             ((λ n. absurd (held_there n)), (λ _. refl))),
       )
 
-  reader_claims_there : (slots id : ℕ) (v : ReadingIn Run) → Allows IsCell slots id (Reader v, []) 0 (λ n. either (eqb n 0) 2 n) (claims_as_reader a_step (Reader v, []))
+  reader_claims_there : (slots id : ℕ) (v : ReadingIn Run) → Allows (IsCell its_run its_link) slots id (Reader v, []) 0 (λ n. either (eqb n 0) 2 n) (claims_as_reader a_step (Reader v, []))
   reader_claims_there slots id v s c len at small =
-      exchanged (get_or s.words 0 0) 0 2 (λ k. (w : ViewIn Run) × (a : Act (LogRec Run)) × Valid s.homes [] a × IsCell (stepped s 0 k id [] w a) × claims_as_reader a_step (Reader v, []) (get_or s.words 0 0) (w, carried_after [] a))
+      exchanged (get_or s.words 0 0) 0 2 (λ k. (w : ViewIn Run) × (a : Act (LogRec Run)) × Valid s.homes [] a × IsCell its_run its_link (stepped s 0 k id [] w a) × claims_as_reader a_step (Reader v, []) (get_or s.words 0 0) (w, carried_after [] a))
       (reader_hits slots id v s c at) (reader_misses slots id v s c at)
 
   -- the writer gives back a log that went on from the one that it found
   writer_gives_there : (slots id : ℕ) (v : WritingIn Run) (found log : LogRec Run) → v.held ≡ Some found → Follows found log
-      → Allows IsCell slots id (Writer v, (0, log) ∷ []) 0 (λ _. 0) (λ _. gives_written a_step (Writer v, (0, log) ∷ []) 0)
+      → Allows (IsCell its_run its_link) slots id (Writer v, (0, log) ∷ []) 0 (λ _. 0) (λ _. gives_written a_step (Writer v, (0, log) ∷ []) 0)
   writer_gives_there slots id v found log held went s c len at small =
       let out = is_writers c.word c.home v c.r found (fits_writer s c id v at) held in
       let agrees = out.2 in
@@ -206,8 +247,8 @@ module _ {Run : Type 0} where
       )
 
   -- the reader gives back a log that is the one that it found to the writer's eyes, with what it has taken
-  reader_gives : (id : ℕ) (v r' : ReadingIn Run) (found log : LogRec Run) (s : StateIn Run) (c : IsCell s) → v.held ≡ Some found → SameToWriter found log → get_elem? s.views id ≡ some (Reader v) → r'.held ≡ None → ReadsFrom r' log
-      → IsCell (stepped s 0 0 id ((0, log) ∷ []) (Reader r') gives)
+  reader_gives : (id : ℕ) (v r' : ReadingIn Run) (found log : LogRec Run) (s : StateIn Run) (c : IsCell its_run its_link s) → v.held ≡ Some found → SameToWriter found log → get_elem? s.views id ≡ some (Reader v) → r'.held ≡ None → ReadsFrom r' log
+      → IsCell its_run its_link (stepped s 0 0 id ((0, log) ∷ []) (Reader r') gives)
   reader_gives id v r' found log s c held same at gone reads =
       let out = is_readers c.word c.home c.w v found (fits_reader s c id v at) held in
       let writes = out.2.writes in
@@ -225,7 +266,7 @@ module _ {Run : Type 0} where
       }
 
   reader_gives_taken_there : (slots id : ℕ) (v : ReadingIn Run) (found log : LogRec Run) → v.held ≡ Some found → SameToWriter found log → v.run ≡ log.run → v.number ≡ log.number → log.base ≤ log.published
-      → v.shut ≡ false → Allows IsCell slots id (Reader v, (0, log) ∷ []) 0 (λ _. 0) (λ _. gives_taken a_step (Reader v, (0, log) ∷ []) 0)
+      → v.shut ≡ false → Allows (IsCell its_run its_link) slots id (Reader v, (0, log) ∷ []) 0 (λ _. 0) (λ _. gives_taken a_step (Reader v, (0, log) ∷ []) 0)
   reader_gives_taken_there slots id v found log held same run number whole is_open s c len at small =
       let r' : ReadingIn Run = record v { got = log.published; held = None } in (
         Reader r',
@@ -239,7 +280,7 @@ module _ {Run : Type 0} where
       )
 
   reader_gives_shut_there : (slots id : ℕ) (v : ReadingIn Run) (found log : LogRec Run) → v.held ≡ Some found → SameToWriter found log → v.run ≡ log.run → v.number ≡ log.number → log.base ≤ log.published
-      → IsSome log.cause → Allows IsCell slots id (Reader v, (0, log) ∷ []) 0 (λ _. 0) (λ _. gives_shut a_step (Reader v, (0, log) ∷ []) 0)
+      → IsSome log.cause → Allows (IsCell its_run its_link) slots id (Reader v, (0, log) ∷ []) 0 (λ _. 0) (λ _. gives_shut a_step (Reader v, (0, log) ∷ []) 0)
   reader_gives_shut_there slots id v found log held same run number whole closed s c len at small =
       let r' : ReadingIn Run = record v { got = log.published; shut = true; held = None } in (
         Reader r',
@@ -253,7 +294,7 @@ module _ {Run : Type 0} where
       )
 
   reader_gives_kept_there : (slots id : ℕ) (v : ReadingIn Run) (found log : LogRec Run) → v.held ≡ Some found → SameToWriter found log → ReadsFrom v log
-      → Allows IsCell slots id (Reader v, (0, log) ∷ []) 0 (λ _. 0) (λ _. gives_kept a_step (Reader v, (0, log) ∷ []) 0)
+      → Allows (IsCell its_run its_link) slots id (Reader v, (0, log) ∷ []) 0 (λ _. 0) (λ _. gives_kept a_step (Reader v, (0, log) ∷ []) 0)
   reader_gives_kept_there slots id v found log held same reads s c len at small =
       let r' : ReadingIn Run = record v { held = None } in (
         Reader r',
@@ -265,25 +306,25 @@ module _ {Run : Type 0} where
             λ i. (Reader (record (is_view i) { held = None }), [])),
       )
 
-  pub writer_claims : (slots id : ℕ) (me : SeatIn Run) (v : WritingIn Run) → me ≡ (Writer v, []) → Allows IsCell slots id me 0 (λ n. either (eqb n 0) 1 n) (claims_as_writer a_step me)
+  pub writer_claims : (slots id : ℕ) (me : SeatIn Run) (v : WritingIn Run) → me ≡ (Writer v, []) → Allows (IsCell its_run its_link) slots id me 0 (λ n. either (eqb n 0) 1 n) (claims_as_writer a_step me)
   writer_claims slots id me v e = moved slots id me (Writer v, []) (λ n. either (eqb n 0) 1 n) (claims_as_writer a_step) e (writer_claims_there slots id v)
 
-  pub reader_claims : (slots id : ℕ) (me : SeatIn Run) (v : ReadingIn Run) → me ≡ (Reader v, []) → Allows IsCell slots id me 0 (λ n. either (eqb n 0) 2 n) (claims_as_reader a_step me)
+  pub reader_claims : (slots id : ℕ) (me : SeatIn Run) (v : ReadingIn Run) → me ≡ (Reader v, []) → Allows (IsCell its_run its_link) slots id me 0 (λ n. either (eqb n 0) 2 n) (claims_as_reader a_step me)
   reader_claims slots id me v e = moved slots id me (Reader v, []) (λ n. either (eqb n 0) 2 n) (claims_as_reader a_step) e (reader_claims_there slots id v)
 
-  pub writer_gives : (slots id : ℕ) (me : SeatIn Run) (end : WriteRec Run) (refused : ℕ) → WriterHas end refused me → Allows IsCell slots id me 0 (λ _. 0) (λ _. gives_written a_step me 0)
+  pub writer_gives : (slots id : ℕ) (me : SeatIn Run) (end : WriteRec Run) (refused : ℕ) → WriterHas end refused me → Allows (IsCell its_run its_link) slots id me 0 (λ _. 0) (λ _. gives_written a_step me 0)
   writer_gives slots id me end refused has = moved slots id me (Writer has.view, (0, has.log) ∷ []) (λ _. 0) (λ m _. gives_written a_step m 0) has.me_is
       (writer_gives_there slots id has.view has.found has.log has.held has.follows)
 
-  pub reader_gives_taken : (slots id : ℕ) (me : SeatIn Run) (end : ReadRec Run) (refused : ℕ) → HasTaken end refused me → end.shut ≡ false → Allows IsCell slots id me 0 (λ _. 0) (λ _. gives_taken a_step me 0)
+  pub reader_gives_taken : (slots id : ℕ) (me : SeatIn Run) (end : ReadRec Run) (refused : ℕ) → HasTaken end refused me → end.shut ≡ false → Allows (IsCell its_run its_link) slots id me 0 (λ _. 0) (λ _. gives_taken a_step me 0)
   reader_gives_taken slots id me end refused took is_open = let has = took.0 in moved slots id me (Reader has.view, (0, has.log) ∷ []) (λ _. 0) (λ m _. gives_taken a_step m 0) has.me_is
       (reader_gives_taken_there slots id has.view has.found has.log has.held has.same (has.run ∙ has.reads.run) (has.number ∙ has.reads.number) (omega (arith, has.reads.base, has.reads.published)) (took.2 is_open))
 
-  pub reader_gives_shut : (slots id : ℕ) (me : SeatIn Run) (end : ReadRec Run) (refused : ℕ) → HasTaken end refused me → end.shut ≡ true → Allows IsCell slots id me 0 (λ _. 0) (λ _. gives_shut a_step me 0)
+  pub reader_gives_shut : (slots id : ℕ) (me : SeatIn Run) (end : ReadRec Run) (refused : ℕ) → HasTaken end refused me → end.shut ≡ true → Allows (IsCell its_run its_link) slots id me 0 (λ _. 0) (λ _. gives_shut a_step me 0)
   reader_gives_shut slots id me end refused took shut = let has = took.0 in moved slots id me (Reader has.view, (0, has.log) ∷ []) (λ _. 0) (λ m _. gives_shut a_step m 0) has.me_is
       (reader_gives_shut_there slots id has.view has.found has.log has.held has.same (has.run ∙ has.reads.run) (has.number ∙ has.reads.number) (omega (arith, has.reads.base, has.reads.published)) (has.shut shut).closed)
 
-  pub reader_gives_kept : (slots id : ℕ) (me : SeatIn Run) (end : ReadRec Run) (refused : ℕ) → HasKept end refused me → Allows IsCell slots id me 0 (λ _. 0) (λ _. gives_kept a_step me 0)
+  pub reader_gives_kept : (slots id : ℕ) (me : SeatIn Run) (end : ReadRec Run) (refused : ℕ) → HasKept end refused me → Allows (IsCell its_run its_link) slots id me 0 (λ _. 0) (λ _. gives_kept a_step me 0)
   reader_gives_kept slots id me end refused kept = let has = kept.0 in moved slots id me (Reader has.view, (0, has.log) ∷ []) (λ _. 0) (λ m _. gives_kept a_step m 0) has.me_is
       (reader_gives_kept_there slots id has.view has.found has.log has.held has.same
       record {
@@ -295,7 +336,7 @@ module _ {Run : Type 0} where
       })
 
   -- the news are raised
-  pub news_rise : (slots id : ℕ) (m : SeatIn Run) (f : ℕ → ℕ) → Allows IsCell slots id m 1 f (raises a_step m)
+  pub news_rise : (slots id : ℕ) (m : SeatIn Run) (f : ℕ → ℕ) → Allows (IsCell its_run its_link) slots id m 1 f (raises a_step m)
   news_rise slots id m f s c len at small = (
     m.0,
     keeps,
@@ -311,12 +352,14 @@ module _ {Run : Type 0} where
       homes = c.homes;
       views = set_again s.views id m.0 at ∙ c.views;
       fits = c.fits;
+      of_run = c.of_run;
+      of_number = c.of_number;
     },
     refl,
   )
 
   -- one seat becomes two
-  parts_there : (id : ℕ) (w : WritingIn Run) (r : ReadingIn Run) → Splits IsCell id (Whole w r) (Writer w) (Reader r)
+  parts_there : (id : ℕ) (w : WritingIn Run) (r : ReadingIn Run) → Splits (IsCell its_run its_link) id (Whole w r) (Writer w) (Reader r)
   parts_there id w r s c at = let here = whole_seat c.stage c.w c.r id w r (seat_is s c id (Whole w r) at) in record {
     word = c.word;
     news = c.news;
@@ -328,19 +371,15 @@ module _ {Run : Type 0} where
     homes = c.homes;
     views = (λ i. set (c.views i) (here.1 i) (Writer w) ++ Reader r ∷ []) ∙ (λ i. set (seats_at (here.0 i) c.w c.r) 0 (Writer w) ++ Reader r ∷ []);
     fits = subst (λ (x : WritingIn Run × ReadingIn Run). Fits c.word c.home x.0 x.1) (λ i. (here.2 i, here.3 i)) c.fits;
+    of_run = ap (λ (x : ReadingIn Run). x.run) (sym here.3) ∙ c.of_run;
+    of_number = ap (λ (x : ReadingIn Run). x.number) (sym here.3) ∙ c.of_number;
   }
 
-  pub parts : (id : ℕ) (v : ViewIn Run) (w : WritingIn Run) (r : ReadingIn Run) → v ≡ Whole w r → Splits IsCell id v (writer_part v) (reader_part v)
-  parts id v w r e = subst (λ (x : ViewIn Run). Splits IsCell id x (writer_part x) (reader_part x)) (sym e) (parts_there id w r)
-
-  -- the reader's seat, where the writer's has become another
-  reader_beside : (w : WritingIn Run) (r r' : ReadingIn Run) (both : ViewIn Run) (other : ℕ) → other ≢ 0 → get_elem? (both ∷ Reader r ∷ []) other ≡ some (Reader r') → (other ≡ 1) × (r ≡ r')
-  reader_beside w r r' both zero n e = absurd (n refl)
-  reader_beside w r r' both (suc zero) n e = (refl, ap (reading_or r) (some-injective (Reader r) (Reader r') e))
-  reader_beside w r r' both (suc (suc k)) n e = absurd (some-ne-none (Reader r') (sym e))
+  pub parts : (id : ℕ) (v : ViewIn Run) (w : WritingIn Run) (r : ReadingIn Run) → v ≡ Whole w r → Splits (IsCell its_run its_link) id v (writer_part v) (reader_part v)
+  parts id v w r e = subst (λ (x : ViewIn Run). Splits (IsCell its_run its_link) id x (writer_part x) (reader_part x)) (sym e) (parts_there id w r)
 
   -- two seats become one
-  joins_there : (id other : ℕ) (w : WritingIn Run) (r : ReadingIn Run) → Joins IsCell id (Writer w) other (Reader r) (Joined w r) Spent
+  joins_there : (id other : ℕ) (w : WritingIn Run) (r : ReadingIn Run) → Joins (IsCell its_run its_link) id (Writer w) other (Reader r) (Joined w r) Spent
   joins_there id other w r s c at apart that =
       let here = writer_seat c.stage c.w c.r id w (seat_is s c id (Writer w) at) in
       let two : set s.views id (Joined w r) ≡ Joined w r ∷ Reader c.r ∷ [] = (λ i. set (c.views i) (here.1 i) (Joined w r)) ∙ (λ i. set (seats_at (here.0 i) c.w c.r) 0 (Joined w r)) in
@@ -356,46 +395,22 @@ module _ {Run : Type 0} where
         homes = c.homes;
         views = λ i. set (two i) (there.0 i) Spent;
         fits = subst (λ (x : WritingIn Run × ReadingIn Run). Fits c.word c.home x.0 x.1) (λ i. (here.2 i, there.1 i)) c.fits;
+        of_run = ap (λ (x : ReadingIn Run). x.run) (sym there.1) ∙ c.of_run;
+        of_number = ap (λ (x : ReadingIn Run). x.number) (sym there.1) ∙ c.of_number;
       }
 
-  pub joins : (id other : ℕ) (v u : ViewIn Run) (w : WritingIn Run) (r : ReadingIn Run) → v ≡ Writer w → u ≡ Reader r → Joins IsCell id v other u (joined_view v u) Spent
-  joins id other v u w r e f = subst (λ (x : ViewIn Run × ViewIn Run). Joins IsCell id x.0 other x.1 (joined_view x.0 x.1) Spent) (λ i. (sym e i, sym f i)) (joins_there id other w r)
-
-  -- a cell begins with its rule
-  pub begins : (words : List ℕ) (logs : List (LogRec Run)) (log : LogRec Run) (end : WriteRec Run) → words ≡ 0 ∷ 0 ∷ [] → logs ≡ log ∷ [] → Writes end log → log.base ≡ 0 → IsCell (opening words logs (new_view end))
-  begins words logs log end are is writes low = record {
-    word = 0;
-    news = 0;
-    home = some log;
-    stage = made;
-    w = record { run = end.run; number = end.number; published = end.published; cause = end.cause; held = None; refused = 0 };
-    r = record { run = end.run; number = end.number; got = 0; shut = false; held = None; refused = 0 };
-    words = are;
-    homes = ap (map some) is;
-    views = refl;
-    fits = record {
-      turn = free;
-      log = log;
-      word_is = refl;
-      home_is = refl;
-      writer_has = refl;
-      reader_has = refl;
-      agrees = record {
-        writes = record { run = writes.run; number = writes.number; published = writes.published; cause = writes.cause };
-        reads = record { run = writes.run; number = writes.number; base = omega (arith, low); published = omega arith; shut = λ h. absurd (true≢false (sym h)) };
-      };
-    };
-  }
+  pub joins : (id other : ℕ) (v u : ViewIn Run) (w : WritingIn Run) (r : ReadingIn Run) → v ≡ Writer w → u ≡ Reader r → Joins (IsCell its_run its_link) id v other u (joined_view v u) Spent
+  joins id other v u w r e f = subst (λ (x : ViewIn Run × ViewIn Run). Joins (IsCell its_run its_link) id x.0 other x.1 (joined_view x.0 x.1) Spent) (λ i. (sym e i, sym f i)) (joins_there id other w r)
 
   -- at the end the log is at home, and is what both ends knew
-  ends_at_home : (s : StateIn Run) (c : IsCell s) (id : ℕ) (w : WritingIn Run) (r : ReadingIn Run) → get_elem? s.views id ≡ some (Joined w r) → w.held ≡ None → r.held ≡ None
+  ends_at_home : (s : StateIn Run) (c : IsCell its_run its_link s) (id : ℕ) (w : WritingIn Run) (r : ReadingIn Run) → get_elem? s.views id ≡ some (Joined w r) → w.held ≡ None → r.held ≡ None
       → (log : LogRec Run) × (get_elem? s.homes 0 ≡ some (some log)) × Agrees log w r
   ends_at_home s c id w r at a b =
       let here = joined_seat c.stage c.w c.r id w r (seat_is s c id (Joined w r) at) in
       let left = is_left c.word c.home w r (subst (λ (x : WritingIn Run × ReadingIn Run). Fits c.word c.home x.0 x.1) (λ i. (here.0 i, here.1 i)) c.fits) a b in
       (left.log, ap (λ (l : List (maybe.Option (LogRec Run))). get_elem? l 0) c.homes ∙ ap some left.home_is, left.agrees)
 
-  pub left_at_home : (words : List ℕ) (logs : List (LogRec Run)) (id : ℕ) (v : ViewIn Run) (log : LogRec Run) → IsJoined v → Final (Seen IsCell id v) words logs → get_elem? logs 0 ≡ some log → AgreesWith v log
+  pub left_at_home : (words : List ℕ) (logs : List (LogRec Run)) (id : ℕ) (v : ViewIn Run) (log : LogRec Run) → IsJoined v → Final (Seen (IsCell its_run its_link) id v) words logs → get_elem? logs 0 ≡ some log → AgreesWith v log
   left_at_home words logs id (Joined w r) log idle final at =
       let t = ends_at_home final.0 final.1.0 id w r final.1.1 idle.0 idle.1 in
       let same : t.0 ≡ log = some-injective t.0 log (sym (final.4 0 t.0 t.1) ∙ at) in

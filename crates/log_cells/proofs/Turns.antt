@@ -25,7 +25,7 @@ module _ {Run : Type 0} (refused found : ℕ) (m : SeatIn Run) where
     run = refl;
     number = refl;
     writes = t.1;
-    follows = record { run = refl; number = refl; base = refl; published = le_refl t.0.published; closed = λ h. record { published = refl; closed = h } };
+    follows = record { run = refl; number = refl; base = refl; published = le_refl t.0.published; closed = λ h. record { published = refl; closed = h }; cause = λ h. refl };
   }
 
   pub writer_won_later : (end : WriteRec Run) → WriterClaims (writing_of end refused) found m → found ≡ 0 → refused ≤ refused_of m.0
@@ -132,6 +132,7 @@ module _ {Run : Type 0} {refused : ℕ} {m : SeatIn Run} where
               let here = before.closed h in
               let there = went.closed here.closed in
               record { published = there.published ∙ here.published; closed = there.closed };
+          cause = λ h. went.cause (before.closed h).closed ∙ before.cause h;
         };
       }
 
@@ -167,6 +168,9 @@ module _ {Run : Type 0} (log log' : LogRec Run) where
   still_open : log.cause ≡ None → IsSome log.cause → EndsAt log.published log'
   still_open is_open closed = absurd (true≢false (sym closed ∙ ap is_some is_open))
 
+  no_cause_yet : log.cause ≡ None → IsSome log.cause → log'.cause ≡ log.cause
+  no_cause_yet is_open closed = absurd (true≢false (sym closed ∙ ap is_some is_open))
+
   pub appended : {E : Type 0} (end end' : WriteRec Run) (upto : Slot) (more : List Entry) (x : Result (Unit {0}) E) → Writes end log → log.cause ≡ None → log.published ≤ upto
       → OnOk x (log' ≡ record log { published = upto; entries = more }) → OnOk x (end' ≡ record end { published = upto }) → OnErr x (log' ≡ log) → OnErr x (end' ≡ end) → WentOn log log' end end'
   appended end end' upto more (Ok u) writes is_open on is_log is_end err err_end = record {
@@ -184,6 +188,7 @@ module _ {Run : Type 0} (log log' : LogRec Run) where
       base = ap (λ (l : LogRec Run). l.base) is_log;
       published = omega (arith, on, ap (λ (l : LogRec Run). l.published) is_log);
       closed = still_open is_open;
+      cause = no_cause_yet is_open;
     };
   }
   appended end end' upto more (Err e) writes is_open on is_log is_end err err_end = record {
@@ -201,6 +206,7 @@ module _ {Run : Type 0} (log log' : LogRec Run) where
       base = ap (λ (l : LogRec Run). l.base) err;
       published = omega (arith, ap (λ (l : LogRec Run). l.published) err);
       closed = λ h. record { published = ap (λ (l : LogRec Run). l.published) err; closed = ap (λ (l : LogRec Run). is_some l.cause) err ∙ h };
+      cause = λ h. ap (λ (l : LogRec Run). l.cause) err;
     };
   }
 
@@ -220,6 +226,7 @@ module _ {Run : Type 0} (log log' : LogRec Run) where
       base = ap (λ (l : LogRec Run). l.base) is_log;
       published = omega (arith, ap (λ (l : LogRec Run). l.published) is_log);
       closed = still_open is_open;
+      cause = no_cause_yet is_open;
     };
   }
 

@@ -19,9 +19,9 @@ CellState Run = State (LogRec Run) (ViewIn Run)
 module _ {Run : Type 0} where
   -- ---- At a moment between two steps
 
-  -- by the rule, the log is this one: in its place, or as the end found it that has it
-  pub record IsMoment (s : CellState Run) (log : LogRec Run) : Type 0 where
-    pub rule : IsCell s
+  -- by a cell's rule, its log is this one: in its place, or as the end found it that has it
+  pub record IsMoment (cell : CellRec Run) (s : CellState Run) (log : LogRec Run) : Type 0 where
+    pub rule : IsCell cell.run cell.number s
     pub log_is : rule.fits.log ≡ log
 
   -- who has the log: nobody, the end that writes or the end that reads
@@ -38,12 +38,10 @@ module _ {Run : Type 0} where
     pub run : log.run ≡ cell.run
     pub number : log.number ≡ cell.number
 
-  -- an end of a cell that is not at work has the log's published slot and cause, or has read up to a slot of the log
-  abbrev pub IsWritten : CellRec Run → LogRec Run → WriteRec Run → Type 0
-  IsWritten cell log end = IsOfLink cell log × Writes end log
-
-  abbrev pub IsRead : CellRec Run → LogRec Run → ReadRec Run → Type 0
-  IsRead cell log end = IsOfLink cell log × Reads end log × (end.shut ≡ true → EndsAt end.got log)
+  -- of an end that reads and is not at work
+  pub record IsRead (log : LogRec Run) (end : ReadRec Run) : Type 0 where
+    pub reads : Reads end log
+    pub shut : end.shut ≡ true → EndsAt end.got log
 
   -- what a cell keeps, where a link carries these entries in each slot
   pub record CellKeeps (at : Run → LinkNumber → Slot → List Entry) (cell : CellRec Run) (s : CellState Run) (log : LogRec Run) : Type 0 where
@@ -52,7 +50,8 @@ module _ {Run : Type 0} where
     pub reader : ReadingIn Run
     pub stage : Stage
     pub seats : s.views ≡ seats_at stage writer reader
-    -- one run and one link
+    -- it is of the cell's run and link, and both ends name them
+    pub link : IsOfLink cell log
     pub run : (writer.run ≡ log.run) × (reader.run ≡ log.run)
     pub number : (writer.number ≡ log.number) × (reader.number ≡ log.number)
     -- the log begins no later than what was read ends, and that no later than what is published
@@ -69,17 +68,17 @@ module _ {Run : Type 0} where
     pub word : slice_index s.words 0 ≡ turn_word turn
     pub with : IsWith turn s writer reader log
     -- of an end of this cell that is not at work
-    pub written : (end : CellWriteRec Run) → WritesTo end cell → HasSeat s (Writer (writing_of end.end end.refused)) → IsWritten cell log end.end
-    pub read : (end : CellReadRec Run) → ReadsOf end cell → HasSeat s (Reader (reading_of end.end end.refused)) → IsRead cell log end.end
+    pub written : (end : CellWriteRec Run) → WritesTo end cell → HasSeat s (Writer (writing_of end.end end.refused)) → Writes end.end log
+    pub read : (end : CellReadRec Run) → ReadsOf end cell → HasSeat s (Reader (reading_of end.end end.refused)) → IsRead log end.end
 
   -- ---- From one step to the next
 
-  -- no published slot falls, and a log that is closed is published no further
+  -- the published slot does not fall, and where the log is closed it stays, and the cause too
   pub record WritesOn (before after : WritingIn Run) : Type 0 where
     pub run : after.run ≡ before.run
     pub number : after.number ≡ before.number
     pub published : before.published ≤ after.published
-    pub closed : IsSome before.cause → (after.published ≡ before.published) × IsSome after.cause
+    pub closed : IsSome before.cause → (after.published ≡ before.published) × (after.cause ≡ before.cause)
 
   -- what was read is not read again, and where the close was found nothing more is
   pub record ReadsOn (before after : ReadingIn Run) : Type 0 where
@@ -103,7 +102,7 @@ module _ {Run : Type 0} where
 
   -- a seat of which this is so goes on by a step of this kind, whatever word it finds
   abbrev pub GoesOnBy : (SeatIn Run → ℕ → SeatIn Run → Type 0) → (SeatIn Run → Type 0) → Type 0
-  GoesOnBy kind Is = (s : CellState Run) → IsCell s → (me me' : SeatIn Run) (found : ℕ) → HasSeat s me.0 → Is me → kind me found me' → GoesOn me.0 me'.0
+  GoesOnBy kind Is = (cell : CellRec Run) (s : CellState Run) → IsCell cell.run cell.number s → (me me' : SeatIn Run) (found : ℕ) → HasSeat s me.0 → Is me → kind me found me' → GoesOn me.0 me'.0
 
 -- each kind of step of an end, from where its calls make it
 pub record StepsGoOn (Run : Type 0) : Type 0 where

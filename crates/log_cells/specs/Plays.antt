@@ -83,13 +83,14 @@ module _ {Run : Type 0} where
   joined_view (Writer w) v = with_reader w v
   joined_view _ v = Spent
 
-  -- a log that went on from another as its writer may let it: one that is closed does not go on
+  -- a log that went on from another as its writer may let it: one that is closed does not go on, and keeps the cause
   pub record Follows (old new : LogRec Run) : Type 0 where
     pub run : new.run ≡ old.run
     pub number : new.number ≡ old.number
     pub base : new.base ≡ old.base
     pub published : old.published ≤ new.published
     pub closed : IsSome old.cause → EndsAt old.published new
+    pub cause : IsSome old.cause → new.cause ≡ old.cause
 
   -- a log that is another to its writer's eyes
   pub record SameToWriter (old new : LogRec Run) : Type 0 where

@@ -4,6 +4,7 @@ use Rattle.std.specs.Prelude.{◌≡◌, ℕ, ◌≤◌, true, false, List, [], 
 use mathlib.Core.Option.{some, none}
 use mathlib.Core.Option as maybe
 use Rattle.atomic_table.specs.Table.{State}
+use Rattle.xs_base.specs.Numbers.{LinkNumber}
 use Rattle.link_logs.specs.Logs.{LogRec, WriteRec, ReadRec, Writes}
 use Rattle.log_cells.specs.Ends.{EndsAt}
 use Rattle.log_cells.specs.declared.view.Writing.{Writing}
@@ -92,7 +93,8 @@ module _ {Run : Type 0} where
   seats_at parted w r = Writer w ∷ Reader r ∷ []
   seats_at joined w r = Joined w r ∷ Spent ∷ []
 
-  pub record IsCell (s : State (LogRec Run) (ViewIn Run)) : Type 0 where
+  -- a cell of this run and this link
+  pub record IsCell (run : Run) (number : LinkNumber) (s : State (LogRec Run) (ViewIn Run)) : Type 0 where
     pub word : ℕ
     pub news : ℕ
     pub home : maybe.Option (LogRec Run)
@@ -103,6 +105,8 @@ module _ {Run : Type 0} where
     pub homes : s.homes ≡ home ∷ []
     pub views : s.views ≡ seats_at stage w r
     pub fits : Fits word home w r
+    pub of_run : r.run ≡ run
+    pub of_number : r.number ≡ number
 
   -- of a new log
   abbrev pub new_view : WriteRec Run → ViewIn Run

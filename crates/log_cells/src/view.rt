@@ -46,7 +46,7 @@ pub struct Turns<S> {
 impl<S: Story> TableRule<Log<S>, View<Log<S>, S::Run>, link_logs::WriteEnd<S>> for Turns<S> {
     ghost use Rattle.log_cells.specs.Rule.{IsCell, new_view};
 
-    ghost holds = { λ _. IsCell };
+    ghost holds = { λ key. IsCell key.run key.number };
 
     ghost first = { new_view };
 }
