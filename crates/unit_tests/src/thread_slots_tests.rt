@@ -16,61 +16,66 @@ fn picks(rt: &impl Abort, able: u8, wanted: &[(u32, Option<u8>)]) {
     }
 }
 
+// One thread issues in every fourth slot.
+static TURNS_OF_ONE: [(u32, Option<u8>); 7] = [
+    (0, Some(0)),
+    (1, None),
+    (2, None),
+    (3, None),
+    (4, Some(0)),
+    (5, None),
+    (8, Some(0)),
+];
+
+static TURNS_OF_FOUR: [(u32, Option<u8>); 6] = [
+    (0, Some(0)),
+    (1, Some(1)),
+    (2, Some(2)),
+    (3, Some(3)),
+    (4, Some(0)),
+    (5, Some(1)),
+];
+
+static TURNS_OF_FIVE: [(u32, Option<u8>); 7] = [
+    (0, Some(0)),
+    (1, Some(1)),
+    (2, Some(2)),
+    (3, Some(3)),
+    (4, Some(4)),
+    (5, Some(0)),
+    (6, Some(1)),
+];
+
+static TURNS_OF_EIGHT: [(u32, Option<u8>); 10] = [
+    (0, Some(0)),
+    (1, Some(1)),
+    (2, Some(2)),
+    (3, Some(3)),
+    (4, Some(4)),
+    (5, Some(5)),
+    (6, Some(6)),
+    (7, Some(7)),
+    (8, Some(0)),
+    (9, Some(1)),
+];
+
+static TURNS_OF_SOME: [(u32, Option<u8>); 7] = [
+    (0, Some(1)),
+    (1, Some(2)),
+    (2, Some(3)),
+    (3, Some(5)),
+    (4, Some(6)),
+    (5, Some(1)),
+    (6, Some(2)),
+];
+
 #[test]
 fn threads_take_turns(rt: HostRuntime) {
-    // One thread issues in every fourth slot.
-    let one = [
-        (0, Some(0)),
-        (1, None),
-        (2, None),
-        (3, None),
-        (4, Some(0)),
-        (5, None),
-        (8, Some(0)),
-    ];
-    picks(&rt, 0b0000_0001, &one);
-    let four = [
-        (0, Some(0)),
-        (1, Some(1)),
-        (2, Some(2)),
-        (3, Some(3)),
-        (4, Some(0)),
-        (5, Some(1)),
-    ];
-    picks(&rt, 0b0000_1111, &four);
-    let five = [
-        (0, Some(0)),
-        (1, Some(1)),
-        (2, Some(2)),
-        (3, Some(3)),
-        (4, Some(4)),
-        (5, Some(0)),
-        (6, Some(1)),
-    ];
-    picks(&rt, 0b0001_1111, &five);
-    let eight = [
-        (0, Some(0)),
-        (1, Some(1)),
-        (2, Some(2)),
-        (3, Some(3)),
-        (4, Some(4)),
-        (5, Some(5)),
-        (6, Some(6)),
-        (7, Some(7)),
-        (8, Some(0)),
-        (9, Some(1)),
-    ];
-    picks(&rt, 0b1111_1111, &eight);
-    let some = [
-        (0, Some(1)),
-        (1, Some(2)),
-        (2, Some(3)),
-        (3, Some(5)),
-        (4, Some(6)),
-        (5, Some(1)),
-        (6, Some(2)),
-    ];
-    picks(&rt, 0b0110_1110, &some);
+    picks(&rt, 0b0000_0001, &TURNS_OF_ONE);
+    picks(&rt, 0b0000_1111, &TURNS_OF_FOUR);
+    picks(&rt, 0b0001_1111, &TURNS_OF_FIVE);
+    picks(&rt, 0b1111_1111, &TURNS_OF_EIGHT);
+    picks(&rt, 0b0110_1110, &TURNS_OF_SOME);
     picks(&rt, 0, &[(0, None), (4, None)]);
     assert!(rt; Slots::new().last(7) == None);
 }

@@ -41,34 +41,36 @@ fn some_timers_are_ready(rt: HostRuntime) {
 }
 
 // Whether a timer with this value is ready in a slot. A slot's time is at most 2^30 - 1.
+static READY: [(u32, u32, bool); 24] = [
+    (0, 0, false),
+    (0, 3, false),
+    (0, 4, true),
+    (0, 4294967295, true),
+    (1, 3, false),
+    (1, 7, false),
+    (1, 8, true),
+    (1073741822, 4294967291, false),
+    (1073741822, 4294967292, true),
+    (1073741823, 4294967295, false),
+    (2147483647, 0, false),
+    (2147483648, 0, false),
+    (2147483648, 4, false),
+    (2147483648, 4294967295, false),
+    (2147483649, 3, true),
+    (2147483649, 4, false),
+    (2147483650, 7, true),
+    (2147483650, 8, false),
+    (3221225471, 4294967295, false),
+    (3221225472, 4294967295, true),
+    (4294967294, 0, true),
+    (4294967295, 0, true),
+    (4294967295, 4, true),
+    (4294967295, 4294967295, true),
+];
+
 #[test]
 fn times_after_values(rt: HostRuntime) {
-    for (value, slot, holds) in [
-        (0, 0, false),
-        (0, 3, false),
-        (0, 4, true),
-        (0, 4294967295, true),
-        (1, 3, false),
-        (1, 7, false),
-        (1, 8, true),
-        (1073741822, 4294967291, false),
-        (1073741822, 4294967292, true),
-        (1073741823, 4294967295, false),
-        (2147483647, 0, false),
-        (2147483648, 0, false),
-        (2147483648, 4, false),
-        (2147483648, 4294967295, false),
-        (2147483649, 3, true),
-        (2147483649, 4, false),
-        (2147483650, 7, true),
-        (2147483650, 8, false),
-        (3221225471, 4294967295, false),
-        (3221225472, 4294967295, true),
-        (4294967294, 0, true),
-        (4294967295, 0, true),
-        (4294967295, 4, true),
-        (4294967295, 4294967295, true),
-    ] {
+    for &(value, slot, holds) in &READY {
         let mut timers = Timers::new();
         let got = timers.get();
         let set = [timers.set_value(0, value), timers.set_after(0, true)];
@@ -81,6 +83,10 @@ fn times_after_values(rt: HostRuntime) {
             "{value} in slot {slot}"
         );
     }
+}
+
+#[test]
+fn times_of_slots(rt: HostRuntime) {
     for (slot, time) in [
         (0, 0),
         (3, 0),
