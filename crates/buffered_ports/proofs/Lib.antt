@@ -1,5 +1,3 @@
-pub mod OneBit
-pub mod Masks
 pub mod Row
 pub mod First
 pub mod High

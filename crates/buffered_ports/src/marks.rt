@@ -1,24 +1,8 @@
 //! Masks of ports: bit n is that of port n.
-ghost use Rattle.std.specs.Prelude.{ℕ, ◌≡◌, ◌≢◌, ◌<◌, ◌≤◌, ◌==◌, true, false, if◌then◌else◌};
+ghost use Rattle.std.specs.Prelude.{ℕ, ◌≡◌, ◌≢◌, ◌<◌, true, false};
 ghost use Rattle.xs_model.specs.Masks.{in_mask};
 
-/// The mask with bit `n`, 0 to 31, set where this holds, and else cleared.
-pub(crate) fn with_bit(mask: u32, n: u8, holds: bool) -> u32
-    requires { n < 32 }
-    ensures { (k : ℕ) → k < 32 → in_mask result k ≡ (if k == n then holds else in_mask mask k) }
-{
-    let bit = 1 << n;
-    if holds { mask | bit } else { mask & !bit }
-}
-
-/// Whether bit `n`, 0 to 31, of a mask is set.
-#[inline]
-pub(crate) fn has_bit(mask: u32, n: u8) -> bool
-    requires { n < 32 }
-    ensures { result ≡ in_mask mask n }
-{
-    (mask >> n) & 1 == 1
-}
+use bit_masks::with_bit;
 
 /// The mask with bit `n`, 0 to 31, as this, where it may differ.
 #[inline]
@@ -33,26 +17,4 @@ pub(crate) fn noted(mask: u32, n: u8, differs: bool, holds: bool) -> u32
     } else {
         mask
     }
-}
-
-/// The lowest bit that is set in a mask.
-#[inline]
-pub(crate) fn lowest(mask: u32) -> u8
-    requires { 0 < mask }
-    ensures within { result < 32 }
-    ensures is { in_mask mask result ≡ true }
-    ensures least { (k : ℕ) → k < result → in_mask mask k ≡ false }
-{
-    mask.trailing_zeros() as u8
-}
-
-/// The mask without bit `n`, 0 to 31, which is set.
-#[inline]
-pub(crate) fn without(mask: u32, n: u8) -> u32
-    requires place { n < 32 }
-    requires is { in_mask mask n ≡ true }
-    ensures bits { (k : ℕ) → k < 32 → in_mask result k ≡ (if k == n then false else in_mask mask k) }
-    ensures less { result < mask }
-{
-    mask & !(1 << n)
 }

@@ -13,7 +13,8 @@ ghost use Rattle.buffered_ports.specs.Asks.{no_ports, port_at, is_allowed, asked
 ghost use Rattle.single_port.specs.Keeps.{ServesAs};
 ghost use Rattle.buffered_ports.specs.Keeps.{ports_restarted};
 
-use crate::marks::{noted, with_bit};
+use crate::marks::noted;
+use bit_masks::with_bit;
 use single_port::{Answer, Ask, Fallen, Port, Reply};
 use std::marker::Model;
 use xs_base::numbers::PORTS;

@@ -13,8 +13,9 @@ ghost use Rattle.buffered_ports.specs.Asks.{port_at};
 ghost use Rattle.single_port.specs.Keeps.{IsPlain, ServesAs};
 ghost use Rattle.buffered_ports.specs.Keeps.{HighIs, HighAre};
 
-use crate::marks::{has_bit, lowest, noted, with_bit, without};
+use crate::marks::noted;
 use crate::ports::Ports;
+use bit_masks::{has_bit, lowest, with_bit, without};
 use timers_clocks::Clocks;
 use trace_lines::{Emissions, Event, Happen};
 use xs_base::numbers::PORTS;

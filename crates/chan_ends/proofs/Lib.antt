@@ -1,3 +1,1 @@
-pub mod Free
 pub mod Unused
-pub mod OneBit

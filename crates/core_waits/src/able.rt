@@ -38,7 +38,7 @@ pub struct Able {
     /// The last slot for which it is known: up to it the conditions of timers hold alike, and the divider stays free or not.
     pub until: u32,
     /// The timers whose condition holds in the slot in which it was found, bit n for timer n.
-    pub ready: u16,
+    pub ready: u32,
 }
 
 impl Able {

@@ -7,4 +7,4 @@ mod slaves;
 
 pub use able::{Able, ready, taken};
 pub use places::{is_paused_on, is_waited_at};
-pub use slaves::{all_in, drop_threads, is_in, is_member, set_runs};
+pub use slaves::{all_in, drop_threads, is_in, set_runs};

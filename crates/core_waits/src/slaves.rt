@@ -8,6 +8,7 @@ ghost use Rattle.xs_model.specs.Waits.{is_in};
 ghost use Rattle.xs_model.specs.Enabling.{without_threads};
 ghost use Rattle.step_model.specs.ThreadRows.{with_runs};
 
+use bit_masks::has_bit;
 use event_unit::Events;
 use xs_base::numbers::THREADS;
 use xs_model::{Run, Thread};
@@ -46,13 +47,13 @@ pub fn drop_threads(events: &mut Events, threads: u8)
     }
 }
 
-/// Whether thread `k`, 0 to 7, is in a mask.
+// Whether thread `k`, 0 to 7, is in a mask.
 #[inline]
-pub fn is_member(k: u8, mask: u8) -> bool
+fn is_member(k: u8, mask: u8) -> bool
     requires { k < THREADS }
     ensures value { result ≡ in_mask mask k }
 {
-    (mask >> k) & 1 == 1
+    has_bit(u32::from(mask), k)
 }
 
 /// Whether a thread is where its synchroniser waits for it.

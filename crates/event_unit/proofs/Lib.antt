@@ -1,4 +1,3 @@
-pub mod OneBit
 pub mod First
 pub mod Disabled
 pub mod Wakes

@@ -6,7 +6,7 @@ pub struct Ready {
     /// Channel ends 0 to 31: tokens wait in the input buffer.
     pub chans: u32,
     /// Timers 0 to 9: the condition holds.
-    pub timers: u16,
+    pub timers: u32,
     /// Ports 0 to 28: the direction is input, and the transfer register is full.
     pub ports: u32,
 }

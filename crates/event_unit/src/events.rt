@@ -191,7 +191,7 @@ impl Events {
         if let Some(entry) = self.chans.first(th, interrupt, ready.chans) {
             return Some(entry);
         }
-        if let Some(entry) = self.timers.first(th, interrupt, u32::from(ready.timers)) {
+        if let Some(entry) = self.timers.first(th, interrupt, ready.timers) {
             return Some(entry);
         }
         self.ports.first(th, interrupt, ready.ports)
@@ -204,7 +204,7 @@ impl Events {
         ensures { (rec : ReadyRec) → AreReady ready rec → result ≡ is_some (choice_in_mode th rec self.now interrupt) }
     {
         self.chans.any(th, interrupt, ready.chans)
-            || self.timers.any(th, interrupt, u32::from(ready.timers))
+            || self.timers.any(th, interrupt, ready.timers)
             || self.ports.any(th, interrupt, ready.ports)
     }
 

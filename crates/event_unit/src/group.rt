@@ -9,7 +9,8 @@ ghost use Rattle.xs_model.specs.Choices.{first_ready};
 ghost use Rattle.event_unit.specs.Marks.{HasThread, entry_at, disabled_in};
 
 use crate::enabling::Enabling;
-use crate::marks::{Marks, has_bit, lowest};
+use crate::marks::Marks;
+use bit_masks::{has_bit, lowest};
 use std::marker::Model;
 
 /// What the resources of one kind give, at most 32 of them, by their numbers. Contracts see it as the list of their

@@ -7,6 +7,7 @@ ghost use Rattle.xs_model.specs.Record.{EnablingRec, not_enabled};
 ghost use Rattle.event_unit.specs.Marks.{AreMarks, HasThread, entry_at};
 
 use crate::enabling::Enabling;
+use bit_masks::with_bit;
 
 /// What a group keeps beside its entries, at most 32, so that none of them has to be asked: bit n is that of entry n.
 #[derive(Clone, Copy)]
@@ -52,32 +53,4 @@ fn note_thread(enabled: &mut [u32; 8], n: u8, thread: Option<u8>, holds: bool)
     if let Some(k) = thread {
         enabled[k as usize] = with_bit(enabled[k as usize], n, holds);
     }
-}
-
-// The mask with bit `n`, 0 to 31, set where this holds, and else cleared.
-fn with_bit(mask: u32, n: u8, holds: bool) -> u32
-    requires { n < 32 }
-    ensures { (k : ℕ) → k < 32 → in_mask result k ≡ (if k == n then holds else in_mask mask k) }
-{
-    let bit = 1 << n;
-    if holds { mask | bit } else { mask & !bit }
-}
-
-/// Whether bit `n`, 0 to 31, of a mask is set.
-pub(crate) fn has_bit(mask: u32, n: u8) -> bool
-    requires { n < 32 }
-    ensures { result ≡ in_mask mask n }
-{
-    (mask >> n) & 1 == 1
-}
-
-/// The lowest bit that is set in a mask.
-#[inline]
-pub(crate) fn lowest(mask: u32) -> u8
-    requires { 0 < mask }
-    ensures within { result < 32 }
-    ensures is { in_mask mask result ≡ true }
-    ensures least { (k : ℕ) → k < result → in_mask mask k ≡ false }
-{
-    mask.trailing_zeros() as u8
 }

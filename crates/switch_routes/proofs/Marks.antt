@@ -1,13 +1,10 @@
--- Masks: one bit is written, and the others stay; and what they say of inputs and of link ends.
-use Rattle.std.proofs.Common.{ℕ, zero, suc, ◌≡◌, ◌≢◌, ◌*◌, ◌^◌, ◌%◌, ◌<◌, ◌≤◌, Bool, true, false, cond, eqb, Option, None, List, [], ◌∷◌, length, get_or, set, refl, sym, ap, ◌∙◌, inl, inr, arith}
-use Rattle.std.specs.Prelude.{◌==◌, bit_or, bit_and, replicate}
+-- What masks say of inputs and of link ends.
+use Rattle.std.proofs.Common.{ℕ, zero, suc, ◌≡◌, ◌≢◌, ◌<◌, ◌≤◌, Bool, true, false, cond, eqb, Option, None, List, [], ◌∷◌, length, get_or, set, refl, sym, ap, ◌∙◌, inl, inr, arith}
+use Rattle.std.specs.Prelude.{◌==◌, replicate}
 use Rattle.std.specs.List.{AllByRecursion}
-use Rattle.std.specs.Int.{Width, bit_not}
-use Rattle.std.proofs.lemmas.Bool.{eq-eqb, ne_eqb, cond-true, cond-false, cases_eq, cases_lt, false≢true}
-use Rattle.std.proofs.lemmas.Nat.{and_le_l}
-use Rattle.std.proofs.lemmas.Nat.Bits.{bit_at_set_same, bit_at_set_other, bit_at_clear_same, bit_at_clear_other, bit_at-zero}
+use Rattle.std.proofs.lemmas.Bool.{eq-eqb, ne_eqb, cond-true, cond-false, cases_eq, false≢true}
+use Rattle.std.proofs.lemmas.Nat.Bits.{bit_at-zero}
 use Rattle.std.proofs.lemmas.List.{get_or-set_other}
-use mir.Val.{bits}
 use Rattle.xs_model.specs.Masks.{in_mask}
 use Rattle.xs_model.specs.Record.{Idle}
 use Rattle.link_ends.specs.Counts.{EndCounts}
@@ -19,40 +16,6 @@ use Rattle.switch_routes.specs.Rows.{buffer_of}
 
 pub none-in : (i : ℕ) → in_mask 0 i ≡ false
 none-in i = ap (λ (b : ℕ). eqb b 1) (bit_at-zero i)
-
-module _ (w : Width) (mask i : ℕ) (within : i < bits w) where
-  pub set-same : in_mask (bit_or mask (1 * 2 ^ i % 2 ^ bits w)) i ≡ true
-  set-same = ap (λ b. eqb b 1) (bit_at_set_same w mask i within)
-
-  pub set-other : (k : ℕ) → k ≢ i → in_mask (bit_or mask (1 * 2 ^ i % 2 ^ bits w)) k ≡ in_mask mask k
-  set-other k other = ap (λ b. eqb b 1) (bit_at_set_other w mask i within k other)
-
-  pub clear-same : in_mask (bit_and mask (bit_not w (1 * 2 ^ i % 2 ^ bits w))) i ≡ false
-  clear-same = ap (λ b. eqb b 1) (bit_at_clear_same w mask i within)
-
-  pub clear-other : (k : ℕ) → k < bits w → k ≢ i → in_mask (bit_and mask (bit_not w (1 * 2 ^ i % 2 ^ bits w))) k ≡ in_mask mask k
-  clear-other k h other = ap (λ b. eqb b 1) (bit_at_clear_other w mask i within k h other)
-
-  -- to clear a bit that is set makes the mask less
-  pub clear-less : in_mask mask i ≡ true → bit_and mask (bit_not w (1 * 2 ^ i % 2 ^ bits w)) < mask
-  clear-less its = elim (cases_lt (bit_and mask (bit_not w (1 * 2 ^ i % 2 ^ bits w))) mask) [
-    | inl h ↦ h
-    | inr h ↦
-        let same : bit_and mask (bit_not w (1 * 2 ^ i % 2 ^ bits w)) ≡ mask = omega (arith, h, and_le_l mask (bit_not w (1 * 2 ^ i % 2 ^ bits w))) in
-        absurd (false≢true (sym clear-same ∙ ap (λ (n : ℕ). in_mask n i) same ∙ its))
-  ]
-
-  pub written-set : (k : ℕ) → in_mask (bit_or mask (1 * 2 ^ i % 2 ^ bits w)) k ≡ cond (k == i) true (in_mask mask k)
-  written-set k = elim (cases_eq k i) [
-    | inl same ↦ ap (in_mask (bit_or mask (1 * 2 ^ i % 2 ^ bits w))) same ∙ set-same ∙ sym (cond-true (eqb k i) _ _ (eq-eqb k i same))
-    | inr other ↦ set-other k other ∙ sym (cond-false (eqb k i) _ _ (ne_eqb k i other))
-  ]
-
-  pub written-clear : (k : ℕ) → k < bits w → in_mask (bit_and mask (bit_not w (1 * 2 ^ i % 2 ^ bits w))) k ≡ cond (k == i) false (in_mask mask k)
-  written-clear k h = elim (cases_eq k i) [
-    | inl same ↦ ap (in_mask (bit_and mask (bit_not w (1 * 2 ^ i % 2 ^ bits w)))) same ∙ clear-same ∙ sym (cond-true (eqb k i) _ _ (eq-eqb k i same))
-    | inr other ↦ clear-other k h other ∙ sym (cond-false (eqb k i) _ _ (ne_eqb k i other))
-  ]
 
 -- ---- the inputs that act alone
 

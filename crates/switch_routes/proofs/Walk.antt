@@ -1,6 +1,6 @@
 -- The walk over the inputs that can act, in their order, makes the steps of all inputs.
-use Rattle.std.proofs.Common.{ℕ, zero, suc, ◌≡◌, ◌≢◌, ◌+◌, ◌-◌, ◌<◌, ◌≤◌, true, false, Option, List, get_or, sym, refl, ap, subst, ◌∙◌, inl, inr, arith}
-use Rattle.std.proofs.lemmas.Bool.{cases_eq, cases_lt, false≢true}
+use Rattle.std.proofs.Common.{ℕ, zero, suc, ◌≡◌, ◌≢◌, ◌+◌, ◌-◌, ◌<◌, ◌≤◌, true, false, cond, eqb, Option, List, get_or, sym, refl, ap, subst, ◌∙◌, inl, inr, arith}
+use Rattle.std.proofs.lemmas.Bool.{cases_eq, cases_lt, false≢true, cond-true, cond-false, eq-eqb, ne_eqb}
 use Rattle.xs_model.specs.Masks.{in_mask}
 use Rattle.xs_model.specs.Record.{ChanRec, InputRec, Idle}
 use Rattle.xs_model.specs.AtWork.{AtWork}
@@ -69,22 +69,25 @@ module _ (p k left after : ℕ) (start now new : Work) (walked : Walked p left s
   one_more begun m s =
       sym (next_step begun.routes begun.slot k m ∙ ap (λ (x : AtWork). input_step begun.routes begun.slot k x) (up_to begun m s))
 
-  below_next : in_mask after k ≡ false → ((i : ℕ) → i < 64 → i ≢ k → in_mask after i ≡ in_mask left i) → (i : ℕ) → i < k + 1 → in_mask after i ≡ false
-  below_next gone others i h = elim (cases_eq i k) [
-    | inl same ↦ ap (λ (j : ℕ). in_mask after j) same ∙ gone
-    | inr other ↦ others i (omega (arith, h, is_input)) other ∙ lowest i (omega (arith, h, other))
+  others : ((i : ℕ) → i < 64 → in_mask after i ≡ cond (eqb i k) false (in_mask left i)) → (i : ℕ) → i < 64 → i ≢ k → in_mask after i ≡ in_mask left i
+  others bits i h other = bits i h ∙ cond-false (eqb i k) _ _ (ne_eqb i k other)
+
+  below_next : ((i : ℕ) → i < 64 → in_mask after i ≡ cond (eqb i k) false (in_mask left i)) → (i : ℕ) → i < k + 1 → in_mask after i ≡ false
+  below_next bits i h = elim (cases_eq i k) [
+    | inl same ↦ bits i (omega (arith, h, is_input)) ∙ cond-true (eqb i k) _ _ (eq-eqb i k same)
+    | inr other ↦ others bits i (omega (arith, h, is_input)) other ∙ lowest i (omega (arith, h, other))
   ]
 
-  pub walked-next : in_mask after k ≡ false → ((i : ℕ) → i < 64 → i ≢ k → in_mask after i ≡ in_mask left i) → GoesBy 1 (λ begun. input_step begun.routes begun.slot k) now new → Walked (k + 1) after start new
-  walked-next gone others step = record {
+  pub walked-next : ((i : ℕ) → i < 64 → in_mask after i ≡ cond (eqb i k) false (in_mask left i)) → GoesBy 1 (λ begun. input_step begun.routes begun.slot k) now new → Walked (k + 1) after start new
+  walked-next bits step = record {
     within = omega (arith, is_input);
     goes = goes-as (k + 1) one_more (goes-then p 1 (k + 1) (omega (arith, from_here)) walked.goes step);
-    below = below_next gone others;
+    below = below_next bits;
     still = λ i from h clear begun m s.
         let other : i ≢ k = λ same. omega (arith, same, from) in
         subst (λ (x : AtWork). Still i x) (one_more begun m s)
-        (still-on begun.routes begun.slot k i (first_steps begun.routes begun.slot p m) other (walked.still i (omega (arith, from, from_here)) h (sym (others i (omega (arith, h)) other) ∙ clear) begun m s));
-    above = λ i from h. let other : i ≢ k = λ same. omega (arith, same, from, is_input) in others i h other ∙ walked.above i from h;
+        (still-on begun.routes begun.slot k i (first_steps begun.routes begun.slot p m) other (walked.still i (omega (arith, from, from_here)) h (sym (others bits i (omega (arith, h)) other) ∙ clear) begun m s));
+    above = λ i from h. let other : i ≢ k = λ same. omega (arith, same, from, is_input) in others bits i h other ∙ walked.above i from h;
   }
 
 -- none is left

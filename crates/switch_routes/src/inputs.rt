@@ -1,5 +1,5 @@
 //! What the switch's inputs are at.
-ghost use Rattle.std.specs.Prelude.{ℕ, ◌≡◌, ◌<◌, ◌≤◌, ◌==◌, false, if◌then◌else◌, slice_set, slice_index_or};
+ghost use Rattle.std.specs.Prelude.{ℕ, ◌≡◌, ◌<◌, ◌≤◌, false, slice_set, slice_index_or};
 ghost use Rattle.std.specs.List.{list_any};
 ghost use Rattle.xs_base.specs.declared.numbers.TheConstants.{INPUTS};
 ghost use Rattle.xs_model.specs.Record.{Idle};
@@ -8,6 +8,7 @@ ghost use Rattle.net_model.specs.Switch.{is_local_to, is_out_by};
 ghost use Rattle.switch_routes.specs.Rest.{acts_alone};
 ghost use Rattle.switch_routes.specs.Inputs.{state_of, InputFits, idle_inputs};
 
+use bit_masks::wide::with_bit;
 use std::marker::Model;
 use xs_base::numbers::HEADER_BYTES;
 use xs_model::Dest;
@@ -124,15 +125,6 @@ fn acts_alone(state: Input) -> bool
         Input::Out { headers, .. } => headers < HEADER_BYTES,
         _ => false,
     }
-}
-
-// The mask with bit `i`, 0 to 63, set where this holds, and else cleared.
-fn with_bit(mask: u64, i: u8, holds: bool) -> u64
-    requires within { i < 64 }
-    ensures value { (k : ℕ) → k < 64 → in_mask result k ≡ (if k == i then holds else in_mask mask k) }
-{
-    let bit = 1 << i;
-    if holds { mask | bit } else { mask & !bit }
 }
 
 // Whether an input in this state holds a channel end.

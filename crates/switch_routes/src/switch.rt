@@ -10,11 +10,12 @@ ghost use Rattle.switch_routes.specs.Rows.{SentBy, end_gaps};
 ghost use Rattle.switch_routes.specs.Switch.{StandsIn, idle_switch, known_routes, with_parts, emitted_after};
 ghost use Rattle.switch_routes.specs.Work.{GoesBy};
 
-use crate::able::{able, lowest, without};
+use crate::able::able;
 use crate::inputs::{Input, Inputs};
 use crate::links::Links;
 use crate::ways::Ways;
 use crate::work::Work;
+use bit_masks::wide::{lowest, without};
 use chan_ends::ChanEnds;
 use std::marker::Model;
 use trace_lines::Emissions;

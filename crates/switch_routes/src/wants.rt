@@ -11,8 +11,9 @@ ghost use Rattle.switch_routes.specs.Work.{GoesBy, HasRoom};
 
 use crate::inputs::{Input, Inputs};
 use crate::steps::Held;
-use crate::ways::{Way, is_in_mask};
+use crate::ways::Way;
 use crate::work::Work;
+use bit_masks::has_bit;
 use chan_ends::ChanEnds;
 use xs_base::numbers::{CHAN_ENDS, LINK_ENDS};
 use xs_model::Dest;
@@ -157,5 +158,5 @@ fn is_free(mask: u8, end: u8, inputs: &Inputs) -> bool
     requires within { end < LINK_ENDS }
     ensures value { (rec : NodeRec) → inputs.now ≡ rec.inputs → result ≡ ((bit_at mask end == 1) && not (end_is_held rec end)) }
 {
-    is_in_mask(mask, end) && !inputs.end_is_held(end)
+    has_bit(u32::from(mask), end) && !inputs.end_is_held(end)
 }

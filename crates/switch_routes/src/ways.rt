@@ -65,11 +65,3 @@ fn bit_at(id: u16, bit: u8) -> u16
 {
     (id >> bit) & 1
 }
-
-/// Whether a link end, 0 to 7, is in a mask.
-pub(crate) fn is_in_mask(mask: u8, end: u8) -> bool
-    requires within { end < LINK_ENDS }
-    ensures value { result ≡ (bit_at mask end == 1) }
-{
-    (mask >> end) & 1 == 1
-}

@@ -1,2 +1,1 @@
 pub mod Slaves
-pub mod Lowest

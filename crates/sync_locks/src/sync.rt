@@ -7,6 +7,7 @@ ghost use Rattle.xs_model.specs.Syncs.{is_thread, is_sync_used, got_sync, is_bou
 ghost use Rattle.sync_locks.specs.Syncs.{sync_after};
 
 use crate::answers::Bad;
+use bit_masks::has_bit;
 use std::marker::Model;
 
 /// A synchroniser: its master, where it is in use, and its slaves, a bit for each thread. Contracts see it as a
@@ -76,7 +77,7 @@ impl Sync {
         requires { thread < THREADS }
         ensures { result ≡ is_bound thread self.now }
     {
-        (self.slaves >> thread) & 1 == 1
+        has_bit(u32::from(self.slaves), thread)
     }
 
     /// Binds a slave, 0 to 7: refused exactly where another thread, or none, is its master.

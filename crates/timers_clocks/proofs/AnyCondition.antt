@@ -1,7 +1,7 @@
 -- A mask that is 0 has no timer, and any other has one.
 use Rattle.std.proofs.Common.{ℕ, ◌≡◌, ◌<◌, ◌≤◌, ◌^◌, List, length, Bool, true, false, not, eqb, ap, sym, subst, ◌∙◌, inl, inr, arith}
 use Rattle.std.specs.List.{list_any}
-use Rattle.std.specs.Int.{w16, trailing_zeros, bit_at}
+use Rattle.std.specs.Int.{w32, trailing_zeros, bit_at}
 use Rattle.std.proofs.lemmas.Bool.{eq-eqb, ne_eqb, cases_lt, false≢true}
 use Rattle.std.proofs.lemmas.List.{get_or_past}
 use Rattle.std.proofs.lemmas.List.Elements.{All-from_get_or}
@@ -13,7 +13,7 @@ use Rattle.timers_clocks.specs.Timers.{IsMask, timer_at}
 abbrev has_condition : TimerRec → Bool
 has_condition timer = timer.after
 
-none_at_zero : (timers : List TimerRec) → length timers ≤ 16 → IsMask 0 timers → list_any has_condition timers ≡ false
+none_at_zero : (timers : List TimerRec) → length timers ≤ 32 → IsMask 0 timers → list_any has_condition timers ≡ false
 none_at_zero timers long exact =
     list_any_none has_condition timers (All-from_get_or (λ timer. has_condition timer ≡ false) timers unused_timer (λ n h. sym (exact n (omega (arith, long))) ∙ ap (λ b. eqb b 1) (bit_at-zero n)))
 
@@ -24,13 +24,13 @@ some_at timers n is =
       | inr past ↦ absurd (false≢true (sym (ap has_condition (get_or_past timers n unused_timer past)) ∙ is))
     ]
 
-pub any_condition : (mask : ℕ) (timers : List TimerRec) → length timers ≤ 16 → mask < 2 ^ 16 → IsMask mask timers → not (eqb mask 0) ≡ list_any (λ timer. timer.after) timers
+pub any_condition : (mask : ℕ) (timers : List TimerRec) → length timers ≤ 32 → mask < 2 ^ 32 → IsMask mask timers → not (eqb mask 0) ≡ list_any (λ timer. timer.after) timers
 any_condition mask timers long fits exact =
     elim (cases_lt 0 mask) [
       | inl some ↦
-          let n : ℕ = trailing_zeros w16 mask in
-          let within : n < 16 = (bit_at-trailing_zeros w16 mask some fits).0 in
-          let is : bit_at mask n ≡ 1 = (bit_at-trailing_zeros w16 mask some fits).1 in
+          let n : ℕ = trailing_zeros w32 mask in
+          let within : n < 32 = (bit_at-trailing_zeros w32 mask some fits).0 in
+          let is : bit_at mask n ≡ 1 = (bit_at-trailing_zeros w32 mask some fits).1 in
           ap not (ne_eqb mask 0 (λ e. omega (arith, some))) ∙ sym (some_at timers n (sym (exact n within) ∙ ap (λ b. eqb b 1) is))
       | inr none ↦
           let e : mask ≡ 0 = omega (arith, none) in

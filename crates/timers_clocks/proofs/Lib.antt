@@ -1,3 +1,1 @@
-pub mod Lowest
-pub mod OneBit
 pub mod AnyCondition

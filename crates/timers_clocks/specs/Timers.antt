@@ -20,9 +20,9 @@ timer_at timers n = slice_index_or timers n unused_timer
 abbrev pub clock_at : List ClockRec → ℕ → ClockRec
 clock_at clocks n = slice_index_or clocks n off_clock
 
--- a mask of 16 bits has those of exactly the timers that have the condition
+-- a mask of 32 bits has those of exactly the timers that have the condition
 abbrev pub IsMask : ℕ → List TimerRec → Type 0
-IsMask mask timers = (n : ℕ) → n < 16 → in_mask mask n ≡ (timer_at timers n).after
+IsMask mask timers = (n : ℕ) → n < 32 → in_mask mask n ≡ (timer_at timers n).after
 
 -- one of them after a call that makes it this, or is refused
 abbrev pub timer_after : TimerRec → Option TimerRec → TimerRec

@@ -1,5 +1,5 @@
 //! The masks of timers: bit n is that of timer n.
-ghost use Rattle.std.specs.Prelude.{ℕ, ◌≡◌, ◌<◌, ◌≤◌, ◌==◌, if◌then◌else◌, false, List, length, slice_set};
+ghost use Rattle.std.specs.Prelude.{ℕ, ◌≡◌, ◌<◌, ◌≤◌, false, List, length, slice_set};
 ghost use Rattle.std.specs.List.{list_any};
 ghost use Rattle.xs_base.specs.declared.numbers.TheConstants.{TIMERS};
 ghost use Rattle.xs_model.specs.Masks.{in_mask};
@@ -8,10 +8,11 @@ ghost use Rattle.xs_model.specs.Time.{timer_holds, time_at};
 ghost use Rattle.timers_clocks.specs.Timers.{IsMask, timer_at};
 
 use crate::timer::Timer;
+use bit_masks::with_bit;
 use xs_base::numbers::TIMERS;
 
 /// The mask of the timers that have the condition, after timer `n`, 0 to 9, became this.
-pub(crate) fn noted(mask: u16, n: u8, timer: &Timer) -> u16
+pub(crate) fn noted(mask: u32, n: u8, timer: &Timer) -> u32
     requires { n < TIMERS }
     ensures { (timers : List TimerRec) → length timers ≡ TIMERS → IsMask mask timers → IsMask result (slice_set timers n timer.now) }
 {
@@ -19,21 +20,23 @@ pub(crate) fn noted(mask: u16, n: u8, timer: &Timer) -> u16
 }
 
 /// Whether a timer has the condition, by the mask of those that do.
-pub(crate) fn any(mask: u16) -> bool
+pub(crate) fn any(mask: u32) -> bool
     ensures { (timers : List TimerRec) → length timers ≡ TIMERS → IsMask mask timers → result ≡ list_any (λ timer. timer.after) timers }
 {
     mask != 0
 }
 
 /// The timers whose condition holds in a slot.
-pub(crate) fn holding(timers: &[Timer; 10], slot: u32) -> u16
+pub(crate) fn holding(timers: &[Timer; 10], slot: u32) -> u32
     ensures value { (n : ℕ) → n < TIMERS → in_mask result n ≡ timer_holds slot (timer_at timers.now n) }
     ensures none_above { (n : ℕ) → TIMERS ≤ n → in_mask result n ≡ false }
 {
     let time = time(slot);
     let mut mask = 0;
     for n in 0..TIMERS {
-        mask = with_new(mask, n, timers[n as usize].holds(time));
+        if timers[n as usize].holds(time) {
+            mask = with_bit(mask, n, true);
+        }
     }
     mask
 }
@@ -43,20 +46,4 @@ pub(crate) fn time(slot: u32) -> u32
     ensures value { result ≡ time_at slot }
 {
     slot / 4
-}
-
-/// The mask with bit `n`, 0 to 9, as this, whatever it was.
-fn with_bit(mask: u16, n: u8, on: bool) -> u16
-    requires { n < TIMERS }
-    ensures { (k : ℕ) → k < 16 → in_mask result k ≡ (if k == n then on else in_mask mask k) }
-{
-    with_new(mask & !(1 << n), n, on)
-}
-
-/// The mask with bit `n`, 0 to 9, as this, which is clear.
-fn with_new(mask: u16, n: u8, on: bool) -> u16
-    requires { n < TIMERS }
-    ensures { in_mask mask n ≡ false → (k : ℕ) → in_mask result k ≡ (if k == n then on else in_mask mask k) }
-{
-    if on { mask | (1 << n) } else { mask }
 }

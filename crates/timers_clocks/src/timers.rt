@@ -20,7 +20,7 @@ use xs_base::numbers::TIMERS;
 pub struct Timers {
     timers: [Timer; 10],
     // The timers that have the condition: bit n for timer n.
-    conditions: u16,
+    conditions: u32,
 }
 
 impl Model for Timers {
@@ -119,7 +119,7 @@ impl Timers {
 
     /// The timers whose condition holds in a slot, bit n for timer n; without one it always does, whether the timer is
     /// in use or not. The bits from 10 on are clear. See docs/TIME.md.
-    pub fn ready(&self, slot: u32) -> u16
+    pub fn ready(&self, slot: u32) -> u32
         ensures value { (n : ℕ) → n < TIMERS → in_mask result n ≡ timer_holds slot (timer_at self.now n) }
         ensures none_above { (n : ℕ) → TIMERS ≤ n → in_mask result n ≡ false }
         ensures count { length self.now ≡ TIMERS }
@@ -186,7 +186,7 @@ impl Timers {
 }
 
 /// A mask of all timers.
-const ALL: u16 = (1 << TIMERS) - 1;
+const ALL: u32 = (1 << TIMERS) - 1;
 
 /// The lowest timer that is not in use.
 fn first_free(timers: &[Timer; 10]) -> Option<u8>

@@ -1,6 +1,6 @@
 use Rattle.std.proofs.Common.{sym, ◌∙◌, arith}
 use Rattle.step_model.specs.ThreadRows.{is_taken}
-use Rattle.core_units.proofs.Lowest.{lowest_more, lowest_here, lowest_none}
+use Rattle.bit_masks.proofs.Free.{lowest_more, lowest_here, lowest_none}
 use Rattle.core_units.proofs.threads.free_thread.Goals as goal
 
 pub returns-then-not-is_taken-clause-lowest : goal.returns-then-not-is_taken-clause-lowest

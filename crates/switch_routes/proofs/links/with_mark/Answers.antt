@@ -1,5 +1,5 @@
 use Rattle.std.specs.Int.{w8}
-use Rattle.switch_routes.proofs.Marks.{set-same, set-other}
+use Rattle.bit_masks.proofs.OneBit.{set-same, set-other}
 use Rattle.switch_routes.proofs.links.with_mark.Goals as goal
 
 pub returns-clause-added : goal.returns-clause-added

@@ -1,5 +1,5 @@
 use Rattle.std.specs.Int.{w8}
-use Rattle.switch_routes.proofs.Marks.{clear-other}
+use Rattle.bit_masks.proofs.OneBit.{clear-other}
 use Rattle.switch_routes.proofs.links.without_mark.Goals as goal
 
 pub returns : goal.returns

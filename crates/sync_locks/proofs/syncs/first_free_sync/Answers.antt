@@ -1,5 +1,5 @@
 use Rattle.std.proofs.Common.{sym, ◌∙◌, arith}
-use Rattle.sync_locks.proofs.Lowest.{lowest_more, lowest_here, lowest_none}
+use Rattle.bit_masks.proofs.Free.{lowest_more, lowest_here, lowest_none}
 use Rattle.sync_locks.proofs.syncs.first_free_sync.Goals as goal
 
 pub returns-then-not-is_used-clause-lowest : goal.returns-then-not-is_used-clause-lowest

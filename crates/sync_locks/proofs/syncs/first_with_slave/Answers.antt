@@ -1,5 +1,5 @@
 use Rattle.std.proofs.Common.{not, ap, sym, ◌∙◌, arith}
-use Rattle.sync_locks.proofs.Lowest.{lowest_more, lowest_here, lowest_none}
+use Rattle.bit_masks.proofs.Free.{lowest_more, lowest_here, lowest_none}
 use Rattle.sync_locks.proofs.syncs.first_with_slave.Goals as goal
 
 pub returns-then-has_slave-clause-lowest : goal.returns-then-has_slave-clause-lowest

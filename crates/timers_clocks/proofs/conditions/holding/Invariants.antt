@@ -1,4 +1,4 @@
-use Rattle.std.proofs.Common.{ℕ, ◌≡◌, ◌<◌, ◌≤◌, false}
+use Rattle.std.proofs.Common.{ℕ, ◌≡◌, ◌^◌, ◌<◌, ◌≤◌, false}
 use Rattle.xs_model.specs.Masks.{in_mask}
 use Rattle.xs_model.specs.Time.{timer_holds}
 use Rattle.timers_clocks.specs.Timers.{timer_at}
@@ -6,4 +6,4 @@ use Rattle.timers_clocks.proofs.conditions.holding.Given as goal
 
 -- the timers below n are in the mask where their conditions hold, and no others
 abbrev pub invariant-loop-n : goal.invariant-loop-n
-invariant-loop-n l = ((k : ℕ) → k < l.n → in_mask l.mask k ≡ timer_holds l.slot (timer_at l.timers k)) × ((k : ℕ) → l.n ≤ k → in_mask l.mask k ≡ false)
+invariant-loop-n l = ((k : ℕ) → k < l.n → in_mask l.mask k ≡ timer_holds l.slot (timer_at l.timers k)) × ((k : ℕ) → l.n ≤ k → k < 32 → in_mask l.mask k ≡ false) × (l.mask < 2 ^ 32)

@@ -1,5 +1,5 @@
 use Rattle.std.proofs.Common.{sym, ◌∙◌, arith}
-use Rattle.timers_clocks.proofs.Lowest.{lowest_more, lowest_here, lowest_none}
+use Rattle.bit_masks.proofs.Free.{lowest_more, lowest_here, lowest_none}
 use Rattle.timers_clocks.proofs.timers.first_free.Goals as goal
 
 pub returns-then-not-is_used-clause-lowest : goal.returns-then-not-is_used-clause-lowest

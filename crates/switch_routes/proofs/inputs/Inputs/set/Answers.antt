@@ -13,5 +13,5 @@ invariant_of-self c = record {
   count = length-set c.self.inside.states c.args.input c.args.state ∙ c.self.invariant.count;
   fit = all-set InputFits c.self.inside.states c.args.input c.args.state c.self.invariant.fit c.requires.fits;
   marked =
-      alone-set c.self.inside.states c.self.inside.alone _ c.args.input c.args.state _ (omega (arith, c.self.invariant.count)) c.acts_alone.ensures.value c.self.invariant.marked c.with_bit-self-inside.ensures.value;
+      alone-set c.self.inside.states c.self.inside.alone _ c.args.input c.args.state _ (omega (arith, c.self.invariant.count)) c.acts_alone.ensures.value c.self.invariant.marked c.with_bit-self-inside.ensures;
 }

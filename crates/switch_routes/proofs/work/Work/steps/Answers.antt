@@ -9,7 +9,7 @@ pub loop-left-preserved : goal.loop-left-preserved
 loop-left-preserved c =
     let k = c.lowest-input.result in
     let walk = c.loop-left.invariant in
-    (k + 1, walked-next walk.0 k c.loop-left.left c.without-left.result c.args.self.now c.loop-left.self _ walk.1 c.lowest-input.ensures.left c.lowest-input.ensures.lowest c.lowest-input.ensures.within c.without-left.ensures.gone c.without-left.ensures.others c.step.ensures)
+    (k + 1, walked-next walk.0 k c.loop-left.left c.without-left.result c.args.self.now c.loop-left.self _ walk.1 c.lowest-input.ensures.is c.lowest-input.ensures.least c.lowest-input.ensures.within c.without-left.ensures.bits c.step.ensures)
 
 pub returns : goal.returns
 returns c = walked-last c.loop-left.invariant.0 c.loop-left.left c.args.self.now c.loop-left.self (omega arith) c.loop-left.invariant.1

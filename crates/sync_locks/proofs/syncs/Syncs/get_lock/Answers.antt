@@ -1,5 +1,5 @@
 use Rattle.std.proofs.Common.{Some}
-use Rattle.sync_locks.proofs.Lowest.{none_free_exactly}
+use Rattle.bit_masks.proofs.Free.{none_free_exactly}
 use Rattle.sync_locks.proofs.syncs.Syncs.get_lock.Goals as goal
 
 pub returns-in-Some-clause-none : goal.returns-in-Some-clause-none

@@ -1,5 +1,5 @@
 use Rattle.xs_model.specs.Syncs.{is_bound}
-use Rattle.sync_locks.proofs.Lowest.{none_found_exactly}
+use Rattle.bit_masks.proofs.Free.{none_found_exactly}
 use Rattle.sync_locks.proofs.syncs.Syncs.sync_of.Goals as goal
 
 pub returns-clause-none : goal.returns-clause-none

@@ -1,0 +1,9 @@
+use Rattle.std.specs.Int.{w64}
+use Rattle.bit_masks.proofs.OneBit.{written-set, written-clear}
+use Rattle.bit_masks.proofs.wide.with_bit.Goals as goal
+
+pub returns-then-holds : goal.returns-then-holds
+returns-then-holds c k h = rw c.if-holds.true (written-set w64 c.args.mask c.args.n c.requires k)
+
+pub returns-else-holds : goal.returns-else-holds
+returns-else-holds c k h = rw c.if-holds.false (written-clear w64 c.args.mask c.args.n c.requires k h)
