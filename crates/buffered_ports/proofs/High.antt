@@ -44,9 +44,13 @@ one_more n mask new levels high within fits so_far is written = record {
   ];
 }
 
-pub all_high : (n mask : ℕ) (ports : List PortRec) (outside : List ℕ) → length ports ≤ n → AreHighBelow n mask (levels_of ports outside) → (k : ℕ) → in_mask mask k ≡ (get_or (levels_of ports outside) k 0 == 1)
-all_high n mask ports outside all high k =
+-- a mask of all of them has each
+pub high_everywhere : (n mask : ℕ) (levels : List ℕ) → length levels ≤ n → AreHighBelow n mask levels → (k : ℕ) → in_mask mask k ≡ (get_or levels k 0 == 1)
+high_everywhere n mask levels all high k =
     elim (cases_lt k n) [
       | inl below ↦ high.below k below
-      | inr above ↦ high.rest k above ∙ ap (λ level. level == 1) (sym (get_or_past (levels_of ports outside) k 0 (omega (arith, above, all, no_more_levels ports outside))))
+      | inr above ↦ high.rest k above ∙ ap (λ level. level == 1) (sym (get_or_past levels k 0 (omega (arith, above, all))))
     ]
+
+pub all_high : (n mask : ℕ) (ports : List PortRec) (outside : List ℕ) → length ports ≤ n → AreHighBelow n mask (levels_of ports outside) → (k : ℕ) → in_mask mask k ≡ (get_or (levels_of ports outside) k 0 == 1)
+all_high n mask ports outside all high = high_everywhere n mask (levels_of ports outside) (omega (arith, all, no_more_levels ports outside)) high

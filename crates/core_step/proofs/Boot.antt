@@ -3,14 +3,15 @@ use Rattle.std.proofs.Common.{ℕ, zero, suc, ◌≡◌, ◌<◌, Bool, false, c
 use Rattle.std.proofs.lemmas.Bool.Decides.{nat_tests}
 use Rattle.std.specs.Prelude.{map, IfSome}
 use Rattle.std.specs.List.{AllByRecursion}
-use Rattle.xs_model.specs.Record.{CoreRec, off_port}
-use Rattle.xs_model.specs.Ports.{levels_of}
 use Rattle.step_model.specs.Start.{link_with_gap, node_of}
 use Rattle.net_model.specs.Links.{fresh_link}
 use Rattle.link_ends.specs.Counts.{EndCounts, fresh_counts}
 use Rattle.switch_routes.specs.Rows.{end_gap, end_gaps, IsCountsOf, AllCountsOf}
 use Rattle.sys_plan.specs.declared.NodePlan.{NodePlan}
 use Rattle.net_model.specs.Links.{IsLinkBefore}
+use Rattle.core_step.specs.declared.shown.Shown.{Shown}
+use Rattle.core_step.specs.declared.shown.Shown.TheVariants.{Levels}
+use Rattle.core_step.specs.Shown.{levels_shown}
 use Rattle.core_step.specs.Core.{CoreValue, StandsAt, SentBefore}
 use Rattle.core_step.specs.Network.{counts_with_gap}
 
@@ -53,11 +54,11 @@ sent_before_start (zero ∷ gaps) = (tt, sent_before_start gaps)
 sent_before_start (suc gap ∷ gaps) =
     (subst (λ w. IfSome w (λ counts. IfSome counts.last_sent (λ s. s < 0))) (sym (some_counts gap)) tt, sent_before_start gaps)
 
-pub stands_at_start : (value : CoreValue) (plan : NodePlan) (gaps : List ℕ) → value.core ≡ (node_of plan gaps).core → value.outside ≡ replicate 29 0 → value.inputs ≡ (node_of plan gaps).inputs → value.links ≡ map counts_with_gap gaps → StandsAt value (node_of plan gaps) 0
-stands_at_start value plan gaps core outside inputs links = record {
+pub stands_at_start : (value : CoreValue) (plan : NodePlan) (gaps : List ℕ) → value.core ≡ (node_of plan gaps).core → value.shown ≡ Levels (record { level = replicate 29 0 }) → value.inputs ≡ (node_of plan gaps).inputs → value.links ≡ map counts_with_gap gaps → StandsAt value (node_of plan gaps) 0
+stands_at_start value plan gaps core shown inputs links = record {
   stands = record {
     core = core;
-    levels = ap (λ (c : CoreRec). levels_of c.ports value.outside) core ∙ ap (levels_of (replicate 29 off_port)) outside;
+    levels = ap (levels_shown value.core.ports) shown;
     inputs = inputs;
     links = subst (λ row. AllCountsOf row (map link_with_gap gaps)) (sym links) (counts_of_start gaps);
   };

@@ -4,26 +4,27 @@ use Rattle.std.specs.List.{AllByRecursion}
 use Rattle.xs_base.specs.Numbers.{Slot, Word}
 use Rattle.xs_model.specs.declared.outside.Arrivals.{Arrivals}
 use Rattle.xs_model.specs.Record.{CoreRec, NodeRec, LinkRec, InputRec}
-use Rattle.xs_model.specs.Ports.{levels_of}
 use Rattle.net_model.specs.Links.{IsLinkBefore}
 use Rattle.link_ends.specs.Counts.{EndCounts}
 use Rattle.switch_routes.specs.Rows.{AllCountsOf}
 use Rattle.step_model.specs.Fixed.{Fixed}
+use Rattle.core_step.specs.declared.shown.Shown.{Shown}
+use Rattle.core_step.specs.Shown.{levels_shown}
 
--- what of its node's plan a core keeps, its units, what its pins showed from outside in the slot before, the states of its
+-- what of its node's plan a core keeps, its units, what it keeps of the levels of its pins, the states of its
 -- switch's inputs, and the counts of its link ends
 pub record CoreValue : Type 0 where
   pub fixed : Fixed
   pub core : CoreRec
-  pub outside : List Word  -- 29
+  pub shown : Shown
   pub inputs : List InputRec  -- 40
   pub links : List (Option EndCounts)  -- 8
 
--- the core keeps what the record says; the levels of all pins at the end of the slot before are those that ports drive, and
--- else those from outside
+-- the core keeps what the record says, the levels of all pins at the end of the slot before among it, and counts of the slots
+-- that its link ends list
 pub record StandsFor (value : CoreValue) (rec : NodeRec) : Type 0 where
   pub core : value.core ≡ rec.core
-  pub levels : levels_of value.core.ports value.outside ≡ rec.levels
+  pub levels : levels_shown value.core.ports value.shown ≡ rec.levels
   pub inputs : value.inputs ≡ rec.inputs
   pub links : AllCountsOf value.links rec.links
 

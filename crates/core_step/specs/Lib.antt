@@ -1,3 +1,4 @@
+pub mod Shown
 pub mod Core
 pub mod Network
 pub mod Inside

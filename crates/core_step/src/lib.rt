@@ -3,6 +3,7 @@
 
 mod network;
 mod node_core;
+mod shown;
 
 pub use node_core::Core;
 pub use processor::BadAddress;

@@ -7,11 +7,10 @@ ghost use Rattle.xs_model.specs.Memory.{load_word, is_word_address};
 ghost use Rattle.xs_model.specs.Outside.{LevelsFit};
 ghost use Rattle.step_model.specs.Start.{fixed_of, node_of, WaysHaveGaps};
 ghost use Rattle.step_model.specs.Step.{node_step};
-ghost use Rattle.xs_model.specs.Ports.{levels_of};
-ghost use Rattle.buffered_ports.specs.Keeps.{HighAre};
 ghost use Rattle.core_step.specs.Core.{StandsAt, SlotsBefore, NothingArrives};
 
 use crate::network::{Network, nothing_arrives};
+use crate::shown::{Shown, high_before};
 use processor::{BadAddress, Processor, Program, Ram};
 use std::alloc::{AllocError, Global};
 use std::marker::Model;
@@ -26,8 +25,8 @@ pub struct Core {
     program: Program,
     units: Processor,
     network: Network,
-    // What the pins showed from outside in the slot before. With what the ports drive these are all levels at its end.
-    outside: PinView,
+    // What is kept of the pins' levels at the end of the slot before.
+    shown: Shown,
 }
 
 impl Model for Core {
@@ -57,7 +56,7 @@ impl Core {
             program: Program::new(plan.id, plan.edition, code),
             units: Processor::first(plan.id, plan.image.entry(), plan.image.cp_at(), ram),
             network: Network::new(plan.id, plan.ways, plan.nets, gaps),
-            outside: PinView { level: [0; 29] },
+            shown: Shown::Levels(PinView { level: [0; 29] }),
         })
     }
 
@@ -121,25 +120,13 @@ impl Core {
         ensures after { SlotsBefore self.new (slot + 1) }
     {
         out.clear();
-        let high = high_before(&self.units, &self.outside);
+        let high = high_before(&self.units, &self.shown);
         // What arrives changes no port, so it may come after the edges.
         self.units.edges(slot, pins, high, out);
         self.network
             .bring(&mut self.units, arrives, slot, arrivals, out);
         self.units
             .issue(&self.program, slot, pins, &self.network, out);
-        self.outside = *pins;
-    }
-}
-
-// Which strobes were high at the end of the slot before, when the pins showed this from outside.
-#[inline]
-fn high_before(units: &Processor, outside: &PinView) -> u32
-    ensures { HighAre result units.now.ports (levels_of units.now.ports outside.now.level) }
-{
-    if units.has_strobe() {
-        units.high(outside)
-    } else {
-        0
+        self.shown = Shown::Outside(*pins);
     }
 }
