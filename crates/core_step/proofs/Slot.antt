@@ -21,8 +21,8 @@ use Rattle.step_model.specs.Effect.{Setting}
 use Rattle.step_model.specs.Step.{Issued, node_step, issued, setting_of, before_issue, ports_step}
 use Rattle.processor.specs.Issue.{and_happened}
 use Rattle.net_model.specs.Links.{IsLinkBefore}
-use Rattle.core_step.specs.declared.shown.Shown.{Shown}
-use Rattle.core_step.specs.declared.shown.Shown.TheVariants.{Outside}
+use Rattle.core_step.specs.declared.pin_levels.PinLevels.{PinLevels}
+use Rattle.core_step.specs.declared.pin_levels.PinLevels.TheVariants.{Outside}
 use Rattle.core_step.specs.Core.{CoreValue, StandsAt, SentBefore}
 use Rattle.core_step.specs.Network.{NetworkRec, NetworkStands, Brings}
 
@@ -88,18 +88,18 @@ links_before slot (Some counts ∷ row) (Some link ∷ links) of sent credited =
 -- ---- The phases
 
 -- what contracts see of a core with these parts
-abbrev value_with : Fixed → CoreRec → Shown → NetworkRec → CoreValue
-value_with fixed core shown n = record { fixed = fixed; core = core; shown = shown; inputs = n.switch.inputs; links = n.links }
+abbrev value_with : Fixed → CoreRec → PinLevels → NetworkRec → CoreValue
+value_with fixed core levels n = record { fixed = fixed; core = core; levels = levels; inputs = n.switch.inputs; links = n.links }
 
 -- the node as its slot begins, after the edges
 abbrev pub edged : NodeRec → Slot → PinView → AtWork
 edged rec slot pins = ports_step slot pins (slot_begins rec)
 
 -- a core that stands for a node before a slot stands for the node after the edges, which change ports alone
-pub begins : (fixed : Fixed) (core : CoreRec) (shown : Shown) (n : NetworkRec) (rec : NodeRec) (slot : ℕ) (pins : PinView) (chans : List ChanRec) (out : Emitted)
-    → StandsAt (value_with fixed core shown n) rec slot → chans ≡ core.chans → out ≡ emitted_in slot (edged rec slot pins)
+pub begins : (fixed : Fixed) (core : CoreRec) (levels : PinLevels) (n : NetworkRec) (rec : NodeRec) (slot : ℕ) (pins : PinView) (chans : List ChanRec) (out : Emitted)
+    → StandsAt (value_with fixed core levels n) rec slot → chans ≡ core.chans → out ≡ emitted_in slot (edged rec slot pins)
     → NetworkStands slot n chans out (edged rec slot pins)
-begins fixed core shown n rec slot pins chans out at same gives = record {
+begins fixed core levels n rec slot pins chans out at same gives = record {
   parts = record {
     inputs = at.stands.inputs;
     chans = same ∙ ap (λ (c : CoreRec). c.chans) at.stands.core;

@@ -8,15 +8,15 @@ use Rattle.net_model.specs.Links.{IsLinkBefore}
 use Rattle.link_ends.specs.Counts.{EndCounts}
 use Rattle.switch_routes.specs.Rows.{AllCountsOf}
 use Rattle.step_model.specs.Fixed.{Fixed}
-use Rattle.core_step.specs.declared.shown.Shown.{Shown}
-use Rattle.core_step.specs.Shown.{levels_shown}
+use Rattle.core_step.specs.declared.pin_levels.PinLevels.{PinLevels}
+use Rattle.core_step.specs.PinLevels.{levels_kept}
 
 -- what of its node's plan a core keeps, its units, what it keeps of the levels of its pins, the states of its
 -- switch's inputs, and the counts of its link ends
 pub record CoreValue : Type 0 where
   pub fixed : Fixed
   pub core : CoreRec
-  pub shown : Shown
+  pub levels : PinLevels
   pub inputs : List InputRec  -- 40
   pub links : List (Option EndCounts)  -- 8
 
@@ -24,7 +24,7 @@ pub record CoreValue : Type 0 where
 -- that its link ends list
 pub record StandsFor (value : CoreValue) (rec : NodeRec) : Type 0 where
   pub core : value.core ≡ rec.core
-  pub levels : levels_shown value.core.ports value.shown ≡ rec.levels
+  pub levels : levels_kept value.core.ports value.levels ≡ rec.levels
   pub inputs : value.inputs ≡ rec.inputs
   pub links : AllCountsOf value.links rec.links
 

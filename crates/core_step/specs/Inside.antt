@@ -8,7 +8,7 @@ abbrev pub value_of : Inside → CoreValue
 value_of c = record {
   fixed = record { edition = c.program.edition; code = c.program.code; routes = routes_of c.network };
   core = c.units;
-  shown = c.shown;
+  levels = c.levels;
   inputs = c.network.switch.inputs;
   links = c.network.links;
 }

@@ -1,4 +1,4 @@
-pub mod Shown
+pub mod PinLevels
 pub mod Core
 pub mod Network
 pub mod Inside

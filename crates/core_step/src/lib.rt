@@ -3,7 +3,7 @@
 
 mod network;
 mod node_core;
-mod shown;
+mod pin_levels;
 
 pub use node_core::Core;
 pub use processor::BadAddress;

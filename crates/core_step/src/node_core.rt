@@ -10,7 +10,7 @@ ghost use Rattle.step_model.specs.Step.{node_step};
 ghost use Rattle.core_step.specs.Core.{StandsAt, SlotsBefore, NothingArrives};
 
 use crate::network::{Network, nothing_arrives};
-use crate::shown::{Shown, high_before};
+use crate::pin_levels::{PinLevels, high_before};
 use processor::{BadAddress, Processor, Program, Ram};
 use std::alloc::{AllocError, Global};
 use std::marker::Model;
@@ -26,7 +26,7 @@ pub struct Core {
     units: Processor,
     network: Network,
     // What is kept of the pins' levels at the end of the slot before.
-    shown: Shown,
+    levels: PinLevels,
 }
 
 impl Model for Core {
@@ -56,7 +56,7 @@ impl Core {
             program: Program::new(plan.id, plan.edition, code),
             units: Processor::first(plan.id, plan.image.entry(), plan.image.cp_at(), ram),
             network: Network::new(plan.id, plan.ways, plan.nets, gaps),
-            shown: Shown::Levels(PinView { level: [0; 29] }),
+            levels: PinLevels::All(PinView { level: [0; 29] }),
         })
     }
 
@@ -120,13 +120,13 @@ impl Core {
         ensures after { SlotsBefore self.new (slot + 1) }
     {
         out.clear();
-        let high = high_before(&self.units, &self.shown);
+        let high = high_before(&self.units, &self.levels);
         // What arrives changes no port, so it may come after the edges.
         self.units.edges(slot, pins, high, out);
         self.network
             .bring(&mut self.units, arrives, slot, arrivals, out);
         self.units
             .issue(&self.program, slot, pins, &self.network, out);
-        self.shown = Shown::Outside(*pins);
+        self.levels = PinLevels::Outside(*pins);
     }
 }

@@ -11,7 +11,7 @@ use Rattle.processor.specs.Issue.{and_happened}
 use Rattle.core_step.specs.Core.{CoreValue, StandsAt, SentBefore}
 use Rattle.core_step.specs.Network.{Brings, routes_of}
 use Rattle.core_step.specs.Inside.{value_of}
-use Rattle.core_step.specs.declared.shown.Shown.TheVariants.{Outside}
+use Rattle.core_step.specs.declared.pin_levels.PinLevels.TheVariants.{Outside}
 use Rattle.core_step.proofs.Slot.{begins, edged, stepped, gave, its_setting, busy_is, sent_by, sent_before_next}
 use Rattle.core_step.proofs.node_core.Core.slot_where.Goals as goal
 use Rattle.core_step.proofs.node_core.Core.slot_where.Goals.{After-issue}
@@ -37,7 +37,7 @@ brings : (c : After-issue) (rec : NodeRec) → StandsAt (value_of c.self.inside)
 brings c rec at =
     let s = c.self.inside in
     c.bring.ensures.brings (edged rec c.args.slot c.args.pins.now)
-    (begins (value_of s).fixed s.units s.shown s.network rec c.args.slot c.args.pins.now c.edges.new.self.chans c.edges.new.out at
+    (begins (value_of s).fixed s.units s.levels s.network rec c.args.slot c.args.pins.now c.edges.new.self.chans c.edges.new.out at
     (ap (λ (core : CoreRec). core.chans) (edged_units c rec at) ∙ sym (ap (λ (core : CoreRec). core.chans) at.stands.core)) (gave_edges c rec at))
 
 -- but for its channel ends, the core that issues is the node's
@@ -49,14 +49,14 @@ sent c =
     c.bring.ensures.sent (sent_by c.args.slot c.self.inside.network.links (subst (λ (v : CoreValue). SentBefore c.args.slot v.links) (sym c.self.view_is) c.requires.before))
 
 step_is : (c : After-issue) (fixed : Fixed) (rec : NodeRec) → StandsAt c.args.self.now rec c.args.slot
-    → StandsAt (record { fixed = fixed; core = c.issue.new.self; shown = Outside c.args.pins.now; inputs = c.bring.new.self.switch.inputs; links = c.bring.new.self.links }) (node_step c.args.self.now.fixed rec c.args.slot c.args.arrivals.now c.args.pins.now).rec (c.args.slot + 1)
+    → StandsAt (record { fixed = fixed; core = c.issue.new.self; levels = Outside c.args.pins.now; inputs = c.bring.new.self.switch.inputs; links = c.bring.new.self.links }) (node_step c.args.self.now.fixed rec c.args.slot c.args.arrivals.now c.args.pins.now).rec (c.args.slot + 1)
 step_is c fixed rec h =
     let a = c.args in
     let s = c.self.inside in
     let at = subst (λ (v : CoreValue). StandsAt v rec a.slot) (sym c.self.view_is) h in
     let now = (value_of s).fixed in
     let b = brings c rec at in
-    subst (λ (v : CoreValue). StandsAt (record { fixed = fixed; core = c.issue.new.self; shown = Outside c.args.pins.now; inputs = c.bring.new.self.switch.inputs; links = c.bring.new.self.links }) (node_step v.fixed rec a.slot a.arrivals.now a.pins.now).rec (a.slot + 1)) c.self.view_is
+    subst (λ (v : CoreValue). StandsAt (record { fixed = fixed; core = c.issue.new.self; levels = Outside c.args.pins.now; inputs = c.bring.new.self.switch.inputs; links = c.bring.new.self.links }) (node_step v.fixed rec a.slot a.arrivals.now a.pins.now).rec (a.slot + 1)) c.self.view_is
     (stepped now rec a.slot a.arrivals.now a.pins.now c.bring.new.units c.bring.new.self c.bring.new.out (core_is c rec at) b fixed c.issue.new.self
     (c.issue.ensures.units (its_setting now rec a.slot a.arrivals.now a.pins.now) (record { id = c.self.invariant.node; slot = refl; outside = refl; busy = busy_is now rec a.slot a.arrivals.now a.pins.now c.bring.new.units c.bring.new.self c.bring.new.out (core_is c rec at) b }))
     (sent c))

@@ -1,8 +1,8 @@
-//! `Shown`, what a core keeps of the levels of its pins.
+//! `PinLevels`, what a core keeps of the levels of its pins.
 ghost use Rattle.std.specs.Prelude.{List};
 ghost use Rattle.xs_model.specs.Record.{PortRec};
 ghost use Rattle.buffered_ports.specs.Keeps.{HighAre};
-ghost use Rattle.core_step.specs.Shown.{levels_shown};
+ghost use Rattle.core_step.specs.PinLevels.{levels_kept};
 
 use buffered_ports::high_of;
 use processor::Processor;
@@ -10,7 +10,7 @@ use xs_model::PinView;
 
 /// What a core keeps of the levels of its pins at the end of the slot before. See docs/PORTS.md.
 #[derive(Clone, Copy)]
-pub enum Shown {
+pub enum PinLevels {
     /// The levels themselves. A core begins with them, whatever its ports drive.
     Levels(PinView),
     /// What the pins showed from outside. Where a port drives them, they showed what it drives.
@@ -19,14 +19,14 @@ pub enum Shown {
 
 /// Which strobes were high at the end of the slot before.
 #[inline]
-pub(crate) fn high_before(units: &Processor, shown: &Shown) -> u32
-    ensures { HighAre result units.now.ports (levels_shown units.now.ports shown.now) }
+pub(crate) fn high_before(units: &Processor, levels: &PinLevels) -> u32
+    ensures { HighAre result units.now.ports (levels_kept units.now.ports levels.now) }
 {
     if !units.has_strobe() {
         return 0;
     }
-    match shown {
-        Shown::Outside(pins) => units.high(pins),
-        Shown::Levels(pins) => high_of(pins),
+    match levels {
+        PinLevels::Outside(pins) => units.high(pins),
+        PinLevels::All(pins) => high_of(pins),
     }
 }
