@@ -1,5 +1,5 @@
 -- What an issue makes of a core, by how its instruction ends.
-use Rattle.std.specs.Prelude.{if◌then◌else◌, Bool, true, false, List, [], ◌∷◌, ◌++◌, map}
+use Rattle.std.specs.Prelude.{◌≡◌, if◌then◌else◌, Bool, true, false, List, [], ◌∷◌, ◌++◌, map}
 use Rattle.xs_base.specs.Numbers.{Slot}
 use Rattle.xs_model.specs.declared.event.Happen.{Happen}
 use Rattle.xs_model.specs.declared.thread.Thread.{Thread}
@@ -11,6 +11,7 @@ use Rattle.xs_model.specs.Outside.{Emitted, in_slot}
 use Rattle.xs_instructions.specs.declared.instr.Instr.{Instr}
 use Rattle.xs_instructions.specs.declared.instr.Instr.TheVariants.{Resources}
 use Rattle.step_model.specs.Effect.{Effect, Done, Pause, Trap, Gone, after_it}
+use Rattle.step_model.specs.Step.{Issued}
 use Rattle.event_unit.specs.declared.answers.Choice.{Choice}
 use Rattle.core_units.specs.declared.ending.Ending.{Ending}
 use Rattle.core_units.specs.declared.ending.Ending.TheVariants as ending
@@ -40,6 +41,11 @@ is_quiet _ = true
 -- what a slot gave, and then this happens
 abbrev pub and_happened : Emitted → Slot → List Happen → Emitted
 and_happened out slot happened = record out { events = out.events ++ map (in_slot slot) happened }
+
+-- the core and what a slot gave, when an issue in it left this
+pub record IsLeft (slot : Slot) (given : Emitted) (core : CoreRec) (gave : Emitted) (left : Issued) : Type 0 where
+  pub units : core ≡ left.core
+  pub events : gave ≡ and_happened given slot left.happened
 
 -- a thread that takes this, as an event or as an interrupt
 abbrev pub entered_by : Choice → Thread → Thread

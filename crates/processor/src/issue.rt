@@ -13,7 +13,7 @@ ghost use Rattle.core_units.specs.Here.{IsHere};
 ghost use Rattle.xs_model.specs.Outside.{LevelsFit};
 ghost use Rattle.core_units.specs.Ending.{IsEnding};
 ghost use Rattle.core_units.specs.Units.{Ends, EndsWith};
-ghost use Rattle.processor.specs.Issue.{effect_of, effect_with, is_quiet, and_happened, entered_by};
+ghost use Rattle.processor.specs.Issue.{effect_of, effect_with, is_quiet, and_happened, IsLeft, entered_by};
 ghost use Rattle.processor.specs.Knows.{StaysKnown};
 
 use crate::processor::Processor;
@@ -67,10 +67,8 @@ impl Processor {
         requires thread { k < THREADS }
         requires room { length out.old.events + ISSUE_EVENTS ≤ EVENT_ROOM }
         requires levels { LevelsFit pins.now.level }
-        ensures units { (here : Setting) → IsHere program.now.id slot pins.now (H.busy holders.now) here →
-            self.new ≡ (issued_by program.now.code here self.old (Some k)).core }
-        ensures events { (here : Setting) → IsHere program.now.id slot pins.now (H.busy holders.now) here →
-            out.new ≡ and_happened out.old slot (issued_by program.now.code here self.old (Some k)).happened }
+        ensures { (here : Setting) → IsHere program.now.id slot pins.now (H.busy holders.now) here →
+            IsLeft slot out.old self.new out.new (issued_by program.now.code here self.old (Some k)) }
     {
         self.begin(k, slot);
         match self.choice(k, slot) {
@@ -102,10 +100,8 @@ impl Processor {
         requires going { (thread_of self.old k).run ≡ Going }
         requires room { length out.old.events + ISSUE_EVENTS ≤ EVENT_ROOM }
         requires levels { LevelsFit pins.now.level }
-        ensures units { (here : Setting) → IsHere program.now.id slot pins.now (H.busy holders.now) here →
-            self.new ≡ (executed program.now.code here self.old k (code_at program.now.code (thread_of self.old k).pc)).core }
-        ensures events { (here : Setting) → IsHere program.now.id slot pins.now (H.busy holders.now) here →
-            out.new ≡ and_happened out.old slot (executed program.now.code here self.old k (code_at program.now.code (thread_of self.old k).pc)).happened }
+        ensures { (here : Setting) → IsHere program.now.id slot pins.now (H.busy holders.now) here →
+            IsLeft slot out.old self.new out.new (executed program.now.code here self.old k (code_at program.now.code (thread_of self.old k).pc)) }
     {
         let pc = self.pc_of(k);
         match program.at(pc) {
@@ -199,8 +195,7 @@ impl Processor {
         requires thread { k < THREADS }
         requires within { IsEnding ending }
         requires room { length out.old.events + ISSUE_EVENTS ≤ EVENT_ROOM }
-        ensures units { self.new ≡ (settled program.now.code self.old k (effect_with ending self.old)).core }
-        ensures events { out.new ≡ and_happened out.old slot (settled program.now.code self.old k (effect_with ending self.old)).happened }
+        ensures { IsLeft slot out.old self.new out.new (settled program.now.code self.old k (effect_with ending self.old)) }
     {
         match ending {
             Ending::Quietly(outcome) => self.settle_quietly(k, program, outcome, slot, out),
@@ -223,8 +218,7 @@ impl Processor {
     )
         requires thread { k < THREADS }
         requires room { length out.old.events + ISSUE_EVENTS ≤ EVENT_ROOM }
-        ensures units { self.new ≡ (settled program.now.code self.old k (effect_of outcome self.old)).core }
-        ensures events { out.new ≡ and_happened out.old slot (settled program.now.code self.old k (effect_of outcome self.old)).happened }
+        ensures { IsLeft slot out.old self.new out.new (settled program.now.code self.old k (effect_of outcome self.old)) }
     {
         match outcome {
             Outcome::Done | Outcome::Gone => {}
@@ -237,8 +231,7 @@ impl Processor {
     fn trap(&mut self, k: u8, program: &Program, et: u32, ed: u32, slot: u32, out: &mut Emissions)
         requires thread { k < THREADS }
         requires room { length out.old.events + ISSUE_EVENTS ≤ EVENT_ROOM }
-        ensures units { self.new ≡ (trap program.now.code self.old k et ed).core }
-        ensures events { out.new ≡ and_happened out.old slot (trap program.now.code self.old k et ed).happened }
+        ensures { IsLeft slot out.old self.new out.new (trap program.now.code self.old k et ed) }
     {
         self.able = None;
         trap(&mut self.units, k, program, et, ed, slot, out);
@@ -299,8 +292,7 @@ fn trap(
 )
     requires thread { k < THREADS }
     requires room { length out.old.events + ISSUE_EVENTS ≤ EVENT_ROOM }
-    ensures units { units.new ≡ (trap program.now.code units.old k et ed).core }
-    ensures events { out.new ≡ and_happened out.old slot (trap program.now.code units.old k et ed).happened }
+    ensures { IsLeft slot out.old units.new out.new (trap program.now.code units.old k et ed) }
 {
     let thread = &mut units.threads[k as usize];
     let next = return_address(thread, et);

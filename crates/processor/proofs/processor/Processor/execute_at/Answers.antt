@@ -1,4 +1,4 @@
-use Rattle.std.proofs.Common.{◌≡◌, Some, ap, sym, ◌∙◌}
+use Rattle.std.proofs.Common.{◌≡◌, Some, ap, sym, ◌∙◌, subst}
 use Rattle.xs_model.specs.Record.{thread_of}
 use Rattle.xs_instructions.specs.Code.{code_at}
 use Rattle.xs_instructions.specs.declared.instr.Instr.TheVariants.{Resources}
@@ -6,7 +6,7 @@ use Rattle.step_model.specs.Effect.{Setting}
 use Rattle.step_model.specs.Step.{Issued, executed, settled}
 use Rattle.step_model.specs.Rows.{effect}
 use Rattle.core_units.specs.Here.{IsHere}
-use Rattle.processor.specs.Issue.{and_happened, effect_of, effect_with}
+use Rattle.processor.specs.Issue.{IsLeft, effect_of, effect_with}
 use Rattle.processor.proofs.Settles.{same_settled, same_settled_with}
 use Rattle.processor.proofs.processor.Processor.execute_at.Given.{Over}
 use Rattle.processor.proofs.processor.Processor.execute_at.Goals as goal
@@ -29,14 +29,8 @@ its_use g c here at =
     same_settled_with code c.args.k c.args.self.now c.use_resource-ending.new.self c.use_resource-ending.result (effect here c.args.self.now c.args.k (Resources c.in-Some-Resources.ins)) (c.use_resource-ending.ensures.row here (record { id = at.id ∙ sym c.id.ensures; slot = at.slot; outside = at.outside; busy = at.busy }))
     ∙ ap (λ ins. executed code here c.args.self.now c.args.k ins) (ap Some (sym c.in-Some-Resources.field-0-is) ∙ sym c.in-Some-Resources.is ∙ c.at.ensures.value ∙ ap (code_at code) c.pc_of-pc.ensures)
 
-pub returns-in-Some-Resources-clause-units : goal.returns-in-Some-Resources-clause-units
-returns-in-Some-Resources-clause-units g c = λ here at. c.settle.ensures.units ∙ ap (λ (i : Issued). i.core) (its_use g c here at)
+pub returns-in-Some-Resources : goal.returns-in-Some-Resources
+returns-in-Some-Resources g c = λ here at. subst (λ (i : Issued). IsLeft c.args.slot c.args.out.now c.settle.new.self c.settle.new.out i) (its_use g c here at) c.settle.ensures
 
-pub returns-in-Some-Resources-clause-events : goal.returns-in-Some-Resources-clause-events
-returns-in-Some-Resources-clause-events g c = λ here at. c.settle.ensures.events ∙ ap (λ (i : Issued). and_happened c.args.out.now c.args.slot i.happened) (its_use g c here at)
-
-pub returns-in-Some-clause-units : goal.returns-in-Some-clause-units
-returns-in-Some-clause-units g c = λ here at. c.settle_quietly.ensures.units ∙ ap (λ (i : Issued). i.core) (its_issue g c here at)
-
-pub returns-in-Some-clause-events : goal.returns-in-Some-clause-events
-returns-in-Some-clause-events g c = λ here at. c.settle_quietly.ensures.events ∙ ap (λ (i : Issued). and_happened c.args.out.now c.args.slot i.happened) (its_issue g c here at)
+pub returns-in-Some : goal.returns-in-Some
+returns-in-Some g c = λ here at. subst (λ (i : Issued). IsLeft c.args.slot c.args.out.now c.settle_quietly.new.self c.settle_quietly.new.out i) (its_issue g c here at) c.settle_quietly.ensures

@@ -1,25 +1,17 @@
-use Rattle.std.proofs.Common.{ap, sym, ◌∙◌}
+use Rattle.std.proofs.Common.{sym, ◌∙◌, subst}
 use Rattle.step_model.specs.Step.{Issued}
-use Rattle.processor.specs.Issue.{and_happened}
+use Rattle.processor.specs.Issue.{IsLeft}
 use Rattle.processor.proofs.Issues.{nothing_happened, issue_taken, issue_executed}
 use Rattle.processor.proofs.processor.Processor.issue_by.Goals as goal
 
-pub returns-in-Some-clause-units : goal.returns-in-Some-clause-units
-returns-in-Some-clause-units g c = λ here at.
-    c.enter.ensures
-    ∙ ap (λ (i : Issued). i.core) (issue_taken c.args.program.now.code here c.args.self.now c.begin.new.self c.args.slot c.args.k at.slot c.begin.ensures.units c.in-Some.choice (sym c.in-Some.is ∙ c.choice.ensures))
+pub returns-in-Some : goal.returns-in-Some
+returns-in-Some g c = λ here at.
+    subst (λ (i : Issued). IsLeft c.args.slot c.args.out.now c.enter.new.self c.args.out.now i)
+    (issue_taken c.args.program.now.code here c.args.self.now c.begin.new.self c.args.slot c.args.k at.slot c.begin.ensures.units c.in-Some.choice (sym c.in-Some.is ∙ c.choice.ensures))
+    (record { units = c.enter.ensures; events = nothing_happened c.args.out.now c.args.slot })
 
-pub returns-in-Some-clause-events : goal.returns-in-Some-clause-events
-returns-in-Some-clause-events g c = λ here at.
-    nothing_happened c.args.out.now c.args.slot
-    ∙ ap (λ (i : Issued). and_happened c.args.out.now c.args.slot i.happened) (issue_taken c.args.program.now.code here c.args.self.now c.begin.new.self c.args.slot c.args.k at.slot c.begin.ensures.units c.in-Some.choice (sym c.in-Some.is ∙ c.choice.ensures))
-
-pub returns-in-None-clause-units : goal.returns-in-None-clause-units
-returns-in-None-clause-units g c = λ here at.
-    c.execute_at.ensures.units here at
-    ∙ ap (λ (i : Issued). i.core) (issue_executed c.args.program.now.code here c.args.self.now c.begin.new.self c.args.slot c.args.k at.slot c.begin.ensures.units (sym c.in-None.is ∙ c.choice.ensures))
-
-pub returns-in-None-clause-events : goal.returns-in-None-clause-events
-returns-in-None-clause-events g c = λ here at.
-    c.execute_at.ensures.events here at
-    ∙ ap (λ (i : Issued). and_happened c.args.out.now c.args.slot i.happened) (issue_executed c.args.program.now.code here c.args.self.now c.begin.new.self c.args.slot c.args.k at.slot c.begin.ensures.units (sym c.in-None.is ∙ c.choice.ensures))
+pub returns-in-None : goal.returns-in-None
+returns-in-None g c = λ here at.
+    subst (λ (i : Issued). IsLeft c.args.slot c.args.out.now c.execute_at.new.self c.execute_at.new.out i)
+    (issue_executed c.args.program.now.code here c.args.self.now c.begin.new.self c.args.slot c.args.k at.slot c.begin.ensures.units (sym c.in-None.is ∙ c.choice.ensures))
+    (c.execute_at.ensures here at)
