@@ -38,15 +38,30 @@ answering_source = codes "getr r0, 2\nldc r1, 2\nsetd res[r0], r1\nint r3, res[r
 
 pub record WorkedPairs : Type 0 where
   -- node 0 is told before node 1
-  pub both_in_one_slot : answer (run_for (codes "1")) (unjoined_pair (codes "") (codes "")) ≡ done (codes "0 n0.t0 trap 2 pc 0x00040000 data 0x00040000\n0 n0.t0 halt\n0 n1.t0 trap 2 pc 0x00040000 data 0x00040000\n0 n1.t0 halt\nn0.t0 halted\nn1.t0 halted\nend 1\n")
+  pub both_in_one_slot : answer (run_for (codes "1")) (unjoined_pair (codes "") (codes "")) ≡
+      done (codes "0 n0.t0 trap 2 pc 0x00040000 data 0x00040000\n0 n0.t0 halt\n0 n1.t0 trap 2 pc 0x00040000 data 0x00040000\n"
+      ++ codes "0 n1.t0 halt\nn0.t0 halted\nn1.t0 halted\nend 1\n")
   -- node 1 is told first, since its slot is earlier
-  pub in_turn : answer (run_for (codes "5")) (unjoined_pair (codes "nop\n") (codes "")) ≡ done (codes "0 n1.t0 trap 2 pc 0x00040000 data 0x00040000\n0 n1.t0 halt\n4 n0.t0 trap 2 pc 0x00040004 data 0x00040004\n4 n0.t0 halt\nn0.t0 halted\nn1.t0 halted\nend 5\n")
+  pub in_turn : answer (run_for (codes "5")) (unjoined_pair (codes "nop\n") (codes "")) ≡
+      done (codes "0 n1.t0 trap 2 pc 0x00040000 data 0x00040000\n0 n1.t0 halt\n4 n0.t0 trap 2 pc 0x00040004 data 0x00040004\n"
+      ++ codes "4 n0.t0 halt\nn0.t0 halted\nn1.t0 halted\nend 5\n")
   -- header bytes at 13, 17, 21 and END at 25; it arrives at 30, and the last credit leaves then
-  pub pair : answer (run_for (codes "40")) (joined_pair sender_source receiver_source) ≡ done (codes "30 n1 chan 0 ct 1\nlink 0:0>1:0 tokens 4 credits 0\nlink 1:0>0:0 tokens 0 credits 4\nn0 mem 0x00010000 0x00010002\nend 40\n")
-  pub pair_cut : answer (run_for (codes "30")) (joined_pair sender_source receiver_source) ≡ done (codes "link 0:0>1:0 tokens 4 credits 0\nlink 1:0>0:0 tokens 0 credits 3\nn0 mem 0x00010000 0x00010002\nend 30\n")
+  pub pair : answer (run_for (codes "40")) (joined_pair sender_source receiver_source) ≡
+      done (codes "30 n1 chan 0 ct 1\nlink 0:0>1:0 tokens 4 credits 0\nlink 1:0>0:0 tokens 0 credits 4\n"
+      ++ codes "n0 mem 0x00010000 0x00010002\nend 40\n")
+  pub pair_cut : answer (run_for (codes "30")) (joined_pair sender_source receiver_source) ≡
+      done (codes "link 0:0>1:0 tokens 4 credits 0\nlink 1:0>0:0 tokens 0 credits 3\nn0 mem 0x00010000 0x00010002\nend 30\n")
   -- no channel end of node 1 is in use
-  pub lost : answer (run_for (codes "40")) (joined_pair sender_source (codes "freet\n")) ≡ done (codes "27 n1 lost 0x00010002\nlink 0:0>1:0 tokens 4 credits 0\nlink 1:0>0:0 tokens 0 credits 4\nn0 mem 0x00010000 0x00010002\nend 40\n")
+  pub lost : answer (run_for (codes "40")) (joined_pair sender_source (codes "freet\n")) ≡
+      done (codes "27 n1 lost 0x00010002\nlink 0:0>1:0 tokens 4 credits 0\nlink 1:0>0:0 tokens 0 credits 4\n"
+      ++ codes "n0 mem 0x00010000 0x00010002\nend 40\n")
   -- the last node's END comes by two links, and the PAUSE of node 1 is not delivered
-  pub three : answer (run_for (codes "70")) line_of_three ≡ done (codes "44 n2 chan 0 ct 1\nlink 0:0>1:0 tokens 4 credits 0\nlink 1:0>0:0 tokens 0 credits 4\nlink 1:1>2:0 tokens 8 credits 0\nlink 2:0>1:1 tokens 0 credits 8\nn0 mem 0x00010000 0x00030002\nn1 mem 0x00010000 0x00030102\nend 70\n")
+  pub three : answer (run_for (codes "70")) line_of_three ≡
+      done (codes "44 n2 chan 0 ct 1\nlink 0:0>1:0 tokens 4 credits 0\nlink 1:0>0:0 tokens 0 credits 4\n"
+      ++ codes "link 1:1>2:0 tokens 8 credits 0\nlink 2:0>1:1 tokens 0 credits 8\nn0 mem 0x00010000 0x00030002\n"
+      ++ codes "n1 mem 0x00010000 0x00030102\nend 70\n")
   -- a byte is taken in the slot in which it is delivered, and END in its own
-  pub both_ways : answer (run_for (codes "80")) (joined_pair asking_source answering_source) ≡ done (codes "34 n1 chan 0 dt 255\n38 n1 chan 0 ct 1\n64 n0 chan 0 dt 2\n68 n0 chan 0 ct 1\nlink 0:0>1:0 tokens 5 credits 5\nlink 1:0>0:0 tokens 5 credits 5\nn0 mem 0x00010000 0x00010002\nn0 mem 0x00010004 0x00000002\nend 80\n")
+  pub both_ways : answer (run_for (codes "80")) (joined_pair asking_source answering_source) ≡
+      done (codes "34 n1 chan 0 dt 255\n38 n1 chan 0 ct 1\n64 n0 chan 0 dt 2\n68 n0 chan 0 ct 1\n"
+      ++ codes "link 0:0>1:0 tokens 5 credits 5\nlink 1:0>0:0 tokens 5 credits 5\nn0 mem 0x00010000 0x00010002\n"
+      ++ codes "n0 mem 0x00010004 0x00000002\nend 80\n")
