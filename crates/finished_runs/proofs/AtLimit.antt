@@ -101,7 +101,7 @@ module _ (plan : PlanRec) (limit : Slot) (runners : List RunnerRec) (totals : Li
   kept_at kept all k own events at_own at_events =
       let runner = some_at runners k (omega (arith, slice_get_within kept k own at_own, zip_count KeepsOf runners kept all)) in
       let here = is.each_node k runner.0 runner.1 in
-      let there = keeps_there plan limit k runner.0 here own (zip_at KeepsOf runners kept k runner.0 own all runner.1 at_own) in
+      let there = keeps_there here (zip_at KeepsOf runners kept k runner.0 own all runner.1 at_own) in
       subst (Keeps own) (get_or_from_slice_get (serial plan limit).events k events [] at_events) there
 
   pub all_kept : (kept : List KeptEvents) → AllZip KeepsOf runners kept → AllZip Keeps kept (serial plan limit).events

@@ -1,5 +1,5 @@
 -- A node that has run up to the limit is what it is in the serial machine there, and so much was sent on each arc.
-use Rattle.std.proofs.Common.{◌≡◌, ◌<◌, Some, List, length, get_or, slice_get, sym, ap, ◌∙◌, subst, arith}
+use Rattle.std.proofs.Common.{◌≡◌, ◌<◌, Some, List, length, get_or, sym, ap, ◌∙◌, subst, arith}
 use Rattle.std.proofs.lemmas.Option.{slice_get-get_or}
 use Rattle.xs_base.specs.Numbers.{Slot, LinkNumber, Position}
 use Rattle.sys_plan.specs.Plan.{PlanRec, arc_count}
@@ -10,18 +10,18 @@ use Rattle.trace_lines.specs.Kept.{KeptEvents, Keeps}
 use Rattle.node_runners.specs.Runner.{RunnerRec}
 use Rattle.finished_runs.specs.Limit.{Totals, HasRun, HasSent, AreAtLimit}
 
-module _ (plan : PlanRec) (limit : Slot) (n : Position) (runner : RunnerRec) (has : HasRun plan limit n runner) where
+module _ {plan : PlanRec} {limit : Slot} {n : Position} {runner : RunnerRec} (has : HasRun plan limit n runner) where
   abbrev Place : Type 0
   Place = PlanRec × Slot × Position
 
   same_place : ◌≡◌ {A = Place} (runner.plan, runner.clock, runner.node) (plan, limit, n)
   same_place = λ i. (has.plan_is i, has.clock i, has.node i)
 
-  pub stands_there : (core : CoreValue) → StandsAt core (node_in (serial runner.plan runner.clock) runner.node) runner.clock → StandsAt core (node_in (serial plan limit) n) limit
-  stands_there core stands = subst (λ (p : Place). StandsAt core (node_in (serial p.0 p.1) p.2) p.1) same_place stands
+  pub stands_there : {core : CoreValue} → StandsAt core (node_in (serial runner.plan runner.clock) runner.node) runner.clock → StandsAt core (node_in (serial plan limit) n) limit
+  stands_there {core} stands = subst (λ (p : Place). StandsAt core (node_in (serial p.0 p.1) p.2) p.1) same_place stands
 
-  pub keeps_there : (kept : KeptEvents) → Keeps kept (events_in (serial runner.plan runner.clock) runner.node) → Keeps kept (events_in (serial plan limit) n)
-  keeps_there kept keeps = subst (λ (p : Place). Keeps kept (events_in (serial p.0 p.1) p.2)) same_place keeps
+  pub keeps_there : {kept : KeptEvents} → Keeps kept (events_in (serial runner.plan runner.clock) runner.node) → Keeps kept (events_in (serial plan limit) n)
+  keeps_there {kept} keeps = subst (λ (p : Place). Keeps kept (events_in (serial p.0 p.1) p.2)) same_place keeps
 
 module _ (plan : PlanRec) (limit : Slot) (runners : List RunnerRec) (totals : List Totals) (is : AreAtLimit plan limit runners totals) where
   pub node_at : (n : Position) (runner : RunnerRec) → n < length plan.nodes → runner ≡ get_or runners n runner → HasRun plan limit n runner

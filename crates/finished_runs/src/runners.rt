@@ -68,22 +68,30 @@ impl Runners {
         self.limit
     }
 
+    // The node at a position.
+    fn runner(&self, node: u8) -> &NodeRunner
+        requires node { node < length self.now.plan.nodes }
+        ensures at_limit { HasRun self.now.plan self.now.limit node result.now }
+    {
+        &self.runners[node as usize]
+    }
+
     /// The core of the node at a position.
+    #[tactic(auto, using(crate::proofs::Nodes::stands_there))]
     pub(crate) fn core(&self, node: u8) -> &Core
         requires node { node < length self.now.plan.nodes }
         ensures stands { StandsAt result.now (node_in (serial self.now.plan self.now.limit) node) self.now.limit }
     {
-        let runner = &self.runners[node as usize];
-        runner.core()
+        self.runner(node).core()
     }
 
     /// What is kept of the events of the node at a position.
+    #[tactic(auto, using(crate::proofs::Nodes::keeps_there))]
     pub(crate) fn events(&self, node: u8) -> &NodeEvents
         requires node { node < length self.now.plan.nodes }
         ensures keeps { Keeps result.now (events_in (serial self.now.plan self.now.limit) node) }
     {
-        let runner = &self.runners[node as usize];
-        runner.events()
+        self.runner(node).events()
     }
 
     /// How many tokens were sent on the arc with a number, and how many credits.

@@ -16,8 +16,8 @@ loop-runner-preserved c =
     subst (λ (kept : List KeptEvents). AllZip KeepsOf (c.loop-runner.yielded ++ c.in-Some.runner ∷ []) kept) (sym pushed)
     (zip_push KeepsOf c.loop-runner.yielded before c.in-Some.runner c.into_events.result c.loop-runner.invariant c.into_events.ensures.keeps)
 
-pub returns-clause-keeps : goal.returns-clause-keeps
-returns-clause-keeps c =
+pub returns : goal.returns
+returns c =
     let g = c.self.inside in
     let plan = g.plan.value in
     let gives = c.into_iter-runner-iterator.ensures.into_iter_gives in
@@ -25,17 +25,11 @@ returns-clause-keeps c =
     let end = YieldsList-end road c.loop-runner.yielded c.loop-runner.runner-iterator c.loop-runner.yielded_by c.next.result c.next.new.self c.in-None.is c.next.ensures.steps in
     let all : AllZip KeepsOf g.runners.items c.loop-runner.all.items =
     subst (λ (rs : List RunnerRec). AllZip KeepsOf rs c.loop-runner.all.items) (sym (map-itself c.loop-runner.yielded) ∙ end.0) c.loop-runner.invariant in
-    subst (λ (v : FinishedRunRec). AllZip Keeps c.loop-runner.all.items (serial v.plan v.limit).events) c.self.view_is
-    (all_kept plan g.limit g.runners.items g.totals.items c.self.invariant c.loop-runner.all.items all)
-
-pub returns-clause-nodes : goal.returns-clause-nodes
-returns-clause-nodes c =
-    let g = c.self.inside in
-    let plan = g.plan.value in
-    let gives = c.into_iter-runner-iterator.ensures.into_iter_gives in
-    let road = YieldsList-from_vec {s = c.into_iter-runner-iterator.result} g.runners.items gives.0 (gives.1 ∙ g.runners.ok.0) in
-    let end = YieldsList-end road c.loop-runner.yielded c.loop-runner.runner-iterator c.loop-runner.yielded_by c.next.result c.next.new.self c.in-None.is c.next.ensures.steps in
-    let all : AllZip KeepsOf g.runners.items c.loop-runner.all.items =
-    subst (λ (rs : List RunnerRec). AllZip KeepsOf rs c.loop-runner.all.items) (sym (map-itself c.loop-runner.yielded) ∙ end.0) c.loop-runner.invariant in
-    kept_count plan g.limit g.runners.items g.totals.items c.self.invariant c.loop-runner.all.items all
-    ∙ ap (λ (v : FinishedRunRec). length v.plan.nodes) c.self.view_is
+    record {
+      keeps =
+          subst (λ (v : FinishedRunRec). AllZip Keeps c.loop-runner.all.items (serial v.plan v.limit).events) c.self.view_is
+          (all_kept plan g.limit g.runners.items g.totals.items c.self.invariant c.loop-runner.all.items all);
+      nodes =
+          kept_count plan g.limit g.runners.items g.totals.items c.self.invariant c.loop-runner.all.items all
+          ∙ ap (λ (v : FinishedRunRec). length v.plan.nodes) c.self.view_is;
+    }

@@ -1,8 +1,8 @@
-use Rattle.std.proofs.Common.{◌<◌, length, ap, ◌∙◌, arith}
+use Rattle.std.proofs.Common.{◌<◌, ap, ◌∙◌, arith}
 use Rattle.sys_plan.specs.Plan.{arc_count}
 use Rattle.serial_model.specs.Serial.{history}
 use Rattle.trace_model.specs.Trace.{tokens_sent, credits_sent}
-use Rattle.finished_runs.specs.Limit.{Totals, FinishedRunRec}
+use Rattle.finished_runs.specs.Limit.{FinishedRunRec}
 use Rattle.finished_runs.proofs.Nodes.{sent_at}
 use Rattle.finished_runs.proofs.runners.Runners.totals.Goals as goal
 
