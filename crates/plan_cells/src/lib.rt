@@ -6,6 +6,8 @@ mod cells;
 mod deal;
 mod ends;
 mod gather;
+mod keeps;
 
 pub use cells::PlanCells;
 pub use ends::{Ends, Hand, Incoming, Outgoing};
+pub use keeps::log_is_history;
