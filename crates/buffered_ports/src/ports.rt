@@ -50,7 +50,6 @@ impl Ports {
     /// The ports at the start: all are off.
     pub fn new() -> Ports
         ensures off { result ≡ no_ports }
-        ensures count { length result ≡ PORTS }
     {
         Ports {
             ports: Default::default(),
@@ -72,7 +71,6 @@ impl Ports {
             self.new ≡ slice_set self.old port edged.port }
         ensures change { let edged = port_edge (port_width port) edge (level_of (port_at self.old port).driven pin) strobe (port_at self.old port) in
             result ≡ edged.change }
-        ensures count { length self.new ≡ PORTS }
     {
         if !self.ports[port as usize].is_on() {
             return None;
@@ -130,7 +128,6 @@ impl Ports {
         ensures port { self.new ≡ slice_set self.old port (port_after (port_at self.old port) (asked ask self.old port pin (port_at self.old port))) }
         ensures answer { result ≡ answer_of (asked ask self.old port pin (port_at self.old port)) }
         ensures fits { FitsTransfer ask (port_at self.old port).transfer_width result.reply }
-        ensures count { length self.new ≡ PORTS }
     {
         if !self.allows(port, ask) {
             return Answer {
@@ -173,6 +170,7 @@ impl Ports {
     #[inline]
     pub fn ready(&self) -> u32
         ensures value { (p : PortNumber) → p < 32 → in_mask result p ≡ port_is_ready (port_at self.now p) }
+        ensures count { length self.now ≡ PORTS }
     {
         self.ready
     }

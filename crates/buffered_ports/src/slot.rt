@@ -77,7 +77,6 @@ impl Ports {
             out.new ≡ record out.old { events = out.old.events ++ map (in_slot slot) (edges_from slot clocks.now before 0 self.old pins.now.level).happened } }
         ensures serve { result ≡ false → (p : PortNumber) → ServesAs (port_at self.old p) (port_at self.new p) }
         ensures room { length out.new.events ≤ length out.old.events + PORTS }
-        ensures count { length self.new ≡ PORTS }
     {
         if self.are_off() {
             return false;
@@ -112,7 +111,6 @@ impl Ports {
             out.new ≡ record out.old { events = out.old.events ++ map (in_slot slot) (edges_from slot clocks.now before 0 self.old levels.now).happened } }
         ensures serve { result ≡ false → (p : PortNumber) → ServesAs (port_at self.old p) (port_at self.new p) }
         ensures room { length out.new.events ≤ length out.old.events + PORTS }
-        ensures count { length self.new ≡ PORTS }
     {
         // The ports that are on and had no edge yet.
         let mut rest = self.ports_on();

@@ -42,7 +42,6 @@ impl ChanEnds {
     /// The channel ends at the start: on every node none is in use.
     pub fn new(_node: u16) -> ChanEnds
         ensures unused { result ≡ replicate 32 unused_chan }
-        ensures count { length result ≡ CHAN_ENDS }
     {
         ChanEnds {
             ends: Default::default(),
@@ -57,7 +56,6 @@ impl ChanEnds {
         ensures got { self.new ≡ with_got self.old (free_chan self.old 0) }
         ensures within { IfSome result (λ c. c < CHAN_ENDS) }
         ensures none { result ≡ None ↔ ((c : ℕ) → c < CHAN_ENDS → (chan_at self.old c).used ≡ true) }
-        ensures count { length self.new ≡ CHAN_ENDS }
     {
         let free = first_free(&self.ends);
         if let Some(c) = free {
@@ -78,7 +76,6 @@ impl ChanEnds {
         ensures after { self.new ≡ with_freed self.old c (freed_chan held (chan_at self.old c)) }
         ensures allowed { IsOk result ↔ (((chan_at self.old c).used ≡ true) × ((chan_at self.old c).output ≡ []) × ((chan_at self.old c).input ≡ []) × (held ≡ false)) }
         ensures unchanged { OnErr result (self.new ≡ self.old) }
-        ensures count { length self.new ≡ CHAN_ENDS }
     {
         let end = &mut self.ends[c as usize];
         let answer = end.free(held);
@@ -90,7 +87,6 @@ impl ChanEnds {
     pub fn used(&self, c: u8) -> bool
         requires { c < CHAN_ENDS }
         ensures value { result ≡ (chan_at self.now c).used }
-        ensures count { length self.now ≡ CHAN_ENDS }
     {
         self.ends[c as usize].used()
     }
@@ -99,7 +95,6 @@ impl ChanEnds {
     pub fn net(&self, c: u8) -> u8
         requires { c < CHAN_ENDS }
         ensures value { result ≡ (chan_at self.now c).net }
-        ensures count { length self.now ≡ CHAN_ENDS }
     {
         self.ends[c as usize].net()
     }
@@ -108,7 +103,6 @@ impl ChanEnds {
     pub fn dest(&self, c: u8) -> Option<u32>
         requires { c < CHAN_ENDS }
         ensures value { result ≡ (chan_at self.now c).dest }
-        ensures count { length self.now ≡ CHAN_ENDS }
     {
         self.ends[c as usize].dest()
     }
@@ -120,7 +114,6 @@ impl ChanEnds {
         ensures ok { OnOk result (found_at (take_dest id) (chan_at self.old c) ≡ Got (record (chan_at self.old c) { dest = Some id }) 0) }
         ensures err { OnErr result (found_at (take_dest id) (chan_at self.old c) ≡ Refused) }
         ensures after { self.new ≡ chans_after self.old c (found_at (take_dest id) (chan_at self.old c)) }
-        ensures count { length self.new ≡ CHAN_ENDS }
     {
         let end = &mut self.ends[c as usize];
         let answer = end.set_dest(id);
@@ -135,7 +128,6 @@ impl ChanEnds {
         requires { c < CHAN_ENDS }
         ensures answer { result ≡ put_answer (found_at (put_token t) (chan_at self.old c)) }
         ensures after { self.new ≡ chans_after self.old c (found_at (put_token t) (chan_at self.old c)) }
-        ensures count { length self.new ≡ CHAN_ENDS }
     {
         let end = &mut self.ends[c as usize];
         let answer = end.put(t);
@@ -150,7 +142,6 @@ impl ChanEnds {
         requires { c < CHAN_ENDS }
         ensures answer { result ≡ put_answer (found_at (put_word w) (chan_at self.old c)) }
         ensures after { self.new ≡ chans_after self.old c (found_at (put_word w) (chan_at self.old c)) }
-        ensures count { length self.new ≡ CHAN_ENDS }
     {
         let end = &mut self.ends[c as usize];
         let answer = end.put_word(w);
@@ -166,7 +157,6 @@ impl ChanEnds {
         requires { c < CHAN_ENDS }
         ensures answer { result ≡ take_answer (found_at take_word (chan_at self.old c)) }
         ensures after { self.new ≡ chans_after self.old c (found_at take_word (chan_at self.old c)) }
-        ensures count { length self.new ≡ CHAN_ENDS }
     {
         let end = &mut self.ends[c as usize];
         let answer = end.take_word();
@@ -181,7 +171,6 @@ impl ChanEnds {
         requires { c < CHAN_ENDS }
         ensures answer { result ≡ take_answer (found_at take_byte (chan_at self.old c)) }
         ensures after { self.new ≡ chans_after self.old c (found_at take_byte (chan_at self.old c)) }
-        ensures count { length self.new ≡ CHAN_ENDS }
     {
         let end = &mut self.ends[c as usize];
         let answer = end.take_byte();
@@ -196,7 +185,6 @@ impl ChanEnds {
         requires { c < CHAN_ENDS }
         ensures answer { result ≡ take_answer (found_at take_ctrl (chan_at self.old c)) }
         ensures after { self.new ≡ chans_after self.old c (found_at take_ctrl (chan_at self.old c)) }
-        ensures count { length self.new ≡ CHAN_ENDS }
     {
         let end = &mut self.ends[c as usize];
         let answer = end.take_ctrl();
@@ -211,7 +199,6 @@ impl ChanEnds {
         requires { c < CHAN_ENDS }
         ensures answer { result ≡ take_answer (found_at (check_token v) (chan_at self.old c)) }
         ensures after { self.new ≡ chans_after self.old c (found_at (check_token v) (chan_at self.old c)) }
-        ensures count { length self.new ≡ CHAN_ENDS }
     {
         let end = &mut self.ends[c as usize];
         let answer = end.check(v);
@@ -226,7 +213,6 @@ impl ChanEnds {
         requires { c < CHAN_ENDS }
         ensures answer { result ≡ take_answer (found_at look (chan_at self.old c)) }
         ensures after { self.new ≡ chans_after self.old c (found_at look (chan_at self.old c)) }
-        ensures count { length self.new ≡ CHAN_ENDS }
     {
         self.ends[c as usize].look()
     }
@@ -239,7 +225,6 @@ impl ChanEnds {
         requires { c < CHAN_ENDS }
         ensures answer { result ≡ take_answer (found_at look_word (chan_at self.old c)) }
         ensures after { self.new ≡ chans_after self.old c (found_at look_word (chan_at self.old c)) }
-        ensures count { length self.new ≡ CHAN_ENDS }
     {
         self.ends[c as usize].look_word()
     }
@@ -247,7 +232,6 @@ impl ChanEnds {
     /// The channel ends with a token in their output buffer: bit `c` is that of channel end `c`, 0 to 31.
     pub fn sending(&self) -> u32
         ensures value { (c : ℕ) → c < CHAN_ENDS → in_mask result c ≡ has_output (chan_at self.now c) }
-        ensures count { length self.now ≡ CHAN_ENDS }
     {
         self.marks.sending
     }
@@ -264,7 +248,6 @@ impl ChanEnds {
     /// more it speaks of an empty buffer. See docs/LINKS.md.
     pub fn has_room(&self, c: u8, count: u8) -> bool
         ensures value { result ≡ has_room count (chan_at self.now c).output }
-        ensures count { length self.now ≡ CHAN_ENDS }
     {
         if c < CHAN_ENDS {
             self.ends[c as usize].has_room(count)
@@ -277,7 +260,6 @@ impl ChanEnds {
     /// `count`. With a `c` of 32 or more it speaks of an empty buffer. See docs/LINKS.md.
     pub fn has_tokens(&self, c: u8, count: u8) -> bool
         ensures value { result ≡ has_tokens count (chan_at self.now c).input }
-        ensures count { length self.now ≡ CHAN_ENDS }
     {
         if c < CHAN_ENDS {
             self.ends[c as usize].has_tokens(count)
@@ -291,7 +273,6 @@ impl ChanEnds {
     pub fn first_out(&self, c: u8) -> Option<Token>
         requires { c < CHAN_ENDS }
         ensures value { result ≡ slice_get (chan_at self.now c).output 0 }
-        ensures count { length self.now ≡ CHAN_ENDS }
     {
         self.ends[c as usize].first_out()
     }
@@ -302,7 +283,6 @@ impl ChanEnds {
         requires { c < CHAN_ENDS }
         ensures token { result ≡ slice_get (chan_at self.old c).output 0 }
         ensures rest { self.new ≡ slice_set self.old c (record (chan_at self.old c) { output = drop 1 (chan_at self.old c).output }) }
-        ensures count { length self.new ≡ CHAN_ENDS }
     {
         let end = &mut self.ends[c as usize];
         let answer = end.pop_out();
@@ -315,7 +295,6 @@ impl ChanEnds {
     pub fn first_in(&self, c: u8) -> Option<Token>
         requires { c < CHAN_ENDS }
         ensures value { result ≡ slice_get (chan_at self.now c).input 0 }
-        ensures count { length self.now ≡ CHAN_ENDS }
     {
         self.ends[c as usize].first_in()
     }
@@ -327,7 +306,6 @@ impl ChanEnds {
         ensures room { result ≡ has_room 1 (chan_at self.old c).input }
         ensures pushed { IsTrue result → self.new ≡ slice_set self.old c (record (chan_at self.old c) { input = (chan_at self.old c).input ++ t ∷ [] }) }
         ensures unchanged { IsFalse result → self.new ≡ self.old }
-        ensures count { length self.new ≡ CHAN_ENDS }
     {
         let end = &mut self.ends[c as usize];
         let answer = end.push_in(t);

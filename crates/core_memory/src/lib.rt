@@ -40,7 +40,6 @@ impl Ram {
     pub fn new(alloc: Global, bytes: &[u8]) -> Result<Ram, AllocError>
         requires { length bytes.now ≤ 65536 }
         ensures image { IfOk result (λ ram. ram ≡ first_memory bytes.now) }
-        ensures size { IfOk result (λ ram. length ram ≡ MEMORY_BYTES) }
     {
         let mut memory = Vec::with_capacity(alloc, MEMORY_BYTES as usize)?;
         memory.extend_from_slice(bytes)?;
@@ -71,7 +70,6 @@ impl Ram {
         ensures value { result_ok result ≡ load_half self.now at }
         ensures cases { MatchResult result (λ w. load_half self.now at ≡ Some w) (λ _. load_half self.now at ≡ None) }
         ensures err { IsErr result ↔ is_half_address at ≡ false }
-        ensures size { length self.now ≡ MEMORY_BYTES }
     {
         let bytes = self.bytes.as_slice();
         let Some(place) = place_of(at, 2) else {
@@ -87,7 +85,6 @@ impl Ram {
         ensures value { result_ok result ≡ load_byte self.now at }
         ensures cases { MatchResult result (λ w. load_byte self.now at ≡ Some w) (λ _. load_byte self.now at ≡ None) }
         ensures err { IsErr result ↔ is_byte_address at ≡ false }
-        ensures size { length self.now ≡ MEMORY_BYTES }
     {
         let bytes = self.bytes.as_slice();
         let Some(place) = place_of(at, 1) else {
@@ -104,7 +101,6 @@ impl Ram {
         ensures refused { OnErr result (store_word self.old at v ≡ None) }
         ensures unchanged { OnErr result (self.new ≡ self.old) }
         ensures err { IsErr result ↔ is_word_address at ≡ false }
-        ensures size { length self.new ≡ MEMORY_BYTES }
     {
         match place_of(at, 4) {
             Some(place) => {
@@ -123,7 +119,6 @@ impl Ram {
         ensures refused { OnErr result (store_half self.old at v ≡ None) }
         ensures unchanged { OnErr result (self.new ≡ self.old) }
         ensures err { IsErr result ↔ is_half_address at ≡ false }
-        ensures size { length self.new ≡ MEMORY_BYTES }
     {
         match place_of(at, 2) {
             Some(place) => {
@@ -142,7 +137,6 @@ impl Ram {
         ensures refused { OnErr result (store_byte self.old at v ≡ None) }
         ensures unchanged { OnErr result (self.new ≡ self.old) }
         ensures err { IsErr result ↔ is_byte_address at ≡ false }
-        ensures size { length self.new ≡ MEMORY_BYTES }
     {
         match place_of(at, 1) {
             Some(place) => {

@@ -59,7 +59,6 @@ impl Links {
     pub fn set(&mut self, end: u8, link: LinkEnd)
         requires within { end < LINK_ENDS }
         ensures value { self.new ≡ slice_set self.old end (Some link) }
-        ensures count { length self.new ≡ LINK_ENDS }
     {
         self.waiting = noted(self.waiting, end, &link);
         self.ends.as_mut_slice()[end as usize] = link;
@@ -125,7 +124,6 @@ impl Links {
         requires within { end < LINK_ENDS }
         ensures cases { MatchOption result (buffer_of (counts_at self.now end) ≡ [])
             (λ t. buffer_of (counts_at self.now end) ≡ t ∷ drop 1 (buffer_of (counts_at self.now end))) }
-        ensures count { length self.now ≡ LINK_ENDS }
     {
         let link = &self.ends.as_slice()[end as usize];
         if self.present[end as usize] {

@@ -39,8 +39,6 @@ impl Syncs {
     /// The synchronisers and locks at the start: none is in use.
     pub fn new() -> Syncs
         ensures unused { result ≡ all_unused }
-        ensures count { length result.syncs ≡ SYNCHRONISERS }
-        ensures lock_count { length result.locks ≡ LOCKS }
     {
         Syncs {
             syncs: Default::default(),
@@ -56,8 +54,6 @@ impl Syncs {
         ensures got { self.new ≡ with_got_sync self.old master (lowest_free is_sync_used self.old.syncs 0) }
         ensures within { IfSome result (λ n. n < SYNCHRONISERS) }
         ensures none { result ≡ None ↔ ((n : ℕ) → n < SYNCHRONISERS → is_sync_used (sync_at self.old.syncs n) ≡ true) }
-        ensures count { length self.new.syncs ≡ SYNCHRONISERS }
-        ensures lock_count { length self.new.locks ≡ LOCKS }
     {
         let free = first_free_sync(&self.syncs);
         if let Some(n) = free {
@@ -73,8 +69,6 @@ impl Syncs {
         ensures got { self.new ≡ with_got_lock self.old (lowest_free (λ lock. lock.used) self.old.locks 0) }
         ensures within { IfSome result (λ n. n < LOCKS) }
         ensures none { result ≡ None ↔ ((n : ℕ) → n < LOCKS → (lock_at self.old.locks n).used ≡ true) }
-        ensures count { length self.new.syncs ≡ SYNCHRONISERS }
-        ensures lock_count { length self.new.locks ≡ LOCKS }
     {
         let free = first_free_lock(&self.locks);
         if let Some(n) = free {
@@ -94,8 +88,6 @@ impl Syncs {
         ensures after { self.new ≡ syncs_after self.old sync (bound by slave (sync_at self.old.syncs sync)) }
         ensures unchanged { OnErr result (self.new ≡ self.old) }
         ensures bad { IsErr result ↔ (is_thread by (sync_at self.old.syncs sync).master ≡ false) }
-        ensures count { length self.new.syncs ≡ SYNCHRONISERS }
-        ensures lock_count { length self.new.locks ≡ LOCKS }
     {
         self.syncs[sync as usize].bind(by, slave)
     }
@@ -105,8 +97,6 @@ impl Syncs {
     pub fn slaves(&self, sync: u8) -> u8
         ensures value { members result ≡ (sync_at self.now.syncs sync).slaves }
         ensures bits { (k : ℕ) → k < THREADS → in_mask result k ≡ is_bound k (sync_at self.now.syncs sync) }
-        ensures count { length self.now.syncs ≡ SYNCHRONISERS }
-        ensures lock_count { length self.now.locks ≡ LOCKS }
     {
         if sync < SYNCHRONISERS {
             self.syncs[sync as usize].slaves()
@@ -120,8 +110,6 @@ impl Syncs {
         requires { sync < SYNCHRONISERS }
         ensures value { result ≡ (sync_at self.now.syncs sync).master }
         ensures none { result ≡ None ↔ (is_sync_used (sync_at self.now.syncs sync) ≡ false) }
-        ensures count { length self.now.syncs ≡ SYNCHRONISERS }
-        ensures lock_count { length self.now.locks ≡ LOCKS }
     {
         self.syncs[sync as usize].master()
     }
@@ -133,7 +121,6 @@ impl Syncs {
         ensures within { IfSome result (λ n. n < SYNCHRONISERS) }
         ensures none { result ≡ None ↔ ((n : ℕ) → n < SYNCHRONISERS → is_bound slave (sync_at self.now.syncs n) ≡ false) }
         ensures count { length self.now.syncs ≡ SYNCHRONISERS }
-        ensures lock_count { length self.now.locks ≡ LOCKS }
     {
         first_with_slave(&self.syncs, slave)
     }
@@ -142,8 +129,6 @@ impl Syncs {
     pub fn unbind_all(&mut self, sync: u8)
         requires { sync < SYNCHRONISERS }
         ensures after { self.new ≡ with_sync_at self.old sync (record (sync_at self.old.syncs sync) { slaves = [] }) }
-        ensures count { length self.new.syncs ≡ SYNCHRONISERS }
-        ensures lock_count { length self.new.locks ≡ LOCKS }
     {
         self.syncs[sync as usize].unbind_all();
     }
@@ -158,8 +143,6 @@ impl Syncs {
         ensures after { self.new ≡ syncs_after self.old sync (freed_sync by (sync_at self.old.syncs sync)) }
         ensures unchanged { OnErr result (self.new ≡ self.old) }
         ensures bad { IsErr result ↔ ((is_thread by (sync_at self.old.syncs sync).master ≡ false) ⊎ (0 < length (sync_at self.old.syncs sync).slaves)) }
-        ensures count { length self.new.syncs ≡ SYNCHRONISERS }
-        ensures lock_count { length self.new.locks ≡ LOCKS }
     {
         self.syncs[sync as usize].free(by)
     }
@@ -168,8 +151,7 @@ impl Syncs {
     /// an owner.
     pub fn owner(&self, lock: u8) -> Option<u8>
         ensures value { result ≡ (lock_at self.now.locks lock).owner }
-        ensures count { length self.now.syncs ≡ SYNCHRONISERS }
-        ensures lock_count { length self.now.locks ≡ LOCKS }
+        ensures count { length self.now.locks ≡ LOCKS }
     {
         if lock < LOCKS {
             self.locks[lock as usize].owner()
@@ -190,8 +172,6 @@ impl Syncs {
         ensures got { (result ≡ claim.Got) ↔ (((lock_at self.old.locks lock).used ≡ true) × ((lock_at self.old.locks lock).owner ≡ None)) }
         ensures held { (result ≡ claim.Held) ↔ IsSomeAnd (lock_at self.old.locks lock).owner (λ owner. owner ≢ by) }
         ensures bad { (result ≡ claim.Bad) ↔ (((lock_at self.old.locks lock).used ≡ false) ⊎ ((lock_at self.old.locks lock).owner ≡ Some by)) }
-        ensures count { length self.new.syncs ≡ SYNCHRONISERS }
-        ensures lock_count { length self.new.locks ≡ LOCKS }
     {
         self.locks[lock as usize].claim(by)
     }
@@ -206,8 +186,6 @@ impl Syncs {
         ensures after { self.new ≡ locks_after self.old lock (released by (lock_at self.old.locks lock)) }
         ensures unchanged { OnErr result (self.new ≡ self.old) }
         ensures bad { IsErr result ↔ (is_thread by (lock_at self.old.locks lock).owner ≡ false) }
-        ensures count { length self.new.syncs ≡ SYNCHRONISERS }
-        ensures lock_count { length self.new.locks ≡ LOCKS }
     {
         self.locks[lock as usize].release(by)
     }
@@ -221,8 +199,6 @@ impl Syncs {
         ensures after { self.new ≡ locks_after self.old lock (freed_lock (lock_at self.old.locks lock)) }
         ensures unchanged { OnErr result (self.new ≡ self.old) }
         ensures bad { IsErr result ↔ (((lock_at self.old.locks lock).used ≡ false) ⊎ IsSome (lock_at self.old.locks lock).owner) }
-        ensures count { length self.new.syncs ≡ SYNCHRONISERS }
-        ensures lock_count { length self.new.locks ≡ LOCKS }
     {
         self.locks[lock as usize].free()
     }

@@ -59,7 +59,6 @@ impl Slots {
     pub fn mark_issue(&mut self, th: u8, slot: u32)
         requires { th < THREADS }
         ensures marked { self.new ≡ record self.old { last = slice_set self.old.last th (Some slot) } }
-        ensures threads { length self.new.last ≡ THREADS }
     {
         self.turns[th as usize] = 8 * (u64::from(slot) + 4) + u64::from(th);
     }
@@ -93,7 +92,6 @@ impl Slots {
         ensures rested { IfSome result (λ k. is_rested (slice_index_or self.now.last k None) slot ≡ true) }
         ensures least { IfSome result (λ k. (j : ℕ) → j < THREADS → may_pick able self.now.last slot j ≡ true → is_earlier (slice_index_or self.now.last j None) (slice_index_or self.now.last k None) ≡ false) }
         ensures lowest { IfSome result (λ k. (j : ℕ) → j < k → may_pick able self.now.last slot j ≡ true → is_earlier (slice_index_or self.now.last k None) (slice_index_or self.now.last j None) ≡ true) }
-        ensures threads { length self.now.last ≡ THREADS }
     {
         let turn = least_turn(&self.turns, able);
         if turn / 8 <= u64::from(slot) {

@@ -33,7 +33,6 @@ impl Clocks {
     /// The clock blocks at the start: all are off.
     pub fn new() -> Clocks
         ensures off { result ≡ no_clocks }
-        ensures count { length result ≡ CLOCK_BLOCKS }
     {
         Clocks {
             blocks: Default::default(),
@@ -45,7 +44,6 @@ impl Clocks {
     pub fn turn_on(&mut self, k: u8)
         requires { k < CLOCK_BLOCKS }
         ensures after { self.new ≡ slice_set self.old k on_clock }
-        ensures count { length self.new ≡ CLOCK_BLOCKS }
     {
         self.blocks[k as usize].turn_on();
     }
@@ -59,7 +57,6 @@ impl Clocks {
         ensures after { self.new ≡ clocks_after self.old k (turned_off (clock_at self.old k)) }
         ensures unchanged { OnErr result (self.new ≡ self.old) }
         ensures bad { IsErr result ↔ ((clock_at self.old k).on ≡ false) }
-        ensures count { length self.new ≡ CLOCK_BLOCKS }
     {
         self.blocks[k as usize].turn_off()
     }
@@ -73,7 +70,6 @@ impl Clocks {
         ensures after { self.new ≡ clocks_after self.old k (divided_by d (clock_at self.old k)) }
         ensures unchanged { OnErr result (self.new ≡ self.old) }
         ensures bad { IsErr result ↔ (((clock_at self.old k).on ≡ false) ⊎ ((clock_at self.old k).running ≡ true) ⊎ (255 < d)) }
-        ensures count { length self.new ≡ CLOCK_BLOCKS }
     {
         self.blocks[k as usize].set_divider(d)
     }
@@ -88,7 +84,6 @@ impl Clocks {
         ensures after { self.new ≡ clocks_after self.old k (started (clock_at self.old k)) }
         ensures unchanged { OnErr result (self.new ≡ self.old) }
         ensures bad { IsErr result ↔ ((clock_at self.old k).on ≡ false) }
-        ensures count { length self.new ≡ CLOCK_BLOCKS }
     {
         self.blocks[k as usize].start()
     }
@@ -102,7 +97,6 @@ impl Clocks {
         ensures after { self.new ≡ clocks_after self.old k (stopped (clock_at self.old k)) }
         ensures unchanged { OnErr result (self.new ≡ self.old) }
         ensures bad { IsErr result ↔ ((clock_at self.old k).on ≡ false) }
-        ensures count { length self.new ≡ CLOCK_BLOCKS }
     {
         self.blocks[k as usize].stop()
     }
@@ -124,7 +118,6 @@ impl Clocks {
     pub fn used(&self, k: u8) -> bool
         requires { k < CLOCK_BLOCKS }
         ensures value { result ≡ (clock_at self.now k).on }
-        ensures count { length self.now ≡ CLOCK_BLOCKS }
     {
         self.blocks[k as usize].is_on()
     }
@@ -133,7 +126,6 @@ impl Clocks {
     pub fn div(&self, k: u8) -> u32
         requires { k < CLOCK_BLOCKS }
         ensures value { result ≡ (clock_at self.now k).divider }
-        ensures count { length self.now ≡ CLOCK_BLOCKS }
     {
         self.blocks[k as usize].divider()
     }

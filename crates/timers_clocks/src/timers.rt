@@ -40,7 +40,6 @@ impl Timers {
     /// The timers at the start: none is in use.
     pub fn new() -> Timers
         ensures unused { result ≡ no_timers }
-        ensures count { length result ≡ TIMERS }
     {
         Timers {
             timers: Default::default(),
@@ -55,7 +54,6 @@ impl Timers {
         ensures got { self.new ≡ with_got_timer self.old (lowest_free (λ timer. timer.used) self.old 0) }
         ensures within { IfSome result (λ n. n < TIMERS) }
         ensures none { result ≡ None ↔ ((n : ℕ) → n < TIMERS → (timer_at self.old n).used ≡ true) }
-        ensures count { length self.new ≡ TIMERS }
     {
         let free = first_free(&self.timers);
         if let Some(n) = free {
@@ -75,7 +73,6 @@ impl Timers {
         ensures after { self.new ≡ timers_after self.old n (freed_timer (timer_at self.old n)) }
         ensures unchanged { OnErr result (self.new ≡ self.old) }
         ensures bad { IsErr result ↔ ((timer_at self.old n).used ≡ false) }
-        ensures count { length self.new ≡ TIMERS }
     {
         let timer = &mut self.timers[n as usize];
         let answer = timer.free();
@@ -92,7 +89,6 @@ impl Timers {
         ensures after { self.new ≡ timers_after self.old n (with_value v (timer_at self.old n)) }
         ensures unchanged { OnErr result (self.new ≡ self.old) }
         ensures bad { IsErr result ↔ ((timer_at self.old n).used ≡ false) }
-        ensures count { length self.new ≡ TIMERS }
     {
         let timer = &mut self.timers[n as usize];
         let answer = timer.set_value(v);
@@ -109,7 +105,6 @@ impl Timers {
         ensures after { self.new ≡ timers_after self.old n (with_after on (timer_at self.old n)) }
         ensures unchanged { OnErr result (self.new ≡ self.old) }
         ensures bad { IsErr result ↔ ((timer_at self.old n).used ≡ false) }
-        ensures count { length self.new ≡ TIMERS }
     {
         let timer = &mut self.timers[n as usize];
         let answer = timer.set_after(on);
@@ -134,7 +129,6 @@ impl Timers {
     /// Whether a timer has a condition. Where none has, the same timers are ready in each slot.
     pub fn has_conditions(&self) -> bool
         ensures value { result ≡ list_any (λ timer. timer.after) self.now }
-        ensures count { length self.now ≡ TIMERS }
     {
         conditions::any(self.conditions)
     }
@@ -142,7 +136,6 @@ impl Timers {
     /// Whether the condition of timer `n` holds in a slot. With an `n` of 10 or more it speaks of one without a condition.
     pub fn holds(&self, n: u8, slot: u32) -> bool
         ensures value { result ≡ timer_holds slot (timer_at self.now n) }
-        ensures count { length self.now ≡ TIMERS }
     {
         if n < TIMERS {
             self.timers[n as usize].holds(Timers::time(slot))
@@ -170,7 +163,6 @@ impl Timers {
     pub fn value(&self, n: u8) -> u32
         requires { n < TIMERS }
         ensures value { result ≡ (timer_at self.now n).value }
-        ensures count { length self.now ≡ TIMERS }
     {
         self.timers[n as usize].value()
     }
@@ -179,7 +171,6 @@ impl Timers {
     pub fn used(&self, n: u8) -> bool
         requires { n < TIMERS }
         ensures value { result ≡ (timer_at self.now n).used }
-        ensures count { length self.now ≡ TIMERS }
     {
         self.timers[n as usize].is_used()
     }

@@ -4,8 +4,8 @@ use Rattle.std.proofs.Math.ListN.{replicate}
 use Rattle.xs_base.specs.declared.numbers.TheConstants.{MEMORY_BYTES}
 use Rattle.core_memory.proofs.Ram.new.Goals as goal
 
-pub returns-clause-image : goal.returns-clause-image
-returns-clause-image c =
+pub returns : goal.returns
+returns c =
     let image : c.extend_from_slice.new.self.items ≡ c.args.bytes.now =
     c.in_ok-extend_from_slice.ensures.items ∙ ap (λ bytes. bytes ++ c.args.bytes.now) c.in_ok-memory.ensures.items
     in
@@ -15,4 +15,4 @@ returns-clause-image c =
     let count : vec_len c.extend_from_slice.new.self ≡ length c.args.bytes.now =
     omega (arith, c.in_ok-extend_from_slice.ensures.len, c.in_ok-memory.ensures.len)
     in
-    c.in_ok-resize.ensures.items ∙ ap (λ bytes. bytes ++ replicate {A = ℕ} (MEMORY_BYTES - vec_len c.extend_from_slice.new.self) 0) whole ∙ ap (λ n. c.args.bytes.now ++ replicate {A = ℕ} (MEMORY_BYTES - n) 0) count
+    record { image = c.in_ok-resize.ensures.items ∙ ap (λ bytes. bytes ++ replicate {A = ℕ} (MEMORY_BYTES - vec_len c.extend_from_slice.new.self) 0) whole ∙ ap (λ n. c.args.bytes.now ++ replicate {A = ℕ} (MEMORY_BYTES - n) 0) count }

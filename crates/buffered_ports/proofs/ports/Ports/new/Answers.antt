@@ -4,5 +4,5 @@ use Rattle.buffered_ports.proofs.ports.Ports.new.Goals as goal
 pub invariant_of-result : goal.invariant_of-result
 invariant_of-result c = first_row c.default.result c.default.ensures
 
-pub returns-clause-off : goal.returns-clause-off
-returns-clause-off c = first_ports c.default.result c.default.ensures
+pub returns : goal.returns
+returns c = record { off = first_ports c.default.result c.default.ensures }
