@@ -12,7 +12,7 @@ use xs_model::PinView;
 #[derive(Clone, Copy)]
 pub enum PinLevels {
     /// The levels themselves. A core begins with them, whatever its ports drive.
-    Levels(PinView),
+    All(PinView),
     /// What the pins showed from outside. Where a port drives them, they showed what it drives.
     Outside(PinView),
 }

@@ -7,5 +7,5 @@ mod numerals;
 mod traffic;
 
 pub use lines::line_of;
-pub use numerals::{append_decimal, append_hex_word};
+pub use numerals::append_hex_word;
 pub use traffic::{append_link_end, append_token};

@@ -3,8 +3,9 @@ ghost use Rattle.std.specs.Prelude.{◌≡◌, ◌<◌, ◌++◌, OnOk, OnErr};
 ghost use Rattle.xs_model.specs.Events.{IsWithinCounts, NamesWhatIsThere};
 ghost use Rattle.trace_model.specs.EventLines.{event_line, happening_text, port_name, drive_text, float_text, chan_text, lost_text, trap_text, halt_text};
 
-use crate::numerals::{append_decimal, append_hex_word};
+use crate::numerals::append_hex_word;
 use crate::traffic::append_token;
+use decimal_text::append_decimal;
 use std::alloc::{AllocError, Global};
 use xs_base::{Text, Token};
 use xs_model::{Event, Happen};

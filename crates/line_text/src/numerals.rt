@@ -1,20 +1,9 @@
-//! The numbers of the trace's lines.
-ghost use Rattle.std.specs.Prelude.{◌≡◌, ◌<◌, ◌++◌, OnOk, OnErr, decimal};
+//! The words of the trace's lines.
+ghost use Rattle.std.specs.Prelude.{◌≡◌, ◌<◌, ◌++◌, OnOk, OnErr};
 ghost use Rattle.trace_model.specs.EventLines.{hex_word, hex_digit_at};
 
-use itoa::Buffer;
 use std::alloc::AllocError;
 use xs_base::Text;
-
-/// Puts a number at the end of the text, in decimal. The error is want of memory, and leaves the text as it was.
-/// See docs/OUTPUT.md.
-pub fn append_decimal(out: &mut Text, n: u64) -> Result<(), AllocError>
-    ensures ok { OnOk result (out.new ≡ out.old ++ decimal n) }
-    ensures err { OnErr result (out.new ≡ out.old) }
-{
-    let mut buffer = Buffer::new();
-    out.append(buffer.format(n).as_bytes())
-}
 
 /// Puts a word at the end of the text: `0x` and eight lower-case hex digits. The error is want of memory, and leaves
 /// the text as it was. See docs/OUTPUT.md.

@@ -3,7 +3,7 @@ ghost use Rattle.std.specs.Prelude.{◌≡◌, ◌++◌, OnOk};
 ghost use Rattle.trace_model.specs.EventLines.{token_text};
 ghost use Rattle.trace_model.specs.Trace.{link_end_text};
 
-use crate::numerals::append_decimal;
+use decimal_text::append_decimal;
 use std::alloc::AllocError;
 use xs_base::{Text, Token};
 

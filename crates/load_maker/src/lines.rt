@@ -3,7 +3,8 @@ ghost use Rattle.std.specs.Prelude.{◌≡◌, ◌<◌, ◌++◌, [], ◌∷◌,
 ghost use Rattle.load_model.specs.Load.{bit_text, data_text, link_line, link_text, node_text, program, node_section, source_text, destination_at, text_of_lines, first_word_at};
 
 use crate::ring;
-use line_text::{append_decimal, append_hex_word};
+use decimal_text::append_decimal;
+use line_text::append_hex_word;
 use std::alloc::AllocError;
 use xs_base::Text;
 

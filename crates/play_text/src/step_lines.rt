@@ -6,7 +6,8 @@ ghost use Rattle.play_model.specs.PlayText.{carried_text, entry_line, played_lin
 ghost use Rattle.run_drive.specs.Played.{line_of};
 ghost use Rattle.play_text.specs.Steps.{IsOfNodes};
 
-use line_text::{append_decimal, append_link_end, append_token};
+use decimal_text::append_decimal;
+use line_text::{append_link_end, append_token};
 use run_drive::PlayLine;
 use std::alloc::AllocError;
 use sys_plan::{NodePlan, Step};

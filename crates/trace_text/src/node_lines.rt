@@ -7,7 +7,8 @@ ghost use Rattle.trace_model.specs.Trace.{number_at, event_lines, more_line, hal
 
 use core_memory::words_in_order;
 use core_step::Core;
-use line_text::{append_decimal, append_hex_word, line_of};
+use decimal_text::append_decimal;
+use line_text::{append_hex_word, line_of};
 use std::alloc::{AllocError, Global};
 use sys_plan::NodePlan;
 use xs_base::Text;

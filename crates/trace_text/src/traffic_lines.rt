@@ -3,7 +3,8 @@ ghost use Rattle.std.specs.Prelude.{◌≡◌, ◌++◌, List, OnOk};
 ghost use Rattle.xs_base.specs.declared.entry.Entry.{Entry};
 ghost use Rattle.trace_model.specs.Trace.{tokens_sent, credits_sent, counts_text, traffic_line};
 
-use line_text::{append_decimal, append_link_end};
+use decimal_text::append_decimal;
+use line_text::append_link_end;
 use std::alloc::AllocError;
 use xs_base::Text;
 

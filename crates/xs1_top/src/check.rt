@@ -5,7 +5,7 @@ ghost use Rattle.answer_model.specs.CheckForm.{check_answer, check_text, source_
 
 use crate::on_system::{Reading, read};
 use answer_model::{Answer, Status};
-use line_text::append_decimal;
+use decimal_text::append_decimal;
 use std::alloc::{AllocError, Global};
 use sys_plan::{NodePlan, Plan};
 use xs_base::Text;

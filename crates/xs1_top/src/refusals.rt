@@ -2,7 +2,7 @@
 ghost use Rattle.std.specs.Prelude.{◌≡◌, ◌++◌, IfOk, OnOk};
 ghost use Rattle.answer_model.specs.Refusals.{frame_text, pins_text, source_text, text_of_asm_kind, text_of_pin_kind, text_of_sys_kind};
 
-use line_text::append_decimal;
+use decimal_text::append_decimal;
 use pin_scripts::PinKind;
 use source_model::AsmKind;
 use std::alloc::{AllocError, Global};

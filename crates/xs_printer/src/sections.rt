@@ -7,7 +7,8 @@ ghost use Rattle.source_model.specs.Canonical.{Instruction, Byte, behind_labels,
 ghost use Rattle.xs_printer.specs.Firsts.{AreFirstLabels, IsFirstFrom};
 
 use crate::labels::append_labels;
-use crate::statement::{append_decimal, append_statement};
+use crate::statement::append_statement;
+use decimal_text::append_decimal;
 use source_laws::{labels_stand_in_order, labels_stand_in_their_parts};
 use std::alloc::AllocError;
 use xs_base::Text;
@@ -59,7 +60,7 @@ fn append_byte(out: &mut Text, image: &Image, byte: u8) -> Result<(), AllocError
     ensures { OnOk result (out.new ≡ out.old ++ lines_text image.now.symbols (Byte byte ∷ [])) }
 {
     out.append(b"  .byte ")?;
-    append_decimal(out, u32::from(byte))?;
+    append_decimal(out, u64::from(byte))?;
     out.append(b"\n")
 }
 

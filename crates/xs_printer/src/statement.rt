@@ -9,19 +9,11 @@ ghost use Rattle.source_model.specs.Canonical.{first_name_at, piece_text, statem
 ghost use Rattle.xs_printer.specs.Firsts.{AreFirstLabels, IsWritable};
 
 use crate::labels::label;
-use itoa::Buffer;
+use decimal_text::append_decimal;
 use source_laws::{labels_stand_in_order, labels_stand_in_their_parts};
 use std::alloc::AllocError;
 use xs_base::Text;
 use xs_instructions::{Image, Piece};
-
-/// Puts a number in decimal.
-pub(crate) fn append_decimal(out: &mut Text, n: u32) -> Result<(), AllocError>
-    ensures { OnOk result (out.new ≡ out.old ++ decimal n) }
-{
-    let mut buffer = Buffer::new();
-    out.append(buffer.format(n).as_bytes())
-}
 
 // The name of a register.
 fn register_name(n: u8) -> &'static str
@@ -82,7 +74,7 @@ fn append_piece(
         Piece::Word(text) if text == "," => out.append(b", "),
         Piece::Word(text) => out.append(text.as_bytes()),
         Piece::Reg(n) => out.append(register_name(n).as_bytes()),
-        Piece::Num(n) => append_decimal(out, n),
+        Piece::Num(n) => append_decimal(out, u64::from(n)),
         Piece::Place(place) => append_place(out, image, firsts, place),
     }
 }
