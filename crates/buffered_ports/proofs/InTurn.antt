@@ -17,7 +17,7 @@ use Rattle.xs_model.specs.Time.{edge_at, edge_in_period, period}
 use Rattle.xs_model.specs.Ports.{Edged, unchanged, at_edge, port_edge, edge_in_slot, edges_from, edged_before, PortsEdged, pin_happens, level_of, is_high}
 use Rattle.buffered_ports.specs.Asks.{port_at}
 use Rattle.single_port.specs.Keeps.{ServesAs}
-use Rattle.buffered_ports.specs.Keeps.{HighAre}
+use Rattle.buffered_ports.specs.Keeps.{HighAre, IsEdged, TellsOne}
 
 -- ---- The levels of pins
 
@@ -170,6 +170,16 @@ odd_is_idle slot clocks before p port outside odd =
 
 pub serves_as_itself : (port : PortRec) → ServesAs port port
 serves_as_itself port = record { output = refl; transfer = refl; shift = refl }
+
+-- no edge is as one that changes nothing
+pub not_edged : (p : ℕ) (ports : List PortRec) → IsEdged p false ports ports
+not_edged p ports = record { others = λ k other. refl; count = λ long. long; same = λ same. serves_as_itself (port_at ports p) }
+
+pub tells_nothing : (out : Emitted) → TellsOne out out
+tells_nothing out = record { rest = refl; room = omega arith }
+
+pub tells_one : (old new : Emitted) → new ≡ record old { events = new.events } → length new.events ≤ length old.events + 1 → TellsOne old new
+tells_one old new rest room = record { rest = rest; room = room }
 
 -- port p may serve them otherwise after its edge, and the others as before
 pub still_serve : (old now new : List PortRec) (p : ℕ) → port_at now p ≡ port_at old p → ServesAs (port_at now p) (port_at new p) → ((k : ℕ) → k ≢ p → port_at new k ≡ port_at now k) → ((k : ℕ) → ServesAs (port_at old k) (port_at now k)) → (k : ℕ) → ServesAs (port_at old k) (port_at new k)

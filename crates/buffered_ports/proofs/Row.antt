@@ -10,6 +10,7 @@ use Rattle.xs_model.specs.Choices.{port_is_ready}
 use Rattle.xs_model.specs.PortActions.{restarted}
 use Rattle.xs_model.specs.Record.{PortRec, off_port}
 use Rattle.buffered_ports.specs.Asks.{port_at}
+use Rattle.buffered_ports.specs.Keeps.{IsEdged}
 use Rattle.single_port.specs.Keeps.{PortOf, IsPlaced, IsPlain, ServesAs, KeepsRole}
 use Rattle.buffered_ports.specs.Row.{no_place, place_at, ports_in, row, IsRow}
 use Rattle.buffered_ports.specs.declared.ports.Ports.TheInside.{Inside}
@@ -118,6 +119,14 @@ row_replaced c p that on ready strobed plain is within placed on_noted ready_not
 -- the port that stands in the place of one that is replaced
 pub port_now : (now : List PortRec) (p : ℕ) (port : PortRec) → p < length now → port_at (set now p port) p ≡ port
 port_now now p port within = get_or-set_same now p port off_port within
+
+-- where one port was put in its place, the others are as before
+pub is_edged : (p : ℕ) (differs : Bool) (old new : List PortRec) (port : PortRec) → new ≡ set old p port → (differs ≡ false → ServesAs (port_at old p) (port_at new p)) → IsEdged p differs old new
+is_edged p differs old new port is serves = record {
+  others = λ k other. ap (λ ports. port_at ports k) is ∙ get_or-set_other old p k port off_port other;
+  count = λ long. ap length is ∙ length-set old p port ∙ long;
+  same = serves;
+}
 
 -- ---- An edge at port p
 

@@ -1,12 +1,14 @@
 -- What masks tell of ports, and what a clock that starts leaves of them.
-use Rattle.std.specs.Prelude.{ℕ, ◌≡◌, ◌<◌, ◌==◌, true, Option, Some, is_some, List, map, slice_index_or}
+use Rattle.std.specs.Prelude.{ℕ, ◌≡◌, ◌≢◌, ◌+◌, ◌<◌, ◌≤◌, ◌==◌, Bool, true, false, length, Option, Some, is_some, List, map, slice_index_or}
 use Rattle.xs_base.specs.Numbers.{Word, PortNumber}
+use Rattle.xs_base.specs.declared.numbers.TheConstants.{PORTS}
 use Rattle.xs_model.specs.declared.clock.Clock.{Clock}
 use Rattle.xs_model.specs.declared.clock.Clock.TheVariants.{Reference, Block}
 use Rattle.xs_model.specs.Record.{PortRec}
 use Rattle.xs_model.specs.Masks.{in_mask}
 use Rattle.xs_model.specs.Choices.{port_is_ready}
 use Rattle.xs_model.specs.PortActions.{restarted}
+use Rattle.xs_model.specs.Outside.{Emitted}
 use Rattle.buffered_ports.specs.Asks.{port_at}
 use Rattle.single_port.specs.Keeps.{IsPlain}
 pub use Rattle.single_port.specs.Keeps.{ServesAs}
@@ -25,6 +27,17 @@ HighIs high strobe levels = (q : PortNumber) → strobe ≡ Some q → in_mask h
 -- it tells it of all strobes; of other ports it says nothing
 abbrev pub HighAre : ℕ → List PortRec → List Word → Type 0
 HighAre high ports levels = (p : PortNumber) → HighIs high (port_at ports p).strobe levels
+
+-- the edge of port p leaves all others as they are, and where the answer is that nothing differs, it serves threads as before
+pub record IsEdged (p : PortNumber) (differs : Bool) (old new : List PortRec) : Type 0 where
+  pub others : (k : PortNumber) → k ≢ p → port_at new k ≡ port_at old k
+  pub count : length old ≡ PORTS → length new ≡ PORTS
+  pub same : differs ≡ false → ServesAs (port_at old p) (port_at new p)
+
+-- what the edge of one port tells stands after what was told, and of the rest nothing changes
+pub record TellsOne (old new : Emitted) : Type 0 where
+  pub rest : new ≡ record old { events = new.events }
+  pub room : length new.events ≤ length old.events + 1
 
 -- all ports after a clock started
 abbrev pub ports_restarted : Clock → List PortRec → List PortRec

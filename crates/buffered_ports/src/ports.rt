@@ -11,7 +11,7 @@ ghost use Rattle.xs_model.specs.PortActions.{is_idle};
 ghost use Rattle.single_port.specs.Asks.{IsAsk, FitsTransfer, IsClock, IsStrobe, answer_of, port_after, wait_of};
 ghost use Rattle.buffered_ports.specs.Asks.{no_ports, port_at, is_allowed, asked};
 ghost use Rattle.single_port.specs.Keeps.{ServesAs};
-ghost use Rattle.buffered_ports.specs.Keeps.{ports_restarted};
+ghost use Rattle.buffered_ports.specs.Keeps.{IsEdged, ports_restarted};
 
 use crate::marks::noted;
 use bit_masks::with_bit;
@@ -92,9 +92,7 @@ impl Ports {
         requires on { (port_at self.old p).on ≡ true }
         requires pin { pin < 2 ^ port_width p }
         ensures ports { self.new ≡ slice_set self.old p (rises (port_width p) (level_of (port_at self.old p).driven pin) strobe (port_at self.old p)) }
-        ensures others { (k : PortNumber) → k ≢ p → port_at self.new k ≡ port_at self.old k }
-        ensures count { length self.new ≡ PORTS }
-        ensures same { result ≡ false → ServesAs (port_at self.old p) (port_at self.new p) }
+        ensures edged { IsEdged p result self.old self.new }
     {
         let port = &mut self.ports[p as usize];
         let differs = port.rises(pin, strobe);
@@ -109,9 +107,7 @@ impl Ports {
         requires on { (port_at self.old p).on ≡ true }
         ensures ports { self.new ≡ slice_set self.old p (falls (port_width p) (port_at self.old p)).port }
         ensures change { result.change ≡ (falls (port_width p) (port_at self.old p)).change }
-        ensures others { (k : PortNumber) → k ≢ p → port_at self.new k ≡ port_at self.old k }
-        ensures count { length self.new ≡ PORTS }
-        ensures same { result.differs ≡ false → ServesAs (port_at self.old p) (port_at self.new p) }
+        ensures edged { IsEdged p result.differs self.old self.new }
     {
         let port = &mut self.ports[p as usize];
         let fallen = port.falls();

@@ -11,7 +11,7 @@ ghost use Rattle.xs_model.specs.Time.{edge_at};
 ghost use Rattle.xs_model.specs.Ports.{level_of, levels_of, is_high, at_edge, rises, falls, unchanged, edge_in_slot, edges_from, pin_happens};
 ghost use Rattle.buffered_ports.specs.Asks.{port_at};
 ghost use Rattle.single_port.specs.Keeps.{IsPlain, ServesAs};
-ghost use Rattle.buffered_ports.specs.Keeps.{HighIs, HighAre};
+ghost use Rattle.buffered_ports.specs.Keeps.{HighIs, HighAre, IsEdged, TellsOne};
 
 use crate::marks::noted;
 use crate::ports::Ports;
@@ -139,6 +139,7 @@ impl Ports {
 
     // The edge of port `p`, which is on, in a slot in which the reference clock has this one: whether it may serve threads
     // otherwise than before.
+    #[tactic(auto, using(crate::proofs::InTurn::tells_nothing))]
     #[inline]
     fn edge_in_slot(
         &mut self,
@@ -160,11 +161,8 @@ impl Ports {
         ensures events { (before : List Word) → HighIs high (port_at self.old p).strobe before →
             out.new.events ≡ out.old.events ++ map (in_slot slot)
             (pin_happens p (at_edge (port_width p) (edge_at clocks.now (port_at self.old p).clock slot) (level_of (port_at self.old p).driven (slice_index_or levels.now p 0)) (is_high before (port_at self.old p).strobe) (port_at self.old p)).change) }
-        ensures rest { out.new ≡ record out.old { events = out.new.events } }
-        ensures room { length out.new.events ≤ length out.old.events + 1 }
-        ensures others { (k : PortNumber) → k ≢ p → port_at self.new k ≡ port_at self.old k }
-        ensures count { length self.old ≡ PORTS → length self.new ≡ PORTS }
-        ensures same { result ≡ false → ServesAs (port_at self.old p) (port_at self.new p) }
+        ensures told { TellsOne out.old out.new }
+        ensures edged { IsEdged p result self.old self.new }
     {
         if self.is_plain(p) {
             return self.plain_edge(p, reference, levels);
@@ -183,16 +181,15 @@ impl Ports {
     }
 
     // The edge of port `p`, which is plain: whether it may serve threads otherwise than before.
+    #[tactic(auto, using(crate::proofs::InTurn::not_edged))]
     #[inline]
     fn plain_edge(&mut self, p: u8, reference: Edge, levels: &[u32; 29]) -> bool
         requires port { p < PORTS }
         requires plain { IsPlain (port_at self.old p) }
         requires pin { slice_index_or levels.now p 0 < 2 ^ port_width p }
-        ensures edged { (high : Bool) → at_edge (port_width p) reference (level_of (port_at self.old p).driven (slice_index_or levels.now p 0)) high (port_at self.old p) ≡ unchanged (port_at self.new p) }
+        ensures port { (high : Bool) → at_edge (port_width p) reference (level_of (port_at self.old p).driven (slice_index_or levels.now p 0)) high (port_at self.old p) ≡ unchanged (port_at self.new p) }
         ensures ports { self.new ≡ slice_set self.old p (port_at self.new p) }
-        ensures others { (k : PortNumber) → k ≢ p → port_at self.new k ≡ port_at self.old k }
-        ensures count { length self.old ≡ PORTS → length self.new ≡ PORTS }
-        ensures same { result ≡ false → ServesAs (port_at self.old p) (port_at self.new p) }
+        ensures edged { IsEdged p result self.old self.new }
     {
         match reference {
             Edge::None => false,
@@ -211,9 +208,7 @@ impl Ports {
         requires pin { outside < 2 ^ port_width p }
         ensures port { (high : Bool) → rises (port_width p) (level_of (port_at self.old p).driven outside) high (port_at self.old p) ≡ port_at self.new p }
         ensures ports { self.new ≡ slice_set self.old p (port_at self.new p) }
-        ensures others { (k : PortNumber) → k ≢ p → port_at self.new k ≡ port_at self.old k }
-        ensures count { length self.new ≡ PORTS }
-        ensures same { result ≡ false → ServesAs (port_at self.old p) (port_at self.new p) }
+        ensures edged { IsEdged p result self.old self.new }
     {
         let differs = !has_bit(self.ready, p);
         let port = &mut self.ports[p as usize];
@@ -226,11 +221,9 @@ impl Ports {
     fn plain_fall(&mut self, p: u8)
         requires port { p < PORTS }
         requires plain { IsPlain (port_at self.old p) }
-        ensures edged { falls (port_width p) (port_at self.old p) ≡ unchanged (port_at self.new p) }
+        ensures port { falls (port_width p) (port_at self.old p) ≡ unchanged (port_at self.new p) }
         ensures ports { self.new ≡ slice_set self.old p (port_at self.new p) }
-        ensures others { (k : PortNumber) → k ≢ p → port_at self.new k ≡ port_at self.old k }
-        ensures count { length self.new ≡ PORTS }
-        ensures same { ServesAs (port_at self.old p) (port_at self.new p) }
+        ensures edged { IsEdged p false self.old self.new }
     {
         let port = &mut self.ports[p as usize];
         port.falls_plainly();
@@ -250,6 +243,7 @@ impl Ports {
     }
 
     // This edge of port `p`, which is on: whether it may serve threads otherwise than before.
+    #[tactic(auto, using(crate::proofs::InTurn::not_edged, crate::proofs::InTurn::tells_nothing))]
     #[inline]
     fn edge_at(
         &mut self,
@@ -269,11 +263,8 @@ impl Ports {
         ensures events { (before : List Word) → HighIs high (port_at self.old p).strobe before →
             out.new.events ≡ out.old.events ++ map (in_slot slot)
             (pin_happens p (at_edge (port_width p) edge (level_of (port_at self.old p).driven outside) (is_high before (port_at self.old p).strobe) (port_at self.old p)).change) }
-        ensures rest { out.new ≡ record out.old { events = out.new.events } }
-        ensures room { length out.new.events ≤ length out.old.events + 1 }
-        ensures others { (k : PortNumber) → k ≢ p → port_at self.new k ≡ port_at self.old k }
-        ensures count { length self.old ≡ PORTS → length self.new ≡ PORTS }
-        ensures same { result ≡ false → ServesAs (port_at self.old p) (port_at self.new p) }
+        ensures told { TellsOne out.old out.new }
+        ensures edged { IsEdged p result self.old self.new }
     {
         match edge {
             Edge::None => false,
@@ -321,13 +312,13 @@ fn either(one: bool, other: bool) -> bool
 }
 
 // Puts the change of a port's pins, if they changed, after the events of a slot.
+#[tactic(auto, using(crate::proofs::InTurn::tells_nothing, crate::proofs::InTurn::tells_one))]
 #[inline]
 fn tell(port: u8, change: Option<PinChange>, slot: u32, out: &mut Emissions)
     requires port { port < PORTS }
     requires room { length out.old.events < EVENT_ROOM }
     ensures events { out.new.events ≡ out.old.events ++ map (in_slot slot) (pin_happens port change) }
-    ensures rest { out.new ≡ record out.old { events = out.new.events } }
-    ensures room { length out.new.events ≤ length out.old.events + 1 }
+    ensures told { TellsOne out.old out.new }
 {
     if let Some(change) = change {
         let what = match change {

@@ -52,18 +52,18 @@ loop-rest-preserved c =
     record {
       done = p + 1;
       most = omega (arith, next.port);
-      count = c.edge_in_slot-changed.ensures.count c.loop-rest.invariant.count;
-      on = mask_left c.loop-rest.rest c.without-rest.result p c.loop-rest.self c.edge_in_slot-changed.new.self c.without-rest.ensures.bits c.edge_in_slot-changed.ensures.others (λ k below from. c.loop-rest.invariant.on k below (omega (arith, above, from)));
+      count = c.edge_in_slot-changed.ensures.edged.count c.loop-rest.invariant.count;
+      on = mask_left c.loop-rest.rest c.without-rest.result p c.loop-rest.self c.edge_in_slot-changed.new.self c.without-rest.ensures.bits c.edge_in_slot-changed.ensures.edged.others (λ k below from. c.loop-rest.invariant.on k below (omega (arith, above, from)));
       passed = none_below c.loop-rest.rest c.without-rest.result p c.lowest-p.ensures.within c.without-rest.ensures.bits c.lowest-p.ensures.least;
-      others = λ k from. c.edge_in_slot-changed.ensures.others k (λ e. omega (arith, e, from)) ∙ c.loop-rest.invariant.others k (omega (arith, above, from));
+      others = λ k from. c.edge_in_slot-changed.ensures.edged.others k (λ e. omega (arith, e, from)) ∙ c.loop-rest.invariant.others k (omega (arith, above, from));
       reached = λ before high.
           let its : HighIs c.args.high (port_at c.loop-rest.self p).strobe before =
           λ q is. high p q (ap (λ (port : PortRec). port.strobe) (sym (c.loop-rest.invariant.others p above)) ∙ is)
           in
           one_edge c.args.slot c.args.clocks.now before c.args.levels.now c.args.self.now c.loop-rest.self c.edge_in_slot-changed.new.self c.args.out.now.events c.loop-rest.out.events c.edge_in_slot-changed.new.out.events p (edge_at c.args.clocks.now (port_at c.loop-rest.self p).clock c.args.slot) (omega (arith, next.port, c.loop-rest.invariant.count)) (omega (arith, next.port, c.told-levels)) next.on refl (c.edge_in_slot-changed.ensures.ports before its) (c.edge_in_slot-changed.ensures.events before its) (next.reached before high);
-      kept = c.edge_in_slot-changed.ensures.rest ∙ ap (λ (o : Emitted). let out : Emitted = record o { events = c.edge_in_slot-changed.new.out.events } in out) c.loop-rest.invariant.kept;
-      room = omega (arith, c.edge_in_slot-changed.ensures.room, c.loop-rest.invariant.room, above);
-      serve = λ same. still_serve c.args.self.now c.loop-rest.self c.edge_in_slot-changed.new.self p (c.loop-rest.invariant.others p above) (c.edge_in_slot-changed.ensures.same (c.either-differs.ensures.other same)) c.edge_in_slot-changed.ensures.others (c.loop-rest.invariant.serve (c.either-differs.ensures.one same));
+      kept = c.edge_in_slot-changed.ensures.told.rest ∙ ap (λ (o : Emitted). let out : Emitted = record o { events = c.edge_in_slot-changed.new.out.events } in out) c.loop-rest.invariant.kept;
+      room = omega (arith, c.edge_in_slot-changed.ensures.told.room, c.loop-rest.invariant.room, above);
+      serve = λ same. still_serve c.args.self.now c.loop-rest.self c.edge_in_slot-changed.new.self p (c.loop-rest.invariant.others p above) (c.edge_in_slot-changed.ensures.edged.same (c.either-differs.ensures.other same)) c.edge_in_slot-changed.ensures.edged.others (c.loop-rest.invariant.serve (c.either-differs.ensures.one same));
     }
 
 pub returns-clause-ports : goal.returns-clause-ports

@@ -1,8 +1,7 @@
 use Rattle.std.proofs.Common.{◌<◌, ap, ◌∙◌, length, arith}
 use Rattle.xs_model.specs.Ports.{falls}
 use Rattle.single_port.specs.Keeps.{PortOf}
-use Rattle.buffered_ports.proofs.Row.{read_on, replaced, row_edged, serves_now, port_there}
-use Rattle.buffered_ports.specs.Asks.{port_at}
+use Rattle.buffered_ports.proofs.Row.{read_on, replaced, row_edged, serves_now, is_edged}
 use Rattle.buffered_ports.proofs.ports.Ports.fall.Goals as goal
 
 pub invariant_of-self : goal.invariant_of-self
@@ -17,16 +16,12 @@ returns-clause-ports c =
     (ap (λ (that : PortOf). that.port) c.falls-fallen.ensures.port
     ∙ read_on (λ width port. (falls width port).port) c.self.inside.ports c.args.self.now c.args.p _ c.self.view_is inside (c.self.invariant.placed c.args.p) c.requires.on)
 
-pub returns-clause-same : goal.returns-clause-same
-returns-clause-same c same =
-    let inside : c.args.p < length c.self.inside.ports = omega (arith, c.requires.port, c.self.invariant.count) in
-    serves_now c.self.inside.ports c.args.self.now c.args.p c.index-self-p.result c.falls-fallen.new.self c.self.view_is inside (c.falls-fallen.ensures.same same)
-
 pub returns-clause-change : goal.returns-clause-change
 returns-clause-change c =
     let inside : c.args.p < length c.self.inside.ports = omega (arith, c.requires.port, c.self.invariant.count) in
     c.falls-fallen.ensures.change ∙ read_on (λ width port. (falls width port).change) c.self.inside.ports c.args.self.now c.args.p _ c.self.view_is inside (c.self.invariant.placed c.args.p) c.requires.on
 
-pub returns-clause-others : goal.returns-clause-others
-returns-clause-others c k other =
-    port_there c.self.inside.ports c.args.p k c.falls-fallen.new.self other ∙ ap (λ ports. port_at ports k) c.self.view_is
+pub returns-clause-edged : goal.returns-clause-edged
+returns-clause-edged c =
+    let inside : c.args.p < length c.self.inside.ports = omega (arith, c.requires.port, c.self.invariant.count) in
+    is_edged c.args.p _ _ _ _ (returns-clause-ports c) (λ same. serves_now c.self.inside.ports c.args.self.now c.args.p c.index-self-p.result c.falls-fallen.new.self c.self.view_is inside (c.falls-fallen.ensures.same same))

@@ -1,16 +1,15 @@
 use Rattle.std.proofs.Common.{◌<◌, false, ap, sym, ◌∙◌, refl, length, arith}
 use Rattle.std.proofs.lemmas.Bool.{false≢true}
 use Rattle.xs_model.specs.Ports.{falls, unchanged}
-use Rattle.buffered_ports.specs.Asks.{port_at}
-use Rattle.buffered_ports.proofs.Row.{read_on, replaced, row_edged, serves_now, port_here, port_there}
+use Rattle.buffered_ports.proofs.Row.{read_on, replaced, row_edged, serves_now, port_here, is_edged}
 use Rattle.buffered_ports.proofs.ports.Ports.plain_fall.Goals as goal
 
 pub invariant_of-self : goal.invariant_of-self
 invariant_of-self c =
     row_edged c.self.inside c.args.p c.self.inside.ready c.index-self-p.result c.falls_plainly.new.self false _ c.self.invariant c.requires.port c.falls_plainly.ensures.width c.falls_plainly.ensures.role (λ same. c.falls_plainly.ensures.same) refl (λ differs. absurd (false≢true differs)) (λ same. refl) (λ k below other. refl) (λ plain. c.falls_plainly.ensures.plain)
 
-pub returns-clause-edged : goal.returns-clause-edged
-returns-clause-edged c =
+pub returns-clause-port : goal.returns-clause-port
+returns-clause-port c =
     let inside : c.args.p < length c.self.inside.ports = omega (arith, c.requires.port, c.self.invariant.count) in
     sym (read_on falls c.self.inside.ports c.args.self.now c.args.p _ c.self.view_is inside (c.self.invariant.placed c.args.p) c.requires.plain.on)
     ∙ c.falls_plainly.ensures.edged
@@ -21,11 +20,7 @@ returns-clause-ports c =
     let inside : c.args.p < length c.self.inside.ports = omega (arith, c.requires.port, c.self.invariant.count) in
     replaced c.self.inside.ports c.args.self.now c.args.p c.falls_plainly.new.self _ c.self.view_is (sym (port_here c.self.inside.ports c.args.p c.falls_plainly.new.self inside))
 
-pub returns-clause-others : goal.returns-clause-others
-returns-clause-others c k other =
-    port_there c.self.inside.ports c.args.p k c.falls_plainly.new.self other ∙ ap (λ ports. port_at ports k) c.self.view_is
-
-pub returns-clause-same : goal.returns-clause-same
-returns-clause-same c =
+pub returns-clause-edged : goal.returns-clause-edged
+returns-clause-edged c =
     let inside : c.args.p < length c.self.inside.ports = omega (arith, c.requires.port, c.self.invariant.count) in
-    serves_now c.self.inside.ports c.args.self.now c.args.p c.index-self-p.result c.falls_plainly.new.self c.self.view_is inside c.falls_plainly.ensures.same
+    is_edged c.args.p _ _ _ _ (returns-clause-ports c) (λ same. serves_now c.self.inside.ports c.args.self.now c.args.p c.index-self-p.result c.falls_plainly.new.self c.self.view_is inside c.falls_plainly.ensures.same)

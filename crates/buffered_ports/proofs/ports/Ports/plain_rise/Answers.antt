@@ -1,9 +1,8 @@
 use Rattle.std.proofs.Common.{◌<◌, true, not, ap, sym, ◌∙◌, length, arith}
 use Rattle.xs_model.specs.Ports.{rises, level_of}
-use Rattle.buffered_ports.specs.Asks.{port_at}
 use Rattle.single_port.specs.Keeps.{PortOf}
 use Rattle.buffered_ports.proofs.Plain.{ready_where_full, was_full}
-use Rattle.buffered_ports.proofs.Row.{read_on, replaced, row_edged, serves_now, port_here, port_there}
+use Rattle.buffered_ports.proofs.Row.{read_on, replaced, row_edged, serves_now, port_here, is_edged}
 use Rattle.buffered_ports.proofs.ports.Ports.plain_rise.Goals as goal
 
 pub invariant_of-self : goal.invariant_of-self
@@ -24,12 +23,7 @@ returns-clause-ports c =
     let inside : c.args.p < length c.self.inside.ports = omega (arith, c.requires.port, c.self.invariant.count) in
     replaced c.self.inside.ports c.args.self.now c.args.p c.rises_plainly.new.self _ c.self.view_is (sym (port_here c.self.inside.ports c.args.p c.rises_plainly.new.self inside))
 
-pub returns-clause-others : goal.returns-clause-others
-returns-clause-others c k other =
-    port_there c.self.inside.ports c.args.p k c.rises_plainly.new.self other ∙ ap (λ ports. port_at ports k) c.self.view_is
-
-pub returns-clause-same : goal.returns-clause-same
-returns-clause-same c same =
+pub returns-clause-edged : goal.returns-clause-edged
+returns-clause-edged c =
     let inside : c.args.p < length c.self.inside.ports = omega (arith, c.requires.port, c.self.invariant.count) in
-    serves_now c.self.inside.ports c.args.self.now c.args.p c.index-self-p.result c.rises_plainly.new.self c.self.view_is inside
-    (c.rises_plainly.ensures.same (was_full c.self.inside c.args.p c.index-self-p.result c.has_bit-differs.result c.self.invariant c.requires.port c.has_bit-differs.ensures same))
+    is_edged c.args.p _ _ _ _ (returns-clause-ports c) (λ same. serves_now c.self.inside.ports c.args.self.now c.args.p c.index-self-p.result c.rises_plainly.new.self c.self.view_is inside (c.rises_plainly.ensures.same (was_full c.self.inside c.args.p c.index-self-p.result c.has_bit-differs.result c.self.invariant c.requires.port c.has_bit-differs.ensures same)))

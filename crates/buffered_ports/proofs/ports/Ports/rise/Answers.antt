@@ -1,8 +1,7 @@
 use Rattle.std.proofs.Common.{◌<◌, ap, ◌∙◌, length, arith}
 use Rattle.xs_model.specs.Ports.{rises, level_of}
 use Rattle.single_port.specs.Keeps.{PortOf}
-use Rattle.buffered_ports.proofs.Row.{read_on, replaced, row_edged, serves_now, port_there}
-use Rattle.buffered_ports.specs.Asks.{port_at}
+use Rattle.buffered_ports.proofs.Row.{read_on, replaced, row_edged, serves_now, is_edged}
 use Rattle.buffered_ports.proofs.ports.Ports.rise.Goals as goal
 
 pub invariant_of-self : goal.invariant_of-self
@@ -17,11 +16,7 @@ returns-clause-ports c =
     (ap (λ (that : PortOf). that.port) c.rises-differs.ensures.port
     ∙ read_on (λ width port. rises width (level_of port.driven c.args.pin) c.args.strobe port) c.self.inside.ports c.args.self.now c.args.p _ c.self.view_is inside (c.self.invariant.placed c.args.p) c.requires.on)
 
-pub returns-clause-same : goal.returns-clause-same
-returns-clause-same c same =
+pub returns-clause-edged : goal.returns-clause-edged
+returns-clause-edged c =
     let inside : c.args.p < length c.self.inside.ports = omega (arith, c.requires.port, c.self.invariant.count) in
-    serves_now c.self.inside.ports c.args.self.now c.args.p c.index-self-p.result c.rises-differs.new.self c.self.view_is inside (c.rises-differs.ensures.same same)
-
-pub returns-clause-others : goal.returns-clause-others
-returns-clause-others c k other =
-    port_there c.self.inside.ports c.args.p k c.rises-differs.new.self other ∙ ap (λ ports. port_at ports k) c.self.view_is
+    is_edged c.args.p _ _ _ _ (returns-clause-ports c) (λ same. serves_now c.self.inside.ports c.args.self.now c.args.p c.index-self-p.result c.rises-differs.new.self c.self.view_is inside (c.rises-differs.ensures.same same))
