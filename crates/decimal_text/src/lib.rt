@@ -16,3 +16,12 @@ pub fn append_decimal(out: &mut Text, n: u64) -> Result<(), AllocError>
     let mut buffer = Buffer::new();
     out.append(buffer.format(n).as_bytes())
 }
+
+/// The same for a number of up to 128 bits, as a sum over all nodes of a run.
+pub fn append_wide_decimal(out: &mut Text, n: u128) -> Result<(), AllocError>
+    ensures ok { OnOk result (out.new ≡ out.old ++ decimal n) }
+    ensures err { OnErr result (out.new ≡ out.old) }
+{
+    let mut digits = Buffer::new();
+    out.append(digits.format(n).as_bytes())
+}

@@ -1,11 +1,11 @@
 //! The line that tells what a load came to.
-ghost use Rattle.std.specs.Prelude.{◌≡◌, ◌++◌, IfOk, OnOk, decimal, length};
+ghost use Rattle.std.specs.Prelude.{◌≡◌, ◌++◌, IfOk, OnOk, length};
 ghost use Rattle.serial_model.specs.Serial.{serial};
 ghost use Rattle.load_model.specs.Made.{made_line, numbers_line, totals_text};
 
 use crate::totals::{all_events, all_sent};
+use decimal_text::append_wide_decimal;
 use finished_runs::FinishedRun;
-use itoa::Buffer;
 use std::alloc::{AllocError, Global};
 use sys_plan::Plan;
 use xs_base::Text;
@@ -41,9 +41,9 @@ fn append_line(
     ensures { OnOk result (out.new ≡ out.old ++ numbers_line number nodes tokens credits events) }
 {
     out.append(b"made ")?;
-    append_number(out, number)?;
+    append_wide_decimal(out, number)?;
     out.append(b" nodes ")?;
-    append_number(out, nodes)?;
+    append_wide_decimal(out, nodes)?;
     append_totals(out, tokens, credits, events)
 }
 
@@ -57,18 +57,10 @@ fn append_totals(
     ensures { OnOk result (out.new ≡ out.old ++ totals_text tokens credits events) }
 {
     out.append(b" tokens ")?;
-    append_number(out, tokens)?;
+    append_wide_decimal(out, tokens)?;
     out.append(b" credits ")?;
-    append_number(out, credits)?;
+    append_wide_decimal(out, credits)?;
     out.append(b" events ")?;
-    append_number(out, events)?;
+    append_wide_decimal(out, events)?;
     out.append(b"\n")
-}
-
-// A number in decimal.
-fn append_number(out: &mut Text, n: u128) -> Result<(), AllocError>
-    ensures { OnOk result (out.new ≡ out.old ++ decimal n) }
-{
-    let mut buffer = Buffer::new();
-    out.append(buffer.format(n).as_bytes())
 }
