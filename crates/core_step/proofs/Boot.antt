@@ -9,7 +9,6 @@ use Rattle.link_ends.specs.Counts.{EndCounts, fresh_counts}
 use Rattle.switch_routes.specs.Rows.{end_gap, end_gaps, IsCountsOf, AllCountsOf}
 use Rattle.sys_plan.specs.declared.NodePlan.{NodePlan}
 use Rattle.net_model.specs.Links.{IsLinkBefore}
-use Rattle.core_step.specs.declared.pin_levels.PinLevels.{PinLevels}
 use Rattle.core_step.specs.declared.pin_levels.PinLevels.TheVariants.{All}
 use Rattle.core_step.specs.PinLevels.{levels_kept}
 use Rattle.core_step.specs.Core.{CoreValue, StandsAt, SentBefore}

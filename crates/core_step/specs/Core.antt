@@ -1,9 +1,9 @@
 -- What contracts see of a core, and the node record that it stands for.
 use Rattle.std.specs.Prelude.{ℕ, ◌≡◌, ◌<◌, false, List, Option, None, IfSome, slice_index_or}
 use Rattle.std.specs.List.{AllByRecursion}
-use Rattle.xs_base.specs.Numbers.{Slot, Word}
+use Rattle.xs_base.specs.Numbers.{Slot}
 use Rattle.xs_model.specs.declared.outside.Arrivals.{Arrivals}
-use Rattle.xs_model.specs.Record.{CoreRec, NodeRec, LinkRec, InputRec}
+use Rattle.xs_model.specs.Record.{CoreRec, NodeRec, InputRec}
 use Rattle.net_model.specs.Links.{IsLinkBefore}
 use Rattle.link_ends.specs.Counts.{EndCounts}
 use Rattle.switch_routes.specs.Rows.{AllCountsOf}

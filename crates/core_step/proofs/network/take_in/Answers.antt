@@ -1,6 +1,5 @@
 use Rattle.std.proofs.Common.{List, Option, sym, subst}
 use Rattle.xs_model.specs.Record.{LinkRec}
-use Rattle.net_model.specs.Links.{links_after_arrivals}
 use Rattle.switch_routes.specs.Rows.{AllCountsOf, CreditedBy}
 use Rattle.core_step.specs.Core.{NothingArrives}
 use Rattle.core_step.proofs.Arriving.{links_stay}
