@@ -8,14 +8,15 @@ use Rattle.core_workers.specs.declared.ended.Ended.{Ended}
 use Rattle.core_workers.specs.declared.ended.Ended.TheVariants as ended
 use Rattle.core_workers.specs.declared.turn.Turn.{Turn}
 use Rattle.core_workers.specs.declared.turn.Turn.TheVariants.{Ran, Blocked, Finished, Stopped, Memory}
-use Rattle.core_workers.specs.Worker.{WorkerRec, IsOpen, Stays, Exchanged, Answers, Closes, KeepsAllElse}
+use Rattle.core_workers.specs.Worker.{WorkerRec, IsWorker, IsOpen, Stays, Exchanged, Answers, Closes, KeepsAllElse}
 
--- a turn of a worker, with this answer
+-- a turn of a worker, with this answer; what it leaves is a worker
 pub record Takes (before : WorkerRec) (turn : Turn) (after : WorkerRec) : Type 0 where
   pub still_open : All IsOpen before.ends.outgoing.items
   pub stays : Stays before after
   pub exchanged : turn ≢ Memory → Exchanged before after
   pub answer : Answers before turn after
+  pub keeps : IsWorker after
 
 -- after these answers a run goes on
 abbrev pub IsOneOfMore : Turn → Type 0

@@ -18,7 +18,7 @@ loop-preserved-in-Ran g c = record {
   still_open = c.turn.ensures.open;
   taken =
       one_turn_more c.args.self.now c.loop.self c.turn.result c.turn.new.self c.loop.invariant.taken (subst IsOneOfMore (sym c.in-Ran.is) tt)
-      (record { still_open = c.loop.invariant.still_open; stays = c.turn.ensures.stays; exchanged = c.turn.ensures.exchanged; answer = c.turn.ensures.answer });
+      (record { still_open = c.loop.invariant.still_open; stays = c.turn.ensures.stays; exchanged = c.turn.ensures.exchanged; answer = c.turn.ensures.answer; keeps = c.turn.ensures.keeps });
 }
 
 pub loop-preserved : goal.loop-preserved
@@ -27,7 +27,7 @@ loop-preserved g c = record {
   still_open = c.turn.ensures.open;
   taken =
       one_turn_more c.args.self.now c.loop.self c.turn.result c.turn.new.self c.loop.invariant.taken (subst IsOneOfMore (sym c.in-Blocked.is) tt)
-      (record { still_open = c.loop.invariant.still_open; stays = c.turn.ensures.stays; exchanged = c.turn.ensures.exchanged; answer = c.turn.ensures.answer });
+      (record { still_open = c.loop.invariant.still_open; stays = c.turn.ensures.stays; exchanged = c.turn.ensures.exchanged; answer = c.turn.ensures.answer; keeps = c.turn.ensures.keeps });
 }
 
 pub returns-in-Finished-clause-keeps : goal.returns-in-Finished-clause-keeps
@@ -52,17 +52,17 @@ returns-in-Memory-clause-keeps g c =
 pub returns-in-Finished-clause-turns : goal.returns-in-Finished-clause-turns
 returns-in-Finished-clause-turns g c =
     last_turn c.args.self.now c.loop.self c.turn.result turn.Finished c.turn.new.self c.loop.invariant.taken c.in-Finished.is
-    (record { still_open = c.loop.invariant.still_open; stays = c.turn.ensures.stays; exchanged = c.turn.ensures.exchanged; answer = c.turn.ensures.answer })
+    (record { still_open = c.loop.invariant.still_open; stays = c.turn.ensures.stays; exchanged = c.turn.ensures.exchanged; answer = c.turn.ensures.answer; keeps = c.turn.ensures.keeps })
 
 pub returns-in-Stopped-clause-turns : goal.returns-in-Stopped-clause-turns
 returns-in-Stopped-clause-turns g c =
     let takes = last_turn c.args.self.now c.loop.self c.turn.result (turn.Stopped c.in-Stopped.link) c.turn.new.self c.loop.invariant.taken c.in-Stopped.is
-    (record { still_open = c.loop.invariant.still_open; stays = c.turn.ensures.stays; exchanged = c.turn.ensures.exchanged; answer = c.turn.ensures.answer }) in
+    (record { still_open = c.loop.invariant.still_open; stays = c.turn.ensures.stays; exchanged = c.turn.ensures.exchanged; answer = c.turn.ensures.answer; keeps = c.turn.ensures.keeps }) in
     (c.in-Stopped.link, record { turned = c.turn.new.self; takes = takes; shuts = record { closed = c.stop.ensures.closed; rest = c.stop.ensures.rest } })
 
 pub returns-in-Memory-clause-turns : goal.returns-in-Memory-clause-turns
 returns-in-Memory-clause-turns g c =
     let takes = last_turn c.args.self.now c.loop.self c.turn.result turn.Memory c.turn.new.self c.loop.invariant.taken c.in-Memory.is
-    (record { still_open = c.loop.invariant.still_open; stays = c.turn.ensures.stays; exchanged = c.turn.ensures.exchanged; answer = c.turn.ensures.answer }) in
+    (record { still_open = c.loop.invariant.still_open; stays = c.turn.ensures.stays; exchanged = c.turn.ensures.exchanged; answer = c.turn.ensures.answer; keeps = c.turn.ensures.keeps }) in
     subst (λ (e : Ended). RunsBy c.args.self.now e c.give_up.new.self) (sym c.give_up.ensures.memory)
     (record { turned = c.turn.new.self; takes = takes; shuts = c.give_up.ensures.shuts })
