@@ -1,7 +1,7 @@
 -- What is left of all workers is at the limit: each node, and the log of each arc.
-use Rattle.std.proofs.Common.{◌≡◌, ◌<◌, Some, List, length, map, get_or, slice_get, sym, ap, ◌∙◌, subst, arith}
+use Rattle.std.proofs.Common.{◌≡◌, ◌<◌, Some, List, length, map, slice_get, sym, ap, ◌∙◌, subst, arith}
 use Rattle.std.specs.List.{AllByRecursion}
-use Rattle.std.proofs.lemmas.Option.{slice_get_within, slice_get-get_or}
+use Rattle.std.proofs.lemmas.Option.{slice_get_within}
 use Rattle.std.proofs.lemmas.List.{length-map}
 use Rattle.std.proofs.lemmas.List.Elements.{recursion_from_All}
 use Rattle.xs_base.specs.Numbers.{Slot, LinkNumber, Position}

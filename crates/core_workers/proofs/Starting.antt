@@ -1,9 +1,9 @@
 -- A worker before its first turn.
-use Rattle.std.proofs.Common.{◌≡◌, ℕ, zero, suc, ◌<◌, Option, Some, None, option_map, List, length, map, replicate, get_or, slice_get, refl, sym, ap, ◌∙◌, subst}
+use Rattle.std.proofs.Common.{◌≡◌, ℕ, zero, suc, ◌<◌, Option, Some, None, option_map, List, replicate, get_or, refl, sym, ap, ◌∙◌, subst}
 use Rattle.std.proofs.lemmas.List.Elements.{All-from_recursion}
 use Rattle.std.proofs.lemmas.Option.{none-some, same_Some, slice_get-get_or, slice_get_within}
 use Rattle.xs_base.specs.Numbers.{Slot, Position, EndNumber, LinkNumber}
-use Rattle.sys_plan.specs.Plan.{PlanRec, IsPlan, arc_count, incoming, delay_of, link_ends}
+use Rattle.sys_plan.specs.Plan.{PlanRec, IsPlan, arc_count, incoming, delay_of}
 use Rattle.sys_plan.proofs.Routes.{found-at-end-in, incoming-end}
 use Rattle.link_logs.specs.Logs.{WriteRec, ReadRec}
 use Rattle.ahead_limits.specs.declared.horizon.Seen.{Seen}

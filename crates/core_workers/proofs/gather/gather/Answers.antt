@@ -1,4 +1,4 @@
-use Rattle.std.proofs.Common.{◌≡◌, List, length, slice_get, sym, ap, ◌∙◌, subst}
+use Rattle.std.proofs.Common.{List, length, slice_get, sym, ap, ◌∙◌, subst}
 use Rattle.std.proofs.lemmas.List.{length-map}
 use Rattle.sys_plan.specs.Plan.{PlanRec, arc_count}
 use Rattle.plan_cells.specs.declared.ends.Ends.{Ends}
