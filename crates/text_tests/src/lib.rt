@@ -8,6 +8,8 @@ mod line_text_tests;
 #[cfg(test)]
 mod pin_scripts_tests;
 #[cfg(test)]
+mod refusals;
+#[cfg(test)]
 mod sys_plan_tests;
 #[cfg(test)]
 mod system_text_tests;

@@ -1,6 +1,5 @@
 //! Scripts that are read, and what pins show by them.
-ghost use Rattle.std.specs.Prelude.{◌<◌, ◌^◌, length};
-
+use crate::refusals::each_is_refused;
 use pin_scripts::PinKind::{
     BadLine, NoSuchNode, NoSuchPort, PinGivenTwice, SlotFalls, ValueTooWide,
 };
@@ -9,51 +8,44 @@ use std::alloc::Global;
 use std::test::Fail;
 use xs_model::PinView;
 
-// Whether the text is refused at the line for the kind, in a system of the nodes 0 and 7.
-fn is_refused(alloc: Global, text: &[u8], line: u32, kind: PinKind) -> bool
-    requires { length text.now < 2 ^ 32 }
-{
+// Where and why a text is refused in a system of the nodes 0 and 7. None is told of one of a million bytes and more.
+fn refusal(alloc: Global, text: &[u8]) -> Option<(u32, PinKind)> {
+    if text.len() >= 1_000_000 {
+        return None;
+    }
     match read_pins(alloc, text, &[0, 7]) {
-        Err(
-            PinError::Fault {
-                line: at,
-                kind: why,
-            },
-        ) => at == line && why == kind,
-        _ => false,
+        Err(PinError::Fault { line, kind }) => Some((line, kind)),
+        _ => None,
     }
 }
 
+static REFUSED: [(&[u8], u32, PinKind); 20] = [
+    (b"5 0:A4 1", 1, BadLine),
+    (b"5 0:4 1", 1, BadLine),
+    (b"5 0:4AA 1", 1, BadLine),
+    (b"5 0:0x4A 1", 1, BadLine),
+    (b"5 0:4A 4294967296", 1, BadLine),
+    (b"5 4294967296:4A 1", 1, BadLine),
+    (b"5 0:4A 0X1", 1, BadLine),
+    (b"5 0:4A -1", 1, BadLine),
+    (b"# \x01", 1, BadLine),
+    (b"5 0:4A 1\r\r\n", 1, BadLine),
+    (b"9 0:4A 1\n\n8 7:1A 1", 3, SlotFalls),
+    (b"5 0:4G 1", 1, NoSuchPort),
+    (b"5 0:2A 1", 1, NoSuchPort),
+    (b"5 0:4a 1", 1, NoSuchPort),
+    (b"5 0:04A 1", 1, NoSuchPort),
+    (b"5 0:1A 2", 1, ValueTooWide),
+    (b"9 0:4A 1\n8 0:4A 16", 2, ValueTooWide),
+    (b"5 0:4G 16", 1, NoSuchPort),
+    (b"5 100:4G 16", 1, NoSuchNode),
+    (b"5 0:4A 1\n5 0:4A 1", 2, PinGivenTwice),
+];
+
 #[test]
 fn refused(rt: HostRuntime) {
-    let table: &[(&[u8], u32, PinKind)] = &[
-        (b"5 0:A4 1", 1, BadLine),
-        (b"5 0:4 1", 1, BadLine),
-        (b"5 0:4AA 1", 1, BadLine),
-        (b"5 0:0x4A 1", 1, BadLine),
-        (b"5 0:4A 4294967296", 1, BadLine),
-        (b"5 4294967296:4A 1", 1, BadLine),
-        (b"5 0:4A 0X1", 1, BadLine),
-        (b"5 0:4A -1", 1, BadLine),
-        (b"# \x01", 1, BadLine),
-        (b"5 0:4A 1\r\r\n", 1, BadLine),
-        (b"9 0:4A 1\n\n8 7:1A 1", 3, SlotFalls),
-        (b"5 0:4G 1", 1, NoSuchPort),
-        (b"5 0:2A 1", 1, NoSuchPort),
-        (b"5 0:4a 1", 1, NoSuchPort),
-        (b"5 0:04A 1", 1, NoSuchPort),
-        (b"5 0:1A 2", 1, ValueTooWide),
-        (b"9 0:4A 1\n8 0:4A 16", 2, ValueTooWide),
-        (b"5 0:4G 16", 1, NoSuchPort),
-        (b"5 100:4G 16", 1, NoSuchNode),
-        (b"5 0:4A 1\n5 0:4A 1", 2, PinGivenTwice),
-    ];
-    for (text, line, kind) in table {
-        assert!(rt;
-            text.len() < 99 && is_refused(rt.alloc(), text, *line, *kind),
-            "{text:?} {line} {kind:?}"
-        );
-    }
+    let alloc = rt.alloc();
+    each_is_refused(&rt, &REFUSED, |text| refusal(alloc, text));
 }
 
 // What the pins of a port of a node show in a slot.

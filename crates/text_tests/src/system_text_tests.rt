@@ -1,5 +1,5 @@
 //! System texts that are read and some that are refused. The cases of case_runs try the others.
-
+use crate::refusals::each_is_refused;
 use std::alloc::Global;
 use std::test::Fail;
 use sys_plan::Step;
@@ -83,107 +83,101 @@ fn schedule_between_the_sources(rt: HostRuntime) -> Result<(), Fail> {
     Ok(())
 }
 
-// Whether the pin script is refused at the line for the kind.
-fn is_refused_script(alloc: Global, text: &[u8], at: u32, why: PinKind) -> bool {
+// Where and why the pin script of a system text is refused.
+fn script_refusal(alloc: Global, text: &[u8]) -> Option<(u32, PinKind)> {
     match read_system(alloc, text) {
-        Err(SystemError::Pins { line, kind }) => line == at && kind == why,
-        _ => false,
+        Err(SystemError::Pins { line, kind }) => Some((line, kind)),
+        _ => None,
     }
 }
+
+static REFUSED_SCRIPTS: [(&[u8], u32, PinKind); 3] = [
+    (
+        b"xs1 1\nnode 0 id 0\npins\nsource 0\nend\nsource 0\nend",
+        1,
+        PinKind::BadLine,
+    ),
+    (
+        b"xs1 1\npins\n9 0:4A 1\n8 0:4A 2\nend\nnode 0 id 0\nsource 0\nend",
+        2,
+        PinKind::SlotFalls,
+    ),
+    (b"xs1 1\npins\n\n1 0:4A 1\nend", 2, PinKind::NoSuchNode),
+];
 
 #[test]
 fn pin_script_refusals(rt: HostRuntime) {
-    let cases: [(&[u8], u32, PinKind); 3] = [
-        (
-            b"xs1 1\nnode 0 id 0\npins\nsource 0\nend\nsource 0\nend",
-            1,
-            PinKind::BadLine,
-        ),
-        (
-            b"xs1 1\npins\n9 0:4A 1\n8 0:4A 2\nend\nnode 0 id 0\nsource 0\nend",
-            2,
-            PinKind::SlotFalls,
-        ),
-        (b"xs1 1\npins\n\n1 0:4A 1\nend", 2, PinKind::NoSuchNode),
-    ];
-    for (text, line, kind) in cases {
-        assert!(rt;
-            is_refused_script(rt.alloc(), text, line, kind),
-            "{line} {kind:?}"
-        );
+    let alloc = rt.alloc();
+    each_is_refused(&rt, &REFUSED_SCRIPTS, |text| script_refusal(alloc, text));
+}
+
+// Where and why a line of a system text is refused that is in no section.
+fn refusal(alloc: Global, text: &[u8]) -> Option<(u32, SysKind)> {
+    match read_system(alloc, text) {
+        Err(SystemError::Frame { line, kind }) => Some((line, kind)),
+        _ => None,
     }
 }
 
-// Whether the frame is refused at the line for the kind.
-fn is_refused_frame(alloc: Global, text: &[u8], at: u32, why: SysKind) -> bool {
-    match read_system(alloc, text) {
-        Err(SystemError::Frame { line, kind }) => line == at && kind == why,
-        _ => false,
-    }
-}
+static REFUSED: [(&[u8], u32, SysKind); 14] = [
+    (b"xs1 1\npins\nfoo\nend\npins\n", 5, SysKind::GivenTwice),
+    (
+        b"xs1 1\nnode 0 id 0\npins\nend:\n",
+        3,
+        SysKind::SectionNotEnded,
+    ),
+    (b"xs1 1\nnode 0 id 0\n", 2, SysKind::NodeWithoutSource),
+    (
+        b"xs1 1\nnode 0 id 0\nnode 1 id 1\nnode 2 id 2\nlink 0:0 1:0 delay 5 gap 4\nlink 0:1 1:0 delay 5 gap 4",
+        6,
+        SysKind::LinkEndTwice,
+    ),
+    (
+        b"xs1 1\nnode 0 id 0\nnode 1 id 1\nlink 0:0 1:0 delay 5 gap 4\nbit 0 0 0 0",
+        5,
+        SysKind::LinkEndTwice,
+    ),
+    (
+        b"xs1 1\nnode 0 id 0\nnode 1 id 1\nlink 0:0 1:0 delay 5 gap 4\nbit 0 0 0 1",
+        5,
+        SysKind::NoSuchNode,
+    ),
+    (
+        b"xs1 1\nlink 0:8 1:0 delay 5 gap 4",
+        2,
+        SysKind::NumberOutOfRange,
+    ),
+    (b"xs1 1\nlink 0:8 1:x delay 5 gap 4", 2, SysKind::BadLine),
+    (b"xs1 1\nbit 0 0 0 1 2 3 4 5 6 7 7", 2, SysKind::BadLine),
+    (
+        b"xs1 1\nnode 0 id 0\nplay\nrun 0 1000001\nend",
+        4,
+        SysKind::NumberOutOfRange,
+    ),
+    (
+        b"xs1 1\nnode 0 id 0\nplay\nrun 0\ntake 0:0\nend",
+        5,
+        SysKind::NoSuchNode,
+    ),
+    (
+        b"xs1 1\nnode 0 id 0\nplay\nrun 0 1\n",
+        3,
+        SysKind::SectionNotEnded,
+    ),
+    (b"xs1 1\nplay\nend\nplay\nfoo", 4, SysKind::GivenTwice),
+    (
+        b"xs1 1\n\
+          node 0 id 0\nnode 1 id 1\nnode 2 id 2\nnode 3 id 3\nnode 4 id 4\n\
+          node 5 id 5\nnode 6 id 6\nnode 7 id 7\nnode 8 id 8\nnode 9 id 9\n\
+          node 10 id 10\nnode 11 id 11\nnode 12 id 12\nnode 13 id 13\nnode 14 id 14\n\
+          node 15 id 15\nnode 16 id 16",
+        18,
+        SysKind::TooMany,
+    ),
+];
 
 #[test]
 fn refusals(rt: HostRuntime) {
-    let cases: [(&[u8], u32, SysKind); 14] = [
-        (b"xs1 1\npins\nfoo\nend\npins\n", 5, SysKind::GivenTwice),
-        (
-            b"xs1 1\nnode 0 id 0\npins\nend:\n",
-            3,
-            SysKind::SectionNotEnded,
-        ),
-        (b"xs1 1\nnode 0 id 0\n", 2, SysKind::NodeWithoutSource),
-        (
-            b"xs1 1\nnode 0 id 0\nnode 1 id 1\nnode 2 id 2\nlink 0:0 1:0 delay 5 gap 4\nlink 0:1 1:0 delay 5 gap 4",
-            6,
-            SysKind::LinkEndTwice,
-        ),
-        (
-            b"xs1 1\nnode 0 id 0\nnode 1 id 1\nlink 0:0 1:0 delay 5 gap 4\nbit 0 0 0 0",
-            5,
-            SysKind::LinkEndTwice,
-        ),
-        (
-            b"xs1 1\nnode 0 id 0\nnode 1 id 1\nlink 0:0 1:0 delay 5 gap 4\nbit 0 0 0 1",
-            5,
-            SysKind::NoSuchNode,
-        ),
-        (
-            b"xs1 1\nlink 0:8 1:0 delay 5 gap 4",
-            2,
-            SysKind::NumberOutOfRange,
-        ),
-        (b"xs1 1\nlink 0:8 1:x delay 5 gap 4", 2, SysKind::BadLine),
-        (b"xs1 1\nbit 0 0 0 1 2 3 4 5 6 7 7", 2, SysKind::BadLine),
-        (
-            b"xs1 1\nnode 0 id 0\nplay\nrun 0 1000001\nend",
-            4,
-            SysKind::NumberOutOfRange,
-        ),
-        (
-            b"xs1 1\nnode 0 id 0\nplay\nrun 0\ntake 0:0\nend",
-            5,
-            SysKind::NoSuchNode,
-        ),
-        (
-            b"xs1 1\nnode 0 id 0\nplay\nrun 0 1\n",
-            3,
-            SysKind::SectionNotEnded,
-        ),
-        (b"xs1 1\nplay\nend\nplay\nfoo", 4, SysKind::GivenTwice),
-        (
-            b"xs1 1\n\
-              node 0 id 0\nnode 1 id 1\nnode 2 id 2\nnode 3 id 3\nnode 4 id 4\n\
-              node 5 id 5\nnode 6 id 6\nnode 7 id 7\nnode 8 id 8\nnode 9 id 9\n\
-              node 10 id 10\nnode 11 id 11\nnode 12 id 12\nnode 13 id 13\nnode 14 id 14\n\
-              node 15 id 15\nnode 16 id 16",
-            18,
-            SysKind::TooMany,
-        ),
-    ];
-    for (text, line, kind) in cases {
-        assert!(rt;
-            is_refused_frame(rt.alloc(), text, line, kind),
-            "{line} {kind:?}"
-        );
-    }
+    let alloc = rt.alloc();
+    each_is_refused(&rt, &REFUSED, |text| refusal(alloc, text));
 }

@@ -1,6 +1,5 @@
 //! Sources that are refused, and what a few others stand for.
-ghost use Rattle.std.specs.Prelude.{◌<◌, ◌^◌, length};
-
+use crate::refusals::each_is_refused;
 use std::alloc::Global;
 use std::test::Fail;
 use xs_assembler::AsmKind::{
@@ -10,124 +9,117 @@ use xs_assembler::AsmKind::{
 use xs_assembler::{AsmError, AsmKind, assemble};
 use xs_instructions::{FlowIns, Instr, KernelIns, MemIns, ResIns, ThreadIns, WordIns};
 
-// Whether the source is refused at the line for the kind.
-fn is_refused(alloc: Global, text: &[u8], line: u32, kind: AsmKind) -> bool
-    requires { length text.now < 2 ^ 32 }
-{
+// Where and why a source is refused. None is told of one of a million bytes and more.
+fn refusal(alloc: Global, text: &[u8]) -> Option<(u32, AsmKind)> {
+    if text.len() >= 1_000_000 {
+        return None;
+    }
     match assemble(alloc, text) {
-        Err(
-            AsmError::Fault {
-                line: at,
-                kind: why,
-            },
-        ) => at == line && why == kind,
-        _ => false,
+        Err(AsmError::Fault { line, kind }) => Some((line, kind)),
+        _ => None,
     }
 }
 
+static REFUSED: [(&[u8], u32, AsmKind); 80] = [
+    // A byte that is not allowed, in comments too.
+    (b"nop\nnop # \x7f", 2, BadByte),
+    (b"a: a: foo \x00", 1, BadByte),
+    (b"nop\r\r\n", 1, BadByte),
+    (b"nop\nnop\r", 2, BadByte),
+    (b"nop\x0c", 1, BadByte),
+    // The least faulty line decides, and then the order of kinds.
+    (b"foo r0\na: a:", 1, UnknownName),
+    (b"bu gone\nfoo", 1, LabelMissing),
+    (b"nop\r\nadd r0, r1\r\nfoo", 2, WrongOperands),
+    (b"a: a: foo", 1, LabelTwice),
+    (b"a: nop\n\n// none\na: ldc r0, 65536", 4, LabelTwice),
+    (b"a: .word\n", 1, DirectiveNotAllowed),
+    (b"r0: foo", 1, UnknownName),
+    (b"r0: ldc r0, 65536", 1, WrongOperands),
+    (b".data\n.word 99999999999, gone", 2, NumberOutOfRange),
+    // Names.
+    (b"ADD r0, r1, r2", 1, UnknownName),
+    (b"sr", 1, UnknownName),
+    (b"inpw r1, res[r0], 9", 1, NumberOutOfRange),
+    (b"setsr 65536", 1, NumberOutOfRange),
+    (b"inshr r1", 1, WrongOperands),
+    (b"setclk res[r0], 1", 1, WrongOperands),
+    (b"mul r0, r1", 1, WrongOperands),
+    (b"5", 1, WrongOperands),
+    (b": nop", 1, WrongOperands),
+    (b"r0: r0:", 1, WrongOperands),
+    (b".set 12ab", 1, DirectiveNotAllowed),
+    // Shapes.
+    (b"nop nop", 1, WrongOperands),
+    (b"nop / nop", 1, WrongOperands),
+    (b"ldc r0, 12ab", 1, WrongOperands),
+    (b"ldc r0, 1_0", 1, WrongOperands),
+    (b"ldc r0, -1", 1, WrongOperands),
+    (b"ldc sp, 1", 1, WrongOperands),
+    (b"bu 4", 1, WrongOperands),
+    (b"bu r0", 1, WrongOperands),
+    (b"bu sr", 1, WrongOperands),
+    (b"x: ldw r0, r1[x]", 1, WrongOperands),
+    (b"x: ldw r0, dp[sp]", 1, WrongOperands),
+    (b".data 5", 1, WrongOperands),
+    (b".globl a, b", 1, WrongOperands),
+    (b".align x", 1, WrongOperands),
+    (b".data\n.word", 2, WrongOperands),
+    (b".data\n.word --5", 2, WrongOperands),
+    (b".data\n.word 1,", 2, WrongOperands),
+    (b"a:\n.data\n.word -a", 3, WrongOperands),
+    (b"a:\n.data\n.byte a", 3, WrongOperands),
+    // Ranges.
+    (b"ldc r11, 65536", 1, NumberOutOfRange),
+    (
+        b"ldc r0, 0x100000000000000000000000000000005",
+        1,
+        NumberOutOfRange,
+    ),
+    (b"outct res[r0], 12", 1, NumberOutOfRange),
+    (b"shl r0, r1, 9", 1, NumberOutOfRange),
+    (b"ldw spc, sp[2]", 1, NumberOutOfRange),
+    (b".align 0", 1, NumberOutOfRange),
+    (b".align 1025", 1, NumberOutOfRange),
+    (b".data\n.space 65537", 2, NumberOutOfRange),
+    (b".data\n.word 4294967296", 2, NumberOutOfRange),
+    (b".data\n.word -2147483649", 2, NumberOutOfRange),
+    (b".data\n.short -32769", 2, NumberOutOfRange),
+    (b".data\n.byte 256", 2, NumberOutOfRange),
+    // Labels.
+    (b"a: nop\na: nop", 2, LabelTwice),
+    (b"a: b: a: nop", 1, LabelTwice),
+    (b"ldw r0, dp[gone]", 1, LabelMissing),
+    (b"ldw r0, cp[gone]", 1, LabelMissing),
+    (b"bl gone", 1, LabelMissing),
+    (b"bu x\n.data\nx:", 1, NumberOutOfRange),
+    (b"ldw r0, dp[y]\n.data\n.byte 1\ny:", 1, NumberOutOfRange),
+    (b"ldw r0, cp[y]\n.data\ny: .byte 1", 1, NumberOutOfRange),
+    (b"ldap r11, x\n.data\nx:", 1, NumberOutOfRange),
+    // What faulty lines still say.
+    (b"bu x\nx: 5 y: nop", 2, WrongOperands),
+    (b"bu y\nx: 5 y: nop", 1, LabelMissing),
+    (b"bu x\nx: # \x01", 1, LabelMissing),
+    (b"bu x\n.data 5\nx:", 1, NumberOutOfRange),
+    (b"bu x\n.data # \x01\nx:", 2, BadByte),
+    (b"ldw r0, dp[x]\n.data\n.byte 256\nx:", 1, NumberOutOfRange),
+    (b"ldw r0, dp[x]\n.data\n.byte 1 2\nx:", 3, WrongOperands),
+    (b"bu y\nx: r0: y: nop", 2, WrongOperands),
+    // Sections.
+    (b".data\nfoo 1", 2, DirectiveNotAllowed),
+    (b".cp\n.data", 2, DirectiveNotAllowed),
+    (b".data\n.data", 2, DirectiveNotAllowed),
+    (b".data\n.text 5", 2, DirectiveNotAllowed),
+    (b".data\n5", 2, WrongOperands),
+    // Too much.
+    (b".data\n.space 65536\n.byte 1", 3, TooManyBytes),
+    (b".data\n.space 65533\n.cp\n.byte 1", 4, TooManyBytes),
+];
+
 #[test]
 fn refused(rt: HostRuntime) {
-    let table: &[(&[u8], u32, AsmKind)] = &[
-        // A byte that is not allowed, in comments too.
-        (b"nop\nnop # \x7f", 2, BadByte),
-        (b"a: a: foo \x00", 1, BadByte),
-        (b"nop\r\r\n", 1, BadByte),
-        (b"nop\nnop\r", 2, BadByte),
-        (b"nop\x0c", 1, BadByte),
-        // The least faulty line decides, and then the order of kinds.
-        (b"foo r0\na: a:", 1, UnknownName),
-        (b"bu gone\nfoo", 1, LabelMissing),
-        (b"nop\r\nadd r0, r1\r\nfoo", 2, WrongOperands),
-        (b"a: a: foo", 1, LabelTwice),
-        (b"a: nop\n\n// none\na: ldc r0, 65536", 4, LabelTwice),
-        (b"a: .word\n", 1, DirectiveNotAllowed),
-        (b"r0: foo", 1, UnknownName),
-        (b"r0: ldc r0, 65536", 1, WrongOperands),
-        (b".data\n.word 99999999999, gone", 2, NumberOutOfRange),
-        // Names.
-        (b"ADD r0, r1, r2", 1, UnknownName),
-        (b"sr", 1, UnknownName),
-        (b"inpw r1, res[r0], 9", 1, NumberOutOfRange),
-        (b"setsr 65536", 1, NumberOutOfRange),
-        (b"inshr r1", 1, WrongOperands),
-        (b"setclk res[r0], 1", 1, WrongOperands),
-        (b"mul r0, r1", 1, WrongOperands),
-        (b"5", 1, WrongOperands),
-        (b": nop", 1, WrongOperands),
-        (b"r0: r0:", 1, WrongOperands),
-        (b".set 12ab", 1, DirectiveNotAllowed),
-        // Shapes.
-        (b"nop nop", 1, WrongOperands),
-        (b"nop / nop", 1, WrongOperands),
-        (b"ldc r0, 12ab", 1, WrongOperands),
-        (b"ldc r0, 1_0", 1, WrongOperands),
-        (b"ldc r0, -1", 1, WrongOperands),
-        (b"ldc sp, 1", 1, WrongOperands),
-        (b"bu 4", 1, WrongOperands),
-        (b"bu r0", 1, WrongOperands),
-        (b"bu sr", 1, WrongOperands),
-        (b"x: ldw r0, r1[x]", 1, WrongOperands),
-        (b"x: ldw r0, dp[sp]", 1, WrongOperands),
-        (b".data 5", 1, WrongOperands),
-        (b".globl a, b", 1, WrongOperands),
-        (b".align x", 1, WrongOperands),
-        (b".data\n.word", 2, WrongOperands),
-        (b".data\n.word --5", 2, WrongOperands),
-        (b".data\n.word 1,", 2, WrongOperands),
-        (b"a:\n.data\n.word -a", 3, WrongOperands),
-        (b"a:\n.data\n.byte a", 3, WrongOperands),
-        // Ranges.
-        (b"ldc r11, 65536", 1, NumberOutOfRange),
-        (
-            b"ldc r0, 0x100000000000000000000000000000005",
-            1,
-            NumberOutOfRange,
-        ),
-        (b"outct res[r0], 12", 1, NumberOutOfRange),
-        (b"shl r0, r1, 9", 1, NumberOutOfRange),
-        (b"ldw spc, sp[2]", 1, NumberOutOfRange),
-        (b".align 0", 1, NumberOutOfRange),
-        (b".align 1025", 1, NumberOutOfRange),
-        (b".data\n.space 65537", 2, NumberOutOfRange),
-        (b".data\n.word 4294967296", 2, NumberOutOfRange),
-        (b".data\n.word -2147483649", 2, NumberOutOfRange),
-        (b".data\n.short -32769", 2, NumberOutOfRange),
-        (b".data\n.byte 256", 2, NumberOutOfRange),
-        // Labels.
-        (b"a: nop\na: nop", 2, LabelTwice),
-        (b"a: b: a: nop", 1, LabelTwice),
-        (b"ldw r0, dp[gone]", 1, LabelMissing),
-        (b"ldw r0, cp[gone]", 1, LabelMissing),
-        (b"bl gone", 1, LabelMissing),
-        (b"bu x\n.data\nx:", 1, NumberOutOfRange),
-        (b"ldw r0, dp[y]\n.data\n.byte 1\ny:", 1, NumberOutOfRange),
-        (b"ldw r0, cp[y]\n.data\ny: .byte 1", 1, NumberOutOfRange),
-        (b"ldap r11, x\n.data\nx:", 1, NumberOutOfRange),
-        // What faulty lines still say.
-        (b"bu x\nx: 5 y: nop", 2, WrongOperands),
-        (b"bu y\nx: 5 y: nop", 1, LabelMissing),
-        (b"bu x\nx: # \x01", 1, LabelMissing),
-        (b"bu x\n.data 5\nx:", 1, NumberOutOfRange),
-        (b"bu x\n.data # \x01\nx:", 2, BadByte),
-        (b"ldw r0, dp[x]\n.data\n.byte 256\nx:", 1, NumberOutOfRange),
-        (b"ldw r0, dp[x]\n.data\n.byte 1 2\nx:", 3, WrongOperands),
-        (b"bu y\nx: r0: y: nop", 2, WrongOperands),
-        // Sections.
-        (b".data\nfoo 1", 2, DirectiveNotAllowed),
-        (b".cp\n.data", 2, DirectiveNotAllowed),
-        (b".data\n.data", 2, DirectiveNotAllowed),
-        (b".data\n.text 5", 2, DirectiveNotAllowed),
-        (b".data\n5", 2, WrongOperands),
-        // Too much.
-        (b".data\n.space 65536\n.byte 1", 3, TooManyBytes),
-        (b".data\n.space 65533\n.cp\n.byte 1", 4, TooManyBytes),
-    ];
-    for (text, line, kind) in table {
-        assert!(rt;
-            text.len() < 99 && is_refused(rt.alloc(), text, *line, *kind),
-            "{text:?} {line} {kind:?}"
-        );
-    }
+    let alloc = rt.alloc();
+    each_is_refused(&rt, &REFUSED, |text| refusal(alloc, text));
 }
 
 // A text of the piece so many times, and then the end.
@@ -147,7 +139,7 @@ fn at_the_limits_of_code(rt: HostRuntime) -> Result<(), Fail> {
     let too_long = repeated(alloc, b"nop\n", 16_385, b"")?;
     assert!(rt; longest.len() < 1_000 && too_long.len() < 100_000);
     let image = assemble(alloc, &longest)?;
-    let refused = is_refused(alloc, &too_long, 16_385, TooManyInstructions);
+    let refused = refusal(alloc, &too_long) == Some((16_385, TooManyInstructions));
     assert!(rt; image.code().len() == 16_368 && refused);
     Ok(())
 }
