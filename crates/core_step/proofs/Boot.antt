@@ -9,7 +9,6 @@ use Rattle.link_ends.specs.Counts.{EndCounts, fresh_counts}
 use Rattle.switch_routes.specs.Rows.{end_gap, end_gaps, IsCountsOf, AllCountsOf}
 use Rattle.sys_plan.specs.declared.NodePlan.{NodePlan}
 use Rattle.net_model.specs.Links.{IsLinkBefore}
-use Rattle.core_step.specs.declared.pin_levels.PinLevels.TheVariants.{All}
 use Rattle.core_step.specs.PinLevels.{levels_kept}
 use Rattle.core_step.specs.Core.{CoreValue, StandsAt, SentBefore}
 use Rattle.core_step.specs.Network.{counts_with_gap}
@@ -53,7 +52,7 @@ sent_before_start (zero ∷ gaps) = (tt, sent_before_start gaps)
 sent_before_start (suc gap ∷ gaps) =
     (subst (λ w. IfSome w (λ counts. IfSome counts.last_sent (λ s. s < 0))) (sym (some_counts gap)) tt, sent_before_start gaps)
 
-pub stands_at_start : (value : CoreValue) (plan : NodePlan) (gaps : List ℕ) → value.core ≡ (node_of plan gaps).core → value.levels ≡ All (record { level = replicate 29 0 }) → value.inputs ≡ (node_of plan gaps).inputs → value.links ≡ map counts_with_gap gaps → StandsAt value (node_of plan gaps) 0
+pub stands_at_start : (value : CoreValue) (plan : NodePlan) (gaps : List ℕ) → value.core ≡ (node_of plan gaps).core → value.levels ≡ record { pins = record { level = replicate 29 0 }; is_outside = false } → value.inputs ≡ (node_of plan gaps).inputs → value.links ≡ map counts_with_gap gaps → StandsAt value (node_of plan gaps) 0
 stands_at_start value plan gaps core levels inputs links = record {
   stands = record {
     core = core;

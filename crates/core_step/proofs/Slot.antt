@@ -22,7 +22,7 @@ use Rattle.step_model.specs.Step.{Issued, node_step, issued, setting_of, before_
 use Rattle.processor.specs.Issue.{and_happened}
 use Rattle.net_model.specs.Links.{IsLinkBefore}
 use Rattle.core_step.specs.declared.pin_levels.PinLevels.{PinLevels}
-use Rattle.core_step.specs.declared.pin_levels.PinLevels.TheVariants.{Outside}
+use Rattle.core_step.specs.PinLevels.{from_outside}
 use Rattle.core_step.specs.Core.{CoreValue, StandsAt, SentBefore}
 use Rattle.core_step.specs.Network.{NetworkRec, NetworkStands, Brings}
 
@@ -127,7 +127,7 @@ module _ (fixed : Fixed) (rec : NodeRec) (slot : ℕ) (arrivals : Arrivals) (pin
     issue_is = ap (λ (c : CoreRec). issued fixed.code its_setting c) (core_is ∙ sym (ap (λ (r : NodeRec). r.core) b.rest))
 
     -- so the core stands for the node after the slot
-    pub stepped : (any : Fixed) (new : CoreRec) → new ≡ (issued fixed.code its_setting core).core → SentBy slot n.links → StandsAt (value_with any new (Outside pins) n) (node_step fixed rec slot arrivals pins).rec (slot + 1)
+    pub stepped : (any : Fixed) (new : CoreRec) → new ≡ (issued fixed.code its_setting core).core → SentBy slot n.links → StandsAt (value_with any new (from_outside pins) n) (node_step fixed rec slot arrivals pins).rec (slot + 1)
     unfolding node_step
     stepped any new made sent = record {
       stands = record {

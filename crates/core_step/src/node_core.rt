@@ -56,7 +56,10 @@ impl Core {
             program: Program::new(plan.id, plan.edition, code),
             units: Processor::first(plan.id, plan.image.entry(), plan.image.cp_at(), ram),
             network: Network::new(plan.id, plan.ways, plan.nets, gaps),
-            levels: PinLevels::All(PinView { level: [0; 29] }),
+            levels: PinLevels {
+                pins: PinView { level: [0; 29] },
+                is_outside: false,
+            },
         })
     }
 
@@ -127,6 +130,6 @@ impl Core {
             .bring(&mut self.units, arrives, slot, arrivals, out);
         self.units
             .issue(&self.program, slot, pins, &self.network, out);
-        self.levels = PinLevels::Outside(*pins);
+        self.levels.note(pins);
     }
 }

@@ -1,8 +1,8 @@
 //! `PinLevels`, what a core keeps of the levels of its pins.
-ghost use Rattle.std.specs.Prelude.{List};
+ghost use Rattle.std.specs.Prelude.{◌≡◌, true, List};
 ghost use Rattle.xs_model.specs.Record.{PortRec};
 ghost use Rattle.buffered_ports.specs.Keeps.{HighAre};
-ghost use Rattle.core_step.specs.PinLevels.{levels_kept};
+ghost use Rattle.core_step.specs.PinLevels.{levels_kept, from_outside};
 
 use buffered_ports::high_of;
 use processor::Processor;
@@ -10,11 +10,23 @@ use xs_model::PinView;
 
 /// What a core keeps of the levels of its pins at the end of the slot before. See docs/PORTS.md.
 #[derive(Clone, Copy)]
-pub enum PinLevels {
-    /// The levels themselves. A core begins with them, whatever its ports drive.
-    All(PinView),
-    /// What the pins showed from outside. Where a port drives them, they showed what it drives.
-    Outside(PinView),
+pub struct PinLevels {
+    /// The levels themselves, or what the pins showed from outside.
+    pub(crate) pins: PinView,
+    /// Whether they are what the pins showed from outside: where a port drives them, they showed what it drives. A core
+    /// begins with the levels themselves, whatever its ports drive.
+    pub(crate) is_outside: bool,
+}
+
+impl PinLevels {
+    /// From now on they are what the pins show from outside. It copies in place, in every slot.
+    #[inline]
+    pub(crate) fn note(&mut self, pins: &PinView)
+        ensures { self.new ≡ from_outside pins.now }
+    {
+        self.is_outside = true;
+        self.pins.level.copy_from_slice(&pins.level);
+    }
 }
 
 /// Which strobes were high at the end of the slot before.
@@ -23,10 +35,10 @@ pub(crate) fn high_before(units: &Processor, levels: &PinLevels) -> u32
     ensures { HighAre result units.now.ports (levels_kept units.now.ports levels.now) }
 {
     if !units.has_strobe() {
-        return 0;
-    }
-    match levels {
-        PinLevels::Outside(pins) => units.high(pins),
-        PinLevels::All(pins) => high_of(pins),
+        0
+    } else if levels.is_outside {
+        units.high(&levels.pins)
+    } else {
+        high_of(&levels.pins)
     }
 }

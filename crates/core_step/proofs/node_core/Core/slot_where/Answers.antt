@@ -11,7 +11,8 @@ use Rattle.processor.specs.Issue.{and_happened}
 use Rattle.core_step.specs.Core.{CoreValue, StandsAt, SentBefore}
 use Rattle.core_step.specs.Network.{Brings, routes_of}
 use Rattle.core_step.specs.Inside.{value_of}
-use Rattle.core_step.specs.declared.pin_levels.PinLevels.TheVariants.{Outside}
+use Rattle.core_step.specs.declared.pin_levels.PinLevels.{PinLevels}
+use Rattle.core_step.specs.PinLevels.{from_outside}
 use Rattle.core_step.proofs.Slot.{begins, edged, stepped, gave, its_setting, busy_is, sent_by, sent_before_next}
 use Rattle.core_step.proofs.node_core.Core.slot_where.Goals as goal
 use Rattle.core_step.proofs.node_core.Core.slot_where.Goals.{After-issue}
@@ -49,14 +50,14 @@ sent c =
     c.bring.ensures.sent (sent_by c.args.slot c.self.inside.network.links (subst (λ (v : CoreValue). SentBefore c.args.slot v.links) (sym c.self.view_is) c.requires.before))
 
 step_is : (c : After-issue) (fixed : Fixed) (rec : NodeRec) → StandsAt c.args.self.now rec c.args.slot
-    → StandsAt (record { fixed = fixed; core = c.issue.new.self; levels = Outside c.args.pins.now; inputs = c.bring.new.self.switch.inputs; links = c.bring.new.self.links }) (node_step c.args.self.now.fixed rec c.args.slot c.args.arrivals.now c.args.pins.now).rec (c.args.slot + 1)
+    → StandsAt (record { fixed = fixed; core = c.issue.new.self; levels = from_outside c.args.pins.now; inputs = c.bring.new.self.switch.inputs; links = c.bring.new.self.links }) (node_step c.args.self.now.fixed rec c.args.slot c.args.arrivals.now c.args.pins.now).rec (c.args.slot + 1)
 step_is c fixed rec h =
     let a = c.args in
     let s = c.self.inside in
     let at = subst (λ (v : CoreValue). StandsAt v rec a.slot) (sym c.self.view_is) h in
     let now = (value_of s).fixed in
     let b = brings c rec at in
-    subst (λ (v : CoreValue). StandsAt (record { fixed = fixed; core = c.issue.new.self; levels = Outside c.args.pins.now; inputs = c.bring.new.self.switch.inputs; links = c.bring.new.self.links }) (node_step v.fixed rec a.slot a.arrivals.now a.pins.now).rec (a.slot + 1)) c.self.view_is
+    subst (λ (v : CoreValue). StandsAt (record { fixed = fixed; core = c.issue.new.self; levels = from_outside c.args.pins.now; inputs = c.bring.new.self.switch.inputs; links = c.bring.new.self.links }) (node_step v.fixed rec a.slot a.arrivals.now a.pins.now).rec (a.slot + 1)) c.self.view_is
     (stepped now rec a.slot a.arrivals.now a.pins.now c.bring.new.units c.bring.new.self c.bring.new.out (core_is c rec at) b fixed c.issue.new.self
     (c.issue.ensures.units (its_setting now rec a.slot a.arrivals.now a.pins.now) (record { id = c.self.invariant.node; slot = refl; outside = refl; busy = busy_is now rec a.slot a.arrivals.now a.pins.now c.bring.new.units c.bring.new.self c.bring.new.out (core_is c rec at) b }))
     (sent c))
@@ -73,7 +74,10 @@ emissions_are c rec h =
     (c.issue.ensures.events (its_setting now rec a.slot a.arrivals.now a.pins.now) (record { id = c.self.invariant.node; slot = refl; outside = refl; busy = busy_is now rec a.slot a.arrivals.now a.pins.now c.bring.new.units c.bring.new.self c.bring.new.out (core_is c rec at) b })))
 
 pub returns-clause-step : goal.returns-clause-step
-returns-clause-step c = step_is (goal.at.returns-clause-step c).After-issue _
+returns-clause-step c = λ rec h.
+    let fixed : Fixed = record { edition = c.self.inside.program.edition; code = c.self.inside.program.code; routes = routes_of c.bring.new.self } in
+    subst (λ (levels : PinLevels). StandsAt (record { fixed = fixed; core = c.issue.new.self; levels = levels; inputs = c.bring.new.self.switch.inputs; links = c.bring.new.self.links }) (node_step c.args.self.now.fixed rec c.args.slot c.args.arrivals.now c.args.pins.now).rec (c.args.slot + 1)) (sym c.note.ensures)
+    (step_is (goal.at.returns-clause-step c).After-issue fixed rec h)
 
 pub returns-clause-emissions : goal.returns-clause-emissions
 returns-clause-emissions c = emissions_are (goal.at.returns-clause-emissions c).After-issue
