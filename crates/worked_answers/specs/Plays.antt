@@ -43,11 +43,14 @@ pub record WorkedPlays : Type 0 where
   -- the limit stops both nodes at last
   pub in_more_turns : answer (play_for (codes "33")) (played_pair in_more_turns) ≡ done (told_in_more_turns ++ codes "end play\n")
   -- a take before anything is published sees nothing, and the limit of 3 comes before the horizon of 5
-  pub limit_of_3 : answer (play_for (codes "3")) (played_pair (codes "take 1:0\nrun 1 20\nsend 1:0\nrun 1 20\n")) ≡ done (codes "take 1:0 seen 0\nrun 1 clock 3\nsend 1:0 published 3\nrun 1 clock 3\nend play\n")
+  pub limit_of_3 : answer (play_for (codes "3")) (played_pair (codes "take 1:0\nrun 1 20\nsend 1:0\nrun 1 20\n")) ≡
+      done (codes "take 1:0 seen 0\nrun 1 clock 3\nsend 1:0 published 3\nrun 1 clock 3\nend play\n")
   -- its horizon stops node 1 at 5, and it goes on only where more is seen
-  pub blocked : answer (play_for (codes "40")) (played_pair (codes "run 1 4\nrun 1\nrun 1\ntake 1:0\nrun 1 9\nrun 0\nsend 0:0\ntake 1:0\nrun 1 9\n")) ≡ done (codes "run 1 clock 4\nrun 1 clock 5\nrun 1 clock 5\ntake 1:0 seen 0\nrun 1 clock 5\nrun 0 clock 1\nsend 0:0 published 1\ntake 1:0 seen 1\nrun 1 clock 6\nend play\n")
+  pub blocked : answer (play_for (codes "40")) (played_pair (codes "run 1 4\nrun 1\nrun 1\ntake 1:0\nrun 1 9\nrun 0\nsend 0:0\ntake 1:0\nrun 1 9\n")) ≡
+      done (codes "run 1 clock 4\nrun 1 clock 5\nrun 1 clock 5\ntake 1:0 seen 0\nrun 1 clock 5\nrun 0 clock 1\nsend 0:0 published 1\ntake 1:0 seen 1\nrun 1 clock 6\nend play\n")
   -- nodes are told by their numbers, and link ends too
-  pub by_number : answer (play_for (codes "40")) (numbered_pair (codes "run 7 2\nsend 7:2\ntake 3:4\nrun 3 100\nsend 3:4\ntake 7:2\nrun 7 100\n")) ≡ done (codes "run 7 clock 2\nsend 7:2 published 2\ntake 3:4 seen 2\nrun 3 clock 11\nsend 3:4 published 11\ntake 7:2 seen 11\nrun 7 clock 20\nend play\n")
+  pub by_number : answer (play_for (codes "40")) (numbered_pair (codes "run 7 2\nsend 7:2\ntake 3:4\nrun 3 100\nsend 3:4\ntake 7:2\nrun 7 100\n")) ≡
+      done (codes "run 7 clock 2\nsend 7:2 published 2\ntake 3:4 seen 2\nrun 3 clock 11\nsend 3:4 published 11\ntake 7:2 seen 11\nrun 7 clock 20\nend play\n")
   -- no steps, without a section and with one
   pub no_section : answer (play_for (codes "40")) (joined_pair sender_source receiver_source) ≡ done (codes "end play\n")
   pub no_steps : answer (play_for (codes "40")) (played_pair []) ≡ done (codes "end play\n")

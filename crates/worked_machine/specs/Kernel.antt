@@ -167,13 +167,16 @@ pub record WorkedKernelSlots : Type 0 where
   pub returned : thread_after call_and_return (start_as with_handler) 5 ≡ record in_kernel_call { pc = 0x00040004; sr = status 0x43; ed = 6 }
   pub return_tells_nothing : events_of call_and_return (start_as with_handler) 4 ≡ []
   -- a call of the exception handler would return to itself
-  pub exception : thread_after bad_handler before_bad_handler 1 ≡ record with_handler { r = 7 ∷ replicate 11 0; spc = 0x00040004; ssr = status 0x43; sed = 6; et = 8; ed = 7; sr = status 0x10; pc = 0x00040000 }
+  pub exception : thread_after bad_handler before_bad_handler 1 ≡
+      record with_handler { r = 7 ∷ replicate 11 0; spc = 0x00040004; ssr = status 0x43; sed = 6; et = 8; ed = 7; sr = status 0x10; pc = 0x00040000 }
   pub exception_told : events_of bad_handler before_bad_handler 0 ≡ in_slot 0 (happen.Trap 0 8 0x00040004 7) ∷ []
   -- a trap in a handler overwrites what the first one kept
-  pub second_trap : thread_after bad_handler before_bad_handler 5 ≡ record with_handler { r = 7 ∷ replicate 11 0; spc = 0x00040000; ssr = status 0x10; sed = 7; et = 5; ed = 0x00020000; sr = status 0x10; pc = 0x00040000 }
+  pub second_trap : thread_after bad_handler before_bad_handler 5 ≡
+      record with_handler { r = 7 ∷ replicate 11 0; spc = 0x00040000; ssr = status 0x10; sed = 7; et = 5; ed = 0x00020000; sr = status 0x10; pc = 0x00040000 }
   pub second_trap_told : events_of bad_handler before_bad_handler 4 ≡ in_slot 4 (happen.Trap 0 5 0x00040000 0x00020000) ∷ []
   pub id_of_thread_1 : thread_of (after_slots (Kernel kernel.GetId ∷ []) (start_two first) 2).core 1 ≡ record (with_r11 1) { pc = 0x00040004 }
-  pub stacks : thread_after (Kernel (kernel.Kentsp 2) ∷ Kernel (kernel.Krestsp 2) ∷ []) (start_as (with_stacks 0x0001fffc 0x00010008)) 5 ≡ record (with_stacks 0x0001fffc 0x00010008) { pc = 0x00040008 }
+  pub stacks : thread_after (Kernel (kernel.Kentsp 2) ∷ Kernel (kernel.Krestsp 2) ∷ []) (start_as (with_stacks 0x0001fffc 0x00010008)) 5 ≡
+      record (with_stacks 0x0001fffc 0x00010008) { pc = 0x00040008 }
 
 pub record WorkedKernel : Type 0 where
   pub calls : WorkedKernelCalls

@@ -127,18 +127,21 @@ abbrev pub dp_at : ℕ → Thread
 dp_at at = record first { dp = at }
 
 pub record WorkedTraps : Type 0 where
-  pub no_code : after_slots [] start 1 ≡ record (start_as (halted first 2 0x00040000)) { core = record (start_as (halted first 2 0x00040000)).core { slots = never_divided (Some 0 ∷ replicate 7 None) } }
+  pub no_code : after_slots [] start 1 ≡
+      record (start_as (halted first 2 0x00040000)) { core = record (start_as (halted first 2 0x00040000)).core { slots = never_divided (Some 0 ∷ replicate 7 None) } }
   pub no_code_events : (slot_of [] start 0).emitted ≡ emitted_events (trap_and_halt 2 0x00040000)
   pub halted_stays : slot_of [] (after_slots [] start 4) 4 ≡ idle (after_slots [] start 1)
   -- 0xfffffffc + 4 is 0
   pub bad_load : thread_after load_at_1 (start_as (dp_at 0xfffffffc)) 1 ≡ halted (dp_at 0xfffffffc) 5 0
   pub bad_load_events : events_of load_at_1 (start_as (dp_at 0xfffffffc)) 0 ≡ trap_and_halt 5 0
-  pub bad_store : after_slots store_at_1 (start_as (dp_at 0x0001fffc)) 1 ≡ record (start_as (halted (dp_at 0x0001fffc) 5 0x00020000)) { core = record (start_as (halted (dp_at 0x0001fffc) 5 0x00020000)).core { slots = never_divided (Some 0 ∷ replicate 7 None) } }
+  pub bad_store : after_slots store_at_1 (start_as (dp_at 0x0001fffc)) 1 ≡
+      record (start_as (halted (dp_at 0x0001fffc) 5 0x00020000)) { core = record (start_as (halted (dp_at 0x0001fffc) 5 0x00020000)).core { slots = never_divided (Some 0 ∷ replicate 7 None) } }
   pub bad_store_events : events_of store_at_1 (start_as (dp_at 0x0001fffc)) 0 ≡ trap_and_halt 5 0x00020000
   pub unaligned : events_of load_at_1 (start_as (dp_at 0x00010002)) 0 ≡ trap_and_halt 5 0x00010006
   pub below : events_of store_at_1 (start_as (dp_at 0x0000fff8)) 0 ≡ trap_and_halt 5 0x0000fffc
   -- eeble, ieble and waiting are cleared, the other bits stay; the handler goes on
-  pub handler : thread_after one_nop (start_as handled) 1 ≡ record handled { spc = 0x00040004; ssr = record { bits = 0xdf }; sed = 6; et = 2; ed = 0x00040004; sr = record { bits = 0x9c }; pc = 0x00040000 }
+  pub handler : thread_after one_nop (start_as handled) 1 ≡
+      record handled { spc = 0x00040004; ssr = record { bits = 0xdf }; sed = 6; et = 2; ed = 0x00040004; sr = record { bits = 0x9c }; pc = 0x00040000 }
   pub handler_event : events_of one_nop (start_as handled) 0 ≡ in_slot 0 (happen.Trap 0 2 0x00040004 0x00040004) ∷ []
   pub handler_goes_on : (thread_after one_nop (start_as handled) 5).pc ≡ 0x00040004
   -- an address between two instructions is no place of one
