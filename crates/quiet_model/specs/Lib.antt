@@ -1,0 +1,4 @@
+pub mod Slots
+pub mod Clocks
+pub mod Still
+pub mod Stirs
