@@ -1,0 +1,5 @@
+mod Shape
+mod Arriving
+mod Passing
+mod Idle
+pub mod Brought

@@ -8,11 +8,11 @@ use Rattle.serial_model.specs.Serial.{serial, arrivals_at}
 use Rattle.locality_laws.specs.Locality.{node_in}
 use Rattle.quiet_model.specs.Stirs.{stirs}
 
--- a token or a credit comes by some link end
+-- a token or a credit comes by some link end, whether there is room for it or not
 abbrev pub brings_something : Arrivals → Bool
 brings_something arrivals = list_any (λ token. is_some token) arrivals.tokens || list_any (λ (credit : Bool). credit) arrivals.credits
 
--- so it does at the node at a position in a slot of the serial machine
+-- something arrives at the node at a position in a slot of the serial machine
 abbrev pub something_arrives : PlanRec → Position → Slot → Bool
 something_arrives plan n slot = brings_something (arrivals_at plan (serial plan slot).histories slot n)
 

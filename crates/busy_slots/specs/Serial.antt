@@ -1,5 +1,5 @@
 -- The slots between busy ones, in the serial machine.
-use Rattle.std.specs.Prelude.{◌≡◌, ◌≤◌, ◌<◌, false, Some, slice_get}
+use Rattle.std.specs.Prelude.{◌≡◌, ◌≤◌, Some, slice_get}
 use Rattle.xs_base.specs.Numbers.{Slot, Position, LinkNumber, EndNumber}
 use Rattle.sys_plan.specs.declared.NodePlan.{NodePlan}
 use Rattle.sys_plan.specs.Plan.{PlanRec, gaps_of, outgoing}
@@ -7,13 +7,13 @@ use Rattle.step_model.specs.Start.{fixed_of}
 use Rattle.serial_model.specs.Serial.{serial, pins_at, history}
 use Rattle.locality_laws.specs.Locality.{node_in, events_in}
 use Rattle.quiet_model.specs.Slots.{NoneBefore, IsFirst}
-use Rattle.quiet_laws.specs.Idle.{idle_until}
+use Rattle.quiet_laws.specs.Undisturbed.{undisturbed_until}
 use Rattle.quiet_laws.specs.Quiet.{StirsFirst}
 use Rattle.busy_slots.specs.Busy.{something_arrives, is_busy, busy_count}
 
 -- the node at a position went from one slot to another as one at which nothing arrives, nothing happened, and it sent nothing
 pub record WasIdle (plan : PlanRec) (n : Position) (node : NodePlan) (from to : Slot) : Type 0 where
-  pub rec : node_in (serial plan to) n ≡ idle_until (fixed_of node (gaps_of plan n)) (node_in (serial plan from) n) from (pins_at plan n) to
+  pub rec : node_in (serial plan to) n ≡ undisturbed_until (fixed_of node (gaps_of plan n)) (node_in (serial plan from) n) from (pins_at plan n) to
   pub events : events_in (serial plan to) n ≡ events_in (serial plan from) n
   pub sent : (end : EndNumber) (link : LinkNumber) (since : Slot) → outgoing plan n end ≡ Some link →
       history plan link since to ≡ history plan link since from

@@ -1,2 +1,2 @@
-pub mod Idle
+pub mod Undisturbed
 pub mod Quiet

@@ -11,7 +11,7 @@ use Rattle.quiet_model.specs.Slots.{NoneBefore, IsFirst}
 use Rattle.quiet_model.specs.Clocks.{ports_counted}
 use Rattle.quiet_model.specs.Still.{still}
 use Rattle.quiet_model.specs.Stirs.{some_eligible, ports_stir, stirs}
-use Rattle.quiet_laws.specs.Idle.{no_arrivals, idle_until, IsWhole, ShowsAll}
+use Rattle.quiet_laws.specs.Undisturbed.{no_arrivals, undisturbed_until, IsWhole, ShowsAll}
 
 -- a core after so many slots, from this one on, in which its ports did nothing but count
 abbrev pub core_counted : Slot → ℕ → CoreRec → CoreRec
@@ -31,17 +31,17 @@ QuietSlotOnlyCounts = (fixed : Fixed) (rec : NodeRec) (slot : Slot) (pins : PinV
 
 -- in none of the slots from one on and before another does a node stir at which nothing arrives
 abbrev pub IsQuietUntil : Fixed → NodeRec → Slot → (Slot → PinView) → Slot → Type 0
-IsQuietUntil fixed rec from pins slot = NoneBefore (λ t. stirs (idle_until fixed rec from pins t) t) from slot
+IsQuietUntil fixed rec from pins slot = NoneBefore (λ t. stirs (undisturbed_until fixed rec from pins t) t) from slot
 
 -- all these slots together change nothing else
 abbrev pub QuietSlotsOnlyCount : Type 0
 QuietSlotsOnlyCount = (fixed : Fixed) (rec : NodeRec) (from : Slot) (pins : Slot → PinView) (slot : Slot) →
     IsWhole rec.core → ((t : Slot) → ShowsAll (pins t)) → from < slot → IsQuietUntil fixed rec from pins slot →
-    idle_until fixed rec from pins slot ≡ only_counted from (slot - from) (pins (slot - 1)) rec
+    undisturbed_until fixed rec from pins slot ≡ only_counted from (slot - from) (pins (slot - 1)) rec
 
 -- the first slot in which a node stirs at which nothing arrives
 abbrev pub StirsFirst : Fixed → NodeRec → Slot → (Slot → PinView) → Slot → Slot → Type 0
-StirsFirst fixed rec from pins bound result = IsFirst (λ t. stirs (idle_until fixed rec from pins t) t) from bound result
+StirsFirst fixed rec from pins bound result = IsFirst (λ t. stirs (undisturbed_until fixed rec from pins t) t) from bound result
 
 -- it can be found from the node as it is: of a still one as the first in which a thread may issue or a port's next transfer
 -- begins, when until then ports only count

@@ -3,6 +3,8 @@
 
 ghost use Rattle.quiet_laws.specs.Quiet.{QuietSlotOnlyCounts, QuietSlotsOnlyCount, StillNodeStirsFirst, OtherNodeStirsNow};
 
+use quiet_model::first_slots;
+
 /// Where nothing arrives at a node and it does not stir, a slot changes nothing but the counters of its ports and what is kept of
 /// the levels of its pins, and gives nothing; nor do many such slots. It does nothing.
 pub fn quiet_slots_only_count()
@@ -14,4 +16,6 @@ pub fn quiet_slots_only_count()
 pub fn first_stirring_slot()
     ensures still { StillNodeStirsFirst }
     ensures other { OtherNodeStirsNow }
-{}
+{
+    first_slots();
+}

@@ -18,7 +18,7 @@ falls_in clocks clock from zero = 0
 falls_in clocks clock from (suc count) =
     falls_in clocks clock from count + (if is_fall (edge_at clocks clock (from + count)) then 1 else 0)
 
--- whether a slot, from this one on, has the k-th falling edge or comes after it
+-- whether a slot has the k-th falling edge from this one on, counted from 1, or comes after it
 abbrev pub has_fallen : List ClockRec → Clock → Slot → ℕ → Slot → Bool
 has_fallen clocks clock from k slot = nat_le k (falls_in clocks clock from (suc (slot - from)))
 

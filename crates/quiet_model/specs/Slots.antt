@@ -6,7 +6,7 @@ use Rattle.xs_base.specs.Numbers.{Slot}
 abbrev pub NoneBefore : (Slot → Bool) → Slot → Slot → Type 0
 NoneBefore holds from result = (slot : Slot) → from ≤ slot → slot < result → holds slot ≡ false
 
--- the first slot from one on and before a bound at which it holds, and the bound where it holds at none of them
+-- the first slot from one on and before a bound at which it holds, or the bound if it holds at none
 pub record IsFirst (holds : Slot → Bool) (from bound result : Slot) : Type 0 where
   pub none_before : NoneBefore holds from result
   pub there : ((from ≤ result) × (result < bound) × (holds result ≡ true)) ⊎ (result ≡ bound)

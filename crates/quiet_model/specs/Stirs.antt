@@ -1,4 +1,5 @@
--- The slots in which a node stirs by itself: without that anything arrives, more than its ports' counters may change.
+-- The slots in which a node stirs by itself: when nothing arrives, more than its ports' counters and the noted levels of its pins
+-- may change.
 use Rattle.std.specs.Prelude.{ℕ, Bool, false, ◌&&◌, ◌||◌, not, Option, Some, None, List, [], ◌∷◌}
 use Rattle.std.specs.List.{list_any}
 use Rattle.xs_base.specs.Numbers.{Slot, ThreadNumber}
@@ -16,16 +17,15 @@ thread_numbers = 0 ∷ 1 ∷ 2 ∷ 3 ∷ 4 ∷ 5 ∷ 6 ∷ 7 ∷ []
 abbrev pub some_eligible : CoreRec → Slot → Bool
 some_eligible core slot = list_any (λ k. eligible core k slot) thread_numbers
 
--- a transfer register is full, and its transfer waits for no time or for this one
-abbrev pub waits_until : ℕ → Option TransferRec → Bool
-waits_until counter None = false
-waits_until counter (Some t) = is_due counter t.time
+-- whether a transfer register is full, and its transfer has no time, or its time is this counter
+abbrev pub transfer_is_due : ℕ → Option TransferRec → Bool
+transfer_is_due counter None = false
+transfer_is_due counter (Some t) = is_due counter t.time
 
--- in a slot a port that is on has a falling edge, and its transfer register is full and waits for no time or for the counter that
--- this edge gives
+-- a port that is on has a falling edge in a slot, and its transfer is due by the counter that this edge gives
 abbrev pub port_stirs : List ClockRec → Slot → PortRec → Bool
 port_stirs clocks slot port =
-    port.on && (is_fall (edge_at clocks port.clock slot) && waits_until (counter_after port.counter) port.transfer)
+    port.on && (is_fall (edge_at clocks port.clock slot) && transfer_is_due (counter_after port.counter) port.transfer)
 
 abbrev pub ports_stir : List ClockRec → Slot → List PortRec → Bool
 ports_stir clocks slot ports = list_any (port_stirs clocks slot) ports

@@ -11,13 +11,13 @@ use Rattle.step_laws.specs.EightSlots.{NodeRun, after_slots, HasAllLastIssues}
 abbrev pub no_arrivals : Arrivals
 no_arrivals = record { tokens = replicate 8 None; credits = replicate 8 false }
 
--- a node as it is before a slot, when nothing arrives in that slot and in the later ones, and its pins show this from outside
-abbrev pub idle_run : Fixed → NodeRec → Slot → (Slot → PinView) → NodeRun
-idle_run fixed rec from pins = record { fixed = fixed; rec = rec; slot = from; arrivals = λ slot. no_arrivals; pins = pins }
+-- a node as it is before a slot, when nothing arrives in that slot or later, and its pins show this from outside
+abbrev pub undisturbed_run : Fixed → NodeRec → Slot → (Slot → PinView) → NodeRun
+undisturbed_run fixed rec from pins = record { fixed = fixed; rec = rec; slot = from; arrivals = λ slot. no_arrivals; pins = pins }
 
 -- the same node before a later slot: it was stepped in each slot between them
-abbrev pub idle_until : Fixed → NodeRec → Slot → (Slot → PinView) → Slot → NodeRec
-idle_until fixed rec from pins slot = after_slots (idle_run fixed rec from pins) (slot - from)
+abbrev pub undisturbed_until : Fixed → NodeRec → Slot → (Slot → PinView) → Slot → NodeRec
+undisturbed_until fixed rec from pins slot = after_slots (undisturbed_run fixed rec from pins) (slot - from)
 
 -- a core has all its ports, and notes for each thread the slot of its last issue, or never
 pub record IsWhole (core : CoreRec) : Type 0 where

@@ -1,0 +1,48 @@
+-- A slot in which nothing arrives at a node, or it emits nothing.
+use Rattle.std.proofs.Common.{◌≡◌, ℕ, zero, suc, Bool, true, false, Option, Some, None, is_some, List, [], ◌∷◌, ◌++◌, get_or, length, replicate, refl, ap, ap₂}
+use Rattle.std.specs.List.{list_any}
+use Rattle.std.proofs.lemmas.Bool.{true≢false, or_parts}
+use Rattle.xs_base.specs.Numbers.{Slot, Position, EndNumber}
+use Rattle.xs_base.specs.declared.token.Token.{Token}
+use Rattle.xs_model.specs.declared.outside.Arrivals.{Arrivals}
+use Rattle.xs_model.specs.Outside.{emitted_events}
+use Rattle.sys_plan.specs.Plan.{PlanRec}
+use Rattle.serial_model.specs.Serial.{Coming, serial, arrivals_at, pins_at, token_entries, credit_entries, sent_by}
+use Rattle.locality_laws.specs.Locality.{comes_in_serial}
+use Rattle.quiet_laws.specs.Undisturbed.{no_arrivals}
+use Rattle.busy_slots.specs.Busy.{something_arrives}
+
+-- ---- Nothing arrives
+
+no_token : (tokens : List (Option Token)) → list_any (λ token. is_some token) tokens ≡ false → tokens ≡ replicate (length tokens) None
+no_token [] none = refl
+no_token (None ∷ tokens) none = ap (λ rest. None ∷ rest) (no_token tokens none)
+no_token (Some t ∷ tokens) none = absurd (true≢false none)
+
+no_credit : (credits : List Bool) → list_any (λ (credit : Bool). credit) credits ≡ false → credits ≡ replicate (length credits) false
+no_credit [] none = refl
+no_credit (false ∷ credits) none = ap (λ rest. false ∷ rest) (no_credit credits none)
+no_credit (true ∷ credits) none = absurd (true≢false none)
+
+-- what then comes to a node
+abbrev pub no_coming : PlanRec → Position → Slot → Coming
+no_coming plan n slot = record { arrivals = no_arrivals; pins = pins_at plan n slot }
+
+pub nothing_comes : (plan : PlanRec) (n : Position) (slot : Slot) → something_arrives plan n slot ≡ false → comes_in_serial plan n slot ≡ no_coming plan n slot
+nothing_comes plan n slot none =
+    let all = arrivals_at plan (serial plan slot).histories slot n in
+    let parts = or_parts (list_any (λ token. is_some token) all.tokens) (list_any (λ (credit : Bool). credit) all.credits) none in
+    let pins = pins_at plan n slot in
+    ap₂ (λ tokens credits. let a : Arrivals = record { tokens = tokens; credits = credits } in let c : Coming = record { arrivals = a; pins = pins } in c)
+    (no_token all.tokens parts.0) (no_credit all.credits parts.1)
+
+-- ---- Nothing is emitted
+
+all_default : {A : Type 0} (n : ℕ) (d : A) (k : ℕ) → get_or (replicate n d) k d ≡ d
+all_default zero d k = refl
+all_default (suc n) d zero = refl
+all_default (suc n) d (suc k) = all_default n d k
+
+pub sends_nothing : (slot : Slot) (end : EndNumber) → sent_by slot (emitted_events []) end ≡ []
+sends_nothing slot end =
+    ap₂ (λ token credit. token_entries slot token ++ credit_entries slot credit) (all_default {A = Option Token} 8 None end) (all_default 8 false end)
