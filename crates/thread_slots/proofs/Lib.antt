@@ -2,3 +2,4 @@ pub mod Best
 pub mod Lowest
 pub mod Picked
 pub mod Turns
+pub mod Rested

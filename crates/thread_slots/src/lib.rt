@@ -9,7 +9,8 @@ ghost use Rattle.xs_model.specs.Record.{never_divided};
 ghost use Rattle.xs_model.specs.Waits.{division_is_over};
 ghost use Rattle.xs_model.specs.Picks.{is_rested, is_earlier, pick};
 ghost use Rattle.xs_model.specs.Masks.{in_mask};
-ghost use Rattle.thread_slots.specs.Able.{may_pick};
+ghost use Rattle.quiet_model.specs.Slots.{IsFirst};
+ghost use Rattle.thread_slots.specs.Able.{may_pick, some_may_pick};
 ghost use Rattle.thread_slots.specs.Turns.{IsLeast};
 
 use std::marker::Model;
@@ -99,6 +100,16 @@ impl Slots {
         } else {
             None
         }
+    }
+
+    /// The first slot of `from` to `bound - 1` in which a thread of a mask is rested, and `bound` where none is in any of them.
+    /// Bit k of `mask` is that of thread k. It takes no memory. See docs/MACHINE.md.
+    #[inline]
+    pub fn rested_from(&self, mask: u8, from: u32, bound: u32) -> u32
+        ensures first { IsFirst (some_may_pick mask self.now.last) from bound result }
+    {
+        let rested = least_turn(&self.turns, mask) / 8;
+        rested.max(u64::from(from)).min(u64::from(bound)) as u32
     }
 
     /// Whether the core's divider is free in a slot: false exactly where the core divided last in this slot, in one of the 31

@@ -1,1 +1,2 @@
 pub mod AnyCondition
+pub mod Periods

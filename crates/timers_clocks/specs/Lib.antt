@@ -1,1 +1,3 @@
 pub mod Timers
+pub mod Falls
+pub mod Alike

@@ -1,5 +1,5 @@
 //! `Block`, one clock block, and the edges of a clock.
-ghost use Rattle.std.specs.Prelude.{◌≡◌, ◌<◌, ◌↔◌, ◌⊎◌, true, false, Some, None, OnOk, OnErr, IsErr};
+ghost use Rattle.std.specs.Prelude.{◌≡◌, ◌<◌, ◌≤◌, ◌↔◌, ◌⊎◌, true, false, Some, None, is_some, IfSome, OnOk, OnErr, IsErr};
 ghost use Rattle.xs_model.specs.Record.{off_clock};
 ghost use Rattle.xs_model.specs.Time.{edge_in_period, period, block_edge, on_clock, turned_off, divided_by, started, stopped};
 ghost use Rattle.timers_clocks.specs.Timers.{clock_after};
@@ -136,10 +136,24 @@ impl Block {
         }
     }
 
+    /// Slots from one falling edge to the next: `None` exactly where it does not run.
+    pub(crate) fn running_period(&self) -> Option<u32>
+        ensures runs { is_some result ≡ self.now.running }
+        ensures value { IfSome result (λ p. p ≡ period self.now.divider) }
+        ensures some { IfSome result (λ p. 1 < p) }
+        ensures most { IfSome result (λ p. p ≤ 2040) }
+    {
+        if !self.running {
+            return None;
+        }
+        Some(self.period())
+    }
+
     /// Slots from one rise to the next while it runs.
     fn period(&self) -> u32
         ensures value { result ≡ period self.now.divider }
-        ensures some { 0 < result }
+        ensures some { 1 < result }
+        ensures most { result ≤ 2040 }
     {
         if self.divider == 0 {
             REFERENCE_PERIOD

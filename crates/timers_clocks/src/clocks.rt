@@ -1,12 +1,16 @@
 //! `Clocks`, the clock blocks of a core, beside the reference clock.
-ghost use Rattle.std.specs.Prelude.{ℕ, ◌≡◌, ◌<◌, ◌≤◌, ◌↔◌, ◌⊎◌, true, false, Some, None, length, OnOk, OnErr, IsErr, slice_set};
+ghost use Rattle.std.specs.Prelude.{ℕ, ◌≡◌, ◌<◌, ◌≤◌, ◌-◌, ◌↔◌, ◌⊎◌, true, false, Some, None, length, IfSome, IfNone, OnOk, OnErr, IsErr, slice_set};
 ghost use Rattle.xs_base.specs.declared.numbers.TheConstants.{CLOCK_BLOCKS};
 ghost use Rattle.xs_model.specs.Record.{off_clock};
 ghost use Rattle.xs_model.specs.Time.{edge_at, on_clock, turned_off, divided_by, started, stopped};
+ghost use Rattle.quiet_model.specs.Slots.{IsFirst};
+ghost use Rattle.quiet_model.specs.Clocks.{falls_in, has_fallen};
 ghost use Rattle.timers_clocks.specs.Timers.{IsClock, no_clocks, clock_at, clocks_after};
+ghost use Rattle.timers_clocks.specs.Falls.{FallsEvery, NeverFalls};
 
 use crate::answers::Bad;
 use crate::block::{self, Block};
+use crate::falls;
 use std::marker::Model;
 use xs_base::numbers::CLOCK_BLOCKS;
 use xs_model::{Clock, Edge};
@@ -111,6 +115,45 @@ impl Clocks {
         match clock {
             Clock::Reference => block::edge_in_period(block::REFERENCE_PERIOD, slot),
             Clock::Block(k) => self.blocks[k as usize].edge(slot),
+        }
+    }
+
+    /// How many falling edges a clock has in slots from `from` to `to` - 1: none where `to` is not above `from`, and none of a
+    /// block that does not run. See docs/TIME.md.
+    pub fn falls(&self, clock: Clock, from: u32, to: u32) -> u32
+        requires { IsClock clock }
+        ensures value { result ≡ falls_in self.now clock from (to - from) }
+    {
+        match self.period(clock) {
+            None => 0,
+            Some(period) => falls::falls_in(period, from, to),
+        }
+    }
+
+    /// The slot of the `k`-th falling edge of a clock, counted from 1 in ascending slots from `from` on, if it is below
+    /// `bound`, and else `bound`. See docs/TIME.md.
+    pub fn fall_at(&self, clock: Clock, from: u32, bound: u32, k: u32) -> u32
+        requires clock { IsClock clock }
+        requires counted { 0 < k }
+        ensures first { IsFirst (has_fallen self.now clock from k) from bound result }
+    {
+        match self.period(clock) {
+            None => bound,
+            Some(period) => falls::fall_at(period, from, bound, k),
+        }
+    }
+
+    // How many slots lie from one falling edge of a clock to the next: `None` exactly where it has none.
+    fn period(&self, clock: Clock) -> Option<u32>
+        requires { IsClock clock }
+        ensures every { IfSome result (λ period. FallsEvery period self.now clock) }
+        ensures some { IfSome result (λ period. 1 < period) }
+        ensures most { IfSome result (λ period. period ≤ 2040) }
+        ensures never { IfNone result (NeverFalls self.now clock) }
+    {
+        match clock {
+            Clock::Reference => Some(block::REFERENCE_PERIOD),
+            Clock::Block(k) => self.blocks[k as usize].running_period(),
         }
     }
 

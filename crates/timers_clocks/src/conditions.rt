@@ -1,13 +1,15 @@
-//! The masks of timers: bit n is that of timer n.
+//! The conditions of all timers: masks, in which bit n is that of timer n, and up to which slot they hold alike.
 ghost use Rattle.std.specs.Prelude.{ℕ, ◌≡◌, ◌<◌, ◌≤◌, false, List, length, slice_set};
 ghost use Rattle.std.specs.List.{list_any};
+ghost use Rattle.xs_base.specs.Numbers.{Slot};
 ghost use Rattle.xs_base.specs.declared.numbers.TheConstants.{TIMERS};
 ghost use Rattle.xs_model.specs.Masks.{in_mask};
 ghost use Rattle.xs_model.specs.Record.{TimerRec};
-ghost use Rattle.xs_model.specs.Time.{timer_holds, time_at};
+ghost use Rattle.xs_model.specs.Time.{timer_holds};
 ghost use Rattle.timers_clocks.specs.Timers.{IsMask, timer_at};
+ghost use Rattle.timers_clocks.specs.Alike.{SomeTurnsAfter};
 
-use crate::timer::Timer;
+use crate::timer::{Timer, time};
 use bit_masks::with_bit;
 use xs_base::numbers::TIMERS;
 
@@ -41,9 +43,15 @@ pub(crate) fn holding(timers: &[Timer; 10], slot: u32) -> u32
     mask
 }
 
-/// What timers show in a slot.
-pub(crate) fn time(slot: u32) -> u32
-    ensures value { result ≡ time_at slot }
+/// The last slot up to which the condition of each timer holds, or does not hold, as it does in this one.
+pub(crate) fn alike_until(timers: &[Timer; 10], slot: u32) -> u32
+    ensures same { (n : ℕ) (later : Slot) → slot ≤ later → later ≤ result → timer_holds later (timer_at timers.now n) ≡ timer_holds slot (timer_at timers.now n) }
+    ensures now { slot ≤ result }
+    ensures last { SomeTurnsAfter timers.now slot result }
 {
-    slot / 4
+    let mut until = u32::MAX;
+    for n in 0..TIMERS {
+        until = until.min(timers[n as usize].alike_until(slot));
+    }
+    until
 }

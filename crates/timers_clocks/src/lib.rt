@@ -5,6 +5,7 @@ mod answers;
 mod block;
 mod clocks;
 mod conditions;
+mod falls;
 mod timer;
 mod timers;
 

@@ -1,8 +1,11 @@
 //! `Timer`, one timer.
-ghost use Rattle.std.specs.Prelude.{◌≡◌, ◌↔◌, ◌||◌, not, true, false, Some, None, OnOk, OnErr, IsErr};
+ghost use Rattle.std.specs.Prelude.{ℕ, ◌≡◌, ◌<◌, ◌≤◌, ◌+◌, ◌%◌, ◌^◌, ◌↔◌, ◌||◌, not, true, false, Some, None, OnOk, OnErr, IsErr};
+ghost use Rattle.xs_base.specs.Numbers.{Slot};
 ghost use Rattle.xs_model.specs.Record.{unused_timer};
-ghost use Rattle.xs_model.specs.Time.{is_after, got_timer, freed_timer, with_value, with_after};
+ghost use Rattle.xs_model.specs.Time.{is_after, time_at, timer_holds, got_timer, freed_timer, with_value, with_after};
+ghost use Rattle.quiet_model.specs.Slots.{IsFirst};
 ghost use Rattle.timers_clocks.specs.Timers.{timer_after};
+ghost use Rattle.timers_clocks.specs.Alike.{is_past, TurnsAfter};
 
 use crate::answers::Bad;
 use std::marker::Model;
@@ -100,6 +103,31 @@ impl Timer {
         !self.after || (0 < passed && passed < HALF)
     }
 
+    /// The last slot up to which its condition holds, or does not hold, as it does in this one. Without a condition, and
+    /// where that goes beyond all slots, it is `u32::MAX`.
+    pub(crate) fn alike_until(&self, slot: u32) -> u32
+        ensures same { (later : Slot) → slot ≤ later → later ≤ result → timer_holds later self.now ≡ timer_holds slot self.now }
+        ensures now { slot ≤ result }
+        ensures last { TurnsAfter (λ slot. timer_holds slot self.now) slot result }
+    {
+        if self.after {
+            after_until(self.value, slot)
+        } else {
+            u32::MAX
+        }
+    }
+
+    /// The first slot of `from` to `bound - 1` in which its condition holds, and `bound` where it holds in none of them.
+    pub(crate) fn holds_from(&self, from: u32, bound: u32) -> u32
+        ensures { IsFirst (λ slot. timer_holds slot self.now) from bound result }
+    {
+        if self.holds(time(from)) {
+            return from.min(bound);
+        }
+        let until = self.alike_until(from);
+        if until < bound { until + 1 } else { bound }
+    }
+
     pub(crate) fn is_used(&self) -> bool
         ensures { result ≡ self.now.used }
     {
@@ -121,3 +149,36 @@ impl Timer {
 
 /// Half of all times.
 const HALF: u32 = 1 << 31;
+
+/// What timers show in a slot.
+pub(crate) fn time(slot: u32) -> u32
+    ensures value { result ≡ time_at slot }
+{
+    slot / 4
+}
+
+// The last slot up to which the time is after a value, or not after it, as in this slot, and `u32::MAX` where that goes
+// beyond all slots. A time is after a value while less than half of all times have passed since.
+fn after_until(value: u32, slot: u32) -> u32
+    ensures same { (later : Slot) → slot ≤ later → later ≤ result → is_after value (time_at later) ≡ is_after value (time_at slot) }
+    ensures now { slot ≤ result }
+    ensures last { TurnsAfter (λ slot. is_after value (time_at slot)) slot result }
+{
+    let time = time(slot);
+    let left = times_left(time.wrapping_sub(value));
+    let change = 4 * (u64::from(time) + u64::from(left));
+    (change - 1).min(u64::from(u32::MAX)) as u32
+}
+
+// In how many times, when so many have passed since a value, the time is after it no longer, or is after it again.
+fn times_left(passed: u32) -> u32
+    ensures some { 0 < result }
+    ensures stays { (n : ℕ) → n < result → is_past ((passed + n) % 2 ^ 32) ≡ is_past passed }
+    ensures turns { is_past ((passed + result) % 2 ^ 32) ≡ not (is_past passed) }
+{
+    if 0 < passed && passed < HALF {
+        HALF - passed
+    } else {
+        1_u32.wrapping_sub(passed)
+    }
+}

@@ -1,16 +1,19 @@
 //! `Timers`, the timers of a core.
 ghost use Rattle.std.specs.Prelude.{ℕ, ◌≡◌, ◌<◌, ◌≤◌, ◌↔◌, true, false, Some, None, length, OnOk, OnErr, IsErr, IfSome, slice_set};
 ghost use Rattle.std.specs.List.{list_any};
+ghost use Rattle.xs_base.specs.Numbers.{Slot};
 ghost use Rattle.xs_base.specs.declared.numbers.TheConstants.{TIMERS};
 ghost use Rattle.xs_model.specs.Free.{lowest_free};
 ghost use Rattle.xs_model.specs.Masks.{in_mask};
 ghost use Rattle.xs_model.specs.Record.{unused_timer};
 ghost use Rattle.xs_model.specs.Time.{time_at, timer_holds, freed_timer, with_value, with_after};
+ghost use Rattle.quiet_model.specs.Slots.{IsFirst};
 ghost use Rattle.timers_clocks.specs.Timers.{no_timers, timer_at, with_got_timer, timers_after};
+ghost use Rattle.timers_clocks.specs.Alike.{SomeTurnsAfter};
 
 use crate::answers::Bad;
 use crate::conditions;
-use crate::timer::Timer;
+use crate::timer::{Timer, time};
 use std::marker::Model;
 use xs_base::numbers::TIMERS;
 
@@ -144,19 +147,35 @@ impl Timers {
         }
     }
 
+    /// The first slot of `from` to `bound - 1` in which the condition of timer `n`, 0 to 9, holds, and `bound` where it holds
+    /// in none of them. It takes no memory. See docs/TIME.md.
+    pub fn ready_from(&self, n: u8, from: u32, bound: u32) -> u32
+        requires { n < TIMERS }
+        ensures first { IsFirst (λ slot. timer_holds slot (timer_at self.now n)) from bound result }
+    {
+        self.timers[n as usize].holds_from(from, bound)
+    }
+
+    /// The last slot up to which the condition of each timer holds, or does not hold, as it does in this one. Where no timer
+    /// has a condition, and where that goes beyond all slots, it is `u32::MAX`. It takes no memory.
+    #[inline]
+    pub fn alike_until(&self, slot: u32) -> u32
+        ensures same { (n : ℕ) (later : Slot) → slot ≤ later → later ≤ result → timer_holds later (timer_at self.now n) ≡ timer_holds slot (timer_at self.now n) }
+        ensures now { slot ≤ result }
+        ensures last { SomeTurnsAfter self.now slot result }
+    {
+        if self.conditions == 0 {
+            u32::MAX
+        } else {
+            conditions::alike_until(&self.timers, slot)
+        }
+    }
+
     /// What timers show in a slot: a quarter of its number, rounded down, modulo 2^32.
     pub fn time(slot: u32) -> u32
         ensures value { result ≡ time_at slot }
     {
-        conditions::time(slot)
-    }
-
-    /// The last slot in which timers show what they show in this one.
-    pub fn time_until(slot: u32) -> u32
-        ensures same { (later : ℕ) → slot ≤ later → later ≤ result → time_at later ≡ time_at slot }
-        ensures now { slot ≤ result }
-    {
-        slot - slot % 4 + 3
+        time(slot)
     }
 
     /// The value of the condition of timer `n`, 0 to 9.
