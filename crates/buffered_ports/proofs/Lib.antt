@@ -3,3 +3,4 @@ pub mod First
 pub mod High
 pub mod Plain
 pub mod InTurn
+pub mod Counts

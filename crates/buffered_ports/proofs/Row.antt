@@ -1,6 +1,6 @@
 -- The ports in their places, beside their masks: one of them is replaced.
 use Rattle.std.proofs.Common.{ℕ, ◌≡◌, ◌≢◌, ◌<◌, ◌≤◌, Bool, true, false, cond, eqb, not, ◌&&◌, List, ◌+◌, ◌++◌, length, get_or, set, map, take, drop, refl, ap, sym, subst, ◌∙◌, inl, inr, arith}
-use Rattle.std.specs.Prelude.{◌==◌, is_some}
+use Rattle.std.specs.Prelude.{◌==◌, ◌||◌, nat_lt, is_some}
 use Rattle.std.proofs.lemmas.Bool.{cond-true, cond-false, cases_lt, cases_eq, eq-eqb, ne_eqb}
 use Rattle.std.proofs.lemmas.List.{append-nil, length-append, length-take, length-drop, take_all, drop_all, length-set, length-map, map-set, get_or-map, get_or_past, get_or_default, get_or-set_same, get_or-set_other}
 use Rattle.std.proofs.lemmas.List.Edits.{map_over_more}
@@ -9,6 +9,8 @@ use Rattle.xs_model.specs.Masks.{in_mask}
 use Rattle.xs_model.specs.Choices.{port_is_ready}
 use Rattle.xs_model.specs.PortActions.{restarted}
 use Rattle.xs_model.specs.Record.{PortRec, off_port}
+use Rattle.xs_model.specs.Ports.{rises}
+use Rattle.quiet_model.specs.Still.{port_is_still}
 use Rattle.buffered_ports.specs.Asks.{port_at}
 use Rattle.buffered_ports.specs.Keeps.{IsEdged}
 use Rattle.single_port.specs.Keeps.{PortOf, IsPlaced, IsPlain, ServesAs, KeepsRole}
@@ -101,9 +103,17 @@ still_placed places p that within placed all q =
       | inr other ↦ subst (IsPlaced q) (sym (get_or-set_other places p q that no_place other)) (all q)
     ]
 
+-- it is not still
+abbrev pub moves : PortRec → Bool
+moves port = not (port_is_still port)
+
 -- the row with port p replaced, and masks that have it
-pub row_replaced : (c : Inside) (p : ℕ) (that : PortOf) (on ready strobed plain : ℕ) → IsRow c → p < 29 → IsPlaced p that → IsNoted on c.on p that.port.on → IsNoted ready c.ready p (port_is_ready that.port) → IsNoted strobed c.strobed p (is_some that.port.strobe) → ((k : ℕ) → k < 32 → k ≢ p → in_mask plain k ≡ in_mask c.plain k) → (in_mask plain p ≡ true → IsPlain that.port) → IsRow (record { ports = set c.ports p that; on = on; ready = ready; strobed = strobed; plain = plain })
-row_replaced c p that on ready strobed plain is within placed on_noted ready_noted strobed_noted others is_plain =
+pub row_replaced : (c : Inside) (p : ℕ) (that : PortOf) (on ready strobed moving plain : ℕ) → IsRow c → p < 29 → IsPlaced p that
+    → IsNoted on c.on p that.port.on → IsNoted ready c.ready p (port_is_ready that.port) → IsNoted strobed c.strobed p (is_some that.port.strobe)
+    → IsNoted moving c.moving p (moves that.port) → ((k : ℕ) → k < 32 → k ≢ p → in_mask plain k ≡ in_mask c.plain k)
+    → (in_mask plain p ≡ true → IsPlain that.port)
+    → IsRow (record { ports = set c.ports p that; on = on; ready = ready; strobed = strobed; moving = moving; plain = plain })
+row_replaced c p that on ready strobed moving plain is within placed on_noted ready_noted strobed_noted moving_noted others is_plain =
     let inside : p < length c.ports = omega (arith, within, is.count) in
     record {
       count = length-set c.ports p that ∙ is.count;
@@ -112,6 +122,7 @@ row_replaced c p that on ready strobed plain is within placed on_noted ready_not
         on = still_exact on c.on p (λ (port : PortRec). port.on) c.ports that inside on_noted is.masks.on;
         ready = still_exact ready c.ready p port_is_ready c.ports that inside ready_noted is.masks.ready;
         strobed = still_exact strobed c.strobed p (λ (port : PortRec). is_some port.strobe) c.ports that inside strobed_noted is.masks.strobed;
+        moving = still_exact moving c.moving p moves c.ports that inside moving_noted is.masks.moving;
         plain = still_plain plain c.plain p c.ports that inside others is_plain is.masks.plain;
       };
     }
@@ -128,17 +139,62 @@ is_edged p differs old new port is serves = record {
   same = serves;
 }
 
+-- ---- Whether a port moves
+
+-- an edge after which it serves threads as before leaves it still where it was
+pub still_moves : (before after : PortRec) → KeepsRole before after → ServesAs before after → moves after ≡ moves before
+still_moves before after role same =
+    ap (λ on. not (not on || (after.output && not (nat_lt 0 (length after.shift))))) role.on
+    ∙ ap (λ output. not (not before.on || (output && not (nat_lt 0 (length after.shift))))) role.output
+    ∙ ap (λ bits. not (not before.on || (before.output && not bits))) same.shift
+
+-- in direction input it moves
+pub input_moves : (port : PortRec) → port.on ≡ true → port.output ≡ false → moves port ≡ true
+input_moves port on output =
+    ap (λ on. not (not on || (port.output && not (nat_lt 0 (length port.shift))))) on
+    ∙ ap (λ output. not (output && not (nat_lt 0 (length port.shift)))) output
+
+-- and a rising edge of the others does nothing
+pub rise_moves : (width level : ℕ) (high output : Bool) (before after : PortRec) → before.on ≡ true → before.output ≡ output
+    → after ≡ rises width level high before → KeepsRole before after → moves after ≡ moves before
+rise_moves width level high true before after on output is role = ap moves (is ∙ cond-true before.output _ _ output)
+rise_moves width level high false before after on output is role =
+    input_moves after (role.on ∙ on) (role.output ∙ output) ∙ sym (input_moves before on output)
+
+was_moving : (c : Inside) (p : ℕ) (r : PortOf) → IsRow c → p < 29 → in_mask c.moving p ≡ moves (get_or c.ports p r).port
+was_moving c p r is within =
+    is.masks.moving p (omega (arith, within)) ∙ ap moves (sym (read c.ports (row c) p r refl (omega (arith, within, is.count))))
+
+pub moving_stays : (c : Inside) (p : ℕ) (r that : PortOf) → IsRow c → p < 29 → moves that.port ≡ moves (get_or c.ports p r).port → IsNoted c.moving c.moving p (moves that.port)
+moving_stays c p r that is within same = as_it_was c.moving p (moves that.port) (was_moving c p r is within ∙ sym same)
+
+pub moving_differs : (c : Inside) (p moving : ℕ) (r that : PortOf) (differs still : Bool) → IsRow c → p < 29 → still ≡ port_is_still that.port
+    → (differs ≡ false → moves that.port ≡ moves (get_or c.ports p r).port) → (differs ≡ true → in_mask moving p ≡ not still)
+    → (differs ≡ false → moving ≡ c.moving) → ((k : ℕ) → k < 32 → k ≢ p → in_mask moving k ≡ in_mask c.moving k)
+    → IsNoted moving c.moving p (moves that.port)
+moving_differs c p moving r that true still is within its same noted unchanged others = record { its = noted refl ∙ ap not its; others = others }
+moving_differs c p moving r that false still is within its same noted unchanged others = record {
+  its = ap (λ mask. in_mask mask p) (unchanged refl) ∙ was_moving c p r is within ∙ sym (same refl);
+  others = others;
+}
+
 -- ---- An edge at port p
 
--- the row after it, where only whether the port is ready may be noted anew
-pub row_edged : (c : Inside) (p ready : ℕ) (r that : PortOf) (differs holds : Bool) → IsRow c → p < 29 → that.width ≡ (get_or c.ports p r).width → KeepsRole (get_or c.ports p r).port that.port → (differs ≡ false → ServesAs (get_or c.ports p r).port that.port) → holds ≡ port_is_ready that.port → (differs ≡ true → in_mask ready p ≡ holds) → (differs ≡ false → ready ≡ c.ready) → ((k : ℕ) → k < 32 → k ≢ p → in_mask ready k ≡ in_mask c.ready k) → (IsPlain (get_or c.ports p r).port → IsPlain that.port) → IsRow (record { ports = set c.ports p that; on = c.on; ready = ready; strobed = c.strobed; plain = c.plain })
-row_edged c p ready r that differs holds is within width role same its_ready noted unchanged others plain =
+-- the row after it, where only whether the port is ready, and whether it moves, may be noted anew
+pub row_edged : (c : Inside) (p ready moving : ℕ) (r that : PortOf) (differs holds : Bool) → IsRow c → p < 29
+    → that.width ≡ (get_or c.ports p r).width → KeepsRole (get_or c.ports p r).port that.port
+    → (differs ≡ false → ServesAs (get_or c.ports p r).port that.port) → holds ≡ port_is_ready that.port → (differs ≡ true → in_mask ready p ≡ holds)
+    → (differs ≡ false → ready ≡ c.ready) → ((k : ℕ) → k < 32 → k ≢ p → in_mask ready k ≡ in_mask c.ready k)
+    → (IsPlain (get_or c.ports p r).port → IsPlain that.port) → IsNoted moving c.moving p (moves that.port)
+    → IsRow (record { ports = set c.ports p that; on = c.on; ready = ready; strobed = c.strobed; moving = moving; plain = c.plain })
+row_edged c p ready moving r that differs holds is within width role same its_ready noted unchanged others plain moving_noted =
     let inside : p < length c.ports = omega (arith, within, is.count) in
     let below : p < 32 = omega (arith, within) in
     let was : (get_or c.ports p r).port ≡ port_at (row c) p = read c.ports (row c) p r refl inside in
     let here : get_or c.ports p r ≡ place_at c.ports p = get_or_default c.ports p r no_place inside in
-    row_replaced c p that c.on ready c.strobed c.plain is within (λ on.
+    row_replaced c p that c.on ready c.strobed moving c.plain is within (λ on.
     width ∙ ap (λ (t : PortOf). t.width) here ∙ is.placed p (ap (λ (t : PortOf). t.port.on) (sym here) ∙ sym role.on ∙ on)) (as_it_was c.on p that.port.on (is.masks.on p below ∙ ap (λ (port : PortRec). port.on) (sym was) ∙ sym role.on)) (where_it_differs differs ready c.ready p (get_or c.ports p r).port that.port holds its_ready (is.masks.ready p below ∙ ap port_is_ready (sym was)) same noted unchanged others) (as_it_was c.strobed p (is_some that.port.strobe) (is.masks.strobed p below ∙ ap (λ (port : PortRec). is_some port.strobe) (sym was) ∙ ap (λ strobe. is_some strobe) (sym role.strobe)))
+    moving_noted
     (λ k below other. refl)
     (λ noted. plain (subst IsPlain (sym was) (is.masks.plain p below noted)))
 

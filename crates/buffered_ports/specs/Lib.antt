@@ -2,3 +2,5 @@ pub mod Asks
 pub mod Keeps
 pub mod Row
 pub use Rattle.single_port.specs.declared.answers
+pub mod Counts
+pub mod Edge

@@ -23,4 +23,4 @@ row c = ports_in c.ports
 pub record IsRow (c : ports.Inside) : Type 0 where
   pub count : length c.ports ≡ 29
   pub placed : (p : PortNumber) → IsPlaced p (place_at c.ports p)
-  pub masks : AreMasks c.on c.ready c.strobed c.plain (row c)
+  pub masks : AreMasks c.on c.ready c.strobed c.moving c.plain (row c)

@@ -5,6 +5,7 @@ mod levels;
 mod marks;
 mod ports;
 mod slot;
+mod still;
 
 pub use levels::high_of;
 pub use ports::Ports;

@@ -1,6 +1,10 @@
 //! Masks of ports: bit n is that of port n.
-ghost use Rattle.std.specs.Prelude.{ℕ, ◌≡◌, ◌≢◌, ◌<◌, true, false};
+ghost use Rattle.std.specs.Prelude.{ℕ, ◌≡◌, ◌≢◌, ◌<◌, true, false, List, length};
+ghost use Rattle.xs_base.specs.declared.numbers.TheConstants.{PORTS};
+ghost use Rattle.xs_model.specs.Record.{PortRec};
 ghost use Rattle.xs_model.specs.Masks.{in_mask};
+ghost use Rattle.quiet_model.specs.Still.{ports_are_still};
+ghost use Rattle.buffered_ports.specs.Keeps.{AreMoving};
 
 use bit_masks::with_bit;
 
@@ -17,4 +21,12 @@ pub(crate) fn noted(mask: u32, n: u8, differs: bool, holds: bool) -> u32
     } else {
         mask
     }
+}
+
+/// Whether all ports are still, by the mask of those that are not.
+#[inline]
+pub(crate) fn are_still(moving: u32) -> bool
+    ensures { (ports : List PortRec) → length ports ≡ PORTS → AreMoving moving ports → result ≡ ports_are_still ports }
+{
+    moving == 0
 }

@@ -26,10 +26,12 @@ use xs_model::{Clock, Edge, PinChange, Wait};
 #[derive(Drop)]
 pub struct Ports {
     pub(crate) ports: [Port; 29],
-    // Which ports are on, which are ready, and which have a strobe; and some that are plain, whose edges are quick.
+    // Which ports are on, which are ready, which have a strobe, and which are not still; and some that are plain, whose edges
+    // are quick.
     pub(crate) on: u32,
     pub(crate) ready: u32,
     pub(crate) strobed: u32,
+    pub(crate) moving: u32,
     pub(crate) plain: u32,
 }
 
@@ -56,6 +58,7 @@ impl Ports {
             on: 0,
             ready: 0,
             strobed: 0,
+            moving: 0,
             plain: 0,
         }
     }
@@ -112,6 +115,7 @@ impl Ports {
         let port = &mut self.ports[p as usize];
         let fallen = port.falls();
         self.ready = noted(self.ready, p, fallen.differs, port.is_ready());
+        self.moving = noted(self.moving, p, fallen.differs, !port.is_still());
         fallen
     }
 
@@ -136,6 +140,7 @@ impl Ports {
         self.on = with_bit(self.on, port, place.is_on());
         self.ready = with_bit(self.ready, port, place.is_ready());
         self.strobed = with_bit(self.strobed, port, place.strobe().is_some());
+        self.moving = with_bit(self.moving, port, !place.is_still());
         self.plain = with_bit(self.plain, port, place.is_plain());
         answer
     }

@@ -8,9 +8,10 @@ ghost use Rattle.xs_model.specs.Masks.{in_mask};
 ghost use Rattle.xs_model.specs.Record.{ClockRec, PortRec};
 ghost use Rattle.xs_model.specs.Outside.{in_slot, LevelsFit};
 ghost use Rattle.xs_model.specs.Time.{edge_at};
-ghost use Rattle.xs_model.specs.Ports.{level_of, levels_of, is_high, at_edge, rises, falls, unchanged, edge_in_slot, edges_from, pin_happens};
+ghost use Rattle.xs_model.specs.Ports.{level_of, levels_of, is_high, rises, falls, unchanged, edge_in_slot, edges_from, pin_happens};
 ghost use Rattle.buffered_ports.specs.Asks.{port_at};
 ghost use Rattle.single_port.specs.Keeps.{IsPlain, ServesAs};
+ghost use Rattle.buffered_ports.specs.Edge.{edge_at_port};
 ghost use Rattle.buffered_ports.specs.Keeps.{HighIs, HighAre, IsEdged, TellsOne};
 
 use crate::marks::noted;
@@ -130,7 +131,7 @@ impl Ports {
 
     // The ports that are on, bit n for port n.
     #[inline]
-    fn ports_on(&self) -> u32
+    pub(crate) fn ports_on(&self) -> u32
         ensures on { (k : PortNumber) → k < 32 → in_mask result k ≡ (port_at self.now k).on }
         ensures count { length self.now ≡ PORTS }
     {
@@ -157,10 +158,11 @@ impl Ports {
         requires pin { slice_index_or levels.now p 0 < 2 ^ port_width p }
         requires room { length out.old.events < EVENT_ROOM }
         ensures ports { (before : List Word) → HighIs high (port_at self.old p).strobe before →
-            self.new ≡ slice_set self.old p (at_edge (port_width p) (edge_at clocks.now (port_at self.old p).clock slot) (level_of (port_at self.old p).driven (slice_index_or levels.now p 0)) (is_high before (port_at self.old p).strobe) (port_at self.old p)).port }
+            self.new ≡ slice_set self.old p
+            (edge_at_port p (edge_at clocks.now (port_at self.old p).clock slot) (slice_index_or levels.now p 0) (is_high before (port_at self.old p).strobe) self.old).port }
         ensures events { (before : List Word) → HighIs high (port_at self.old p).strobe before →
             out.new.events ≡ out.old.events ++ map (in_slot slot)
-            (pin_happens p (at_edge (port_width p) (edge_at clocks.now (port_at self.old p).clock slot) (level_of (port_at self.old p).driven (slice_index_or levels.now p 0)) (is_high before (port_at self.old p).strobe) (port_at self.old p)).change) }
+            (pin_happens p (edge_at_port p (edge_at clocks.now (port_at self.old p).clock slot) (slice_index_or levels.now p 0) (is_high before (port_at self.old p).strobe) self.old).change) }
         ensures told { TellsOne out.old out.new }
         ensures edged { IsEdged p result self.old self.new }
     {
@@ -187,7 +189,7 @@ impl Ports {
         requires port { p < PORTS }
         requires plain { IsPlain (port_at self.old p) }
         requires pin { slice_index_or levels.now p 0 < 2 ^ port_width p }
-        ensures port { (high : Bool) → at_edge (port_width p) reference (level_of (port_at self.old p).driven (slice_index_or levels.now p 0)) high (port_at self.old p) ≡ unchanged (port_at self.new p) }
+        ensures port { (high : Bool) → edge_at_port p reference (slice_index_or levels.now p 0) high self.old ≡ unchanged (port_at self.new p) }
         ensures ports { self.new ≡ slice_set self.old p (port_at self.new p) }
         ensures edged { IsEdged p result self.old self.new }
     {
@@ -259,10 +261,10 @@ impl Ports {
         requires pin { outside < 2 ^ port_width p }
         requires room { length out.old.events < EVENT_ROOM }
         ensures ports { (before : List Word) → HighIs high (port_at self.old p).strobe before →
-            self.new ≡ slice_set self.old p (at_edge (port_width p) edge (level_of (port_at self.old p).driven outside) (is_high before (port_at self.old p).strobe) (port_at self.old p)).port }
+            self.new ≡ slice_set self.old p (edge_at_port p edge outside (is_high before (port_at self.old p).strobe) self.old).port }
         ensures events { (before : List Word) → HighIs high (port_at self.old p).strobe before →
             out.new.events ≡ out.old.events ++ map (in_slot slot)
-            (pin_happens p (at_edge (port_width p) edge (level_of (port_at self.old p).driven outside) (is_high before (port_at self.old p).strobe) (port_at self.old p)).change) }
+            (pin_happens p (edge_at_port p edge outside (is_high before (port_at self.old p).strobe) self.old).change) }
         ensures told { TellsOne out.old out.new }
         ensures edged { IsEdged p result self.old self.new }
     {

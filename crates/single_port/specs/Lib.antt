@@ -1,3 +1,4 @@
 pub mod Asks
 pub mod Keeps
 pub mod Inside
+pub mod Begins

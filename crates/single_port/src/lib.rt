@@ -9,6 +9,7 @@ mod port;
 mod rows;
 mod sampling;
 mod settings;
+mod still;
 mod transfer;
 
 pub use answers::{Answer, Ask, Reply};

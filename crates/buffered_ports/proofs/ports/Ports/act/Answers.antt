@@ -1,4 +1,4 @@
-use Rattle.std.proofs.Common.{ap, sym, subst, ◌∙◌, ◌<◌, length, arith}
+use Rattle.std.proofs.Common.{not, ap, sym, subst, ◌∙◌, ◌<◌, length, arith}
 use Rattle.std.proofs.lemmas.Bool.{cond-true}
 use Rattle.std.specs.Prelude.{is_some}
 use Rattle.xs_model.specs.PortActions.{Refused}
@@ -9,12 +9,13 @@ use Rattle.buffered_ports.proofs.ports.Ports.act.Goals as goal
 
 pub invariant_of-self : goal.invariant_of-self
 invariant_of-self c =
-    row_replaced c.self.inside c.args.port c.act-answer.new.self _ _ _ _ c.self.invariant c.requires.port c.act-answer.ensures.placed
+    row_replaced c.self.inside c.args.port c.act-answer.new.self _ _ _ _ _ c.self.invariant c.requires.port c.act-answer.ensures.placed
     (subst (IsNoted _ c.self.inside.on c.args.port) c.is_on.ensures.on (by_bit _ _ _ _ (omega (arith, c.requires.port)) c.with_bit-self-inside.ensures))
     (subst (IsNoted _ c.self.inside.ready c.args.port) c.is_ready.ensures (by_bit _ _ _ _ (omega (arith, c.requires.port)) c.with_bit-self-inside-2.ensures))
     (subst (IsNoted _ c.self.inside.strobed c.args.port) (c.is_some.ensures ∙ ap (λ strobe. is_some strobe) c.strobe.ensures.value) (by_bit _ _ _ _ (omega (arith, c.requires.port)) c.with_bit-self-inside-3.ensures))
-    (by_bit _ _ _ _ (omega (arith, c.requires.port)) c.with_bit-self-inside-4.ensures).others
-    (λ noted. c.is_plain.ensures.plain (sym (by_bit _ _ _ c.is_plain.result (omega (arith, c.requires.port)) c.with_bit-self-inside-4.ensures).its ∙ noted))
+    (subst (IsNoted _ c.self.inside.moving c.args.port) (ap not c.is_still.ensures) (by_bit _ _ _ _ (omega (arith, c.requires.port)) c.with_bit-self-inside-4.ensures))
+    (by_bit _ _ _ _ (omega (arith, c.requires.port)) c.with_bit-self-inside-5.ensures).others
+    (λ noted. c.is_plain.ensures.plain (sym (by_bit _ _ _ c.is_plain.result (omega (arith, c.requires.port)) c.with_bit-self-inside-5.ensures).its ∙ noted))
 
 pub returns-clause-port : goal.returns-clause-port
 returns-clause-port c =

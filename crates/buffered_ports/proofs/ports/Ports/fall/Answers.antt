@@ -1,13 +1,18 @@
 use Rattle.std.proofs.Common.{◌<◌, ap, ◌∙◌, length, arith}
 use Rattle.xs_model.specs.Ports.{falls}
 use Rattle.single_port.specs.Keeps.{PortOf}
-use Rattle.buffered_ports.proofs.Row.{read_on, replaced, row_edged, serves_now, is_edged}
+use Rattle.buffered_ports.proofs.Row.{read_on, replaced, row_edged, serves_now, is_edged, moving_differs, still_moves}
 use Rattle.buffered_ports.proofs.ports.Ports.fall.Goals as goal
 
 pub invariant_of-self : goal.invariant_of-self
 invariant_of-self c =
-    row_edged c.self.inside c.args.p c.noted-self-inside.result c.index-self-p.result c.falls-fallen.new.self c.falls-fallen.result.differs c.is_ready.result c.self.invariant c.requires.port (ap (λ (that : PortOf). that.width) c.falls-fallen.ensures.port) c.falls-fallen.ensures.role c.falls-fallen.ensures.same c.is_ready.ensures c.noted-self-inside.ensures.its c.noted-self-inside.ensures.same c.noted-self-inside.ensures.others
+    row_edged c.self.inside c.args.p c.noted-self-inside.result c.noted-self-inside-2.result c.index-self-p.result c.falls-fallen.new.self
+    c.falls-fallen.result.differs c.is_ready.result c.self.invariant c.requires.port (ap (λ (that : PortOf). that.width) c.falls-fallen.ensures.port)
+    c.falls-fallen.ensures.role c.falls-fallen.ensures.same c.is_ready.ensures c.noted-self-inside.ensures.its c.noted-self-inside.ensures.same
+    c.noted-self-inside.ensures.others
     c.falls-fallen.ensures.plain
+    (moving_differs c.self.inside c.args.p c.noted-self-inside-2.result c.index-self-p.result c.falls-fallen.new.self c.falls-fallen.result.differs c.is_still.result c.self.invariant c.requires.port c.is_still.ensures
+    (λ same. still_moves _ _ c.falls-fallen.ensures.role (c.falls-fallen.ensures.same same)) c.noted-self-inside-2.ensures.its c.noted-self-inside-2.ensures.same c.noted-self-inside-2.ensures.others)
 
 pub returns-clause-ports : goal.returns-clause-ports
 returns-clause-ports c =

@@ -1,12 +1,15 @@
 use Rattle.std.proofs.Common.{◌<◌, false, ap, sym, ◌∙◌, refl, length, arith}
 use Rattle.std.proofs.lemmas.Bool.{false≢true}
 use Rattle.xs_model.specs.Ports.{falls, unchanged}
-use Rattle.buffered_ports.proofs.Row.{read_on, replaced, row_edged, serves_now, port_here, is_edged}
+use Rattle.buffered_ports.proofs.Row.{read_on, replaced, row_edged, serves_now, port_here, is_edged, moving_stays, still_moves}
 use Rattle.buffered_ports.proofs.ports.Ports.plain_fall.Goals as goal
 
 pub invariant_of-self : goal.invariant_of-self
 invariant_of-self c =
-    row_edged c.self.inside c.args.p c.self.inside.ready c.index-self-p.result c.falls_plainly.new.self false _ c.self.invariant c.requires.port c.falls_plainly.ensures.width c.falls_plainly.ensures.role (λ same. c.falls_plainly.ensures.same) refl (λ differs. absurd (false≢true differs)) (λ same. refl) (λ k below other. refl) (λ plain. c.falls_plainly.ensures.plain)
+    row_edged c.self.inside c.args.p c.self.inside.ready c.self.inside.moving c.index-self-p.result c.falls_plainly.new.self false _ c.self.invariant
+    c.requires.port c.falls_plainly.ensures.width c.falls_plainly.ensures.role (λ same. c.falls_plainly.ensures.same) refl
+    (λ differs. absurd (false≢true differs)) (λ same. refl) (λ k below other. refl) (λ plain. c.falls_plainly.ensures.plain)
+    (moving_stays c.self.inside c.args.p c.index-self-p.result c.falls_plainly.new.self c.self.invariant c.requires.port (still_moves _ _ c.falls_plainly.ensures.role c.falls_plainly.ensures.same))
 
 pub returns-clause-port : goal.returns-clause-port
 returns-clause-port c =
