@@ -1,5 +1,6 @@
 //! `ChanEnds`, the channel ends of a core.
 ghost use Rattle.std.specs.Prelude.{ℕ, ◌≡◌, ◌<◌, ◌↔◌, true, false, Some, None, [], ◌∷◌, ◌++◌, drop, length, replicate, slice_get, slice_set, IsOk, OnOk, OnErr, IfSome, IsTrue, IsFalse};
+ghost use Rattle.std.specs.List.{list_any};
 ghost use Rattle.xs_base.specs.declared.numbers.TheConstants.{CHAN_ENDS};
 ghost use Rattle.xs_model.specs.Record.{unused_chan};
 ghost use Rattle.xs_model.specs.Masks.{in_mask};
@@ -234,6 +235,13 @@ impl ChanEnds {
         ensures value { (c : ℕ) → c < CHAN_ENDS → in_mask result c ≡ has_output (chan_at self.now c) }
     {
         self.marks.sending
+    }
+
+    /// Whether a token waits in the output buffer of some channel end.
+    pub fn is_sending(&self) -> bool
+        ensures value { result ≡ list_any has_output self.now }
+    {
+        self.marks.sending != 0
     }
 
     /// The channel ends with a token in their input buffer: bit `c` is that of channel end `c`, 0 to 31.

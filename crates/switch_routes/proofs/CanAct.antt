@@ -10,7 +10,8 @@ use Rattle.xs_model.specs.Record.{ChanRec, InputRec, Idle}
 use Rattle.xs_model.specs.Choices.{waits_in}
 use Rattle.chan_ends.specs.Ends.{chan_at, has_output}
 use Rattle.link_ends.specs.Counts.{EndCounts}
-use Rattle.switch_routes.specs.Rest.{acts_alone, IsStill, AreMarked}
+use Rattle.quiet_model.specs.Still.{acts_alone}
+use Rattle.switch_routes.specs.Rest.{IsStill, AreMarked}
 use Rattle.switch_routes.specs.Rows.{buffer_of, counts_at, waiting_in}
 
 -- a bit of two masks together
@@ -38,7 +39,7 @@ both-of-none : (a b i : ℕ) → in_mask a i ≡ false → in_mask b i ≡ false
 both-of-none a b i left right =
     ap (λ n. eqb n 1) (bit_at_or a b i) ∙ max-of-none (bit_at a i) (bit_at b i) (bit_at-lt a i) (bit_at-lt b i) left right
 
-is-empty : (ts : List Token) → waits_in ts ≡ false → ts ≡ []
+pub is-empty : (ts : List Token) → waits_in ts ≡ false → ts ≡ []
 is-empty [] is = refl
 is-empty (t ∷ ts) is = absurd (true≢false is)
 

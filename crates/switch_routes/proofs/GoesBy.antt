@@ -21,7 +21,7 @@ first_cases None (t ∷ ts) is = cc
 first_cases (Some u) [] is = cc
 first_cases (Some u) (t ∷ ts) is = cc
 
-same-buffer : (w : Option EndCounts) (l : Option LinkRec) → IsCountsOf w l → buffer_of w ≡ buffer_of_link l
+pub same-buffer : (w : Option EndCounts) (l : Option LinkRec) → IsCountsOf w l → buffer_of w ≡ buffer_of_link l
 same-buffer None None of = refl
 same-buffer None (Some l) of = absurd of
 same-buffer (Some w) None of = absurd of

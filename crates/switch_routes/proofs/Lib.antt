@@ -12,3 +12,4 @@ pub mod Spares
 pub mod Still
 pub mod Walk
 pub mod CanAct
+pub mod StillNetwork

@@ -1,17 +1,21 @@
 -- What masks say of inputs and of link ends.
-use Rattle.std.proofs.Common.{ℕ, zero, suc, ◌≡◌, ◌≢◌, ◌<◌, ◌≤◌, Bool, true, false, cond, eqb, Option, None, List, [], ◌∷◌, length, get_or, set, refl, sym, ap, ◌∙◌, inl, inr, arith}
-use Rattle.std.specs.Prelude.{◌==◌, replicate}
-use Rattle.std.specs.List.{AllByRecursion}
-use Rattle.std.proofs.lemmas.Bool.{eq-eqb, ne_eqb, cond-true, cond-false, cases_eq, false≢true}
-use Rattle.std.proofs.lemmas.Nat.Bits.{bit_at-zero}
+use Rattle.std.proofs.Common.{ℕ, zero, suc, ◌≡◌, ◌≢◌, ◌<◌, ◌≤◌, Bool, true, false, cond, eqb, Option, Some, None, List, [], ◌∷◌, length, get_or, set, drop, refl, sym, ap, ◌∙◌, inl, inr, arith}
+use Rattle.std.specs.Prelude.{◌==◌, replicate, MatchOption, is_some}
+use Rattle.std.specs.List.{AllByRecursion, list_any}
+use Rattle.std.proofs.lemmas.Bool.{eq-eqb, ne_eqb, cond-true, cond-false, cases_eq, cases_lt, false≢true, true≢false}
+use Rattle.std.proofs.lemmas.Nat.Bits.{bit_at-zero, bit_at_above}
 use Rattle.std.proofs.lemmas.List.{get_or-set_other}
+use Rattle.xs_base.specs.declared.token.Token.{Token}
 use Rattle.xs_model.specs.Masks.{in_mask}
 use Rattle.xs_model.specs.Record.{Idle}
+use Rattle.xs_model.specs.Choices.{waits_in}
+use Rattle.chan_ends.proofs.Marked.{none_passes}
 use Rattle.link_ends.specs.Counts.{EndCounts}
 use Rattle.switch_routes.specs.declared.inputs.Input.{Input}
 use Rattle.switch_routes.specs.declared.inputs.Input.TheVariants as input
 use Rattle.switch_routes.specs.Inputs.{state_of, states_in, InputFits}
-use Rattle.switch_routes.specs.Rest.{acts_alone, AreMarked}
+use Rattle.quiet_model.specs.Still.{acts_alone}
+use Rattle.switch_routes.specs.Rest.{AreMarked, has_waiting}
 use Rattle.switch_routes.specs.Rows.{buffer_of}
 
 pub none-in : (i : ℕ) → in_mask 0 i ≡ false
@@ -96,3 +100,33 @@ marked-empty mask after e row x marked is others k h clear = elim (cases_eq k e)
   | inl same ↦ ap (λ (j : ℕ). buffer_of (get_or (set row e x) j None)) same ∙ empty-at row e x is
   | inr other ↦ ap buffer_of (get_or-set_other row e k x None other) ∙ marked k h (sym (others k h other) ∙ clear)
 ]
+
+-- whether one waits, by the first that does
+pub none_waits : (r : Option Token) (ts : List Token) → MatchOption r (ts ≡ []) (λ t. ts ≡ t ∷ drop 1 ts) → is_some r ≡ false → ts ≡ []
+none_waits None ts is none = is
+none_waits (Some t) ts is none = absurd (true≢false none)
+
+pub one_waits : (r : Option Token) (ts : List Token) → MatchOption r (ts ≡ []) (λ t. ts ≡ t ∷ drop 1 ts) → is_some r ≡ true → waits_in ts ≡ true
+one_waits None ts is some = absurd (false≢true some)
+one_waits (Some t) ts is some = ap waits_in is
+
+-- only a place of the row is marked in a mask of eight bits
+pub marks-a-place : (mask e : ℕ) → mask < 256 → in_mask mask e ≡ true → e < 8
+marks-a-place mask e byte its = elim (cases_lt e 8) [
+  | inl h ↦ h
+  | inr h ↦ absurd (false≢true (sym (ap (λ (b : ℕ). eqb b 1) (bit_at_above mask 8 e byte h)) ∙ its))
+]
+
+-- a link end at which none waits is marked no longer
+pub marked-less : (mask after e : ℕ) (row : List (Option EndCounts))
+    → AreMarked mask row → buffer_of (get_or row e None) ≡ [] → ((k : ℕ) → k < 32 → in_mask after k ≡ cond (eqb k e) false (in_mask mask k))
+    → AreMarked after row
+marked-less mask after e row marked empty bits k h clear = elim (cases_eq k e) [
+  | inl same ↦ ap (λ (j : ℕ). buffer_of (get_or row j None)) same ∙ empty
+  | inr other ↦ marked k h (sym (bits k (omega (arith, h)) ∙ cond-false (eqb k e) _ _ (ne_eqb k e other)) ∙ clear)
+]
+
+-- where no link end is marked, no token waits
+pub none_marked : (mask : ℕ) (row : List (Option EndCounts)) → mask ≡ 0 → AreMarked mask row → length row ≡ 8 → list_any has_waiting row ≡ false
+none_marked mask row empty marked long =
+    none_passes has_waiting None row (λ k h. ap waits_in (marked k (omega (arith, h, long)) (ap (λ (m : ℕ). in_mask m k) empty ∙ none-in k)))

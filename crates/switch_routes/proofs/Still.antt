@@ -6,7 +6,7 @@ use Rattle.xs_base.specs.declared.token.Token.TheVariants.{Byte}
 use Rattle.xs_model.specs.Record.{InputRec, Idle, Head1, Head2, Want, Local, Out, Lost}
 use Rattle.xs_model.specs.AtWork.{AtWork}
 use Rattle.net_model.specs.Switch.{Routes, state_at, waiting_at, want_step, input_step, step_at, head_step, packet_step, local_step, lost_step, out_token, end_may_send, link_at, to_state, send, header_byte}
-use Rattle.switch_routes.specs.Rest.{acts_alone}
+use Rattle.quiet_model.specs.Still.{acts_alone}
 use Rattle.switch_routes.proofs.Spares.{input-spares}
 
 pub record Still (i : ℕ) (m : AtWork) : Type 0 where

@@ -1,16 +1,15 @@
 -- The walk over the inputs that can act, in their order, makes the steps of all inputs.
-use Rattle.std.proofs.Common.{ℕ, zero, suc, ◌≡◌, ◌≢◌, ◌+◌, ◌-◌, ◌<◌, ◌≤◌, true, false, cond, eqb, Option, List, get_or, sym, refl, ap, subst, ◌∙◌, inl, inr, arith}
+use Rattle.std.proofs.Common.{ℕ, zero, suc, ◌≡◌, ◌≢◌, ◌+◌, ◌-◌, ◌<◌, ◌≤◌, true, false, cond, eqb, List, get_or, sym, refl, ap, subst, ◌∙◌, inl, inr, arith}
 use Rattle.std.proofs.lemmas.Bool.{cases_eq, cases_lt, false≢true, cond-true, cond-false, eq-eqb, ne_eqb}
 use Rattle.xs_model.specs.Masks.{in_mask}
-use Rattle.xs_model.specs.Record.{ChanRec, InputRec, Idle}
+use Rattle.xs_model.specs.Record.{InputRec, Idle}
 use Rattle.xs_model.specs.AtWork.{AtWork}
 use Rattle.net_model.specs.Switch.{Routes, input_step, moves}
-use Rattle.link_ends.specs.Counts.{EndCounts}
 use Rattle.switch_routes.specs.declared.work.Work.{Work}
-use Rattle.switch_routes.specs.Rest.{acts_alone, IsStill}
-use Rattle.switch_routes.specs.Switch.{SwitchRec, StandsIn, known_routes}
+use Rattle.quiet_model.specs.Still.{acts_alone}
+use Rattle.switch_routes.specs.Rest.{IsStill}
 use Rattle.switch_routes.specs.Work.{Begun, Stands, GoesBy}
-use Rattle.switch_routes.proofs.GoesBy.{goes-then, goes-as, goes-nowhere, goes-at_most, waits, waits_of}
+use Rattle.switch_routes.proofs.GoesBy.{goes-then, goes-as, goes-nowhere, goes-at_most, waits}
 use Rattle.switch_routes.proofs.Marks.{none-in}
 use Rattle.switch_routes.proofs.Moves.{first_steps, no_steps, next_step, all_steps}
 use Rattle.switch_routes.proofs.Still.{Still, still-step, still-on}
@@ -99,12 +98,8 @@ walked-last p left start now none walked =
     (goes-at_most p 40 walked.within walked.goes)
 
 -- where every input does nothing, the switch does nothing
-pub switch-rests : (slot : ℕ) (switch : SwitchRec) (ends : List ChanRec) (row : List (Option EndCounts)) (left : ℕ) (m : AtWork) → left ≡ 0 → ((i : ℕ) → i < 40 → in_mask left i ≡ false → IsStill switch.inputs ends row i) → StandsIn slot switch ends row m.rec → moves (known_routes switch row) slot m ≡ m
-switch-rests slot switch ends row left m none still s =
-    let routes = known_routes switch row in
+pub moves-still : (routes : Routes) (slot : ℕ) (m : AtWork) → ((i : ℕ) → i < 40 → Still i m) → moves routes slot m ≡ m
+moves-still routes slot m still =
     sym (all_steps routes slot 40 m)
-    ∙ steps-still routes slot 0 40 40 m refl (λ i from h.
-    let is = still i h (ap (λ (l : ℕ). in_mask l i) none ∙ none-in i) in
-    subst (λ (x : AtWork). Still i x) (sym (no_steps routes slot m))
-    (record { alone = ap (λ (xs : List InputRec). acts_alone (get_or xs i Idle)) (sym s.inputs) ∙ is.alone; waiting = sym (waits_of ends row m.rec s.chans s.links i) ∙ is.waiting }))
+    ∙ steps-still routes slot 0 40 40 m refl (λ i from h. subst (λ (x : AtWork). Still i x) (sym (no_steps routes slot m)) (still i h))
     ∙ no_steps routes slot m

@@ -4,7 +4,7 @@ use Rattle.std.specs.List.{AllByRecursion}
 use Rattle.xs_base.specs.declared.numbers.TheConstants.{LINK_ENDS, CHAN_ENDS, INPUTS, HEADER_BYTES}
 use Rattle.xs_model.specs.Masks.{in_mask}
 use Rattle.xs_model.specs.Record.{InputRec, Idle, Head1, Head2, Want, Local, Out, Lost}
-use Rattle.switch_routes.specs.Rest.{acts_alone}
+use Rattle.quiet_model.specs.Still.{acts_alone}
 use Rattle.switch_routes.specs.declared.inputs.Input.{Input}
 use Rattle.switch_routes.specs.declared.inputs.Input.TheVariants as input
 

@@ -5,7 +5,7 @@ ghost use Rattle.xs_base.specs.declared.numbers.TheConstants.{INPUTS};
 ghost use Rattle.xs_model.specs.Record.{Idle};
 ghost use Rattle.xs_model.specs.Masks.{in_mask};
 ghost use Rattle.net_model.specs.Switch.{is_local_to, is_out_by};
-ghost use Rattle.switch_routes.specs.Rest.{acts_alone};
+ghost use Rattle.quiet_model.specs.Still.{acts_alone};
 ghost use Rattle.switch_routes.specs.Inputs.{state_of, InputFits, idle_inputs};
 
 use bit_masks::wide::with_bit;
@@ -89,6 +89,13 @@ impl Inputs {
         ensures above { (i : ℕ) → INPUTS ≤ i → i < 64 → in_mask result i ≡ false }
     {
         self.alone
+    }
+
+    /// Whether some input acts though no token waits at it.
+    pub(crate) fn some_alone(&self) -> bool
+        ensures value { result ≡ list_any acts_alone self.now }
+    {
+        self.alone != 0
     }
 
     /// Whether some input holds a channel end.

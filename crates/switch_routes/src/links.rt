@@ -1,6 +1,7 @@
 //! `Links`, the row of a node's link ends.
 ghost use Rattle.std.specs.Prelude.{ℕ, ◌≡◌, ◌≢◌, ◌<◌, ◌≤◌, true, false, is_some, Some, None, Option, IsNone, List, [], ◌∷◌, drop, length, slice_set, slice_index_or, MatchOption};
 ghost use Rattle.std.specs.Borrow.{sem};
+ghost use Rattle.std.specs.List.{list_any};
 ghost use Rattle.xs_base.specs.declared.numbers.TheConstants.{LINK_ENDS};
 ghost use Rattle.xs_model.specs.Masks.{in_mask};
 ghost use Rattle.xs_model.specs.Record.{LinkRec};
@@ -8,10 +9,11 @@ ghost use Rattle.net_model.specs.Links.{links_after_arrivals, link_after_arrival
 ghost use Rattle.net_model.specs.Switch.{Routes, sent_in, end_may_send};
 ghost use Rattle.link_ends.specs.Counts.{EndCounts, CountsOf};
 ghost use Rattle.switch_routes.specs.Rows.{no_ends, counts_at, AllCountsOf, end_gaps, CreditedBy, SentBy, buffer_of, may_send_by, without_first};
-ghost use Rattle.switch_routes.specs.Rest.{AreMarked};
+ghost use Rattle.switch_routes.specs.Rest.{AreMarked, has_waiting};
 ghost use Rattle.switch_routes.specs.Lends.{LendsEnd};
 
 use arrayvec::ArrayVec;
+use bit_masks::{lowest, without};
 use link_ends::LinkEnd;
 use std::marker::Model;
 use xs_base::Token;
@@ -138,6 +140,21 @@ impl Links {
         ensures marked { AreMarked result self.now }
     {
         self.waiting
+    }
+
+    /// Whether a token waits at some link end. Where none may, that is seen at once.
+    pub(crate) fn some_wait(&self) -> bool
+        ensures value { result ≡ list_any has_waiting self.now }
+    {
+        let mut left = u32::from(self.waiting);
+        while left != 0 {
+            let end = lowest(left);
+            if self.first(end).is_some() {
+                return true;
+            }
+            left = without(left, end);
+        }
+        false
     }
 
     /// Takes the token that waits longest out of a link end's buffer, where one waits.

@@ -6,7 +6,8 @@ ghost use Rattle.xs_model.specs.declared.event.Event.{Event};
 ghost use Rattle.xs_model.specs.Record.{NodeRec};
 ghost use Rattle.xs_model.specs.AtWork.{AtWork};
 ghost use Rattle.net_model.specs.Switch.{moves, chan_is_busy};
-ghost use Rattle.switch_routes.specs.Rows.{SentBy, end_gaps};
+ghost use Rattle.quiet_model.specs.Still.{network_is_still};
+ghost use Rattle.switch_routes.specs.Rows.{AllCountsOf, SentBy, end_gaps};
 ghost use Rattle.switch_routes.specs.Switch.{StandsIn, idle_switch, known_routes, with_parts, emitted_after};
 ghost use Rattle.switch_routes.specs.Work.{GoesBy};
 
@@ -89,13 +90,18 @@ impl Switch {
         work.steps();
     }
 
-    /// Whether it is known that no input can act in a slot in which nothing arrives: `moves` would change nothing, and give
-    /// nothing. See docs/LINKS.md.
-    pub fn is_at_rest(&self, chans: &ChanEnds, links: &Links) -> bool
+    /// Whether the network is still: no token waits in the output buffer of a channel end or at a link end, and no input looks
+    /// for a way or sends a header. `moves` then changes nothing, and gives nothing, in any slot. See docs/LINKS.md.
+    pub fn still(&self, chans: &ChanEnds, links: &Links) -> bool
+        ensures value { (rec : NodeRec) → self.now.inputs ≡ rec.inputs → chans.now ≡ rec.core.chans → AllCountsOf links.now rec.links →
+            result ≡ network_is_still rec.core.chans rec.links rec.inputs }
         ensures rests { IsTrue result → (slot : Slot) (m : AtWork) → StandsIn slot self.now chans.now links.now m.rec →
             moves (known_routes self.now links.now) slot m ≡ m }
     {
-        able(&self.inputs, chans, links) == 0
+        if chans.is_sending() {
+            return false;
+        }
+        !links.some_wait() && !self.inputs.some_alone()
     }
 
     /// Whether channel end `c`, 0 to 31, is at work: its own input is not idle, or some input holds it.

@@ -1,13 +1,6 @@
-use Rattle.std.proofs.Common.{◌≡◌, List, [], ◌∷◌, Option, Some, None, false, drop, sym, ◌∙◌}
-use Rattle.std.specs.Prelude.{MatchOption, is_some}
-use Rattle.std.proofs.lemmas.Bool.{true≢false}
-use Rattle.xs_base.specs.declared.token.Token.{Token}
-use Rattle.switch_routes.proofs.Marks.{marked-set, marked-empty}
+use Rattle.std.proofs.Common.{Some, sym, ◌∙◌}
+use Rattle.switch_routes.proofs.Marks.{marked-set, marked-empty, none_waits}
 use Rattle.switch_routes.proofs.links.noted.Goals as goal
-
-none_waits : (r : Option Token) (ts : List Token) → MatchOption r (ts ≡ []) (λ t. ts ≡ t ∷ drop 1 ts) → is_some r ≡ false → ts ≡ []
-none_waits None ts is none = is
-none_waits (Some t) ts is none = absurd (true≢false none)
 
 pub returns-then-is_some : goal.returns-then-is_some
 returns-then-is_some c = λ row marked. marked-set c.args.mask c.with_mark.result c.args.end row (Some c.args.link.now) marked c.with_mark.ensures.added c.with_mark.ensures.others

@@ -1,7 +1,7 @@
 use Rattle.std.proofs.Common.{◌∙◌, ap, arith}
 use Rattle.xs_model.specs.Record.{Idle}
 use Rattle.switch_routes.specs.Inputs.{states_in}
-use Rattle.switch_routes.specs.Rest.{acts_alone}
+use Rattle.quiet_model.specs.Still.{acts_alone}
 use Rattle.switch_routes.proofs.Marks.{past, length-states}
 use Rattle.switch_routes.proofs.inputs.Inputs.alone.Goals as goal
 
