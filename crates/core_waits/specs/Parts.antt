@@ -1,7 +1,7 @@
 -- The parts of a core by which threads may issue, and what is known of them.
 use Rattle.std.specs.Prelude.{ℕ, ◌≡◌, ◌<◌, ◌≤◌, ◌+◌, Bool, ◌&&◌, Option, List}
 use Rattle.xs_base.specs.Numbers.{Slot}
-use Rattle.xs_base.specs.declared.numbers.TheConstants.{THREADS, TIMERS}
+use Rattle.xs_base.specs.declared.numbers.TheConstants.{THREADS}
 use Rattle.xs_model.specs.declared.thread.Thread.{Thread}
 use Rattle.xs_model.specs.Record.{CoreRec, SlotsRec, ChanRec, TimerRec, PortRec, EnabledRec}
 use Rattle.xs_model.specs.Masks.{in_mask}
@@ -40,8 +40,7 @@ abbrev pub may_choose : Thread → Bool
 may_choose th = is_paused th.run && has_bits th.sr (EEBLE + IEBLE)
 
 -- the mask has the threads that would issue if they were rested, in all slots for which it is known, the one in which it was
--- found among them, and the timers whose condition holds there are these
+-- found among them
 pub record AreAble (core : CoreRec) (able : Able) : Type 0 where
   pub at : (slot k : ℕ) → IsFor able slot → k < THREADS → in_mask able.threads k ≡ is_able core k slot
   pub now : able.slot ≤ able.until
-  pub ready : (n : ℕ) → n < TIMERS → in_mask able.ready n ≡ timer_holds able.slot (timer_at core.timers n)

@@ -1,5 +1,5 @@
 //! The threads that may issue.
-ghost use Rattle.std.specs.Prelude.{◌≡◌, ℕ, ◌<◌, ◌≤◌, ◌&&◌, true, ◌↔◌, IfSome, is_some, slice_index_or};
+ghost use Rattle.std.specs.Prelude.{◌≡◌, ℕ, ◌<◌, ◌≤◌, ◌&&◌, true, ◌↔◌, is_some, slice_index_or};
 ghost use Rattle.xs_base.specs.declared.numbers.TheConstants.{THREADS};
 ghost use Rattle.xs_model.specs.Masks.{in_mask};
 ghost use Rattle.xs_model.specs.Status.{no_status};
@@ -37,8 +37,6 @@ pub struct Able {
     pub slot: u32,
     /// The last slot for which it is known: up to it the conditions of timers hold alike, and the divider stays free or not.
     pub until: u32,
-    /// The timers whose condition holds in the slot in which it was found, bit n for timer n.
-    pub ready: u32,
 }
 
 impl Able {
@@ -63,7 +61,6 @@ impl Able {
             threads: going | choosing,
             slot,
             until: known_until(slots, timers, slot),
-            ready: timers.ready(slot),
         }
     }
 
@@ -74,26 +71,6 @@ impl Able {
     {
         self.slot <= slot && slot <= self.until
     }
-
-    /// The same from a later slot on, if it holds there too: the conditions of the same timers hold there, and the divider is
-    /// free there or not, as before.
-    pub fn again(&self, slots: &Slots, timers: &Timers, slot: u32) -> Option<Able>
-        ensures value { (core : CoreRec) → core.slots ≡ slots.now → core.timers ≡ timers.now → AreAble core self.now → IfSome result (AreAble core) }
-        ensures now { IfSome result (λ able. IsFor able slot) }
-    {
-        if slot < self.slot || slots.divider_until(self.slot) < slot {
-            return None;
-        }
-        if timers.ready(slot) != self.ready {
-            return None;
-        }
-        Some(Able {
-            threads: self.threads,
-            slot,
-            until: known_until(slots, timers, slot),
-            ready: self.ready,
-        })
-    }
 }
 
 // The last slot up to which what threads wait for of the slot alone holds as in this one.
@@ -101,12 +78,7 @@ fn known_until(slots: &Slots, timers: &Timers, slot: u32) -> u32
     ensures alike { (later : ℕ) → slot ≤ later → later ≤ result → AreAlike timers.now slots.now.division slot later }
     ensures now { slot ≤ result }
 {
-    let until = slots.divider_until(slot);
-    if timers.has_conditions() {
-        until.min(Timers::time_until(slot))
-    } else {
-        until
-    }
+    slots.divider_until(slot).min(timers.alike_until(slot))
 }
 
 /// What thread `k`, 0 to 7, takes in a slot, whose status is this: an event, an interrupt or nothing. See docs/EVENTS.md.

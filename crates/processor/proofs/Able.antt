@@ -96,7 +96,7 @@ module _ (core : CoreRec) (threads : List Thread) (slots : SlotsRec) (memory : L
 
   pub known_still : (able : Option Able) → IfSome able (AreAble core) → IfSome able (AreAble (with_these core threads slots memory))
   known_still None known = tt
-  known_still (Some able) known = record { at = λ slot k is below. known.at slot k is below ∙ sym (able_still slot k); now = known.now; ready = known.ready }
+  known_still (Some able) known = record { at = λ slot k is below. known.at slot k is below ∙ sym (able_still slot k); now = known.now }
 
 -- What is known stays true where thread k, read with any default, goes and does what it did; the memory may change.
 pub thread-set : (core : CoreRec) (k : ℕ) (th default : Thread) (memory : List ℕ) → k < THREADS → length core.threads ≡ THREADS → (thread_of core k).run ≡ Going → th.run ≡ (get_or core.threads k default).run → StaysKnown core (with_these core (slice_set core.threads k th) core.slots memory)

@@ -3,3 +3,5 @@ pub mod Served
 pub mod Settles
 pub mod Issues
 pub mod Parts
+pub mod Eligible
+pub mod Firsts

@@ -78,4 +78,4 @@ module _ (core : CoreRec) (ports : List PortRec) (same : (p : ℕ) → ServesAs 
 
   pub known_served : (able : Option Able) → IfSome able (AreAble core) → IfSome able (AreAble (with_ports core ports))
   known_served None known = tt
-  known_served (Some able) known = record { at = λ slot k is below. known.at slot k is below ∙ sym (able_served slot k); now = known.now; ready = known.ready }
+  known_served (Some able) known = record { at = λ slot k is below. known.at slot k is below ∙ sym (able_served slot k); now = known.now }

@@ -1,5 +1,5 @@
 //! At most one issue in a slot.
-ghost use Rattle.std.specs.Prelude.{◌≡◌, ◌<◌, ◌≤◌, ◌+◌, Some, None, length, IsTrue};
+ghost use Rattle.std.specs.Prelude.{◌≡◌, ◌<◌, ◌≤◌, ◌+◌, Some, None, is_some, length, IsTrue};
 ghost use Rattle.xs_base.specs.declared.numbers.TheConstants.{THREADS, EVENT_ROOM, ISSUE_EVENTS};
 ghost use Rattle.xs_model.specs.declared.thread.Run.TheVariants.{Going};
 ghost use Rattle.xs_model.specs.Record.{thread_of, with_thread, with_run, with_last};
@@ -11,6 +11,7 @@ ghost use Rattle.step_model.specs.ResourceRows.{resources_row};
 ghost use Rattle.step_model.specs.Step.{issue_begins, executed, settled, trap, issued, issued_by};
 ghost use Rattle.core_units.specs.Here.{IsHere};
 ghost use Rattle.xs_model.specs.Outside.{LevelsFit};
+ghost use Rattle.xs_model.specs.Picks.{picked};
 ghost use Rattle.core_units.specs.Ending.{IsEnding};
 ghost use Rattle.core_units.specs.Units.{Ends, EndsWith};
 ghost use Rattle.processor.specs.Issue.{effect_of, effect_with, is_quiet, and_happened, IsLeft, entered_by};
@@ -30,8 +31,8 @@ use xs_model::traps::ILLEGAL_PC;
 use xs_model::{Event, Happen, Outcome, PinView, Run, Thread};
 
 impl Processor {
-    /// At most one issue, by the thread that is picked in a slot. What happens is put after the events of `out`.
-    /// See docs/MACHINE.md.
+    /// At most one issue, by the thread that is picked in a slot. What happens is put after the events of `out`. The answer tells
+    /// whether a thread issued. See docs/MACHINE.md.
     #[inline]
     pub fn issue<H: Holders>(
         &mut self,
@@ -40,16 +41,21 @@ impl Processor {
         pins: &PinView,
         holders: &H,
         out: &mut Emissions,
-    )
+    ) -> bool
         requires room { length out.old.events + ISSUE_EVENTS ≤ EVENT_ROOM }
         requires levels { LevelsFit pins.now.level }
+        ensures issued { result ≡ is_some (picked self.old slot) }
         ensures units { (here : Setting) → IsHere program.now.id slot pins.now (H.busy holders.now) here →
             self.new ≡ (issued program.now.code here self.old).core }
         ensures events { (here : Setting) → IsHere program.now.id slot pins.now (H.busy holders.now) here →
             out.new ≡ and_happened out.old slot (issued program.now.code here self.old).happened }
     {
-        if let Some(k) = self.picked(slot) {
-            self.issue_by(k, program, slot, pins, holders, out);
+        match self.picked(slot) {
+            Some(k) => {
+                self.issue_by(k, program, slot, pins, holders, out);
+                true
+            }
+            None => false,
         }
     }
 

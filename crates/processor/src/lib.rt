@@ -4,8 +4,10 @@
 mod edges;
 mod issue;
 mod picks;
+mod ports;
 mod processor;
 mod program;
+mod quiet;
 mod rows;
 
 pub use core_units::{BadAddress, Holders, Ram};

@@ -42,32 +42,9 @@ impl Processor {
         ensures value { (k : ℕ) → k < THREADS → in_mask result k ≡ is_able self.old k slot }
         ensures unchanged { self.new ≡ self.old }
     {
-        let able = self.able_in(slot);
+        let able = found_able(&self.units, slot);
         self.able = Some(able);
         able.threads
-    }
-
-    // Which threads are able in a slot: what was known for another time, where it holds in this slot too, or else what is
-    // found anew.
-    fn able_in(&self, slot: u32) -> Able
-        ensures value { AreAble self.now result }
-        ensures now { IsFor result slot }
-    {
-        match self.still_able(slot) {
-            Some(able) => able,
-            None => found_able(&self.units, slot),
-        }
-    }
-
-    // What was known for another time, where it holds in this slot too.
-    fn still_able(&self, slot: u32) -> Option<Able>
-        ensures value { IfSome result (AreAble self.now) }
-        ensures now { IfSome result (λ able. IsFor able slot) }
-    {
-        match self.able {
-            Some(known) => able_again(&self.units, known, slot),
-            None => None,
-        }
     }
 
     /// What thread k takes in a slot: an event, an interrupt or nothing.
@@ -90,8 +67,8 @@ fn pick(units: &Units, able: u8, slot: u32) -> Option<u8>
     units.slots.pick(able, slot)
 }
 
-// Which threads are able in a slot.
-fn found_able(units: &Units, slot: u32) -> Able
+// Which threads are able in a slot, found anew.
+pub(crate) fn found_able(units: &Units, slot: u32) -> Able
     ensures value { AreAble units.now result }
     ensures now { IsFor result slot }
 {
@@ -105,15 +82,6 @@ fn found_able(units: &Units, slot: u32) -> Able
         &units.events,
         slot,
     )
-}
-
-// What was known for another time, where it holds in this slot too.
-fn able_again(units: &Units, known: Able, slot: u32) -> Option<Able>
-    requires { AreAble units.now known }
-    ensures value { IfSome result (AreAble units.now) }
-    ensures now { IfSome result (λ able. IsFor able slot) }
-{
-    known.again(&units.slots, &units.timers, slot)
 }
 
 // What a thread takes in a slot.

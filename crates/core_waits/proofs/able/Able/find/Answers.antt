@@ -1,8 +1,6 @@
-use Rattle.std.proofs.Common.{Option, List, ℕ, ap, ap₂, subst, sym, ◌∙◌}
+use Rattle.std.proofs.Common.{ap₂, subst, sym, ◌∙◌}
 use Rattle.std.specs.Prelude.{◌||◌}
-use Rattle.xs_model.specs.Record.{TimerRec, SlotsRec}
-use Rattle.xs_model.specs.Time.{timer_holds}
-use Rattle.timers_clocks.specs.Timers.{timer_at}
+use Rattle.xs_model.specs.Record.{SlotsRec}
 use Rattle.core_waits.specs.Parts.{AreAlike}
 use Rattle.core_waits.proofs.Bits.{in_either}
 use Rattle.core_waits.proofs.Alike.{able_alike}
@@ -18,5 +16,4 @@ returns-clause-value c = λ core parts. record {
       (subst (λ timers. AreAlike timers core.slots.division c.args.slot slot) (sym parts.timers)
       (subst (λ (slots : SlotsRec). AreAlike c.args.timers.now slots.division c.args.slot slot) (sym parts.slots) (c.known_until.ensures.alike slot is.0 is.1))) k;
   now = c.known_until.ensures.now;
-  ready = λ n below. c.ready.ensures.value n below ∙ sym (ap (λ (timers : List TimerRec). timer_holds c.args.slot (timer_at timers n)) parts.timers);
 }
