@@ -1,4 +1,5 @@
 pub mod PinLevels
 pub mod Core
+pub mod Quiet
 pub mod Network
 pub mod Inside

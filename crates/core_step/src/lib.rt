@@ -4,6 +4,7 @@
 mod network;
 mod node_core;
 mod pin_levels;
+mod rest;
 
 pub use node_core::Core;
 pub use processor::BadAddress;

@@ -2,8 +2,9 @@
 ghost use Rattle.std.specs.Prelude.{ℕ, ◌≡◌, ◌≤◌, ◌+◌, false, List, Option, length, map, slice_index_or, None, IsTrue};
 ghost use Rattle.xs_base.specs.declared.numbers.TheConstants.{EVENTS_BEFORE_SWITCH, SWITCH_EVENTS};
 ghost use Rattle.xs_model.specs.AtWork.{AtWork};
-ghost use Rattle.xs_model.specs.Record.{LinkRec};
+ghost use Rattle.xs_model.specs.Record.{LinkRec, NodeRec};
 ghost use Rattle.net_model.specs.Links.{links_after_arrivals};
+ghost use Rattle.quiet_model.specs.Still.{network_is_still};
 ghost use Rattle.switch_routes.specs.Rows.{AllCountsOf, CreditedBy, SentBy, end_gaps};
 ghost use Rattle.core_step.specs.Core.{NothingArrives};
 ghost use Rattle.core_step.specs.Network.{NetworkStands, Brings, routes_of, counts_with_gap, first_network};
@@ -44,7 +45,7 @@ impl Network {
     }
 
     /// What arrives by the link ends in a slot, if anything does, and then the switch, which works with the units' channel
-    /// ends. It is not asked where no input can act.
+    /// ends. It is not asked where the network is still.
     pub(crate) fn bring(
         &mut self,
         units: &mut Processor,
@@ -63,11 +64,20 @@ impl Network {
         ensures events { length out.new.events ≤ length out.old.events + SWITCH_EVENTS }
     {
         take_in(&mut self.links, arrives, arrivals);
-        if self.switch.is_at_rest(units.chans(), &self.links) {
+        if self.switch.still(units.chans(), &self.links) {
             return;
         }
         self.switch
             .moves(units.chans_mut(), &mut self.links, slot, out);
+    }
+
+    /// Whether the network is still, with the units' channel ends: no token waits to go anywhere, and no input of the switch acts
+    /// though none waits.
+    pub(crate) fn still(&self, units: &Processor) -> bool
+        ensures value { (rec : NodeRec) → units.now ≡ rec.core → self.now.switch.inputs ≡ rec.inputs → AllCountsOf self.now.links rec.links →
+            result ≡ network_is_still rec.core.chans rec.links rec.inputs }
+    {
+        self.switch.still(units.chans(), &self.links)
     }
 }
 

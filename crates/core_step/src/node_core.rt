@@ -1,17 +1,26 @@
 //! `Core`, one node's core.
-ghost use Rattle.std.specs.Prelude.{◌≡◌, ◌<◌, ◌+◌, ◌↔◌, false, length, IfOk, IsErr};
+ghost use Rattle.std.specs.Prelude.{◌≡◌, ◌<◌, ◌≤◌, ◌+◌, ◌-◌, ◌↔◌, true, false, List, [], Option, length, IfOk, IsErr};
 ghost use Rattle.std.specs.Result.{result_ok};
+ghost use Rattle.xs_base.specs.Numbers.{Slot};
 ghost use Rattle.xs_base.specs.declared.numbers.TheConstants.{MEMORY_BYTES, THREADS};
-ghost use Rattle.xs_model.specs.Record.{NodeRec, thread_of};
+ghost use Rattle.xs_model.specs.Record.{NodeRec, LinkRec, thread_of};
 ghost use Rattle.xs_model.specs.Memory.{load_word, is_word_address};
-ghost use Rattle.xs_model.specs.Outside.{LevelsFit};
+ghost use Rattle.xs_model.specs.Outside.{LevelsFit, emitted_events};
 ghost use Rattle.step_model.specs.Start.{fixed_of, node_of, WaysHaveGaps};
 ghost use Rattle.step_model.specs.Step.{node_step};
-ghost use Rattle.core_step.specs.Core.{StandsAt, SlotsBefore, NothingArrives};
+ghost use Rattle.switch_routes.specs.Rows.{AllCountsOf};
+ghost use Rattle.quiet_model.specs.Still.{network_is_still, ports_are_still, still};
+ghost use Rattle.quiet_laws.specs.Undisturbed.{undisturbed_until, no_arrivals, ShowsAll};
+ghost use Rattle.quiet_laws.specs.Quiet.{StirsFirst};
+ghost use Rattle.core_step.specs.Core.{StandsFor, StandsAt, SlotsBefore, NothingArrives};
+ghost use Rattle.core_step.specs.Quiet.{IsQuietTo};
 
 use crate::network::{Network, nothing_arrives};
 use crate::pin_levels::{PinLevels, high_before};
+use crate::rest::Rest;
 use processor::{BadAddress, Processor, Program, Ram};
+use quiet_laws::{first_stirring_slot, quiet_slots_only_count};
+use quiet_model::first_slots;
 use std::alloc::{AllocError, Global};
 use std::marker::Model;
 use sys_plan::NodePlan;
@@ -27,6 +36,8 @@ pub struct Core {
     network: Network,
     // What is kept of the pins' levels at the end of the slot before.
     levels: PinLevels,
+    // The slots in which it is known to be quiet, where nothing arrives.
+    rest: Rest,
 }
 
 impl Model for Core {
@@ -60,6 +71,7 @@ impl Core {
                 pins: PinView { level: [0; 29] },
                 is_outside: false,
             },
+            rest: Rest::none(),
         })
     }
 
@@ -122,14 +134,130 @@ impl Core {
             out.new ≡ (node_step self.old.fixed rec slot arrivals.now pins.now).emitted }
         ensures after { SlotsBefore self.new (slot + 1) }
     {
+        if !arrives && self.rests(slot, pins) {
+            Emissions::clear(out);
+            return;
+        }
+        if !self.acts(arrives, slot, arrivals, pins, out) {
+            self.find_rest(slot);
+        }
+    }
+
+    // Goes over a slot in which nothing arrives, where it is known to be quiet in it: the answer tells whether it was.
+    #[inline]
+    fn rests(&mut self, slot: u32, pins: &PinView) -> bool
+        requires before { SlotsBefore self.old slot }
+        ensures fixed { self.new.fixed ≡ self.old.fixed }
+        ensures step { result ≡ true → (rec : NodeRec) → StandsAt self.old rec slot →
+            StandsAt self.new (node_step self.old.fixed rec slot no_arrivals pins.now).rec (slot + 1) }
+        ensures nothing { result ≡ true → (rec : NodeRec) → StandsAt self.old rec slot →
+            (node_step self.old.fixed rec slot no_arrivals pins.now).emitted ≡ emitted_events [] }
+        ensures after { result ≡ true → SlotsBefore self.new (slot + 1) }
+        ensures same { result ≡ false → self.new ≡ self.old }
+    {
+        quiet_slots_only_count();
+        first_stirring_slot();
+        if !self.rest.begins(slot) {
+            return false;
+        }
+        self.units.keeps();
+        self.units.pass(slot, slot + 1);
+        self.levels.note(pins);
+        self.rest.from = slot + 1;
+        true
+    }
+
+    // A slot, phase by phase. The answer tells whether a thread issued.
+    fn acts(
+        &mut self,
+        arrives: bool,
+        slot: u32,
+        arrivals: &Arrivals,
+        pins: &PinView,
+        out: &mut Emissions,
+    ) -> bool
+        requires before { SlotsBefore self.old slot }
+        requires levels { LevelsFit pins.now.level }
+        requires arrives { arrives ≡ false → NothingArrives arrivals.now }
+
+        ensures fixed { self.new.fixed ≡ self.old.fixed }
+        ensures step { (rec : NodeRec) → StandsAt self.old rec slot →
+            StandsAt self.new (node_step self.old.fixed rec slot arrivals.now pins.now).rec (slot + 1) }
+        ensures emissions { (rec : NodeRec) → StandsAt self.old rec slot →
+            out.new ≡ (node_step self.old.fixed rec slot arrivals.now pins.now).emitted }
+        ensures after { SlotsBefore self.new (slot + 1) }
+    {
         out.clear();
+        self.rest = Rest::none();
         let high = high_before(&self.units, &self.levels);
         // What arrives changes no port, so it may come after the edges.
         self.units.edges(slot, pins, high, out);
         self.network
             .bring(&mut self.units, arrives, slot, arrivals, out);
-        self.units
+        let issued = self
+            .units
             .issue(&self.program, slot, pins, &self.network, out);
         self.levels.note(pins);
+        issued
+    }
+
+    // Looks how long it is quiet after a slot in which no thread issued.
+    fn find_rest(&mut self, slot: u32)
+        ensures { self.new ≡ self.old }
+    {
+        if let Some(from) = slot.checked_add(1) {
+            let until = self.quiet_to(from, u32::MAX);
+            self.rest = Rest { from, until };
+        }
+    }
+
+    /// The first slot from `from` on and before `bound` in which the node stirs where nothing arrives until then: something is on
+    /// its way in it, a thread may issue, or a port's next transfer begins. It is `bound` where it stirs in none of them, or there is
+    /// none. `from` is the slot before which the core stands. See docs/QUIET_SLOTS.md.
+    pub fn quiet_to(&self, from: u32, bound: u32) -> u32
+        ensures first { (rec : NodeRec) (pins : Slot → PinView) → StandsAt self.now rec from → ((slot : Slot) → ShowsAll (pins slot)) →
+            StirsFirst self.now.fixed rec from pins bound result }
+        ensures quiet { from < result → IsQuietTo self.now from result }
+        ensures within { result ≤ bound }
+    {
+        first_stirring_slot();
+        first_slots();
+        self.units.keeps();
+        if !self.is_still() {
+            return from.min(bound);
+        }
+        let fall = self.units.next_fall(from, bound);
+        self.units.eligible_from(from, fall)
+    }
+
+    // Whether nothing is on its way in it, and no port that is on samples or shifts.
+    fn is_still(&self) -> bool
+        ensures value { (rec : NodeRec) → StandsFor self.now rec → result ≡ still rec }
+        ensures network { result ≡ true → (links : List (Option LinkRec)) → AllCountsOf self.now.links links →
+            network_is_still self.now.core.chans links self.now.inputs ≡ true }
+        ensures ports { result ≡ true → ports_are_still self.now.core.ports ≡ true }
+    {
+        self.network.still(&self.units) && self.units.ports_are_still()
+    }
+
+    /// Goes over the slots from `from` on and before `to` at once: nothing arrives in them, and none of them is one in which the node
+    /// stirs, as `quiet_to` tells. `last` is what the pins show from outside in the last of them, slot `to - 1`. The core then stands
+    /// for what stepping each of these slots gives. See docs/QUIET_SLOTS.md.
+    pub fn skip(&mut self, from: u32, to: u32, last: &PinView)
+        requires some { from < to }
+        requires quiet { IsQuietTo self.old from to }
+        requires before { SlotsBefore self.old from }
+
+        ensures fixed { self.new.fixed ≡ self.old.fixed }
+        ensures step { (rec : NodeRec) (pins : Slot → PinView) → StandsAt self.old rec from → ((slot : Slot) → ShowsAll (pins slot)) → pins (to - 1) ≡ last.now →
+            StandsAt self.new (undisturbed_until self.old.fixed rec from pins to) to }
+        ensures after { SlotsBefore self.new to }
+    {
+        first_stirring_slot();
+        quiet_slots_only_count();
+        self.rest = Rest::none();
+        self.units.keeps();
+        self.units.pass(from, to);
+        self.levels.note(last);
     }
 }

@@ -2,6 +2,7 @@
 ghost use Rattle.std.specs.Prelude.{◌≡◌, true, List};
 ghost use Rattle.xs_model.specs.Record.{PortRec};
 ghost use Rattle.buffered_ports.specs.Keeps.{HighAre};
+ghost use Rattle.quiet_laws.specs.Undisturbed.{ShowsAll};
 ghost use Rattle.core_step.specs.PinLevels.{levels_kept, from_outside};
 
 use buffered_ports::high_of;
@@ -22,7 +23,8 @@ impl PinLevels {
     /// From now on they are what the pins show from outside. It copies in place, in every slot.
     #[inline]
     pub(crate) fn note(&mut self, pins: &PinView)
-        ensures { self.new ≡ from_outside pins.now }
+        ensures levels { self.new ≡ from_outside pins.now }
+        ensures all { ShowsAll pins.now }
     {
         self.is_outside = true;
         self.pins.level.copy_from_slice(&pins.level);

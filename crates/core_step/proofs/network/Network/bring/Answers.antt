@@ -9,8 +9,8 @@ use Rattle.core_step.proofs.Phases.{arrives}
 use Rattle.core_step.proofs.network.Network.bring.Goals as goal
 use Rattle.core_step.proofs.network.Network.bring.Goals.{After-moves}
 
-pub returns-then-is_at_rest-clause-sent : goal.returns-then-is_at_rest-clause-sent
-returns-then-is_at_rest-clause-sent c = λ sent.
+pub returns-then-still-clause-sent : goal.returns-then-still-clause-sent
+returns-then-still-clause-sent c = λ sent.
     c.take_in.ensures.sent c.args.slot (subst (λ (n : NetworkRec). SentBy c.args.slot n.links) (sym c.self.view_is) sent)
 
 pub returns-clause-sent : goal.returns-clause-sent
