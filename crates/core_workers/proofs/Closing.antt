@@ -56,6 +56,7 @@ module _ (cause : Cause) where
         of_plan = is.of_plan;
         listens = subst (λ (xs : List Incoming). Listens cells runner xs) (sym incoming_items) is.listens;
         tells = closed_tells cells runner before.outgoing.items after.outgoing.items all is.tells;
+        busy = is.busy;
       }
 
 -- a turn leaves the logs open

@@ -15,7 +15,8 @@ use Rattle.plan_cells.specs.declared.ends.Incoming.{Incoming}
 use Rattle.plan_cells.specs.declared.ends.Ends.{Ends}
 use Rattle.plan_cells.specs.Ends.{CellsRec}
 use Rattle.core_workers.specs.declared.turn.Turn.TheVariants as turn
-use Rattle.core_workers.specs.Worker.{WorkerRec, IsInHand, IsHeard, Listens, Tells, IsWorker, StaysIncoming, StaysOutgoing, Looked, Published, reach, Stays, Exchanged, IsReadTo, Answers, shut_links}
+use Rattle.core_workers.specs.Worker.{WorkerRec, IsInHand, IsHeard, Listens, Tells, HasSteppedBusy, IsWorker, StaysIncoming, StaysOutgoing, Looked, Published, reach, Stays, Exchanged, IsReadTo, Answers, shut_links}
+use Rattle.core_workers.proofs.Counting.{busy_by}
 use Rattle.core_workers.proofs.Hearing.{fits_at}
 use Rattle.core_workers.proofs.Passes.{all_zip_refl}
 use Rattle.core_workers.proofs.Reaching.{reach_within, reach_below, reach_above}
@@ -144,6 +145,12 @@ module _ (cells : CellsRec) (r0 r1 : RunnerRec) (e0 e1 : Ends) (start : IsWorker
   stays_out_1 : AllZip StaysOutgoing e0.outgoing.items e1.outgoing.items
   stays_out_1 = subst (λ (v : List Outgoing). AllZip StaysOutgoing e0.outgoing.items v) (sym outgoing_items) (all_zip_refl StaysOutgoing none_changes e0.outgoing.items)
 
+  busy_1 : HasSteppedBusy r1
+  busy_1 = busy_by r0 r1 (ap (λ (r : RunnerRec). r.plan) heard) node_1 (ap (λ (r : RunnerRec). r.clock) heard) (ap (λ (r : RunnerRec). r.stepped) heard) start.busy
+
+  pub worker_1 : IsWorker (worker cells r1 e1)
+  worker_1 = record { plan_is = start.plan_is; of_plan = plan_1; listens = listens; tells = tells_1; busy = busy_1 }
+
   pub stays_1 : Stays (worker cells r0 e0) (worker cells r1 e1)
   stays_1 =
       let clock : r1.clock ≡ r0.clock = ap (λ (r : RunnerRec). r.clock) heard in
@@ -157,7 +164,7 @@ module _ (cells : CellsRec) (r0 r1 : RunnerRec) (e0 e1 : Ends) (start : IsWorker
         outgoing = stays_out_1;
       }
 
-  module _ (r2 : RunnerRec) (ran : r2 ≡ record r1 { clock = r2.clock }) (on : r1.clock ≤ r2.clock) where
+  module _ (r2 : RunnerRec) (ran : r2 ≡ record r1 { clock = r2.clock; stepped = r2.stepped }) (on : r1.clock ≤ r2.clock) (busy : HasSteppedBusy r2) where
     node_2 : r2.node ≡ r1.node
     node_2 = ap (λ (r : RunnerRec). r.node) ran
 
@@ -172,6 +179,9 @@ module _ (cells : CellsRec) (r0 r1 : RunnerRec) (e0 e1 : Ends) (start : IsWorker
 
     pub tells_2 : Tells cells r2 e1.outgoing.items
     tells_2 = tells_by cells r1 r2 e1.outgoing.items node_2 (ap (λ (r : RunnerRec). r.published) ran) tells_1
+
+    pub worker_2 : IsWorker (worker cells r2 e1)
+    worker_2 = record { plan_is = start.plan_is; of_plan = plan_2; listens = listens_2; tells = tells_2; busy = busy }
 
     pub stays_2 : Stays (worker cells r0 e0) (worker cells r2 e1)
     stays_2 =
@@ -204,7 +214,13 @@ module _ (cells : CellsRec) (r0 r1 : RunnerRec) (e0 e1 : Ends) (start : IsWorker
           (listens_by cells r2 r3 e1.incoming.items (ap (λ (r : RunnerRec). r.node) told) horizon_3 listens_2)
 
       pub worker_3 : IsWorker (worker cells r3 e2)
-      worker_3 = record { plan_is = start.plan_is; of_plan = ap (λ (r : RunnerRec). r.plan) told ∙ plan_2; listens = listens_3; tells = tells }
+      worker_3 = record {
+        plan_is = start.plan_is;
+        of_plan = ap (λ (r : RunnerRec). r.plan) told ∙ plan_2;
+        listens = listens_3;
+        tells = tells;
+        busy = busy_by r2 r3 (ap (λ (r : RunnerRec). r.plan) told) (ap (λ (r : RunnerRec). r.node) told) clock_3 (ap (λ (r : RunnerRec). r.stepped) told) busy;
+      }
 
       pub stays_3 : Stays (worker cells r0 e0) (worker cells r3 e2)
       stays_3 =

@@ -9,5 +9,6 @@ pub mod Handing
 pub mod Starting
 pub mod Exchanges
 pub mod Running
+pub mod Counting
 pub mod Turns
 pub mod Gathering

@@ -9,6 +9,7 @@ use Rattle.link_logs.specs.Logs.{WriteRec, ReadRec}
 use Rattle.ahead_limits.specs.declared.horizon.Seen.{Seen}
 use Rattle.ahead_limits.specs.Horizon.{HorizonRec, Sees}
 use Rattle.ahead_limits.specs.Schedule.{seen_of_link, horizon_of}
+use Rattle.busy_slots.proofs.Brought.{none_at_start}
 use Rattle.node_runners.specs.Runner.{RunnerRec, new_runner}
 use Rattle.plan_cells.specs.declared.ends.Hand.{Hand}
 use Rattle.plan_cells.specs.declared.ends.Incoming.{Incoming}
@@ -81,6 +82,7 @@ module _ (cells : CellsRec) (is : IsPlan cells.plan) (limit : Slot) (n : Positio
           none_counted 8 o.end ∙ sym (ap (λ (w : WriteRec PlanRec). w.published) (All-from_recursion (IsNewOutgoing cells.plan) ends.outgoing.items new.outgoing_new k d within));
       all_ends = refl;
     };
+    busy = sym (none_at_start cells.plan n);
   }
 
 pub made : (cells : CellsRec) (runner : RunnerRec) (ends : Ends) → IsPlan runner.plan → runner ≡ new_runner cells.plan runner.horizon.limit runner.node → AreNewEnds cells runner.node ends

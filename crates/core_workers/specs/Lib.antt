@@ -4,3 +4,4 @@ pub mod Run
 pub mod Turns
 pub mod Steps
 pub mod Gathered
+pub mod Counted

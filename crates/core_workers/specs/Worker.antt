@@ -4,6 +4,7 @@ use Rattle.std.specs.List.{AllByRecursion, AllZip}
 use Rattle.xs_base.specs.Numbers.{Slot, LinkNumber, EndNumber}
 use Rattle.sys_plan.specs.Plan.{PlanRec, IsPlan, incoming, delay_of}
 use Rattle.serial_model.specs.Serial.{history}
+use Rattle.busy_slots.specs.Busy.{busy_count}
 use Rattle.plan_stories.specs.Stories.{carried_at}
 use Rattle.link_logs.specs.declared.answers.Cause.{Cause}
 use Rattle.link_logs.specs.declared.answers.Got.{Got}
@@ -58,11 +59,16 @@ pub record Tells (cells : CellsRec) (runner : RunnerRec) (ends : List Outgoing) 
   pub told : All (IsTold runner.published) ends
   pub all_ends : length runner.published ≡ ENDS
 
+-- a node has stepped the busy slots below its clock, and no others
+abbrev pub HasSteppedBusy : RunnerRec → Type 0
+HasSteppedBusy runner = runner.stepped ≡ busy_count runner.plan runner.node runner.clock
+
 pub record IsWorker (w : WorkerRec) : Type 0 where
   pub plan_is : IsPlan w.cells.plan
   pub of_plan : w.runner.plan ≡ w.cells.plan
   pub listens : Listens w.cells w.runner w.ends.incoming.items
   pub tells : Tells w.cells w.runner w.ends.outgoing.items
+  pub busy : HasSteppedBusy w.runner
 
 -- the log of a link that leaves the node is open
 abbrev pub IsOpen : Outgoing → Type 0

@@ -1,17 +1,25 @@
-//! A node that runs as far as it may.
+//! A node that runs as far as it may, over quiet slots at once.
 ghost use Rattle.std.specs.Prelude.{◌≡◌, ◌≤◌, IfOk};
 ghost use Rattle.node_runners.specs.Runner.{Stops};
+ghost use Rattle.core_workers.specs.Worker.{HasSteppedBusy};
 
+use busy_slots::{busy_slots_are_counted, idle_where_not_busy};
 use node_runners::{NodeRunner, Ran};
 use std::alloc::AllocError;
 
-/// Runs slots of a node until a link end stops it or it is at the limit, and tells which. The error is want of memory.
+/// Runs slots of a node until a link end stops it or it is at the limit, and tells which: it goes over quiet slots at once and steps the
+/// busy ones. The error is want of memory.
 pub(crate) fn run_all(runner: &mut NodeRunner) -> Result<Ran, AllocError>
-    ensures rest { runner.new ≡ record runner.old { clock = runner.new.clock } }
+    requires busy { HasSteppedBusy runner.old }
+    ensures rest { runner.new ≡ record runner.old { clock = runner.new.clock; stepped = runner.new.stepped } }
     ensures on { runner.old.clock ≤ runner.new.clock }
     ensures stops { IfOk result (λ ran. Stops runner.new.horizon runner.new.clock ran) }
+    ensures busy { HasSteppedBusy runner.new }
 {
+    busy_slots_are_counted();
+    idle_where_not_busy();
     loop {
+        runner.skip();
         match runner.run_slot()? {
             Ran::Slot => {}
             Ran::Blocked { end, seen } => return Ok(Ran::Blocked { end, seen }),

@@ -7,6 +7,8 @@ ghost use Rattle.locality_laws.specs.Locality.{node_in, events_in};
 ghost use Rattle.trace_lines.specs.Kept.{Keeps};
 ghost use Rattle.trace_model.specs.Trace.{tokens_sent, credits_sent};
 ghost use Rattle.core_step.specs.Core.{StandsAt};
+ghost use Rattle.busy_slots.specs.Busy.{busy_count};
+ghost use Rattle.core_workers.specs.Finished.{AreBusyCounts};
 
 use crate::way::Way;
 use core_step::Core;
@@ -22,7 +24,14 @@ use trace_lines::NodeEvents;
 #[derive(Drop)]
 pub struct Finished {
     run: FinishedRun,
-    way: Way,
+    stepped: Stepped,
+}
+
+// How many slots each node has stepped: all of them, or so many by position.
+#[derive(Drop)]
+enum Stepped {
+    EachSlot,
+    BusySlots(Vec<u32>),
 }
 
 impl Model for Finished {
@@ -30,7 +39,11 @@ impl Model for Finished {
 
     ghost Value = { FinishedRec };
 
-    ghost view = { λ f. record { plan = f.run.plan; limit = f.run.limit; way = f.way } };
+    ghost use Rattle.core_workers.specs.Counted.{way_of, AreStepped};
+
+    ghost view = { λ f. record { plan = f.run.plan; limit = f.run.limit; way = way_of f.stepped } };
+
+    ghost invariant = { λ f. AreStepped f.run.plan f.run.limit f.stepped };
 }
 
 impl Finished {
@@ -40,17 +53,18 @@ impl Finished {
     {
         Finished {
             run: FinishedRun::of_serial(machine),
-            way: Way::Serial,
+            stepped: Stepped::EachSlot,
         }
     }
 
-    /// The run that workers made, one for each node. It takes no memory.
-    pub(crate) fn of_workers(run: FinishedRun) -> Finished
+    /// The run that workers made, one for each node, which has stepped so many slots, by position. It takes no memory.
+    pub(crate) fn of_workers(run: FinishedRun, stepped: Vec<u32>) -> Finished
+        requires stepped { AreBusyCounts run.plan run.limit stepped.items }
         ensures { result ≡ record { plan = run.plan; limit = run.limit; way = Way.Workers } }
     {
         Finished {
             run,
-            way: Way::Workers,
+            stepped: Stepped::BusySlots(stepped),
         }
     }
 
@@ -58,7 +72,10 @@ impl Finished {
     pub fn way(&self) -> Way
         ensures value { result ≡ self.now.way }
     {
-        self.way
+        match &self.stepped {
+            Stepped::EachSlot => Way::Serial,
+            Stepped::BusySlots(_) => Way::Workers,
+        }
     }
 
     /// The run, whatever the way.
@@ -80,6 +97,19 @@ impl Finished {
         ensures value { result ≡ self.now.limit }
     {
         self.run.limit()
+    }
+
+    /// How many slots the node at a position has stepped, which is to run them one by one: by workers those that are busy, and in a
+    /// serial machine all of them.
+    pub fn stepped(&self, node: u8) -> u32
+        requires node { node < length self.now.plan.nodes }
+        ensures workers { self.now.way ≡ Way.Workers → result ≡ busy_count self.now.plan node self.now.limit }
+        ensures serial { self.now.way ≡ Way.Serial → result ≡ self.now.limit }
+    {
+        match &self.stepped {
+            Stepped::EachSlot => self.run.limit(),
+            Stepped::BusySlots(counts) => counts[node as usize],
+        }
     }
 
     /// How many rounds were made: none, unless the nodes were run round by round.

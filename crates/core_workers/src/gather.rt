@@ -3,9 +3,11 @@ ghost use Rattle.std.specs.Prelude.{◌≡◌, Some, IfOk, OnOk, length, map, sl
 ghost use Rattle.std.specs.List.{AllByRecursion};
 ghost use Rattle.xs_base.specs.Numbers.{Position};
 ghost use Rattle.sys_plan.specs.Plan.{IsPlan};
+ghost use Rattle.node_runners.specs.Runner.{RunnerRec};
 ghost use Rattle.core_workers.specs.Worker.{WorkerRec, IsWorker};
 ghost use Rattle.core_workers.specs.Run.{IsLeftAt};
 ghost use Rattle.core_workers.specs.Gathered.{sent_in};
+ghost use Rattle.core_workers.specs.Finished.{AreBusyCounts};
 
 use crate::worker::Part;
 use finished_runs::{FinishedRun, count_sent};
@@ -16,24 +18,27 @@ use plan_cells::{Ends, PlanCells};
 use plan_stories::PlanStory;
 use std::alloc::{AllocError, Global};
 
-/// The run of which the workers of all nodes of these cells have left these parts, by position, each at the limit. The totals are counted in
-/// the logs that the cells have. The error is want of memory, and leaves nothing.
+/// The run of which the workers of all nodes of these cells have left these parts, by position, each at the limit; and how many slots each
+/// node has stepped. The totals are counted in the logs that the cells have. The error is want of memory, and leaves nothing.
 pub(crate) fn gather(
     alloc: Global,
     cells: PlanCells,
     parts: Vec<Part>,
     limit: u32,
-) -> Result<FinishedRun, AllocError>
+) -> Result<(FinishedRun, Vec<u32>), AllocError>
     requires plan { IsPlan cells.plan }
     requires nodes { length parts.items ≡ length cells.plan.nodes }
     requires at_limit { (n : Position) (part : WorkerRec) → slice_get parts.items n ≡ Some part → IsLeftAt cells limit n part }
-    ensures { IfOk result (λ run. run ≡ record { plan = cells.plan; limit = limit }) }
+    ensures run { IfOk result (λ gathered. gathered.0 ≡ record { plan = cells.plan; limit = limit }) }
+    ensures stepped { IfOk result (λ gathered. AreBusyCounts cells.plan limit gathered.1.items) }
 {
     let plan = Known::of(cells.plan());
     let (runners, ends) = take_apart(alloc, parts)?;
+    let stepped = stepped_of(alloc, &runners)?;
     let logs = cells.logs(alloc, ends)?;
     let totals = totals_of(alloc, logs)?;
-    Ok(FinishedRun::of_runners(plan, limit, runners, totals))
+    let run = FinishedRun::of_runners(plan, limit, runners, totals);
+    Ok((run, stepped))
 }
 
 // The nodes of parts and their ends, in order. The error is want of memory.
@@ -50,6 +55,17 @@ fn take_apart(alloc: Global, parts: Vec<Part>) -> Result<(Vec<NodeRunner>, Vec<E
         ends.push(own)?;
     }
     Ok((runners, ends))
+}
+
+// How many slots each of these nodes has stepped. The error is want of memory.
+fn stepped_of(alloc: Global, runners: &[NodeRunner]) -> Result<Vec<u32>, AllocError>
+    ensures { IfOk result (λ stepped. stepped.items ≡ map (λ (runner : RunnerRec). runner.stepped) runners.now) }
+{
+    let mut stepped = Vec::new(alloc);
+    for runner in runners {
+        stepped.push(runner.stepped())?;
+    }
+    Ok(stepped)
 }
 
 // How many tokens, and how many credits, each of these logs has. The error is want of memory.

@@ -57,7 +57,7 @@ impl Lanes {
         requires at_limit { (n : Position) (part : WorkerRec) → slice_get parts.items n ≡ Some part → IsLeftAt self limit n part }
         ensures finished { IfOk result (λ f. f ≡ record { plan = self.plan; limit = limit; way = Way.Workers }) }
     {
-        let run = gather(alloc, self.cells, parts, limit)?;
-        Ok(Finished::of_workers(run))
+        let (run, stepped) = gather(alloc, self.cells, parts, limit)?;
+        Ok(Finished::of_workers(run, stepped))
     }
 }

@@ -7,3 +7,6 @@ pub mod Takes
 pub mod Stops
 pub mod Begins
 pub mod Sends
+pub mod Nearest
+pub mod Ahead
+pub mod Skips

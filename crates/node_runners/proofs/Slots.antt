@@ -39,16 +39,15 @@ got (x ∷ xs) (suc i) s h = got xs i s h
 -- ---- What comes
 
 module _ (plan : PlanRec) (plan_is : IsPlan plan) (n : Position) (clock : Slot) where
-  abbrev pub heard : List (List Entry)
-  heard = (serial plan clock).histories
-
-  by-link : (end : EndNumber) (l : Option LinkNumber) (s : Option Seen) (i : InletRec) → incoming plan n end ≡ l → Hears plan clock l s i → ((t : Seen) → s ≡ Some t → clock < horizon_at t)
-      → arriving clock i.delay i.queue ≡ arriving_by plan heard clock l
-  by-link end None s i at h below = ap (λ (x : InletRec). arriving clock x.delay x.queue) h.1
-  by-link end (Some link) None i at h below = absurd h
-  by-link end (Some link) (Some s) i at h below =
-      (λ k. arriving clock (h.inlet_delay k) (h.queue k))
-      ∙ seen_arrives plan link (clock - delay_of plan link) s.seen clock (incoming-delay plan plan_is n end link at) (omega arith) (omega (arith, below s refl, h.delay))
+  -- in this slot or a later one that is before the horizon, by a link end
+  by-link : (slot : Slot) → clock ≤ slot → (end : EndNumber) (l : Option LinkNumber) (s : Option Seen) (i : InletRec) → incoming plan n end ≡ l → Hears plan clock l s i
+      → ((t : Seen) → s ≡ Some t → slot < horizon_at t)
+      → arriving slot i.delay i.queue ≡ arriving_by plan (serial plan slot).histories slot l
+  by-link slot on end None s i at h below = ap (λ (x : InletRec). arriving slot x.delay x.queue) h.1
+  by-link slot on end (Some link) None i at h below = absurd h
+  by-link slot on end (Some link) (Some s) i at h below =
+      (λ k. arriving slot (h.inlet_delay k) (h.queue k))
+      ∙ seen_arrives plan link (clock - delay_of plan link) s.seen slot (incoming-delay plan plan_is n end link at) (omega (arith, on)) (omega (arith, below s refl, h.delay))
 
   waits-at : (l : Option LinkNumber) (s : Option Seen) (i : InletRec) → Hears plan clock l s i → AreWaiting clock i.delay i.queue
   waits-at None s i h = subst (λ (x : InletRec). AreWaiting clock x.delay x.queue) (sym h.1) (record { in_order = tt; due = tt })
@@ -74,21 +73,22 @@ module _ (plan : PlanRec) (plan_is : IsPlan plan) (n : Position) (clock : Slot) 
     pub waits : (end : EndNumber) → AreWaiting clock (inlet_at inlets end).delay (inlet_at inlets end).queue
     waits end = waits-at (incoming plan n end) (seen_by end) (inlet_at inlets end) (is.hears end)
 
-    module _ (below : IsBelowAll horizon clock) where
-      below-at : (end : EndNumber) (s : Seen) → seen_by end ≡ Some s → clock < horizon_at s
+    module _ (slot : Slot) (on : clock ≤ slot) (below : IsBelowAll horizon slot) where
+      below-at : (end : EndNumber) (s : Seen) → seen_by end ≡ Some s → slot < horizon_at s
       below-at end s h = below.1 end s (got horizon.ends end s h)
 
-      one-end : (end : EndNumber) → arriving_at clock inlets end ≡ arriving_by plan heard clock (incoming plan n end)
-      one-end end = by-link end (incoming plan n end) (seen_by end) (inlet_at inlets end) refl (is.hears end) (below-at end)
+      one-end : (end : EndNumber) → arriving_at slot inlets end ≡ arriving_by plan (serial plan slot).histories slot (incoming plan n end)
+      one-end end = by-link slot on end (incoming plan n end) (seen_by end) (inlet_at inlets end) refl (is.hears end) (below-at end)
 
       -- what arrives is what arrives in the serial machine
-      pub arrivals-are : arrivals_by clock inlets ≡ arrivals_at plan heard clock n
+      pub arrivals-are : arrivals_by slot inlets ≡ arrivals_at plan (serial plan slot).histories slot n
       arrivals-are = λ k. arrivals_of (λ end. one-end end k)
 
+    module _ (below : IsBelowAll horizon clock) where
       pub hears-next : (end : EndNumber) → Hears plan (clock + 1) (incoming plan n end) (seen_by end) (inlet_at (map (after_slot clock) inlets) end)
       hears-next end =
           subst (Hears plan (clock + 1) (incoming plan n end) (seen_by end)) (sym (inlet-after clock inlets end))
-          (hears-after (incoming plan n end) (seen_by end) (inlet_at inlets end) (is.hears end) (below-at end))
+          (hears-after (incoming plan n end) (seen_by end) (inlet_at inlets end) (is.hears end) (below-at clock (omega arith) below end))
 
 -- ---- The node
 
@@ -198,7 +198,7 @@ pub runner-next : (plan : PlanRec) (n : Position) (clock : Slot) (horizon : Hori
     → ((end : ℕ) → end < length batches → (batch_at after end).entries ≡ (batch_at batches end).entries ++ sent_by clock seat_after.given end)
     → IsRunner plan n (clock + 1) horizon seat_after pins_after inlets_after after published
 runner-next plan n clock horizon seat seat_after pins pins_after inlets inlets_after batches after published arrivals view is below arrive left inlet_count shows pins_are steps count puts =
-    let are = arrive ∙ arrivals-are plan is.plan_is n clock horizon inlets batches published is.links below in
+    let are = arrive ∙ arrivals-are plan is.plan_is n clock horizon inlets batches published is.links clock (omega arith) below in
     let given = gives plan n clock seat is.seat_is arrivals view seat_after steps are shows in
     record {
       plan_is = is.plan_is;

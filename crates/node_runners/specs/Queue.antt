@@ -1,11 +1,12 @@
 -- What comes to the link ends of a node and has not arrived yet.
-use Rattle.std.specs.Prelude.{ℕ, ◌≡◌, ◌+◌, ◌≤◌, nat_lt, List, [], filter, map, slice_index_or}
+use Rattle.std.specs.Prelude.{ℕ, ◌≡◌, ◌+◌, ◌<◌, ◌≤◌, nat_lt, min, Bool, Option, Some, None, List, [], length, filter, map, slice_get, slice_index_or}
 use Rattle.std.specs.List.{AllByRecursion}
 use Rattle.xs_base.specs.Numbers.{Slot, EndNumber}
 use Rattle.xs_base.specs.declared.entry.Entry.{Entry}
 use Rattle.xs_model.specs.declared.outside.Arrivals.{Arrivals}
 use Rattle.serial_model.specs.Serial.{arriving, arrivals_of}
 use Rattle.crossings.specs.Crossings.{AreInSendingOrder}
+use Rattle.busy_slots.specs.Busy.{brings_something}
 
 -- the delay of the link that comes to a link end, and its entries that were seen and have not arrived
 pub record InletRec : Type 0 where
@@ -39,3 +40,20 @@ arriving_at slot inlets end = arriving slot (inlet_at inlets end).delay (inlet_a
 -- what arrives in a slot by these link ends, and nothing by the others
 abbrev pub arrivals_by : Slot → List InletRec → Arrivals
 arrivals_by slot inlets = arrivals_of (λ end. arriving_at slot inlets end)
+
+-- something arrives in a slot by one of these link ends
+abbrev pub some_arrive : List InletRec → Slot → Bool
+some_arrive inlets slot = brings_something (arrivals_by slot inlets)
+
+-- nothing of what waits at these link ends arrived before a slot
+abbrev pub AllWait : Slot → List InletRec → Type 0
+AllWait slot inlets = (end : EndNumber) → end < length inlets → AreWaiting slot (inlet_at inlets end).delay (inlet_at inlets end).queue
+
+-- the slot in which an entry arrives, where there is one and that is before a bound
+abbrev pub arrival_of : Slot → ℕ → Option Entry → Slot
+arrival_of bound delay None = bound
+arrival_of bound delay (Some e) = min (e.slot + delay) bound
+
+-- the slot in which the first entry that waits at a link end arrives, if that is before a bound
+abbrev pub nearer_arrival : Slot → InletRec → Slot
+nearer_arrival bound inlet = arrival_of bound inlet.delay (slice_get inlet.queue 0)

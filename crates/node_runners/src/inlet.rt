@@ -1,10 +1,12 @@
 //! `Inlet`, what comes to a link end and has not arrived yet. See docs/LOOKAHEAD.md.
-ghost use Rattle.std.specs.Prelude.{ℕ, ◌≡◌, ◌+◌, ◌<◌, ◌≤◌, [], ◌++◌, false, length, map, slice_get, OnOk, OnErr};
+ghost use Rattle.std.specs.Prelude.{ℕ, ◌≡◌, ◌+◌, ◌<◌, ◌≤◌, [], ◌++◌, false, length, map, fold, slice_get, OnOk, OnErr};
 ghost use Rattle.std.specs.VecDeque.{deque_len, deque_capacity};
+ghost use Rattle.xs_base.specs.Numbers.{Slot};
 ghost use Rattle.core_step.specs.Core.{NothingArrives};
 ghost use Rattle.crossings.specs.Crossings.{crossing_of};
 ghost use Rattle.serial_model.specs.Serial.{arriving};
-ghost use Rattle.node_runners.specs.Queue.{AreWaiting, after_slot, arrivals_by, inlet_at};
+ghost use Rattle.quiet_model.specs.Slots.{IsFirst};
+ghost use Rattle.node_runners.specs.Queue.{AreWaiting, AllWait, after_slot, arrivals_by, inlet_at, nearer_arrival, some_arrive};
 
 use crossings::{Crossing, due};
 use std::alloc::{AllocError, Global};
@@ -63,6 +65,19 @@ impl Inlet {
         crossing
     }
 
+    // The slot in which the first entry that waits arrives, if that is before a bound, and else the bound.
+    fn nearer_arrival(&self, bound: u32) -> u32
+        ensures { result ≡ nearer_arrival bound self.now }
+    {
+        match self.at(0) {
+            None => bound,
+            Some(e) => {
+                let arrival = u64::from(e.slot) + u64::from(self.delay);
+                arrival.min(u64::from(bound)) as u32
+            }
+        }
+    }
+
     // The entry at a place of the queue.
     fn at(&self, place: usize) -> Option<Entry>
         ensures { result ≡ slice_get self.now.queue place }
@@ -109,4 +124,23 @@ pub(crate) fn arrive_all(inlets: &mut [Inlet], slot: u32) -> Arrived
         some |= crossing.is_some();
     }
     Arrived { some, arrivals }
+}
+
+/// The first slot before a bound in which something arrives of what waits at a node's link ends, and the bound where nothing does. No queue
+/// is gone through: the entries of each wait in the order in which they arrive.
+pub(crate) fn first_arrival(inlets: &[Inlet], bound: u32) -> u32
+    requires few { length inlets.now ≤ 8 }
+    ensures first { (from : Slot) → from ≤ bound → AllWait from inlets.now → IsFirst (some_arrive inlets.now) from bound result }
+    ensures within { result ≤ bound }
+{
+    nearest_arrival(inlets, bound)
+}
+
+// The least of a bound and of the slots in which the first entry of each of these link ends arrives.
+fn nearest_arrival(inlets: &[Inlet], bound: u32) -> u32
+    ensures { result ≡ fold nearer_arrival bound inlets.now }
+{
+    inlets
+        .iter()
+        .fold(bound, |nearest, inlet| inlet.nearer_arrival(nearest))
 }

@@ -1,20 +1,23 @@
 //! `NodeRunner`, one node that runs ahead of the others.
-ghost use Rattle.std.specs.Prelude.{ℕ, ◌≡◌, ◌+◌, ◌<◌, ◌≤◌, Some, None, IsSome, false, [], length, slice_index, slice_index_or, slice_set, IfOk, IfErr, OnOk, OnErr};
+ghost use Rattle.std.specs.Prelude.{ℕ, ◌≡◌, ◌+◌, ◌<◌, ◌≤◌, Some, None, IsSome, true, false, [], length, slice_index, slice_index_or, slice_set, IfOk, IfErr, OnOk, OnErr};
 ghost use Rattle.xs_base.specs.Numbers.{LinkNumber};
 ghost use Rattle.sys_plan.specs.Plan.{IsPlan, outgoing, incoming};
 ghost use Rattle.sys_plan.specs.declared.system_plan.TheConstants.{ENDS};
 ghost use Rattle.serial_model.specs.Serial.{serial, history};
 ghost use Rattle.locality_laws.specs.Locality.{node_in, events_in};
+ghost use Rattle.quiet_model.specs.Slots.{NoneBefore};
+ghost use Rattle.busy_slots.specs.Busy.{is_busy};
 ghost use Rattle.trace_lines.specs.Kept.{Keeps};
 ghost use Rattle.core_step.specs.Core.{StandsAt};
 ghost use Rattle.ahead_limits.specs.declared.horizon.Seen.{Seen};
 ghost use Rattle.ahead_limits.specs.Horizon.{seen_at, seen_to, Sees, horizon_at, may_run};
 ghost use Rattle.node_runners.specs.Runner.{new_runner, Runs, Stops};
 
-use crate::inlet::{Inlet, arrive_all};
+use crate::inlet::{Inlet, arrive_all, first_arrival};
 use crate::outlet::{make_room, put_all};
 use crate::starts::{batches_of, inlets_of};
 use ahead_limits::Horizon;
+use busy_slots::{arrivals_by_link_ends, first_busy_by_both, idle_where_not_busy};
 use core_step::Core;
 use known_value::Known;
 use node_seats::{Pins, Seat};
@@ -37,13 +40,15 @@ pub enum Ran {
 }
 
 /// One node of a plan that is stepped alone, as far ahead of the others as what it has seen of its links lets it: it is then what it is in
-/// the serial machine. Its clock is the number of slots that it has run. Contracts see it as a `RunnerRec` of
+/// the serial machine. Its clock is the number of slots that it has run, of which it went over quiet ones at once and has stepped the others. Contracts see it as a `RunnerRec` of
 /// `Rattle.node_runners.specs.Runner`. See docs/LOOKAHEAD.md.
 #[derive(Drop)]
 pub struct NodeRunner {
     plan: Known<Plan>,
     node: u8,
     clock: u32,
+    // At most the clock.
+    stepped: u32,
     alloc: Global,
     horizon: Horizon,
     seat: Seat,
@@ -60,11 +65,12 @@ impl Model for NodeRunner {
 
     ghost Value = { RunnerRec };
 
+    ghost use Rattle.std.specs.Prelude.{◌≤◌};
     ghost use Rattle.node_runners.specs.Inside.{IsRunner};
 
-    ghost view = { λ r. record { plan = r.plan.value; node = r.node; clock = r.clock; horizon = r.horizon; published = r.published } };
+    ghost view = { λ r. record { plan = r.plan.value; node = r.node; clock = r.clock; stepped = r.stepped; horizon = r.horizon; published = r.published } };
 
-    ghost invariant = { λ r. IsRunner r.plan.value r.node r.clock r.horizon r.seat r.pins r.inlets.items r.batches.items r.published };
+    ghost invariant = { λ r. (r.stepped ≤ r.clock) × IsRunner r.plan.value r.node r.clock r.horizon r.seat r.pins r.inlets.items r.batches.items r.published };
 }
 
 impl NodeRunner {
@@ -83,6 +89,7 @@ impl NodeRunner {
             plan: Known::of(plan),
             node,
             clock: 0,
+            stepped: 0,
             alloc,
             horizon,
             seat,
@@ -132,7 +139,31 @@ impl NodeRunner {
         );
         put_all(&mut self.batches, self.clock, &self.seat.given);
         self.clock += 1;
+        self.stepped += 1;
         Ok(Ran::Slot)
+    }
+
+    /// Goes over the quiet slots from its clock on at once: up to the first busy slot, and no further than its horizon lets it. The answer is
+    /// how many they are, which may be none; the clock rises by it. It takes no memory. See docs/QUIET_SLOTS.md.
+    pub fn skip(&mut self) -> u32
+        ensures rest { self.new ≡ record self.old { clock = self.old.clock + result } }
+        ensures quiet { NoneBefore (is_busy self.old.plan self.old.node) self.old.clock (self.old.clock + result) }
+        ensures greatest { may_run self.new.horizon self.new.clock ≡ true → is_busy self.new.plan self.new.node self.new.clock ≡ true }
+    {
+        arrivals_by_link_ends();
+        first_busy_by_both();
+        idle_where_not_busy();
+        let from = self.clock;
+        let stop = self.horizon.clock_after(from, u32::MAX);
+        let arrival = first_arrival(&self.inlets, stop);
+        let to = self.seat.quiet_to(from, arrival);
+        if to <= from {
+            return 0;
+        }
+        self.pins.look(to - 1);
+        self.seat.skip(from, to, self.pins.view());
+        self.clock = to;
+        to - from
     }
 
     /// Publishes the link that leaves by a link end, 0 to 7, up to the clock: what it has carried from the published slot on and before the
@@ -176,6 +207,14 @@ impl NodeRunner {
         ensures behind { (end : ℕ) → slice_index self.now.published end ≤ result }
     {
         self.clock
+    }
+
+    /// How many slots it has stepped, which is to run them one by one.
+    pub fn stepped(&self) -> u32
+        ensures value { result ≡ self.now.stepped }
+        ensures most { result ≤ self.now.clock }
+    {
+        self.stepped
     }
 
     /// The core, which stands for the node's record of the serial machine.

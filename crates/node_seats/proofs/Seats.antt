@@ -1,5 +1,5 @@
 -- A node at work from slot to slot.
-use Rattle.std.proofs.Common.{◌≡◌, ℕ, zero, suc, ◌+◌, ◌<◌, List, [], ◌∷◌, ◌++◌, length, get_or, sym, ap, ◌∙◌, subst, arith}
+use Rattle.std.proofs.Common.{◌≡◌, ℕ, zero, suc, ◌+◌, ◌-◌, ◌<◌, List, [], ◌∷◌, ◌++◌, length, get_or, sym, ap, ◌∙◌, subst, arith}
 use Rattle.xs_model.specs.declared.event.Event.{Event}
 use Rattle.xs_model.specs.declared.outside.Arrivals.{Arrivals}
 use Rattle.xs_model.specs.declared.outside.PinView.{PinView}
@@ -7,12 +7,14 @@ use Rattle.xs_model.specs.Record.{NodeRec}
 use Rattle.xs_model.specs.Outside.{Emitted}
 use Rattle.sys_plan.specs.declared.NodePlan.{NodePlan}
 use Rattle.sys_plan.specs.Plan.{PlanRec, WaysLead, AllWaysLead, gaps_of}
+use Rattle.step_model.specs.Fixed.{Fixed}
 use Rattle.step_model.specs.Start.{fixed_of}
 use Rattle.step_model.specs.Step.{Stepped, node_step}
 use Rattle.trace_lines.specs.Kept.{KeptEvents, Keeps}
+use Rattle.quiet_laws.specs.Undisturbed.{undisturbed_until, ShowsAll}
 use Rattle.core_step.specs.Core.{StandsAt}
 use Rattle.node_seats.specs.declared.seat.Seat.{Seat}
-use Rattle.node_seats.specs.Seats.{IsSeat, Plays, SameSeat, StepsOn, step_of}
+use Rattle.node_seats.specs.Seats.{IsSeat, Plays, SameSeat, StepsOn, SkipsOn, step_of}
 
 -- the ways of the node at a place lead on
 pub ways-at : (plan : PlanRec) (n : ℕ) (nodes : List NodePlan) (k m : ℕ) (d : NodePlan) → AllWaysLead plan n nodes → k < length nodes → m ≡ n + k → WaysLead plan m (get_or nodes k d).ways
@@ -60,3 +62,13 @@ module _ (plan : PlanRec) (slot n : ℕ) (node : NodePlan) (seat : Seat) (rec : 
     stands = subst (λ (st : Stepped). StandsAt after.core st.rec (slot + 1)) step-is (s.stands rec plays.stands);
     keeps = subst (λ (es : List Event). Keeps after.events (events ++ es)) (ap (λ (g : Emitted). g.events) (given-is after s)) (s.keeps events plays.keeps);
   }
+
+-- after quiet slots it plays its part in the slot after them, with the same events
+pub plays-later : (plan : PlanRec) (from to n : ℕ) (node : NodePlan) (seat after : Seat) (rec : NodeRec) (events : List Event) (pins : ℕ → PinView) (last : PinView)
+    → Plays plan from n node seat rec events → ((slot : ℕ) → ShowsAll (pins slot)) → pins (to - 1) ≡ last → SkipsOn from to last seat after
+    → Plays plan to n node after (undisturbed_until (fixed_of node (gaps_of plan n)) rec from pins to) events
+plays-later plan from to n node seat after rec events pins last plays all shows s = record {
+  fixed = s.fixed ∙ plays.fixed;
+  stands = subst (λ (f : Fixed). StandsAt after.core (undisturbed_until f rec from pins to) to) plays.fixed (s.stands rec pins plays.stands all shows);
+  keeps = subst (λ (es : KeptEvents). Keeps es events) (sym s.events) plays.keeps;
+}

@@ -1,6 +1,6 @@
 -- What pins show from slot to slot.
 use Rattle.std.proofs.Common.{◌≡◌, ℕ, ◌+◌, ◌-◌, ◌^◌, ◌<◌, ◌≤◌, false, Option, Some, None, List, ◌∙◌, arith}
-use Rattle.std.specs.Prelude.{◌==◌}
+use Rattle.std.specs.Prelude.{nat_le}
 use Rattle.std.proofs.lemmas.Bool.Decides.{nat_tests}
 use Rattle.xs_base.specs.Numbers.{Slot}
 use Rattle.pin_scripts.specs.declared.line.PinLine.{PinLine}
@@ -8,7 +8,7 @@ use Rattle.pin_scripts.specs.Script.{IsBefore, IsNextChange}
 use Rattle.pin_scripts.specs.Script.{view_at}
 use Rattle.sys_plan.specs.Plan.{PlanRec, node_numbers}
 use Rattle.node_seats.specs.declared.pins.Pins.{Pins}
-use Rattle.node_seats.specs.Shown.{IsShown, ArePins, shown_by, slot_or_never}
+use Rattle.node_seats.specs.Shown.{IsSteady, IsShown, ArePins, shown_by, slot_or_never}
 use Rattle.std.specs.Prelude.{slice_index}
 
 pub next-after : (script : List PinLine) (number slot : ℕ) (next : Option Slot) → slot < 2 ^ 32 - 1 → IsNextChange script number slot next → slot + 1 ≤ slot_or_never next
@@ -19,8 +19,12 @@ pub before-change : (later : Slot) (next : Option Slot) → later < slot_or_neve
 before-change later None h = tt
 before-change later (Some next) h = h
 
-pub not-due : (slot next : Slot) → slot ≤ next → (next == slot) ≡ false → slot < next
-not-due slot next l e = grind (arith, nat_tests)
+pub not-due : (slot next : Slot) → nat_le next slot ≡ false → slot < next
+not-due slot next e = grind (arith, nat_tests)
+
+-- what held before a slot still holds before a later one
+pub steady-later : (from slot : Slot) (pins : Pins) → from ≤ slot → IsSteady from pins → IsSteady slot pins
+steady-later from slot pins on is = record { until_change = λ later l before. is.until_change later (omega (arith, on, l)) before; levels = is.levels }
 
 -- what the pins of a plan's node show is what its script says
 pub shows : (plan : PlanRec) (n slot : ℕ) (pins : Pins) → ArePins plan n slot pins → shown_by pins slot ≡ view_at plan.script (slice_index (node_numbers plan) n) slot

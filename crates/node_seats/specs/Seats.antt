@@ -1,5 +1,5 @@
 -- Nodes at work: what they stand for, and what a slot makes of them.
-use Rattle.std.specs.Prelude.{◌≡◌, ◌+◌, ◌*◌, ◌≤◌, List, ◌++◌}
+use Rattle.std.specs.Prelude.{◌≡◌, ◌+◌, ◌-◌, ◌*◌, ◌≤◌, List, ◌++◌}
 use Rattle.xs_base.specs.Numbers.{Slot, Position}
 use Rattle.xs_base.specs.declared.numbers.TheConstants.{EVENT_ROOM}
 use Rattle.xs_model.specs.declared.event.Event.{Event}
@@ -11,6 +11,7 @@ use Rattle.sys_plan.specs.Plan.{PlanRec, gaps_of}
 use Rattle.step_model.specs.Start.{fixed_of}
 use Rattle.step_model.specs.Step.{Stepped, node_step}
 use Rattle.trace_lines.specs.Kept.{Keeps, HasRoom}
+use Rattle.quiet_laws.specs.Undisturbed.{undisturbed_until, ShowsAll}
 use Rattle.core_step.specs.Core.{StandsAt, SlotsBefore}
 use Rattle.node_seats.specs.declared.seat.Seat.{Seat}
 
@@ -48,3 +49,15 @@ pub record StepsOn (slot : Slot) (arrivals : Arrivals) (pins : PinView) (before 
   pub given : (rec : NodeRec) → StandsAt before.core rec slot → after.given ≡ (step_of slot arrivals pins before rec).emitted
   pub keeps : (all : List Event) → Keeps before.events all → Keeps after.events (all ++ after.given.events)
   pub next : IsSeat (slot + 1) after
+
+-- ---- Quiet slots
+
+-- what the slots from one on and before another make of a node, when it was quiet in each of them, and in the last one its pins showed
+-- this from outside
+pub record SkipsOn (from to : Slot) (last : PinView) (before after : Seat) : Type 0 where
+  pub fixed : after.core.fixed ≡ before.core.fixed
+  pub stands : (rec : NodeRec) (pins : Slot → PinView) → StandsAt before.core rec from → ((slot : Slot) → ShowsAll (pins slot)) → pins (to - 1) ≡ last →
+      StandsAt after.core (undisturbed_until before.core.fixed rec from pins to) to
+  pub events : after.events ≡ before.events
+  pub given : after.given ≡ before.given
+  pub next : IsSeat to after

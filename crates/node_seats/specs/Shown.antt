@@ -16,11 +16,15 @@ slot_or_never (Some slot) = slot
 abbrev pub shown_by : Pins → Slot → PinView
 shown_by pins slot = view_at pins.script pins.number slot
 
--- before a slot: until the next change the pins show what is kept
-pub record IsShown (slot : Slot) (pins : Pins) : Type 0 where
-  pub steady : (later : Slot) → slot ≤ later → later < pins.next → shown_by pins later ≡ pins.view
-  pub next : slot ≤ pins.next
+-- from a slot on, until the next change, the pins show what is kept. The next change may have come before this slot
+pub record IsSteady (slot : Slot) (pins : Pins) : Type 0 where
+  pub until_change : (later : Slot) → slot ≤ later → later < pins.next → shown_by pins later ≡ pins.view
   pub levels : LevelsFit pins.view.level
+
+-- before a slot, in front of which no change was missed
+pub record IsShown (slot : Slot) (pins : Pins) : Type 0 where
+  pub steady : IsSteady slot pins
+  pub next : slot ≤ pins.next
 
 -- these are the pins of the node of a plan at a position, before a slot
 pub record ArePins (plan : PlanRec) (n : Position) (slot : Slot) (pins : Pins) : Type 0 where

@@ -1,7 +1,7 @@
 //! `Pins`, what the pins of a node show from outside. See docs/PINS.md.
-ghost use Rattle.std.specs.Prelude.{◌≡◌, ◌+◌, ◌-◌, ◌^◌, ◌<◌, ◌==◌, IfOk, length};
+ghost use Rattle.std.specs.Prelude.{◌≡◌, ◌+◌, ◌-◌, ◌^◌, ◌<◌, nat_le, IfOk, length};
 ghost use Rattle.xs_model.specs.Outside.{LevelsFit};
-ghost use Rattle.node_seats.specs.Shown.{IsShown, ArePins, shown_by, slot_or_never};
+ghost use Rattle.node_seats.specs.Shown.{IsSteady, IsShown, ArePins, shown_by, slot_or_never};
 
 use pin_scripts::Script;
 use std::alloc::AllocError;
@@ -51,10 +51,11 @@ impl Pins {
         }
     }
 
-    /// Looks at what the pins show in a slot. That costs little where it is what they showed before.
+    /// Looks at what the pins show in a slot. It may be any slot after the one at which it last looked. That costs little where it is what
+    /// they showed before.
     pub fn look(&mut self, slot: u32)
         requires slot { slot < 2 ^ 32 - 1 }
-        requires shown { IsShown slot self.old }
+        requires shown { IsSteady slot self.old }
         ensures script { self.new.script ≡ self.old.script }
         ensures number { self.new.number ≡ self.old.number }
         ensures view { self.new.view ≡ shown_by self.old slot }
@@ -67,11 +68,11 @@ impl Pins {
         }
     }
 
-    // Whether the next change comes in a slot.
+    // Whether the next change comes in a slot, or came before it.
     fn is_due(&self, slot: u32) -> bool
-        ensures { result ≡ (self.now.next == slot) }
+        ensures { result ≡ nat_le self.now.next slot }
     {
-        self.next == slot
+        self.next <= slot
     }
 
     /// What they showed when it last looked.

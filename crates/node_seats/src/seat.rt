@@ -1,15 +1,21 @@
 //! `Seat`, one node of a system: its core and its events.
 ghost use Rattle.std.specs.Prelude.{ℕ, ◌≡◌, ◌+◌, ◌-◌, ◌*◌, ◌^◌, ◌<◌, ◌≤◌, List, [], ◌++◌, length, slice_get, Some, false, IfOk, OnOk, OnErr, All};
+ghost use Rattle.xs_base.specs.Numbers.{Slot};
 ghost use Rattle.xs_base.specs.declared.numbers.TheConstants.{EVENT_ROOM};
 ghost use Rattle.xs_model.specs.declared.event.Event.{Event};
+ghost use Rattle.xs_model.specs.declared.outside.PinView.{PinView};
+ghost use Rattle.xs_model.specs.Record.{NodeRec};
 ghost use Rattle.xs_model.specs.Events.{IsWithinCounts};
 ghost use Rattle.xs_model.specs.Outside.{LevelsFit};
 ghost use Rattle.sys_plan.specs.declared.NodePlan.{NodePlan};
 ghost use Rattle.sys_plan.specs.Plan.{WaysLead, gaps_of};
 ghost use Rattle.step_model.specs.Start.{node_of};
 ghost use Rattle.trace_lines.specs.Kept.{Keeps, HasRoom};
-ghost use Rattle.core_step.specs.Core.{NothingArrives};
-ghost use Rattle.node_seats.specs.Seats.{IsSeat, HasEventRoom, SameSeat, StepsOn, Plays};
+ghost use Rattle.quiet_laws.specs.Undisturbed.{ShowsAll};
+ghost use Rattle.quiet_laws.specs.Quiet.{StirsFirst};
+ghost use Rattle.core_step.specs.Core.{NothingArrives, StandsAt};
+ghost use Rattle.core_step.specs.Quiet.{IsQuietTo};
+ghost use Rattle.node_seats.specs.Seats.{IsSeat, HasEventRoom, SameSeat, StepsOn, SkipsOn, Plays};
 
 use core_step::Core;
 use std::alloc::{AllocError, Global};
@@ -63,6 +69,29 @@ impl Seat {
         self.core
             .slot_where(arrives, slot, arrivals, pins, &mut self.given);
         keep(&mut self.events, self.given.events());
+    }
+
+    /// The first slot from `from` on and before `bound` in which the node stirs where nothing arrives until then, and `bound` where it
+    /// does in none of them. `from` is the slot before which it stands. See docs/QUIET_SLOTS.md.
+    pub fn quiet_to(&self, from: u32, bound: u32) -> u32
+        ensures first { (rec : NodeRec) (pins : Slot → PinView) → StandsAt self.now.core rec from → ((slot : Slot) → ShowsAll (pins slot)) →
+            StirsFirst self.now.core.fixed rec from pins bound result }
+        ensures quiet { from < result → IsQuietTo self.now.core from result }
+        ensures within { result ≤ bound }
+    {
+        self.core.quiet_to(from, bound)
+    }
+
+    /// Goes over the slots from `from` on and before `to` at once: nothing arrives in them, and none of them is one in which the node
+    /// stirs, as `quiet_to` tells. `last` is what its pins show from outside in the last of them, slot `to - 1`. Nothing happens in
+    /// them. It takes no memory.
+    pub fn skip(&mut self, from: u32, to: u32, last: &PinView)
+        requires some { from < to }
+        requires quiet { IsQuietTo self.old.core from to }
+        requires seat { IsSeat from self.old }
+        ensures skips { SkipsOn from to last.now self.old self.new }
+    {
+        self.core.skip(from, to, last);
     }
 }
 

@@ -35,30 +35,30 @@ unfolding clock_after
 none_left h left clock is = ap (λ n. clock_after h n clock) is
 
 module _ (before runner : RunnerRec) (count done : ℕ)
-    (rest : runner ≡ record before { clock = runner.clock })
+    (rest : runner ≡ record before { clock = runner.clock; stepped = runner.stepped })
     (leads : clock_after before.horizon (count - done) runner.clock ≡ clock_after before.horizon count before.clock) where
   same_horizon : runner.horizon ≡ before.horizon
   same_horizon = ap (λ (r : RunnerRec). r.horizon) rest
 
-  at_clock : (clock : Slot) → runner.clock ≡ clock → runner ≡ record before { clock = clock }
-  at_clock clock is = rest ∙ (let f : Slot → RunnerRec = λ t. record before { clock = t } in ap f is)
+  at_clock : (clock : Slot) → runner.clock ≡ clock → runner ≡ record before { clock = clock; stepped = runner.stepped }
+  at_clock clock is = rest ∙ (let f : Slot → RunnerRec = λ t. record before { clock = t; stepped = runner.stepped } in ap f is)
 
-  pub all_ran : count ≤ done → runner ≡ record before { clock = clock_after before.horizon count before.clock }
+  pub all_ran : count ≤ done → runner ≡ record before { clock = clock_after before.horizon count before.clock; stepped = runner.stepped }
   all_ran past = at_clock _ (sym (none_left before.horizon (count - done) runner.clock (omega (arith, past))) ∙ leads)
 
-  module _ (after : RunnerRec) (slot : after ≡ record runner { clock = cond (may_run runner.horizon runner.clock) (runner.clock + 1) runner.clock }) where
-    after_is : after ≡ record before { clock = cond (may_run runner.horizon runner.clock) (runner.clock + 1) runner.clock }
+  module _ (after : RunnerRec) (slot : after ≡ record runner { clock = cond (may_run runner.horizon runner.clock) (runner.clock + 1) runner.clock; stepped = after.stepped }) where
+    after_is : after ≡ record before { clock = cond (may_run runner.horizon runner.clock) (runner.clock + 1) runner.clock; stepped = after.stepped }
     after_is =
-        let f : RunnerRec → RunnerRec = λ r. record r { clock = cond (may_run runner.horizon runner.clock) (runner.clock + 1) runner.clock } in
+        let f : RunnerRec → RunnerRec = λ r. record r { clock = cond (may_run runner.horizon runner.clock) (runner.clock + 1) runner.clock; stepped = after.stepped } in
         slot ∙ ap f rest
 
     clock_is : after.clock ≡ cond (may_run runner.horizon runner.clock) (runner.clock + 1) runner.clock
     clock_is = ap (λ (r : RunnerRec). r.clock) after_is
 
-    after_at : (clock : Slot) → after.clock ≡ clock → after ≡ record before { clock = clock }
-    after_at clock is = after_is ∙ (let f : Slot → RunnerRec = λ t. record before { clock = t } in ap f (sym clock_is ∙ is))
+    after_at : (clock : Slot) → after.clock ≡ clock → after ≡ record before { clock = clock; stepped = after.stepped }
+    after_at clock is = after_is ∙ (let f : Slot → RunnerRec = λ t. record before { clock = t; stepped = after.stepped } in ap f (sym clock_is ∙ is))
 
-    pub rest_stays : after ≡ record before { clock = after.clock }
+    pub rest_stays : after ≡ record before { clock = after.clock; stepped = after.stepped }
     rest_stays = after_at after.clock refl
 
     pub leads_on : done < count → clock_after before.horizon (count - (done + 1)) after.clock ≡ clock_after before.horizon count before.clock
@@ -69,7 +69,7 @@ module _ (before runner : RunnerRec) (count done : ℕ)
         ∙ sym (one_more before.horizon (count - done) (count - (done + 1)) runner.clock (omega (arith, more)))
         ∙ leads
 
-    pub stopped : may_run runner.horizon runner.clock ≡ false → after ≡ record before { clock = clock_after before.horizon count before.clock }
+    pub stopped : may_run runner.horizon runner.clock ≡ false → after ≡ record before { clock = clock_after before.horizon count before.clock; stepped = after.stepped }
     stopped stays =
         let stays_before : may_run before.horizon runner.clock ≡ false = ap (λ (h : HorizonRec). may_run h runner.clock) (sym same_horizon) ∙ stays in
         after_at _ (clock_is ∙ ap (λ b. cond b (runner.clock + 1) runner.clock) stays

@@ -112,12 +112,12 @@ module _ (plan : PlanRec) (limit : Slot) (runners : List RunnerRec) (lanes : Lis
     own_clock : get_or (clocks_of runners) node 0 ≡ runner.clock
     own_clock = number_at (λ (r : RunnerRec). r.clock) runners node runner node_below runner_is
 
-    pub run_goes : (count number : ℕ) → number ≡ clock_after runner.horizon count runner.clock
-        → Goes plan limit (Run node count) runners lanes (set runners node (record runner { clock = clock_after runner.horizon count runner.clock })) lanes (record { step = Run node count; number = number; entries = [] })
-    run_goes count number number_is =
+    pub run_goes : (count steps number : ℕ) → number ≡ clock_after runner.horizon count runner.clock
+        → Goes plan limit (Run node count) runners lanes (set runners node (record runner { clock = clock_after runner.horizon count runner.clock; stepped = steps })) lanes (record { step = Run node count; number = number; entries = [] })
+    run_goes count steps number number_is =
         let own = own_runner in
         let clock = clock_after runner.horizon count runner.clock in
-        let after : RunnerRec = record runner { clock = clock } in
+        let after : RunnerRec = record runner { clock = clock; stepped = steps } in
         let P : ℕ → RunnerRec → Type 0 = IsRunner plan limit (seen_of lanes) (published_of lanes) in
         let clock_is : clock ≡ clock_after (horizon_of plan limit (seen_of lanes) node) count (get_or (clocks_of runners) node 0)
         = λ i. clock_after (own.horizon_is i) count (sym own_clock i) in

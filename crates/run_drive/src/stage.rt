@@ -189,7 +189,7 @@ fn hear(runner: &mut NodeRunner, end: u8, batch: Batch, to: u32) -> Result<(), A
 
 // Runs so many slots of a node, or fewer where its horizon stops it.
 fn run_slots(runner: &mut NodeRunner, count: u32) -> Result<(), AllocError>
-    ensures clock { OnOk result (runner.new ≡ record runner.old { clock = clock_after runner.old.horizon count runner.old.clock }) }
+    ensures clock { OnOk result (runner.new ≡ record runner.old { clock = clock_after runner.old.horizon count runner.old.clock; stepped = runner.new.stepped }) }
 {
     for _ in 0..count {
         if !runs_on(runner)? {
@@ -202,7 +202,7 @@ fn run_slots(runner: &mut NodeRunner, count: u32) -> Result<(), AllocError>
 // Runs the next slot of a node where its horizon lets it, and tells whether that was so.
 fn runs_on(runner: &mut NodeRunner) -> Result<bool, AllocError>
     ensures told { IfOk result (λ ran. ran ≡ may_run runner.old.horizon runner.old.clock) }
-    ensures slot { OnOk result (runner.new ≡ record runner.old { clock = if may_run runner.old.horizon runner.old.clock then runner.old.clock + 1 else runner.old.clock }) }
+    ensures slot { OnOk result (runner.new ≡ record runner.old { clock = if may_run runner.old.horizon runner.old.clock then runner.old.clock + 1 else runner.old.clock; stepped = runner.new.stepped }) }
 {
     match runner.run_slot()? {
         Ran::Slot => Ok(true),

@@ -1,11 +1,12 @@
-use Rattle.std.proofs.Common.{List, length, slice_get, sym, ap, ◌∙◌, subst}
+use Rattle.std.proofs.Common.{ℕ, List, length, map, slice_get, sym, ap, ◌∙◌, subst}
 use Rattle.std.proofs.lemmas.List.{length-map}
 use Rattle.sys_plan.specs.Plan.{PlanRec, arc_count}
 use Rattle.plan_cells.specs.declared.ends.Ends.{Ends}
 use Rattle.node_runners.specs.Runner.{RunnerRec}
 use Rattle.finished_runs.specs.Limit.{Totals, HasRun, HasSent}
+use Rattle.core_workers.specs.Finished.{AreBusyCounts}
 use Rattle.core_workers.specs.Gathered.{sent_in}
-use Rattle.core_workers.proofs.Gathering.{each_node, all_nodes, are_ends, each_total}
+use Rattle.core_workers.proofs.Gathering.{stepped_by, each_node, busy_counts, all_nodes, are_ends, each_total}
 use Rattle.core_workers.proofs.gather.gather.Goals as goal
 
 pub logs-requires-clause-ends : goal.logs-requires-clause-ends
@@ -14,24 +15,24 @@ logs-requires-clause-ends c n ends here =
     are_ends c.args.cells c.args.limit c.args.parts.items c.requires.nodes apart.workers c.requires.at_limit n ends
     (ap (λ (all : List Ends). slice_get all n) (sym apart.ends) ∙ here)
 
-pub of_runners-requires-clause-nodes : goal.of_runners-requires-clause-nodes
-of_runners-requires-clause-nodes c =
+pub of_runners-run-requires-clause-nodes : goal.of_runners-run-requires-clause-nodes
+of_runners-run-requires-clause-nodes c =
     let apart = c.in_ok-runners.ensures in
     let plan_is = c.of-plan.ensures ∙ c.plan.ensures.value in
     ap (λ (all : List RunnerRec). length all) apart.runners
     ∙ all_nodes c.args.cells c.args.limit c.args.parts.items c.requires.nodes apart.workers c.requires.at_limit
     ∙ ap (λ (p : PlanRec). length p.nodes) (sym plan_is)
 
-pub of_runners-requires-clause-at_limit : goal.of_runners-requires-clause-at_limit
-of_runners-requires-clause-at_limit c n runner here =
+pub of_runners-run-requires-clause-at_limit : goal.of_runners-run-requires-clause-at_limit
+of_runners-run-requires-clause-at_limit c n runner here =
     let apart = c.in_ok-runners.ensures in
     let plan_is = c.of-plan.ensures ∙ c.plan.ensures.value in
     subst (λ (p : PlanRec). HasRun p c.args.limit n runner) (sym plan_is)
     (each_node c.args.cells c.args.limit c.args.parts.items c.requires.nodes apart.workers c.requires.at_limit n runner
     (ap (λ (all : List RunnerRec). slice_get all n) (sym apart.runners) ∙ here))
 
-pub of_runners-requires-clause-links : goal.of_runners-requires-clause-links
-of_runners-requires-clause-links c =
+pub of_runners-run-requires-clause-links : goal.of_runners-run-requires-clause-links
+of_runners-run-requires-clause-links c =
     let plan_is = c.of-plan.ensures ∙ c.plan.ensures.value in
     let logs = c.in_ok-logs.logs.items in
     ap (λ (all : List Totals). length all) c.in_ok-totals.ensures
@@ -39,8 +40,8 @@ of_runners-requires-clause-links c =
     ∙ c.in_ok-logs.ensures.links
     ∙ ap (λ (p : PlanRec). arc_count p) (sym plan_is)
 
-pub of_runners-requires-clause-sent : goal.of_runners-requires-clause-sent
-of_runners-requires-clause-sent c link sent here =
+pub of_runners-run-requires-clause-sent : goal.of_runners-run-requires-clause-sent
+of_runners-run-requires-clause-sent c link sent here =
     let apart = c.in_ok-runners.ensures in
     let plan_is = c.of-plan.ensures ∙ c.plan.ensures.value in
     let logs = c.in_ok-logs.logs.items in
@@ -48,3 +49,10 @@ of_runners-requires-clause-sent c link sent here =
     (each_total c.args.cells c.args.limit c.args.parts.items c.requires.nodes apart.workers c.requires.at_limit c.requires.plan logs c.in_ok-logs.ensures.links c.in_ok-logs.ensures.own
     (λ n ends at. c.in_ok-logs.ensures.left n ends (ap (λ (e : List Ends). slice_get e n) apart.ends ∙ at))
     link sent (ap (λ (all : List Totals). slice_get all link) (sym c.in_ok-totals.ensures) ∙ here))
+
+pub returns-clause-stepped : goal.returns-clause-stepped
+returns-clause-stepped c =
+    let apart = c.in_ok-runners.ensures in
+    let counts = c.in_ok-stepped.ensures ∙ ap (map stepped_by) c.deref.ensures.value ∙ ap (map stepped_by) apart.runners in
+    subst (λ (ns : List ℕ). AreBusyCounts c.args.cells.plan c.args.limit ns) (sym counts)
+    (busy_counts c.args.cells c.args.limit c.args.parts.items c.requires.nodes apart.workers c.requires.at_limit)

@@ -20,10 +20,10 @@ stays before after ran runs (inr is) =
     let r = subst (λ (x : Ran). Runs before x after) is runs in
     record { stays = none_at_limit before.horizon before.clock r.0; same = r.1 }
 
-clock_by : (before after : RunnerRec) → Stays before after → after ≡ record before { clock = cond (may_run before.horizon before.clock) (before.clock + 1) before.clock }
+clock_by : (before after : RunnerRec) → Stays before after → after ≡ record before { clock = cond (may_run before.horizon before.clock) (before.clock + 1) before.clock; stepped = after.stepped }
 clock_by before after s =
-    let f : Bool → RunnerRec = λ b. record before { clock = cond b (before.clock + 1) before.clock } in
-    s.same ∙ ap f (sym s.stays)
+    let f : Bool → ℕ → RunnerRec = λ b steps. record before { clock = cond b (before.clock + 1) before.clock; stepped = steps } in
+    s.same ∙ (λ i. f (sym s.stays i) (sym (ap (λ (r : RunnerRec). r.stepped) s.same) i))
 
 pub returns-in-Blocked : goal.returns-in-Blocked
 returns-in-Blocked c =

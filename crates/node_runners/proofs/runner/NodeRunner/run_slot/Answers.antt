@@ -16,16 +16,18 @@ invariant_of-self-in_err-make_room c =
     let later = c.make_room.new.batches in
     let lent = c.deref_mut.ensures.value in
     let count : length later ≡ length items = omega (arith, ap length lent) in
-    let len : i.batches.len ≡ length items = omega (arith, ap length lent) in
-    subst (λ (bs : List BatchRec). IsRunner i.plan.value i.node i.clock i.horizon c.reserve.new.self i.pins i.inlets.items bs i.published) (sym (given-back i.batches.len later items count len))
-    (runner-same i.plan.value i.node i.clock i.horizon i.seat c.reserve.new.self i.pins i.inlets.items items later i.published c.self.invariant c.reserve.ensures.same
-    (λ end. c.make_room.ensures.same end ∙ ap (λ (bs : List BatchRec). (batch_at bs end).entries) lent) count)
+    let len : i.batches.len ≡ length items = omega (arith, ap length lent) in (
+      c.self.invariant.0,
+      subst (λ (bs : List BatchRec). IsRunner i.plan.value i.node i.clock i.horizon c.reserve.new.self i.pins i.inlets.items bs i.published) (sym (given-back i.batches.len later items count len))
+          (runner-same i.plan.value i.node i.clock i.horizon i.seat c.reserve.new.self i.pins i.inlets.items items later i.published c.self.invariant.1 c.reserve.ensures.same
+          (λ end. c.make_room.ensures.same end ∙ ap (λ (bs : List BatchRec). (batch_at bs end).entries) lent) count),
+    )
 
 pub arrive_all-arrived-requires-clause-waits : goal.arrive_all-arrived-requires-clause-waits
 arrive_all-arrived-requires-clause-waits c = λ end within.
     let i = c.self.inside in
     subst (λ (xs : List InletRec). AreWaiting i.clock (inlet_at xs end).delay (inlet_at xs end).queue) (sym c.deref_mut-2.ensures.value)
-    (waits i.plan.value c.self.invariant.plan_is i.node i.clock i.horizon i.inlets.items i.batches.items i.published c.self.invariant.links end)
+    (waits i.plan.value c.self.invariant.1.plan_is i.node i.clock i.horizon i.inlets.items i.batches.items i.published c.self.invariant.1.links end)
 
 pub invariant_of-self-2 : goal.invariant_of-self-2
 invariant_of-self-2 c =
@@ -37,7 +39,7 @@ invariant_of-self-2 c =
     let count : length roomy ≡ length items = omega (arith, ap length lent) in
     let len : i.batches.len ≡ length items = omega (arith, ap length lent) in
     let back = given-back i.batches.len roomy items count len in
-    let start = runner-same i.plan.value i.node i.clock i.horizon i.seat c.reserve.new.self i.pins i.inlets.items items roomy i.published c.self.invariant c.reserve.ensures.same
+    let start = runner-same i.plan.value i.node i.clock i.horizon i.seat c.reserve.new.self i.pins i.inlets.items items roomy i.published c.self.invariant.1 c.reserve.ensures.same
     (λ end. c.make_room.ensures.same end ∙ ap (λ (bs : List BatchRec). (batch_at bs end).entries) lent) count in
     -- what arrives has left the queues
     let arrived = c.arrive_all-arrived.new.inlets in
@@ -52,7 +54,7 @@ invariant_of-self-2 c =
     let sent_back = given-back i.batches.len sent (take i.batches.len (roomy ++ drop (length roomy) items)) (omega (arith, sent_count, ap length back)) (omega (arith, len, count, ap length back)) in
     let runs : c.may_run.result ≡ true = first_of (cc, search rules, grind (arith)) in
     -- its pins were looked at
-    let pins = c.self.invariant.pins_are in
+    let pins = c.self.invariant.1.pins_are in
     let shown = c.view.ensures ∙ c.look.ensures.view ∙ shows i.plan.value i.node i.clock i.pins pins in
     let next = runner-next i.plan.value i.node i.clock i.horizon c.reserve.new.self c.step.new.self i.pins c.look.new.self i.inlets.items arrived roomy sent i.published c.arrive_all-arrived.result.arrivals c.view.result.now start
     (c.may_run.ensures.exactly.0 runs)
@@ -61,6 +63,8 @@ invariant_of-self-2 c =
     inlet_count shown (pins-next i.plan.value i.node i.clock i.pins c.look.new.self pins c.look.ensures.script c.look.ensures.number c.look.ensures.shown) c.step.ensures.steps sent_count
     (λ end within.
     c.put_all.ensures.puts end (omega (arith, within, ap length lent_batches))
-    ∙ ap (λ (bs : List BatchRec). (batch_at bs end).entries ++ sent_by i.clock c.step.new.self.given end) lent_batches) in
-    subst (λ (xs : List InletRec). IsRunner i.plan.value i.node (i.clock + 1) i.horizon c.step.new.self c.look.new.self xs (take i.batches.len (sent ++ drop (length sent) (take i.batches.len (roomy ++ drop (length roomy) items)))) i.published) (sym inlets_back)
-    (subst (λ (bs : List BatchRec). IsRunner i.plan.value i.node (i.clock + 1) i.horizon c.step.new.self c.look.new.self arrived bs i.published) (sym sent_back) next)
+    ∙ ap (λ (bs : List BatchRec). (batch_at bs end).entries ++ sent_by i.clock c.step.new.self.given end) lent_batches) in (
+      omega (arith, c.self.invariant.0),
+      subst (λ (xs : List InletRec). IsRunner i.plan.value i.node (i.clock + 1) i.horizon c.step.new.self c.look.new.self xs (take i.batches.len (sent ++ drop (length sent) (take i.batches.len (roomy ++ drop (length roomy) items)))) i.published) (sym inlets_back)
+          (subst (λ (bs : List BatchRec). IsRunner i.plan.value i.node (i.clock + 1) i.horizon c.step.new.self c.look.new.self arrived bs i.published) (sym sent_back) next),
+    )

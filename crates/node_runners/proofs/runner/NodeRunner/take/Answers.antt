@@ -20,9 +20,9 @@ invariant_of-self-2 c =
     let there = subst (λ (r : RunnerRec). IsSome (incoming r.plan r.node end)) (sym c.self.view_is) c.requires.there in
     let on = subst (λ (r : RunnerRec). seen_at r.horizon end ≤ to) (sym c.self.view_is) c.requires.on in
     let own = subst (λ (r : RunnerRec). (link : LinkNumber) → incoming r.plan r.node end ≡ Some link → entries ≡ history r.plan link (seen_at r.horizon end) to) (sym c.self.view_is) c.requires.own in
-    let links = c.self.invariant.links in
+    let links = c.self.invariant.1.links in
     let within = inside i.plan.value i.clock to entries i.node end i.horizon i.inlets.items i.batches.items i.published links there on own in
     let was = c.index_mut-inlet.ensures.value ∙ get_or_default i.inlets.items end c.index_mut-inlet.result.now no_inlet within in
     let went : is_ok c.append.result ≡ true = first_of (cc, search rules, grind (arith)) in
     let is = went-well c.append.result went c.append.ensures.ok ∙ (λ k. longer (was k) (c.entries.ensures.value k)) in
-    runner-taken i.plan.value i.clock to entries i.node end i.horizon i.inlets.items i.batches.items i.published links there on own i.seat i.pins c.see.new.self c.append.new.self c.self.invariant c.see.ensures.ends is
+    (c.self.invariant.0, runner-taken i.plan.value i.clock to entries i.node end i.horizon i.inlets.items i.batches.items i.published links there on own i.seat i.pins c.see.new.self c.append.new.self c.self.invariant.1 c.see.ensures.ends is)

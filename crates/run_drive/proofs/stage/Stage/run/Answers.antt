@@ -14,6 +14,6 @@ returns c =
     let runner = c.index_mut-runner.result.now in
     let ran = c.in_ok-run_slots.ensures.clock in
     let number = c.clock.ensures.value ∙ ap (λ (r : RunnerRec). r.clock) ran in
-    let goes = run_goes plan stage.limit.value runners lanes c.requires.at node runner c.index_mut-runner.ensures.value c.requires.there c.args.count c.clock.result number in
+    let goes = run_goes plan stage.limit.value runners lanes c.requires.at node runner c.index_mut-runner.ensures.value c.requires.there c.args.count c.run_slots.new.runner.stepped c.clock.result number in
     let whole = subst (λ (r : RunnerRec). Goes plan stage.limit.value (Run node c.args.count) runners lanes (set runners node r) lanes (record { step = Run node c.args.count; number = c.clock.result; entries = [] })) (sym ran) goes in
     record { plays = record { same_limit = refl; is_at = whole.is_at; goes_on = whole.goes_on; tells = c.quiet_line.ensures.line ∙ whole.tells } }

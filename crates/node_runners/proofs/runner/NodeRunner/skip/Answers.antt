@@ -1,0 +1,51 @@
+use Rattle.std.proofs.Common.{◌≡◌, true, ◌+◌, ◌-◌, ◌∙◌, subst, arith}
+use Rattle.quiet_model.specs.Slots.{NoneBefore}
+use Rattle.busy_slots.specs.Busy.{is_busy}
+use Rattle.ahead_limits.specs.Horizon.{may_run}
+use Rattle.node_runners.specs.Runner.{RunnerRec}
+use Rattle.node_runners.proofs.Skips.{goes_to, goes_on, pins_skipped, shown_last}
+use Rattle.node_runners.proofs.runner.NodeRunner.skip.Goals as goal
+
+pub returns-then-to-from-clause-greatest : goal.returns-then-to-from-clause-greatest
+returns-then-to-from-clause-greatest c =
+    let i = c.self.inside in
+    let goes = goes_to i.plan.value i.node i.clock i.horizon i.seat i.pins i.inlets.items c.deref.result.now i.batches.items i.published c.self.invariant.1 c.deref.ensures.value
+    c.clock_after-stop.result c.first_arrival-arrival.result c.quiet_to-to.result c.clock_after-stop.ensures.value c.first_arrival-arrival.ensures.first c.first_arrival-arrival.ensures.within
+    c.first_busy_by_both.ensures.first c.quiet_to-to.ensures.first in
+    let same : c.quiet_to-to.result ≡ i.clock = omega (arith, c.if-to-from.true, goes.on) in
+    subst (λ (r : RunnerRec). may_run r.horizon r.clock ≡ true → is_busy r.plan r.node r.clock ≡ true) c.self.view_is
+    (subst (λ t. may_run i.horizon t ≡ true → is_busy i.plan.value i.node t ≡ true) same goes.greatest)
+
+pub returns-clause-quiet : goal.returns-clause-quiet
+returns-clause-quiet c =
+    let i = c.self.inside in
+    let goes = goes_to i.plan.value i.node i.clock i.horizon i.seat i.pins i.inlets.items c.deref.result.now i.batches.items i.published c.self.invariant.1 c.deref.ensures.value
+    c.clock_after-stop.result c.first_arrival-arrival.result c.quiet_to-to.result c.clock_after-stop.ensures.value c.first_arrival-arrival.ensures.first c.first_arrival-arrival.ensures.within
+    c.first_busy_by_both.ensures.first c.quiet_to-to.ensures.first in
+    subst (λ (r : RunnerRec). NoneBefore (is_busy r.plan r.node) r.clock (r.clock + (c.quiet_to-to.result - i.clock))) c.self.view_is
+    (λ slot on before. goes.quiet slot on (omega (arith, before, goes.on)))
+
+pub returns-clause-greatest : goal.returns-clause-greatest
+returns-clause-greatest c =
+    let i = c.self.inside in
+    let goes = goes_to i.plan.value i.node i.clock i.horizon i.seat i.pins i.inlets.items c.deref.result.now i.batches.items i.published c.self.invariant.1 c.deref.ensures.value
+    c.clock_after-stop.result c.first_arrival-arrival.result c.quiet_to-to.result c.clock_after-stop.ensures.value c.first_arrival-arrival.ensures.first c.first_arrival-arrival.ensures.within
+    c.first_busy_by_both.ensures.first c.quiet_to-to.ensures.first in
+    goes.greatest
+
+pub invariant_of-self : goal.invariant_of-self
+invariant_of-self c =
+    let i = c.self.inside in
+    let goes = goes_to i.plan.value i.node i.clock i.horizon i.seat i.pins i.inlets.items c.deref.result.now i.batches.items i.published c.self.invariant.1 c.deref.ensures.value
+    c.clock_after-stop.result c.first_arrival-arrival.result c.quiet_to-to.result c.clock_after-stop.ensures.value c.first_arrival-arrival.ensures.first c.first_arrival-arrival.ensures.within
+    c.first_busy_by_both.ensures.first c.quiet_to-to.ensures.first in
+    let pins = c.self.invariant.1.pins_are in
+    let to = c.quiet_to-to.result in
+    let shows = c.view.ensures ∙ c.look.ensures.view ∙ shown_last i.plan.value i.node i.clock (to - 1) i.pins pins in
+    let pins_are = pins_skipped i.plan.value i.node i.clock to i.pins c.look.new.self pins c.look.ensures.script c.look.ensures.number c.look.ensures.shown c.if-to-from.false in (
+      omega (arith, c.self.invariant.0, goes.on),
+      goes_on i.plan.value i.node i.clock i.horizon i.seat i.pins i.inlets.items c.deref.result.now i.batches.items i.published c.self.invariant.1 c.deref.ensures.value
+          c.clock_after-stop.result c.first_arrival-arrival.result c.quiet_to-to.result c.clock_after-stop.ensures.value c.first_arrival-arrival.ensures.first c.first_arrival-arrival.ensures.within
+          c.first_busy_by_both.ensures.first c.quiet_to-to.ensures.first
+          c.idle_where_not_busy.ensures.idle c.arrivals_by_link_ends.ensures.waiting c.skip.new.self c.look.new.self c.view.result.now shows c.skip.ensures.skips pins_are,
+    )
