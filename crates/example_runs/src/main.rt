@@ -1,9 +1,11 @@
 //! Gives each example to the program's call, and says whether it wrote the text that stands beside it and ended with
-//! its status. The timeline of two nodes is compared too, slot by slot, and so are the pictures of who issues.
+//! its status. The timeline of two nodes is compared too, slot by slot, and so are the pictures of who issues, and the numbers of
+//! slots that are stepped.
 #![tactic(auto)]
 
 mod node;
 mod slots;
+mod stepped;
 mod timeline;
 
 use anyhow::{Context, Result};
@@ -13,6 +15,7 @@ use std::rt::Files;
 use std::sync::Wait;
 use std::thread::Threads;
 use std::{fs, io};
+use stepped::steps_as;
 use timeline::text_after;
 use xs_edge::{ListSink, ListSource, OpenGate};
 use xs1_top::{Status, top};
@@ -35,6 +38,12 @@ fn main(rt: HostRuntime) -> Result<()> {
             &pictures,
             slots_are_as_expected(&rt, &name, &pictures)?,
         )?;
+    }
+    for name in names(&rt, ".stepped")? {
+        let counts = format!(in rt.alloc(); "{name}.stepped")?;
+        let system = fs::read(&rt, format!(in rt.alloc(); "{name}.xs1")?)?;
+        let wanted = fs::read_to_string(&rt, &counts)?;
+        tell(&rt, &counts, steps_as(&rt, &system, &wanted)?)?;
     }
     Ok(())
 }

@@ -187,3 +187,39 @@ fn edges_of_first_periods(rt: HostRuntime) {
         assert!(rt; letter(slow.edge(clock, slot)) == edge, "slot {slot}");
     }
 }
+
+#[test]
+fn moments_and_falling_edges_are_found(rt: HostRuntime) {
+    let mut timers = Timers::new();
+    let got = timers.get();
+    let set = [timers.set_value(0, 10), timers.set_after(0, true)];
+    assert!(rt; got == Some(0) && set == [Ok(()); 2]);
+    // The time is 11 from slot 44 on.
+    let found = [
+        timers.ready_from(0, 0, 1000),
+        timers.ready_from(0, 0, 40),
+        timers.ready_from(0, 50, 1000),
+        timers.ready_from(0, 60, 50),
+    ];
+    assert!(rt; found == [44, 40, 50, 50]);
+    assert!(rt; timers.alike_until(0) == 43 && timers.alike_until(44) == u32::MAX);
+    // The reference clock falls in slots 2, 6, 10 and so on, block 0 in slots 8, 24, 40; block 1 is off.
+    let mut clocks = Clocks::new();
+    clocks.turn_on(0);
+    let set = [clocks.set_div(0, 2), clocks.start(0)];
+    assert!(rt; set == [Ok(()); 2]);
+    let falls = [
+        clocks.falls(Clock::Reference, 0, 11),
+        clocks.falls(Clock::Reference, 3, 6),
+        clocks.falls(Clock::Block(0), 8, 41),
+        clocks.falls(Clock::Block(1), 0, 1000),
+    ];
+    assert!(rt; falls == [3, 0, 3, 0]);
+    let at = [
+        clocks.fall_at(Clock::Reference, 3, 100, 2),
+        clocks.fall_at(Clock::Reference, 3, 8, 2),
+        clocks.fall_at(Clock::Block(0), 9, 100, 1),
+        clocks.fall_at(Clock::Block(1), 0, 100, 1),
+    ];
+    assert!(rt; at == [10, 8, 24, 100]);
+}

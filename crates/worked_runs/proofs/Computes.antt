@@ -17,8 +17,9 @@ use Rattle.trace_model.specs.Trace.{halted_lines, memory_lines, by_position, tra
 use Rattle.play_model.specs.Play.{played_from}
 use Rattle.play_model.specs.PlayText.{play_text}
 use Rattle.load_model.specs.Load.{load_text}
+use Rattle.busy_slots.specs.Busy.{busy_count}
 
 -- names them all on its own line, so that they unfold where it does
 unfoldable pub computes : Type 0
-unfolding digits words_of best_from edges_from lowest_free first_difference links_after_arrivals moves_from free_end node_step serial alone clock_after after_steps hex_word by_slot halted_lines memory_lines by_position trace_text played_from play_text load_text
+unfolding digits words_of best_from edges_from lowest_free first_difference links_after_arrivals moves_from free_end node_step serial alone clock_after after_steps hex_word by_slot halted_lines memory_lines by_position trace_text played_from play_text load_text busy_count
 computes = Unit {0}

@@ -1,3 +1,4 @@
+pub mod BusySlots
 pub mod Directions
 pub mod Systems
 pub mod Receiver

@@ -2,6 +2,7 @@
 //! node that is stepped alone, schedules, and the texts that are written of runs. Nothing stands on this crate.
 #![tactic(auto)]
 
+mod busy;
 mod directions;
 mod event_lines;
 mod link_lines;
@@ -12,6 +13,7 @@ mod schedules;
 mod systems;
 mod traces;
 
+pub use busy::worked_busy_slots;
 pub use directions::worked_directions;
 pub use event_lines::worked_event_lines;
 pub use link_lines::worked_link_lines;
