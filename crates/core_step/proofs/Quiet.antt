@@ -8,7 +8,7 @@ use Rattle.xs_model.specs.declared.outside.PinView.{PinView}
 use Rattle.xs_model.specs.declared.outside.Arrivals.{Arrivals}
 use Rattle.xs_model.specs.Record.{CoreRec, NodeRec, LinkRec, PortRec, ClockRec}
 use Rattle.xs_model.specs.Ports.{levels_of}
-use Rattle.xs_model.specs.Outside.{emitted_events}
+use Rattle.xs_model.specs.Outside.{Emitted, emitted_events}
 use Rattle.net_model.specs.Links.{IsLinkBefore}
 use Rattle.link_ends.specs.Counts.{EndCounts}
 use Rattle.xs_model.specs.AtWork.{AtWork, slot_begins, emitted_in}
@@ -27,7 +27,7 @@ use Rattle.quiet_laws.specs.Quiet.{StirsFirst, OtherNodeStirsNow, StillNodeStirs
 use Rattle.quiet_laws.proofs.Ports.{ports_uncounted, ports_count_on, ports_stay_still, levels_stay}
 use Rattle.quiet_laws.proofs.Threads.{some_alike}
 use Rattle.core_step.specs.PinLevels.{from_outside}
-use Rattle.core_step.specs.Core.{CoreValue, StandsFor, StandsAt, SentBefore, NothingArrives}
+use Rattle.core_step.specs.Core.{CoreValue, StandsFor, StandsAt, SentBefore, NothingArrives, Passes}
 use Rattle.core_step.specs.Quiet.{IsQuietTo}
 
 -- where there is no slot before the bound, the first is the bound
@@ -76,6 +76,17 @@ nothing_alike fixed rec slot arrivals pins none =
     let arrived : List (Option LinkRec) → AtWork = λ links. record (slot_begins rec) { rec = record rec { links = links } } in
     ap (λ (links : List (Option LinkRec)). let s : Stepped = record { rec = (after (arrived links)).rec; emitted = emitted_in slot (after (arrived links)) } in s)
     (none_come slot 0 rec.links ∙ sym (links_stay slot 0 arrivals.tokens arrivals.credits rec.links none.tokens none.credits))
+
+-- a quiet slot in which nothing arrives
+pub passes_nothing : (slot : Slot) (arrivals : Arrivals) (pins : PinView) (before after : CoreValue) (given : Emitted) → NothingArrives arrivals → given ≡ emitted_events []
+    → Passes slot no_arrivals pins before after (emitted_events []) → Passes slot arrivals pins before after given
+passes_nothing slot arrivals pins before after given none is p = record {
+  fixed = p.fixed;
+  step = λ rec at. subst (λ (s : Stepped). StandsAt after s.rec (slot + 1)) (nothing_alike before.fixed rec slot arrivals pins none) (p.step rec at);
+  emissions = λ rec at. is ∙ p.emissions rec at ∙ ap (λ (s : Stepped). s.emitted) (nothing_alike before.fixed rec slot arrivals pins none);
+  levels = p.levels;
+  next = p.next;
+}
 
 -- ---- After the slots
 

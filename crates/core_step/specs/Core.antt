@@ -1,15 +1,18 @@
 -- What contracts see of a core, and the node record that it stands for.
-use Rattle.std.specs.Prelude.{ℕ, ◌≡◌, ◌<◌, false, List, Option, None, IfSome, slice_index_or}
+use Rattle.std.specs.Prelude.{ℕ, ◌≡◌, ◌+◌, ◌<◌, false, List, Option, None, IfSome, slice_index_or}
 use Rattle.std.specs.List.{AllByRecursion}
 use Rattle.xs_base.specs.Numbers.{Slot}
 use Rattle.xs_model.specs.declared.outside.Arrivals.{Arrivals}
+use Rattle.xs_model.specs.declared.outside.PinView.{PinView}
+use Rattle.xs_model.specs.Outside.{Emitted}
 use Rattle.xs_model.specs.Record.{CoreRec, NodeRec, InputRec}
 use Rattle.net_model.specs.Links.{IsLinkBefore}
 use Rattle.link_ends.specs.Counts.{EndCounts}
 use Rattle.switch_routes.specs.Rows.{AllCountsOf}
 use Rattle.step_model.specs.Fixed.{Fixed}
+use Rattle.step_model.specs.Step.{node_step}
 use Rattle.core_step.specs.declared.pin_levels.PinLevels.{PinLevels}
-use Rattle.core_step.specs.PinLevels.{levels_kept}
+use Rattle.core_step.specs.PinLevels.{levels_kept, from_outside}
 
 -- what of its node's plan a core keeps, its units, what it keeps of the levels of its pins, the states of its
 -- switch's inputs, and the counts of its link ends
@@ -45,3 +48,11 @@ SentBefore slot row = AllByRecursion (λ end. IfSome end (λ counts. IfSome coun
 -- so it is for the link ends of the core
 abbrev pub SlotsBefore : CoreValue → Slot → Type 0
 SlotsBefore value slot = SentBefore slot value.links
+
+-- what a slot makes of a core, when this arrives and its pins show this from outside, and what it gives
+pub record Passes (slot : Slot) (arrivals : Arrivals) (pins : PinView) (before after : CoreValue) (given : Emitted) : Type 0 where
+  pub fixed : after.fixed ≡ before.fixed
+  pub step : (rec : NodeRec) → StandsAt before rec slot → StandsAt after (node_step before.fixed rec slot arrivals pins).rec (slot + 1)
+  pub emissions : (rec : NodeRec) → StandsAt before rec slot → given ≡ (node_step before.fixed rec slot arrivals pins).emitted
+  pub levels : after.levels ≡ from_outside pins
+  pub next : SlotsBefore after (slot + 1)

@@ -1,5 +1,5 @@
 //! `Core`, one node's core.
-ghost use Rattle.std.specs.Prelude.{◌≡◌, ◌<◌, ◌≤◌, ◌+◌, ◌-◌, ◌↔◌, true, false, List, [], Option, length, IfOk, IsErr};
+ghost use Rattle.std.specs.Prelude.{◌≡◌, ◌<◌, ◌≤◌, ◌+◌, ◌-◌, ◌^◌, ◌↔◌, true, false, List, [], Option, length, IfOk, IsErr};
 ghost use Rattle.std.specs.Result.{result_ok};
 ghost use Rattle.xs_base.specs.Numbers.{Slot};
 ghost use Rattle.xs_base.specs.declared.numbers.TheConstants.{MEMORY_BYTES, THREADS};
@@ -7,12 +7,13 @@ ghost use Rattle.xs_model.specs.Record.{NodeRec, LinkRec, thread_of};
 ghost use Rattle.xs_model.specs.Memory.{load_word, is_word_address};
 ghost use Rattle.xs_model.specs.Outside.{LevelsFit, emitted_events};
 ghost use Rattle.step_model.specs.Start.{fixed_of, node_of, WaysHaveGaps};
-ghost use Rattle.step_model.specs.Step.{node_step};
 ghost use Rattle.switch_routes.specs.Rows.{AllCountsOf};
 ghost use Rattle.quiet_model.specs.Still.{network_is_still, ports_are_still, still};
+ghost use Rattle.quiet_model.specs.Stirs.{some_eligible};
 ghost use Rattle.quiet_laws.specs.Undisturbed.{undisturbed_until, no_arrivals, ShowsAll};
 ghost use Rattle.quiet_laws.specs.Quiet.{StirsFirst};
-ghost use Rattle.core_step.specs.Core.{StandsFor, StandsAt, SlotsBefore, NothingArrives};
+ghost use Rattle.core_step.specs.PinLevels.{from_outside};
+ghost use Rattle.core_step.specs.Core.{StandsFor, StandsAt, SlotsBefore, NothingArrives, Passes};
 ghost use Rattle.core_step.specs.Quiet.{IsQuietTo};
 
 use crate::network::{Network, nothing_arrives};
@@ -101,23 +102,19 @@ impl Core {
         requires before { SlotsBefore self.old slot }
         requires levels { LevelsFit pins.now.level }
 
-        ensures fixed { self.new.fixed ≡ self.old.fixed }
-        ensures step { (rec : NodeRec) → StandsAt self.old rec slot →
-            StandsAt self.new (node_step self.old.fixed rec slot arrivals.now pins.now).rec (slot + 1) }
-        ensures emissions { (rec : NodeRec) → StandsAt self.old rec slot →
-            out.new ≡ (node_step self.old.fixed rec slot arrivals.now pins.now).emitted }
-        ensures after { SlotsBefore self.new (slot + 1) }
+        ensures passes { Passes slot arrivals.now pins.now self.old self.new out.new }
     {
         let arrives = !nothing_arrives(arrivals);
-        self.slot_where(arrives, slot, arrivals, pins, out);
+        self.slot_where(arrives, true, slot, arrivals, pins, out);
     }
 
-    /// The same, where it is known whether anything arrives: nothing does by any link end if `arrives` is false. It takes less
-    /// than to look.
+    /// The same, where it is known whether anything arrives, and whether the pins changed: nothing arrives by any link end if `arrives`
+    /// is false, and they show from outside what they showed in the slot before if `changed` is. It takes less than to look.
     #[inline]
     pub fn slot_where(
         &mut self,
         arrives: bool,
+        changed: bool,
         slot: u32,
         arrivals: &Arrivals,
         pins: &PinView,
@@ -126,33 +123,25 @@ impl Core {
         requires before { SlotsBefore self.old slot }
         requires levels { LevelsFit pins.now.level }
         requires arrives { arrives ≡ false → NothingArrives arrivals.now }
+        requires same { changed ≡ false → self.old.levels ≡ from_outside pins.now }
 
-        ensures fixed { self.new.fixed ≡ self.old.fixed }
-        ensures step { (rec : NodeRec) → StandsAt self.old rec slot →
-            StandsAt self.new (node_step self.old.fixed rec slot arrivals.now pins.now).rec (slot + 1) }
-        ensures emissions { (rec : NodeRec) → StandsAt self.old rec slot →
-            out.new ≡ (node_step self.old.fixed rec slot arrivals.now pins.now).emitted }
-        ensures after { SlotsBefore self.new (slot + 1) }
+        ensures passes { Passes slot arrivals.now pins.now self.old self.new out.new }
     {
-        if !arrives && self.rests(slot, pins) {
+        if !arrives && self.rests(changed, slot, pins) {
             Emissions::clear(out);
             return;
         }
-        if !self.acts(arrives, slot, arrivals, pins, out) {
+        if !self.acts(arrives, changed, slot, arrivals, pins, out) {
             self.find_rest(slot);
         }
     }
 
     // Goes over a slot in which nothing arrives, where it is known to be quiet in it: the answer tells whether it was.
     #[inline]
-    fn rests(&mut self, slot: u32, pins: &PinView) -> bool
+    fn rests(&mut self, changed: bool, slot: u32, pins: &PinView) -> bool
         requires before { SlotsBefore self.old slot }
-        ensures fixed { self.new.fixed ≡ self.old.fixed }
-        ensures step { result ≡ true → (rec : NodeRec) → StandsAt self.old rec slot →
-            StandsAt self.new (node_step self.old.fixed rec slot no_arrivals pins.now).rec (slot + 1) }
-        ensures nothing { result ≡ true → (rec : NodeRec) → StandsAt self.old rec slot →
-            (node_step self.old.fixed rec slot no_arrivals pins.now).emitted ≡ emitted_events [] }
-        ensures after { result ≡ true → SlotsBefore self.new (slot + 1) }
+        requires same { changed ≡ false → self.old.levels ≡ from_outside pins.now }
+        ensures passes { result ≡ true → Passes slot no_arrivals pins.now self.old self.new (emitted_events []) }
         ensures same { result ≡ false → self.new ≡ self.old }
     {
         quiet_slots_only_count();
@@ -162,7 +151,7 @@ impl Core {
         }
         self.units.keeps();
         self.units.pass(slot, slot + 1);
-        self.levels.note(pins);
+        self.levels.note(changed, pins);
         self.rest.from = slot + 1;
         true
     }
@@ -171,6 +160,7 @@ impl Core {
     fn acts(
         &mut self,
         arrives: bool,
+        changed: bool,
         slot: u32,
         arrivals: &Arrivals,
         pins: &PinView,
@@ -179,13 +169,9 @@ impl Core {
         requires before { SlotsBefore self.old slot }
         requires levels { LevelsFit pins.now.level }
         requires arrives { arrives ≡ false → NothingArrives arrivals.now }
+        requires same { changed ≡ false → self.old.levels ≡ from_outside pins.now }
 
-        ensures fixed { self.new.fixed ≡ self.old.fixed }
-        ensures step { (rec : NodeRec) → StandsAt self.old rec slot →
-            StandsAt self.new (node_step self.old.fixed rec slot arrivals.now pins.now).rec (slot + 1) }
-        ensures emissions { (rec : NodeRec) → StandsAt self.old rec slot →
-            out.new ≡ (node_step self.old.fixed rec slot arrivals.now pins.now).emitted }
-        ensures after { SlotsBefore self.new (slot + 1) }
+        ensures passes { Passes slot arrivals.now pins.now self.old self.new out.new }
     {
         out.clear();
         self.rest = Rest::none();
@@ -197,7 +183,7 @@ impl Core {
         let issued = self
             .units
             .issue(&self.program, slot, pins, &self.network, out);
-        self.levels.note(pins);
+        self.levels.note(changed, pins);
         issued
     }
 
@@ -209,6 +195,15 @@ impl Core {
             let until = self.quiet_to(from, u32::MAX);
             self.rest = Rest { from, until };
         }
+    }
+
+    /// Whether some thread may issue in a slot, where nothing changes until then. It takes no memory. See docs/QUIET_SLOTS.md.
+    #[inline]
+    pub fn may_issue(&self, slot: u32) -> bool
+        requires slot { slot < 2 ^ 32 - 1 }
+        ensures value { result ≡ some_eligible self.now.core slot }
+    {
+        self.units.eligible_from(slot, slot + 1) == slot
     }
 
     /// The first slot from `from` on and before `bound` in which the node stirs where nothing arrives until then: something is on
@@ -252,12 +247,13 @@ impl Core {
         ensures step { (rec : NodeRec) (pins : Slot → PinView) → StandsAt self.old rec from → ((slot : Slot) → ShowsAll (pins slot)) → pins (to - 1) ≡ last.now →
             StandsAt self.new (undisturbed_until self.old.fixed rec from pins to) to }
         ensures after { SlotsBefore self.new to }
+        ensures levels { self.new.levels ≡ from_outside last.now }
     {
         first_stirring_slot();
         quiet_slots_only_count();
         self.rest = Rest::none();
         self.units.keeps();
         self.units.pass(from, to);
-        self.levels.note(last);
+        self.levels.note(true, last);
     }
 }

@@ -1,5 +1,5 @@
 //! `PinLevels`, what a core keeps of the levels of its pins.
-ghost use Rattle.std.specs.Prelude.{◌≡◌, true, List};
+ghost use Rattle.std.specs.Prelude.{◌≡◌, true, false, List};
 ghost use Rattle.xs_model.specs.Record.{PortRec};
 ghost use Rattle.buffered_ports.specs.Keeps.{HighAre};
 ghost use Rattle.quiet_laws.specs.Undisturbed.{ShowsAll};
@@ -20,14 +20,18 @@ pub struct PinLevels {
 }
 
 impl PinLevels {
-    /// From now on they are what the pins show from outside. It copies in place, in every slot.
+    /// From now on they are what the pins show from outside. They are that already where the pins did not change, so it copies only
+    /// where they did, in place.
     #[inline]
-    pub(crate) fn note(&mut self, pins: &PinView)
+    pub(crate) fn note(&mut self, changed: bool, pins: &PinView)
+        requires same { changed ≡ false → self.old ≡ from_outside pins.now }
         ensures levels { self.new ≡ from_outside pins.now }
         ensures all { ShowsAll pins.now }
     {
-        self.is_outside = true;
-        self.pins.level.copy_from_slice(&pins.level);
+        if changed {
+            self.is_outside = true;
+            self.pins.level.copy_from_slice(&pins.level);
+        }
     }
 }
 

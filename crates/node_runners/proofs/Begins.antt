@@ -130,14 +130,15 @@ module _ (plan : PlanRec) (is : IsPlan plan) (n : Position) (limit : Slot) where
       }
 
       pub runner-start : (seat : Seat) (pins : Pins) → length inlets ≤ 8 → length batches ≤ 8 → limit < 2 ^ 32 → n < length plan.nodes
-          → ((node : NodePlan) → slice_get plan.nodes n ≡ Some node → Plays plan 0 n node seat (node_of node (gaps_of plan n)) []) → IsSeat 0 seat → ArePins plan n 0 pins
+          → ((node : NodePlan) → slice_get plan.nodes n ≡ Some node → Plays plan 0 n node seat (node_of node (gaps_of plan n)) []) → IsSeat 0 seat → ArePins plan n 0 pins → pins.next ≡ 0
           → IsRunner plan n 0 horizon seat pins inlets batches (replicate ENDS 0)
-      runner-start seat pins few_inlets few_batches small within plays ready pins_are = record {
+      runner-start seat pins few_inlets few_batches small within plays ready pins_are due = record {
         plan_is = is;
         within = omega arith;
         small = small;
         seat_is = sits-start plan n seat within plays ready;
         pins_are = pins_are;
+        noted = λ less. absurd (omega (arith, less, due));
         links = record {
           all_ends = refl;
           few_inlets = few_inlets;

@@ -75,6 +75,7 @@ module _ (plan : PlanRec) (n : Position) (clock : Slot) (horizon : HorizonRec) (
       small = is.small;
       seat_is = is.seat_is;
       pins_are = is.pins_are;
+      noted = is.noted;
       links = record {
         all_ends = is.links.all_ends;
         few_inlets = is.links.few_inlets;

@@ -1,12 +1,13 @@
 -- A node that goes over quiet slots at once.
-use Rattle.std.proofs.Common.{◌≡◌, ℕ, ◌+◌, ◌-◌, ◌^◌, ◌<◌, ◌≤◌, ◌⊎◌, inl, inr, true, false, Option, Some, None, List, refl, sym, ap, ◌∙◌, subst, arith}
+use Rattle.std.proofs.Common.{◌≡◌, ℕ, ◌+◌, ◌-◌, ◌^◌, ◌<◌, ◌≤◌, ◌⊎◌, inl, inr, Bool, true, false, Option, Some, None, List, refl, sym, ap, ◌∙◌, subst, arith}
+use Rattle.std.specs.Prelude.{◌||◌, not}
 use Rattle.std.proofs.lemmas.Bool.{true≢false, or_parts, cases_lt}
 use Rattle.std.proofs.lemmas.Option.{none-some}
 use Rattle.xs_base.specs.Numbers.{Slot, Position, LinkNumber, EndNumber}
 use Rattle.xs_base.specs.Batch.{BatchRec}
 use Rattle.xs_model.specs.declared.event.Event.{Event}
 use Rattle.xs_model.specs.declared.outside.PinView.{PinView}
-use Rattle.xs_model.specs.Record.{NodeRec}
+use Rattle.xs_model.specs.Record.{CoreRec, NodeRec}
 use Rattle.pin_scripts.specs.Script.{view_at}
 use Rattle.sys_plan.specs.Plan.{PlanRec, incoming, gaps_of}
 use Rattle.sys_plan.proofs.Routes.{incoming-past, incoming-delay}
@@ -15,7 +16,8 @@ use Rattle.step_model.specs.Start.{fixed_of}
 use Rattle.serial_model.specs.Serial.{serial, pins_at}
 use Rattle.locality_laws.specs.Locality.{node_in, events_in}
 use Rattle.quiet_model.specs.Slots.{NoneBefore, IsFirst}
-use Rattle.quiet_model.specs.Stirs.{stirs}
+use Rattle.quiet_model.specs.Still.{still}
+use Rattle.quiet_model.specs.Stirs.{some_eligible, ports_stir, stirs}
 use Rattle.quiet_laws.specs.Undisturbed.{undisturbed_until, ShowsAll}
 use Rattle.quiet_laws.specs.Quiet.{StirsFirst}
 use Rattle.busy_slots.specs.Busy.{brings_something, something_arrives, is_busy}
@@ -25,6 +27,7 @@ use Rattle.ahead_limits.specs.declared.horizon.Seen.{Seen}
 use Rattle.ahead_limits.specs.Horizon.{HorizonRec, horizon_at, may_run}
 use Rattle.ahead_limits.specs.Schedule.{clock_after}
 use Rattle.core_step.specs.Core.{StandsAt}
+use Rattle.core_step.specs.PinLevels.{from_outside}
 use Rattle.node_seats.specs.declared.pins.Pins.{Pins}
 use Rattle.node_seats.specs.declared.seat.Seat.{Seat}
 use Rattle.node_seats.specs.Seats.{Plays, SkipsOn}
@@ -146,9 +149,9 @@ module _ (plan : PlanRec) (n : Position) (clock : Slot) (horizon : HorizonRec) (
           behind = λ end. let b = is.links.behind end in omega (arith, b, not_earlier);
         }
 
-        pub runner_skipped : (after : Seat) (pins_after : Pins) (view : PinView) → view ≡ pins_at plan n (to - 1) → SkipsOn clock to view seat after → ArePins plan n to pins_after
+        pub runner_skipped : (after : Seat) (pins_after : Pins) (view : PinView) → view ≡ pins_at plan n (to - 1) → view ≡ pins_after.view → SkipsOn clock to view seat after → ArePins plan n to pins_after
             → IsRunner plan n to horizon after pins_after inlets batches published
-        runner_skipped after pins_after view shows skips pins_are = record {
+        runner_skipped after pins_after view shows looked skips pins_are = record {
           plan_is = is.plan_is;
           within = let w = far.within is.within in omega (arith, w, not_past);
           small = is.small;
@@ -162,8 +165,27 @@ module _ (plan : PlanRec) (n : Position) (clock : Slot) (horizon : HorizonRec) (
                 (plays-later plan clock to n is.seat_is.node seat after rec (events_in (serial plan clock) n) (pins_at plan n) view is.seat_is.plays (λ slot. refl) (sym shows) skips));
           };
           pins_are = pins_are;
+          noted = λ _. skips.noted ∙ ap from_outside looked;
           links = links_later;
         }
+
+-- ---- Where a thread may issue
+
+late_true : (x y z : Bool) → x || (y || (true || z)) ≡ true
+late_true true y z = refl
+late_true false true z = refl
+late_true false false z = refl
+
+-- the slot is busy
+pub issue_is_busy : (plan : PlanRec) (n : Position) (clock : Slot) (horizon : HorizonRec) (seat : Seat) (pins : Pins) (inlets : List InletRec) (batches : List BatchRec) (published : List Slot)
+    → IsRunner plan n clock horizon seat pins inlets batches published → some_eligible seat.core.core clock ≡ true → is_busy plan n clock ≡ true
+issue_is_busy plan n clock horizon seat pins inlets batches published is may =
+    let rec : NodeRec = node_in (serial plan clock) n in
+    let here : some_eligible rec.core clock ≡ true = subst (λ (core : CoreRec). some_eligible core clock ≡ true) is.seat_is.plays.stands.stands.core may in
+    let arrives = something_arrives plan n clock in
+    let moves = not (still rec) in
+    let falls = ports_stir rec.core.clocks clock rec.core.ports in
+    ap (λ (b : Bool). arrives || (moves || (b || falls))) here ∙ late_true arrives moves falls
 
 -- ---- What a skip finds
 
@@ -194,10 +216,10 @@ module _ (plan : PlanRec) (n : Position) (clock : Slot) (horizon : HorizonRec) (
     greatest = no_more plan n clock horizon seat pins inlets batches published is stop far arrival found early by_both to stirring;
   }
 
-  pub goes_on : IdleWhereNotBusy → WaitingStays → (after : Seat) (pins_after : Pins) (view : PinView) → view ≡ pins_at plan n (to - 1) → SkipsOn clock to view seat after → ArePins plan n to pins_after
+  pub goes_on : IdleWhereNotBusy → WaitingStays → (after : Seat) (pins_after : Pins) (view : PinView) → view ≡ pins_at plan n (to - 1) → view ≡ pins_after.view → SkipsOn clock to view seat after → ArePins plan n to pins_after
       → IsRunner plan n to horizon after pins_after inlets batches published
-  goes_on idle waiting after pins_after view shows skips pins_are =
-      runner_skipped plan n clock horizon seat pins inlets batches published is stop far arrival found early by_both to stirring idle waiting after pins_after view shows skips pins_are
+  goes_on idle waiting after pins_after view shows looked skips pins_are =
+      runner_skipped plan n clock horizon seat pins inlets batches published is stop far arrival found early by_both to stirring idle waiting after pins_after view shows looked skips pins_are
 
 -- ---- Its pins
 

@@ -18,11 +18,12 @@ use Rattle.locality_laws.proofs.Links.{histories_grow, seen_arrives}
 use Rattle.locality_laws.proofs.Nodes.{step_needs_coming, outgoing_leaves}
 use Rattle.ahead_limits.specs.declared.horizon.Seen.{Seen}
 use Rattle.ahead_limits.specs.Horizon.{HorizonRec, horizon_at, IsBelowAll}
+use Rattle.core_step.specs.PinLevels.{from_outside}
 use Rattle.node_seats.specs.declared.pins.Pins.{Pins}
 use Rattle.node_seats.specs.declared.seat.Seat.{Seat}
 use Rattle.node_seats.specs.Seats.{IsSeat, Plays, SameSeat, StepsOn}
 use Rattle.node_seats.specs.Shown.{ArePins}
-use Rattle.node_seats.proofs.Seats.{plays-next, given-is, plays-same, ready-same}
+use Rattle.node_seats.proofs.Seats.{plays-next, given-is, plays-same, ready-same, noted-same}
 use Rattle.node_runners.specs.Queue.{InletRec, no_inlet, inlet_at, AreWaiting, after_slot, arriving_after, arriving_at, arrivals_by}
 use Rattle.node_runners.specs.Sent.{batch_at}
 use Rattle.node_runners.specs.Inside.{HearsLink, Hears, Tells, HasLinks, Sits, IsRunner}
@@ -185,6 +186,7 @@ runner-same plan n clock horizon seat seat_after pins inlets batches after publi
   small = is.small;
   seat_is = sits-same plan n clock seat seat_after is.seat_is same_seat;
   pins_are = is.pins_are;
+  noted = noted-same clock pins seat seat_after is.noted same_seat;
   links = links-same plan n clock horizon inlets batches after published is.links same count;
 }
 
@@ -193,11 +195,11 @@ runner-same plan n clock horizon seat seat_after pins inlets batches after publi
 pub runner-next : (plan : PlanRec) (n : Position) (clock : Slot) (horizon : HorizonRec) (seat seat_after : Seat) (pins pins_after : Pins) (inlets inlets_after : List InletRec) (batches after : List BatchRec) (published : List Slot)
     (arrivals : Arrivals) (view : PinView)
     → IsRunner plan n clock horizon seat pins inlets batches published → IsBelowAll horizon clock → arrivals ≡ arrivals_by clock inlets → inlets_after ≡ map (after_slot clock) inlets → length inlets_after ≡ length inlets
-    → view ≡ pins_at plan n clock → ArePins plan n (clock + 1) pins_after
+    → view ≡ pins_at plan n clock → ArePins plan n (clock + 1) pins_after → view ≡ pins_after.view
     → StepsOn clock arrivals view seat seat_after → length after ≡ length batches
     → ((end : ℕ) → end < length batches → (batch_at after end).entries ≡ (batch_at batches end).entries ++ sent_by clock seat_after.given end)
     → IsRunner plan n (clock + 1) horizon seat_after pins_after inlets_after after published
-runner-next plan n clock horizon seat seat_after pins pins_after inlets inlets_after batches after published arrivals view is below arrive left inlet_count shows pins_are steps count puts =
+runner-next plan n clock horizon seat seat_after pins pins_after inlets inlets_after batches after published arrivals view is below arrive left inlet_count shows pins_are looked steps count puts =
     let are = arrive ∙ arrivals-are plan is.plan_is n clock horizon inlets batches published is.links clock (omega arith) below in
     let given = gives plan n clock seat is.seat_is arrivals view seat_after steps are shows in
     record {
@@ -206,6 +208,7 @@ runner-next plan n clock horizon seat seat_after pins pins_after inlets inlets_a
       small = is.small;
       seat_is = sits-next plan n clock seat is.seat_is arrivals view seat_after steps are shows;
       pins_are = pins_are;
+      noted = λ _. steps.noted ∙ ap from_outside looked;
       links = record {
         all_ends = is.links.all_ends;
         few_inlets = omega (arith, inlet_count, is.links.few_inlets);

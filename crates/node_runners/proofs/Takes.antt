@@ -87,5 +87,6 @@ module _ (plan : PlanRec) (clock to : Slot) (entries : List Entry) where
           small = r.small;
           seat_is = r.seat_is;
           pins_are = r.pins_are;
+          noted = r.noted;
           links = links-taken;
         }))

@@ -11,7 +11,7 @@ use Rattle.ahead_limits.specs.declared.horizon.Seen.{Seen}
 use Rattle.ahead_limits.specs.Horizon.{HorizonRec, horizon_at}
 use Rattle.node_seats.specs.declared.pins.Pins.{Pins}
 use Rattle.node_seats.specs.declared.seat.Seat.{Seat}
-use Rattle.node_seats.specs.Seats.{IsSeat, Plays}
+use Rattle.node_seats.specs.Seats.{IsSeat, HasNoted, Plays}
 use Rattle.node_seats.specs.Shown.{ArePins}
 use Rattle.node_runners.specs.Queue.{InletRec, no_inlet, inlet_at}
 use Rattle.node_runners.specs.Sent.{batch_at}
@@ -58,4 +58,5 @@ pub record IsRunner (plan : PlanRec) (n : Position) (clock : Slot) (horizon : Ho
   pub small : horizon.limit < 2 ^ 32
   pub seat_is : Sits plan n clock seat
   pub pins_are : ArePins plan n clock pins
+  pub noted : HasNoted clock pins seat
   pub links : HasLinks plan n clock horizon inlets batches published

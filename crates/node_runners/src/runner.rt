@@ -130,11 +130,12 @@ impl NodeRunner {
         self.seat.reserve()?;
         make_room(&mut self.batches)?;
         let arrived = arrive_all(&mut self.inlets, self.clock);
-        self.pins.look(self.clock);
+        let changed = self.pins.look(self.clock);
         self.seat.step(
             self.clock,
             arrived.some,
             &arrived.arrivals,
+            changed,
             self.pins.view(),
         );
         put_all(&mut self.batches, self.clock, &self.seat.given);
@@ -154,6 +155,10 @@ impl NodeRunner {
         first_busy_by_both();
         idle_where_not_busy();
         let from = self.clock;
+        // In most busy slots a thread may issue, which takes less to see than what arrives and what else goes on.
+        if from < u32::MAX && self.seat.may_issue(from) {
+            return 0;
+        }
         let stop = self.horizon.clock_after(from, u32::MAX);
         let arrival = first_arrival(&self.inlets, stop);
         let to = self.seat.quiet_to(from, arrival);
@@ -173,9 +178,9 @@ impl NodeRunner {
         ensures own { (link : LinkNumber) → outgoing self.old.plan self.old.node end ≡ Some link → result.entries ≡ history self.old.plan link (slice_index self.old.published end) self.old.clock }
         ensures rest { self.new ≡ record self.old { published = slice_set self.old.published end self.old.clock } }
     {
-        let batch = mem::replace(&mut self.batches[end as usize], Batch::new(self.alloc));
-        self.published[end as usize] = self.clock;
-        batch
+        let clock = self.clock;
+        let none = Batch::new(self.alloc);
+        self.exchange(end, none, clock)
     }
 
     /// Takes back what `send` gave last for a link end, and that nobody else has: it is published up to the slot `from` again. It takes no
@@ -187,8 +192,20 @@ impl NodeRunner {
         requires own { (link : LinkNumber) → outgoing self.old.plan self.old.node end ≡ Some link → batch.entries ≡ history self.old.plan link from self.old.clock }
         ensures rest { self.new ≡ record self.old { published = slice_set self.old.published end from } }
     {
-        self.batches[end as usize] = batch;
+        let _ = self.exchange(end, batch, from);
+    }
+
+    // What is sent by the link end of a link and not published is this batch, and begins at this slot. The answer is what it was.
+    fn exchange(&mut self, end: u8, batch: Batch, from: u32) -> Batch
+        requires there { IsSome (outgoing self.old.plan self.old.node end) }
+        requires before { from ≤ self.old.clock }
+        requires own { (link : LinkNumber) → outgoing self.old.plan self.old.node end ≡ Some link → batch.entries ≡ history self.old.plan link from self.old.clock }
+        ensures own { (link : LinkNumber) → outgoing self.old.plan self.old.node end ≡ Some link → result.entries ≡ history self.old.plan link (slice_index self.old.published end) self.old.clock }
+        ensures rest { self.new ≡ record self.old { published = slice_set self.old.published end from } }
+    {
+        let before = mem::replace(&mut self.batches[end as usize], batch);
         self.published[end as usize] = from;
+        before
     }
 
     /// The position of the node.

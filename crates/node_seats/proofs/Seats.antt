@@ -13,8 +13,10 @@ use Rattle.step_model.specs.Step.{Stepped, node_step}
 use Rattle.trace_lines.specs.Kept.{KeptEvents, Keeps}
 use Rattle.quiet_laws.specs.Undisturbed.{undisturbed_until, ShowsAll}
 use Rattle.core_step.specs.Core.{StandsAt}
+use Rattle.core_step.specs.PinLevels.{from_outside}
+use Rattle.node_seats.specs.declared.pins.Pins.{Pins}
 use Rattle.node_seats.specs.declared.seat.Seat.{Seat}
-use Rattle.node_seats.specs.Seats.{IsSeat, Plays, SameSeat, StepsOn, SkipsOn, step_of}
+use Rattle.node_seats.specs.Seats.{IsSeat, HasNoted, Plays, SameSeat, StepsOn, SkipsOn, step_of}
 
 -- the ways of the node at a place lead on
 pub ways-at : (plan : PlanRec) (n : ℕ) (nodes : List NodePlan) (k m : ℕ) (d : NodePlan) → AllWaysLead plan n nodes → k < length nodes → m ≡ n + k → WaysLead plan m (get_or nodes k d).ways
@@ -42,6 +44,15 @@ ready-same slot seat after ready same =
       before = k.before;
       more = k.more;
     }
+
+pub noted-same : (slot : ℕ) (pins : Pins) (seat after : Seat) → HasNoted slot pins seat → SameSeat seat after → HasNoted slot pins after
+noted-same slot pins seat after noted same =
+    let k = subst (HasNoted slot pins) (sym same) noted in
+    λ less. k less
+
+-- where the script was not looked at, the node has noted what its pins show
+pub noted-still : (slot : ℕ) (pins looked : Pins) (seat : Seat) → HasNoted slot pins seat → (slot < pins.next) × (looked.view ≡ pins.view) → seat.core.levels ≡ from_outside looked.view
+noted-still slot pins looked seat noted same = noted same.0 ∙ ap from_outside (sym same.1)
 
 -- a node that plays its part: its step is that of the plan's node
 module _ (plan : PlanRec) (slot n : ℕ) (node : NodePlan) (seat : Seat) (rec : NodeRec) (events : List Event) (plays : Plays plan slot n node seat rec events) (arrivals : Arrivals) (pins : PinView) where

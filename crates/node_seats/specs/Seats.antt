@@ -1,5 +1,5 @@
 -- Nodes at work: what they stand for, and what a slot makes of them.
-use Rattle.std.specs.Prelude.{◌≡◌, ◌+◌, ◌-◌, ◌*◌, ◌≤◌, List, ◌++◌}
+use Rattle.std.specs.Prelude.{◌≡◌, ◌+◌, ◌-◌, ◌*◌, ◌<◌, ◌≤◌, List, ◌++◌}
 use Rattle.xs_base.specs.Numbers.{Slot, Position}
 use Rattle.xs_base.specs.declared.numbers.TheConstants.{EVENT_ROOM}
 use Rattle.xs_model.specs.declared.event.Event.{Event}
@@ -13,6 +13,8 @@ use Rattle.step_model.specs.Step.{Stepped, node_step}
 use Rattle.trace_lines.specs.Kept.{Keeps, HasRoom}
 use Rattle.quiet_laws.specs.Undisturbed.{undisturbed_until, ShowsAll}
 use Rattle.core_step.specs.Core.{StandsAt, SlotsBefore}
+use Rattle.core_step.specs.PinLevels.{from_outside}
+use Rattle.node_seats.specs.declared.pins.Pins.{Pins}
 use Rattle.node_seats.specs.declared.seat.Seat.{Seat}
 
 -- a node as it is before a slot
@@ -25,6 +27,10 @@ pub record Plays (plan : PlanRec) (slot : Slot) (n : Position) (node : NodePlan)
   pub fixed : seat.core.fixed ≡ fixed_of node (gaps_of plan n)
   pub stands : StandsAt seat.core rec slot
   pub keeps : Keeps seat.events events
+
+-- before a slot, unless its pins may change in it, the node has noted what they show
+abbrev pub HasNoted : Slot → Pins → Seat → Type 0
+HasNoted slot pins seat = slot < pins.next → seat.core.levels ≡ from_outside pins.view
 
 -- ---- Room
 
@@ -48,6 +54,7 @@ pub record StepsOn (slot : Slot) (arrivals : Arrivals) (pins : PinView) (before 
   pub stands : (rec : NodeRec) → StandsAt before.core rec slot → StandsAt after.core (step_of slot arrivals pins before rec).rec (slot + 1)
   pub given : (rec : NodeRec) → StandsAt before.core rec slot → after.given ≡ (step_of slot arrivals pins before rec).emitted
   pub keeps : (all : List Event) → Keeps before.events all → Keeps after.events (all ++ after.given.events)
+  pub noted : after.core.levels ≡ from_outside pins
   pub next : IsSeat (slot + 1) after
 
 -- ---- Quiet slots
@@ -60,4 +67,5 @@ pub record SkipsOn (from to : Slot) (last : PinView) (before after : Seat) : Typ
       StandsAt after.core (undisturbed_until before.core.fixed rec from pins to) to
   pub events : after.events ≡ before.events
   pub given : after.given ≡ before.given
+  pub noted : after.core.levels ≡ from_outside last
   pub next : IsSeat to after

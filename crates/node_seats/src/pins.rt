@@ -1,5 +1,5 @@
 //! `Pins`, what the pins of a node show from outside. See docs/PINS.md.
-ghost use Rattle.std.specs.Prelude.{◌≡◌, ◌+◌, ◌-◌, ◌^◌, ◌<◌, nat_le, IfOk, length};
+ghost use Rattle.std.specs.Prelude.{◌≡◌, ◌+◌, ◌-◌, ◌^◌, ◌<◌, false, nat_le, IfOk, length};
 ghost use Rattle.xs_model.specs.Outside.{LevelsFit};
 ghost use Rattle.node_seats.specs.Shown.{IsSteady, IsShown, ArePins, shown_by, slot_or_never};
 
@@ -23,10 +23,12 @@ pub struct Pins {
 }
 
 impl Pins {
-    /// The pins of the node of a plan at a position, before slot 0. The error is want of memory.
+    /// The pins of the node of a plan at a position, before slot 0, in which they are looked at for the first time. The error is want of
+    /// memory.
     pub fn of(plan: &Plan, n: u8) -> Result<Pins, AllocError>
         requires node { n < length plan.now.nodes }
         ensures pins { IfOk result (λ pins. ArePins plan.now n 0 pins) }
+        ensures due { IfOk result (λ pins. pins.next ≡ 0) }
     {
         let script = plan.script().clone()?;
         let nodes = plan.nodes();
@@ -39,21 +41,19 @@ impl Pins {
         ensures script { result.script ≡ script }
         ensures number { result.number ≡ number }
         ensures shown { IsShown 0 result }
+        ensures due { result.next ≡ 0 }
     {
-        let mut view = PinView { level: [0; 29] };
-        script.view(number, 0, &mut view);
-        let next = slot_or_never(script.next_change(number, 0));
         Pins {
             script,
             number,
-            view,
-            next,
+            view: PinView { level: [0; 29] },
+            next: 0,
         }
     }
 
-    /// Looks at what the pins show in a slot. It may be any slot after the one at which it last looked. That costs little where it is what
-    /// they showed before.
-    pub fn look(&mut self, slot: u32)
+    /// Looks at what the pins show in a slot, which may be any slot after the one at which it last looked. The answer tells whether it
+    /// looked at the script: where it did not, they show what they showed before.
+    pub fn look(&mut self, slot: u32) -> bool
         requires slot { slot < 2 ^ 32 - 1 }
         requires shown { IsSteady slot self.old }
         ensures script { self.new.script ≡ self.old.script }
@@ -61,11 +61,14 @@ impl Pins {
         ensures view { self.new.view ≡ shown_by self.old slot }
         ensures levels { LevelsFit self.new.view.level }
         ensures shown { IsShown (slot + 1) self.new }
+        ensures same { result ≡ false → (slot < self.old.next) × (self.new.view ≡ self.old.view) }
     {
-        if self.is_due(slot) {
-            self.script.view(self.number, slot, &mut self.view);
-            self.next = slot_or_never(self.script.next_change(self.number, slot));
+        if !self.is_due(slot) {
+            return false;
         }
+        self.script.view(self.number, slot, &mut self.view);
+        self.next = slot_or_never(self.script.next_change(self.number, slot));
+        true
     }
 
     // Whether the next change comes in a slot, or came before it.

@@ -11,10 +11,12 @@ ghost use Rattle.sys_plan.specs.declared.NodePlan.{NodePlan};
 ghost use Rattle.sys_plan.specs.Plan.{WaysLead, gaps_of};
 ghost use Rattle.step_model.specs.Start.{node_of};
 ghost use Rattle.trace_lines.specs.Kept.{Keeps, HasRoom};
+ghost use Rattle.quiet_model.specs.Stirs.{some_eligible};
 ghost use Rattle.quiet_laws.specs.Undisturbed.{ShowsAll};
 ghost use Rattle.quiet_laws.specs.Quiet.{StirsFirst};
 ghost use Rattle.core_step.specs.Core.{NothingArrives, StandsAt};
 ghost use Rattle.core_step.specs.Quiet.{IsQuietTo};
+ghost use Rattle.core_step.specs.PinLevels.{from_outside};
 ghost use Rattle.node_seats.specs.Seats.{IsSeat, HasEventRoom, SameSeat, StepsOn, SkipsOn, Plays};
 
 use core_step::Core;
@@ -54,21 +56,38 @@ impl Seat {
         self.events.reserve(EVENT_ROOM)
     }
 
-    /// One slot of the node, with what arrives by its link ends, whether anything does, and what its pins show from outside. Its
-    /// events are kept, in room that was made for them.
+    /// One slot of the node, with what arrives by its link ends, whether anything does, what its pins show from outside, and whether
+    /// that may be something else than in the slot before. Its events are kept, in room that was made for them.
     // Not inlined: the registers of a loop over nodes are then not shared with all that a slot may do.
     #[inline(never)]
-    pub fn step(&mut self, slot: u32, arrives: bool, arrivals: &Arrivals, pins: &PinView)
+    pub fn step(
+        &mut self,
+        slot: u32,
+        arrives: bool,
+        arrivals: &Arrivals,
+        changed: bool,
+        pins: &PinView,
+    )
         requires slot { slot < 2 ^ 32 - 1 }
         requires seat { IsSeat slot self.old }
         requires room { HasEventRoom self.old }
         requires arrives { arrives ≡ false → NothingArrives arrivals.now }
         requires levels { LevelsFit pins.now.level }
+        requires same { changed ≡ false → self.old.core.levels ≡ from_outside pins.now }
         ensures steps { StepsOn slot arrivals.now pins.now self.old self.new }
     {
         self.core
-            .slot_where(arrives, slot, arrivals, pins, &mut self.given);
+            .slot_where(arrives, changed, slot, arrivals, pins, &mut self.given);
         keep(&mut self.events, self.given.events());
+    }
+
+    /// Whether some thread of the node may issue in a slot, where nothing changes until then. See docs/QUIET_SLOTS.md.
+    #[inline]
+    pub fn may_issue(&self, slot: u32) -> bool
+        requires slot { slot < 2 ^ 32 - 1 }
+        ensures value { result ≡ some_eligible self.now.core.core slot }
+    {
+        self.core.may_issue(slot)
     }
 
     /// The first slot from `from` on and before `bound` in which the node stirs where nothing arrives until then, and `bound` where it

@@ -5,3 +5,4 @@ pub mod Systems
 pub mod Steps
 pub mod Starts
 pub mod Arrivals
+pub mod Stations

@@ -17,8 +17,9 @@ use Rattle.run_plan.specs.declared.track.Track.{Track}
 use Rattle.run_plan.specs.declared.station.Station.{Station}
 use Rattle.crossings.specs.Crossings.{crossing_of, no_crossing}
 use Rattle.run_plan.specs.Inbound.{InboundRec, IsBelow, incoming_of, arrived_of, arrived_by, arrivals_by}
-use Rattle.node_seats.specs.Seats.{Plays}
-use Rattle.node_seats.proofs.Seats.{own_step, given-is, plays-next, plays-same, ready-same as seat-ready-same}
+use Rattle.node_seats.specs.declared.pins.Pins.{Pins}
+use Rattle.node_seats.specs.Seats.{HasNoted, Plays}
+use Rattle.node_seats.proofs.Seats.{own_step, given-is, plays-next, plays-same, noted-same, ready-same as seat-ready-same}
 use Rattle.node_seats.proofs.Shown.{shows, pins-next}
 use Rattle.node_seats.specs.Shown.{IsShown, ArePins, shown_by}
 use Rattle.run_plan.specs.Stations.{IsStation, StationSteps, taken_by}
@@ -135,6 +136,7 @@ stations-stay slot count stations after =
     (λ x y s h. record {
       here = seat-ready-same slot x.seat y.seat h.here s.seat;
       shown = subst (IsShown slot) (sym s.pins) h.shown;
+      noted = subst (λ (p : Pins). HasNoted slot p y.seat) (sym s.pins) (noted-same slot x.pins x.seat y.seat h.noted s.seat);
       incoming = subst (λ (i : InboundRec). AllByRecursion (IsBelow count) i.links) (sym s.incoming) h.incoming;
     }) stations after
 
@@ -165,6 +167,7 @@ stations-next : (slot count : ℕ) (tracks : List Track) (stations after : List 
 stations-next slot count tracks stations after = all-zip (StationSteps slot tracks) (IsStation slot count) (IsStation (slot + 1) count) (λ x y s h. record {
   here = s.steps.next;
   shown = s.shown;
+  noted = s.noted;
   incoming = subst (AllByRecursion (IsBelow count)) (sym s.incoming) h.incoming;
 }) stations after
 

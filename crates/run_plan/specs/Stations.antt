@@ -3,7 +3,7 @@ use Rattle.std.specs.Prelude.{ℕ, ◌≡◌, ◌+◌, if◌then◌else◌, List
 use Rattle.std.specs.List.{AllByRecursion}
 use Rattle.xs_base.specs.Numbers.{Slot}
 use Rattle.xs_model.specs.declared.outside.Arrivals.{Arrivals}
-use Rattle.node_seats.specs.Seats.{IsSeat, StepsOn}
+use Rattle.node_seats.specs.Seats.{IsSeat, HasNoted, StepsOn}
 use Rattle.node_seats.specs.Shown.{IsShown, shown_by}
 use Rattle.run_plan.specs.declared.track.Track.{Track}
 use Rattle.run_plan.specs.declared.station.Station.{Station}
@@ -14,6 +14,7 @@ use Rattle.run_plan.specs.Inbound.{IsBelow, arrivals_by}
 pub record IsStation (slot : Slot) (link_count : ℕ) (station : Station) : Type 0 where
   pub here : IsSeat slot station.seat
   pub shown : IsShown slot station.pins
+  pub noted : HasNoted slot station.pins station.seat
   pub incoming : AllByRecursion (IsBelow link_count) station.incoming.links
 
 -- what a node goes on with: what arrives by the arcs that come to it, if it is due, and nothing if it is not
@@ -26,4 +27,5 @@ pub record StationSteps (slot : Slot) (tracks : List Track) (before after : Stat
   pub script : after.pins.script ≡ before.pins.script
   pub number : after.pins.number ≡ before.pins.number
   pub shown : IsShown (slot + 1) after.pins
+  pub noted : HasNoted (slot + 1) after.pins after.seat
   pub steps : StepsOn slot (taken_by tracks before) (shown_by before.pins slot) before.seat after.seat

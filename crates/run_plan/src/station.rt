@@ -28,9 +28,10 @@ impl Station {
         if self.due {
             self.step_due(tracks, slot);
         } else {
-            self.pins.look(slot);
+            let changed = self.pins.look(slot);
+            let nothing = self.incoming.nothing();
             self.seat
-                .step(slot, false, self.incoming.nothing(), self.pins.view());
+                .step(slot, false, nothing, changed, self.pins.view());
         }
     }
 
@@ -45,8 +46,9 @@ impl Station {
         ensures steps { StationSteps slot tracks.now self.old self.new }
     {
         let arrivals = self.incoming.arrivals(tracks);
-        self.pins.look(slot);
-        self.seat.step(slot, true, &arrivals, self.pins.view());
+        let changed = self.pins.look(slot);
+        self.seat
+            .step(slot, true, &arrivals, changed, self.pins.view());
         self.due = false;
     }
 }

@@ -4,6 +4,7 @@ use Rattle.xs_model.specs.Outside.{Emitted}
 use Rattle.xs_model.specs.AtWork.{emitted_in}
 use Rattle.xs_model.specs.Ports.{edges_from}
 use Rattle.buffered_ports.specs.Keeps.{HighAre}
+use Rattle.net_model.specs.Switch.{Routes}
 use Rattle.switch_routes.specs.Rows.{SentBy}
 use Rattle.step_model.specs.Fixed.{Fixed}
 use Rattle.step_model.specs.Step.{node_step}
@@ -73,14 +74,20 @@ emissions_are c rec h =
     (gave now rec a.slot a.arrivals.now a.pins.now c.bring.new.units c.bring.new.self c.bring.new.out (core_is c rec at) b c.issue-issued.new.out
     (c.issue-issued.ensures.events (its_setting now rec a.slot a.arrivals.now a.pins.now) (record { id = c.self.invariant.node; slot = refl; outside = refl; busy = busy_is now rec a.slot a.arrivals.now a.pins.now c.bring.new.units c.bring.new.self c.bring.new.out (core_is c rec at) b })))
 
-pub returns-clause-step : goal.returns-clause-step
-returns-clause-step c = λ rec h.
-    let fixed : Fixed = record { edition = c.self.inside.program.edition; code = c.self.inside.program.code; routes = routes_of c.bring.new.self } in
-    subst (λ (levels : PinLevels). StandsAt (record { fixed = fixed; core = c.issue-issued.new.self; levels = levels; inputs = c.bring.new.self.switch.inputs; links = c.bring.new.self.links }) (node_step c.args.self.now.fixed rec c.args.slot c.args.arrivals.now c.args.pins.now).rec (c.args.slot + 1)) (sym c.note.ensures.levels)
-    (step_is (goal.at.returns-clause-step c).After-issue-issued fixed rec h)
-
-pub returns-clause-emissions : goal.returns-clause-emissions
-returns-clause-emissions c = emissions_are (goal.at.returns-clause-emissions c).After-issue-issued
-
-pub returns-clause-after : goal.returns-clause-after
-returns-clause-after c = sent_before_next c.args.slot c.bring.new.self.links (sent (goal.at.returns-clause-after c).After-issue-issued)
+pub returns : goal.returns
+returns c =
+    let d = (goal.at.returns c).After-issue-issued in
+    let program = d.self.inside.program in
+    let fixed : Fixed = record { edition = program.edition; code = program.code; routes = routes_of d.bring.new.self } in
+    let value : PinLevels → CoreValue = λ levels. record { fixed = fixed; core = d.issue-issued.new.self; levels = levels; inputs = d.bring.new.self.switch.inputs; links = d.bring.new.self.links } in
+    record {
+      passes = record {
+        fixed = ap (λ (routes : Routes). let f : Fixed = record { edition = program.edition; code = program.code; routes = routes } in f) d.bring.ensures.routes ∙ ap (λ (w : CoreValue). w.fixed) d.self.view_is;
+        step =
+            λ rec h.
+            subst (λ (levels : PinLevels). StandsAt (value levels) (node_step d.args.self.now.fixed rec d.args.slot d.args.arrivals.now d.args.pins.now).rec (d.args.slot + 1)) (sym c.note.ensures.levels) (step_is d fixed rec h);
+        emissions = emissions_are d;
+        levels = c.note.ensures.levels;
+        next = sent_before_next d.args.slot d.bring.new.self.links (sent d);
+      };
+    }

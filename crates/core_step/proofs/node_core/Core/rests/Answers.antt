@@ -42,30 +42,31 @@ invariant_of-self c = record {
       (subst (λ (core : CoreRec). IsQuietTo (record v { core = core; levels = from_outside d.args.pins.now }) (d.args.slot + 1) d.self.inside.rest.until) (counted d) there);
 }
 
-pub returns-clause-step : goal.returns-clause-step
-returns-clause-step c = λ yes rec at.
-    let d = (goal.at.returns-clause-step c).After-note in
+pub returns-clause-passes : goal.returns-clause-passes
+returns-clause-passes c = λ yes.
+    let d = (goal.at.returns-clause-passes c).After-note in
     let a = d.args in
     let v = value_of d.self.inside in
-    let here = subst (λ (w : CoreValue). StandsAt w rec a.slot) (sym d.self.view_is) at in
-    let there =
-    skipped d.first_stirring_slot.ensures.still d.quiet_slots_only_count.ensures.slots v rec a.slot (a.slot + 1) (λ t. a.pins.now) a.pins.now d.keeps.ensures.whole here (omega arith) (quiet_here d) (λ t. d.note.ensures.all) refl
-    in
-    subst (λ (w : CoreValue). StandsAt (record v { core = d.pass.new.self; levels = d.note.new.self }) (node_step w.fixed rec a.slot no_arrivals a.pins.now).rec (a.slot + 1)) d.self.view_is
-    (subst (λ (levels : PinLevels). StandsAt (record v { core = d.pass.new.self; levels = levels }) (node_step v.fixed rec a.slot no_arrivals a.pins.now).rec (a.slot + 1)) (sym d.note.ensures.levels)
-    (subst (λ (core : CoreRec). StandsAt (record v { core = core; levels = from_outside a.pins.now }) (node_step v.fixed rec a.slot no_arrivals a.pins.now).rec (a.slot + 1)) (sym d.pass.ensures.counted)
-    (subst (λ (r : NodeRec). StandsAt (record v { core = core_counted a.slot ((a.slot + 1) - a.slot) v.core; levels = from_outside a.pins.now }) r (a.slot + 1)) (after_one v.fixed rec a.slot a.pins.now) there)))
-
-pub returns-clause-nothing : goal.returns-clause-nothing
-returns-clause-nothing c = λ yes rec at.
-    let d = (goal.at.returns-clause-nothing c).After-note in
-    let a = d.args in
-    let v = value_of d.self.inside in
-    let here = subst (λ (w : CoreValue). StandsAt w rec a.slot) (sym d.self.view_is) at in
-    ap (λ (w : CoreValue). (node_step w.fixed rec a.slot no_arrivals a.pins.now).emitted) (sym d.self.view_is)
-    ∙ gives_nothing d.first_stirring_slot.ensures.still d.quiet_slots_only_count.ensures.slot v rec a.slot a.pins.now d.keeps.ensures.whole d.note.ensures.all here.stands (quiet_here d)
-
-pub returns-clause-after : goal.returns-clause-after
-returns-clause-after c = λ yes.
-    sent_before_later c.args.slot (c.args.slot + 1) (omega arith) c.self.inside.network.links
-    (subst (λ (v : CoreValue). SentBefore c.args.slot v.links) (sym c.self.view_is) c.requires.before)
+    let n : Slot = a.slot + 1 in
+    record {
+      fixed = ap (λ (w : CoreValue). w.fixed) d.self.view_is;
+      step =
+          λ rec at.
+          let here = subst (λ (w : CoreValue). StandsAt w rec a.slot) (sym d.self.view_is) at in
+          let there =
+          skipped d.first_stirring_slot.ensures.still d.quiet_slots_only_count.ensures.slots v rec a.slot n (λ t. a.pins.now) a.pins.now d.keeps.ensures.whole here (omega arith) (quiet_here d) (λ t. d.note.ensures.all) refl
+          in
+          subst (λ (w : CoreValue). StandsAt (record v { core = d.pass.new.self; levels = d.note.new.self }) (node_step w.fixed rec a.slot no_arrivals a.pins.now).rec n) d.self.view_is
+          (subst (λ (levels : PinLevels). StandsAt (record v { core = d.pass.new.self; levels = levels }) (node_step v.fixed rec a.slot no_arrivals a.pins.now).rec n) (sym d.note.ensures.levels)
+          (subst (λ (core : CoreRec). StandsAt (record v { core = core; levels = from_outside a.pins.now }) (node_step v.fixed rec a.slot no_arrivals a.pins.now).rec n) (sym d.pass.ensures.counted)
+          (subst (λ (r : NodeRec). StandsAt (record v { core = core_counted a.slot (n - a.slot) v.core; levels = from_outside a.pins.now }) r n) (after_one v.fixed rec a.slot a.pins.now) there)));
+      emissions =
+          λ rec at.
+          let here = subst (λ (w : CoreValue). StandsAt w rec a.slot) (sym d.self.view_is) at in
+          sym (gives_nothing d.first_stirring_slot.ensures.still d.quiet_slots_only_count.ensures.slot v rec a.slot a.pins.now d.keeps.ensures.whole d.note.ensures.all here.stands (quiet_here d))
+          ∙ ap (λ (w : CoreValue). (node_step w.fixed rec a.slot no_arrivals a.pins.now).emitted) d.self.view_is;
+      levels = d.note.ensures.levels;
+      next =
+          sent_before_later a.slot n (omega arith) d.self.inside.network.links
+          (subst (λ (v : CoreValue). SentBefore a.slot v.links) (sym d.self.view_is) d.requires.before);
+    }

@@ -17,5 +17,5 @@ invariant_of-result c =
       subst (λ (p : PlanRec). IsRunner p c.args.node 0 c.of-horizon.result c.in_ok-seat.seat c.in_ok-pins.pins inlets batches (replicate ENDS 0)) (sym c.of-3.ensures)
           (subst (λ (h : HorizonRec). IsRunner plan c.args.node 0 h c.in_ok-seat.seat c.in_ok-pins.pins inlets batches (replicate ENDS 0)) (sym c.of-horizon.ensures.value)
           (runner-start plan is c.args.node c.args.limit inlets c.in_ok-inlets.ensures.fresh c.in_ok-inlets.ensures.rest batches c.in_ok-batches.ensures.empty c.in_ok-batches.ensures.rest c.in_ok-seat.seat c.in_ok-pins.pins
-          c.in_ok-inlets.ensures.few c.in_ok-batches.ensures.few small c.requires.node c.in_ok-seat.ensures.plays c.in_ok-seat.ensures.ready c.in_ok-pins.ensures.pins)),
+          c.in_ok-inlets.ensures.few c.in_ok-batches.ensures.few small c.requires.node c.in_ok-seat.ensures.plays c.in_ok-seat.ensures.ready c.in_ok-pins.ensures.pins c.in_ok-pins.ensures.due)),
     )

@@ -6,6 +6,8 @@ use Rattle.node_runners.specs.Sent.{batch_at}
 use Rattle.node_runners.specs.Inside.{IsRunner}
 use Rattle.node_runners.proofs.Slots.{waits, runner-same, runner-next}
 use Rattle.node_runners.proofs.Whole.{given-back}
+use Rattle.core_step.specs.PinLevels.{from_outside}
+use Rattle.node_seats.proofs.Seats.{noted-still, noted-same}
 use Rattle.node_seats.proofs.Shown.{shows, pins-next}
 use Rattle.node_runners.proofs.runner.NodeRunner.run_slot.Goals as goal
 
@@ -28,6 +30,12 @@ arrive_all-arrived-requires-clause-waits c = λ end within.
     let i = c.self.inside in
     subst (λ (xs : List InletRec). AreWaiting i.clock (inlet_at xs end).delay (inlet_at xs end).queue) (sym c.deref_mut-2.ensures.value)
     (waits i.plan.value c.self.invariant.1.plan_is i.node i.clock i.horizon i.inlets.items i.batches.items i.published c.self.invariant.1.links end)
+
+pub step-requires-clause-same : goal.step-requires-clause-same
+step-requires-clause-same c = λ still.
+    let i = c.self.inside in
+    let noted = noted-same i.clock i.pins i.seat c.reserve.new.self c.self.invariant.1.noted c.reserve.ensures.same in
+    noted-still i.clock i.pins c.look-changed.new.self c.reserve.new.self noted (c.look-changed.ensures.same still) ∙ ap from_outside (sym c.view.ensures)
 
 pub invariant_of-self-2 : goal.invariant_of-self-2
 invariant_of-self-2 c =
@@ -55,16 +63,16 @@ invariant_of-self-2 c =
     let runs : c.may_run.result ≡ true = first_of (cc, search rules, grind (arith)) in
     -- its pins were looked at
     let pins = c.self.invariant.1.pins_are in
-    let shown = c.view.ensures ∙ c.look.ensures.view ∙ shows i.plan.value i.node i.clock i.pins pins in
-    let next = runner-next i.plan.value i.node i.clock i.horizon c.reserve.new.self c.step.new.self i.pins c.look.new.self i.inlets.items arrived roomy sent i.published c.arrive_all-arrived.result.arrivals c.view.result.now start
+    let shown = c.view.ensures ∙ c.look-changed.ensures.view ∙ shows i.plan.value i.node i.clock i.pins pins in
+    let next = runner-next i.plan.value i.node i.clock i.horizon c.reserve.new.self c.step.new.self i.pins c.look-changed.new.self i.inlets.items arrived roomy sent i.published c.arrive_all-arrived.result.arrivals c.view.result.now start
     (c.may_run.ensures.exactly.0 runs)
     (c.arrive_all-arrived.ensures.arrivals ∙ ap (arrivals_by i.clock) lent_inlets)
     (c.arrive_all-arrived.ensures.left ∙ ap (map (after_slot i.clock)) lent_inlets)
-    inlet_count shown (pins-next i.plan.value i.node i.clock i.pins c.look.new.self pins c.look.ensures.script c.look.ensures.number c.look.ensures.shown) c.step.ensures.steps sent_count
+    inlet_count shown (pins-next i.plan.value i.node i.clock i.pins c.look-changed.new.self pins c.look-changed.ensures.script c.look-changed.ensures.number c.look-changed.ensures.shown) c.view.ensures c.step.ensures.steps sent_count
     (λ end within.
     c.put_all.ensures.puts end (omega (arith, within, ap length lent_batches))
     ∙ ap (λ (bs : List BatchRec). (batch_at bs end).entries ++ sent_by i.clock c.step.new.self.given end) lent_batches) in (
       omega (arith, c.self.invariant.0),
-      subst (λ (xs : List InletRec). IsRunner i.plan.value i.node (i.clock + 1) i.horizon c.step.new.self c.look.new.self xs (take i.batches.len (sent ++ drop (length sent) (take i.batches.len (roomy ++ drop (length roomy) items)))) i.published) (sym inlets_back)
-          (subst (λ (bs : List BatchRec). IsRunner i.plan.value i.node (i.clock + 1) i.horizon c.step.new.self c.look.new.self arrived bs i.published) (sym sent_back) next),
+      subst (λ (xs : List InletRec). IsRunner i.plan.value i.node (i.clock + 1) i.horizon c.step.new.self c.look-changed.new.self xs (take i.batches.len (sent ++ drop (length sent) (take i.batches.len (roomy ++ drop (length roomy) items)))) i.published) (sym inlets_back)
+          (subst (λ (bs : List BatchRec). IsRunner i.plan.value i.node (i.clock + 1) i.horizon c.step.new.self c.look-changed.new.self arrived bs i.published) (sym sent_back) next),
     )

@@ -1,10 +1,17 @@
-use Rattle.std.proofs.Common.{◌≡◌, true, ◌+◌, ◌-◌, ◌∙◌, subst, arith}
+use Rattle.std.proofs.Common.{◌≡◌, true, ◌+◌, ◌-◌, sym, ◌∙◌, subst, arith}
 use Rattle.quiet_model.specs.Slots.{NoneBefore}
 use Rattle.busy_slots.specs.Busy.{is_busy}
 use Rattle.ahead_limits.specs.Horizon.{may_run}
 use Rattle.node_runners.specs.Runner.{RunnerRec}
-use Rattle.node_runners.proofs.Skips.{goes_to, goes_on, pins_skipped, shown_last}
+use Rattle.node_runners.proofs.Skips.{issue_is_busy, goes_to, goes_on, pins_skipped, shown_last}
 use Rattle.node_runners.proofs.runner.NodeRunner.skip.Goals as goal
+
+pub returns-then-may_issue-clause-greatest : goal.returns-then-may_issue-clause-greatest
+returns-then-may_issue-clause-greatest c =
+    let i = c.self.inside in
+    let may : c.may_issue.result ≡ true = cc in
+    subst (λ (r : RunnerRec). may_run r.horizon r.clock ≡ true → is_busy r.plan r.node r.clock ≡ true) c.self.view_is
+    (λ _. issue_is_busy i.plan.value i.node i.clock i.horizon i.seat i.pins i.inlets.items i.batches.items i.published c.self.invariant.1 (sym c.may_issue.ensures.value ∙ may))
 
 pub returns-then-to-from-clause-greatest : goal.returns-then-to-from-clause-greatest
 returns-then-to-from-clause-greatest c =
@@ -47,5 +54,5 @@ invariant_of-self c =
       goes_on i.plan.value i.node i.clock i.horizon i.seat i.pins i.inlets.items c.deref.result.now i.batches.items i.published c.self.invariant.1 c.deref.ensures.value
           c.clock_after-stop.result c.first_arrival-arrival.result c.quiet_to-to.result c.clock_after-stop.ensures.value c.first_arrival-arrival.ensures.first c.first_arrival-arrival.ensures.within
           c.first_busy_by_both.ensures.first c.quiet_to-to.ensures.first
-          c.idle_where_not_busy.ensures.idle c.arrivals_by_link_ends.ensures.waiting c.skip.new.self c.look.new.self c.view.result.now shows c.skip.ensures.skips pins_are,
+          c.idle_where_not_busy.ensures.idle c.arrivals_by_link_ends.ensures.waiting c.skip.new.self c.look.new.self c.view.result.now shows c.view.ensures c.skip.ensures.skips pins_are,
     )

@@ -1,10 +1,10 @@
-use Rattle.std.proofs.Common.{◌≡◌, ◌<◌, ◌≤◌, ◌+◌, false, sym, ◌∙◌, subst, arith}
+use Rattle.std.proofs.Common.{◌≡◌, ◌<◌, ◌≤◌, ◌+◌, false, sym, ◌∙◌, refl, subst, arith}
 use Rattle.std.specs.Prelude.{nat_le}
 use Rattle.node_seats.proofs.Shown.{before-change, next-after, not-due}
 use Rattle.node_seats.proofs.pins.Pins.look.Goals as goal
 
-pub returns-then-is_due-clause-shown : goal.returns-then-is_due-clause-shown
-returns-then-is_due-clause-shown c = record {
+pub returns-clause-shown : goal.returns-clause-shown
+returns-clause-shown c = record {
   steady = record {
     until_change = λ later l before.
         c.next_change.ensures.steady later (omega (arith, l)) (before-change later c.next_change.result (subst (λ n. later < n) c.slot_or_never-self.ensures before)) ∙ sym c.view.ensures.value;
@@ -15,18 +15,23 @@ returns-then-is_due-clause-shown c = record {
       (next-after c.args.self.now.script c.args.self.now.number c.args.slot c.next_change.result c.requires.slot c.next_change.ensures.next);
 }
 
-pub returns-else-is_due-clause-view : goal.returns-else-is_due-clause-view
-returns-else-is_due-clause-view c =
+pub returns-then-not-is_due-clause-view : goal.returns-then-not-is_due-clause-view
+returns-then-not-is_due-clause-view c =
     let not_due : nat_le c.args.self.now.next c.args.slot ≡ false = cc in
     sym (c.requires.shown.until_change c.args.slot (omega arith) (not-due c.args.slot c.args.self.now.next not_due))
 
-pub returns-else-is_due-clause-levels : goal.returns-else-is_due-clause-levels
-returns-else-is_due-clause-levels c = c.requires.shown.levels
+pub returns-then-not-is_due-clause-levels : goal.returns-then-not-is_due-clause-levels
+returns-then-not-is_due-clause-levels c = c.requires.shown.levels
 
-pub returns-else-is_due-clause-shown : goal.returns-else-is_due-clause-shown
-returns-else-is_due-clause-shown c =
+pub returns-then-not-is_due-clause-shown : goal.returns-then-not-is_due-clause-shown
+returns-then-not-is_due-clause-shown c =
     let not_due : nat_le c.args.self.now.next c.args.slot ≡ false = cc in
     record {
       steady = record { until_change = λ later l before. c.requires.shown.until_change later (omega (arith, l)) before; levels = c.requires.shown.levels };
       next = omega (arith, not-due c.args.slot c.args.self.now.next not_due);
     }
+
+pub returns-then-not-is_due-clause-same : goal.returns-then-not-is_due-clause-same
+returns-then-not-is_due-clause-same c =
+    let not_due : nat_le c.args.self.now.next c.args.slot ≡ false = cc in
+    λ _. (not-due c.args.slot c.args.self.now.next not_due, refl)

@@ -6,12 +6,13 @@ use Rattle.node_seats.proofs.seat.Seat.step.Goals as goal
 pub returns : goal.returns
 returns c = record {
   steps = record {
-    fixed = c.slot_where.ensures.fixed;
-    stands = λ rec h. c.slot_where.ensures.step rec h;
-    given = λ rec h. c.slot_where.ensures.emissions rec h;
+    fixed = c.slot_where.ensures.passes.fixed;
+    stands = c.slot_where.ensures.passes.step;
+    given = c.slot_where.ensures.passes.emissions;
     keeps = λ all h. subst (λ (es : List Event). Keeps c.keep.new.events (all ++ es)) c.events.ensures.value (c.keep.ensures.keeps all h);
+    noted = c.slot_where.ensures.passes.levels;
     next = record {
-      before = c.slot_where.ensures.after;
+      before = c.slot_where.ensures.passes.next;
       more = omega (arith, c.keep.ensures.more, c.events.ensures.bound, c.requires.seat.more);
     };
   };

@@ -1,26 +1,18 @@
-use Rattle.std.proofs.Common.{Bool, cond, sym, ap, subst, refl, ◌∙◌}
-use Rattle.xs_model.specs.declared.outside.Arrivals.{Arrivals}
-use Rattle.xs_model.specs.declared.outside.PinView.{PinView}
-use Rattle.node_seats.specs.Seats.{StepsOn}
+use Rattle.std.proofs.Common.{Bool, cond, sym, ap, refl, ◌∙◌}
+use Rattle.core_step.specs.PinLevels.{from_outside}
+use Rattle.node_seats.proofs.Seats.{noted-still}
 use Rattle.run_plan.specs.declared.inbound.TheConstants.{NOTHING}
 use Rattle.run_plan.specs.Inbound.{arrivals_by}
-use Rattle.run_plan.specs.Stations.{taken_by}
+use Rattle.run_plan.proofs.Stations.{station_steps}
 use Rattle.run_plan.proofs.station.Station.step_due.Goals as goal
+
+pub step-requires-clause-same : goal.step-requires-clause-same
+step-requires-clause-same c = λ still.
+    noted-still c.args.slot c.args.self.now.pins c.look-changed.new.self c.args.self.now.seat c.requires.station.noted (c.look-changed.ensures.same still) ∙ ap from_outside (sym c.view.ensures)
 
 pub returns : goal.returns
 returns c =
     let before = c.args.self.now in
-    let slot = c.args.slot in
-    let after = c.step.new.self in
-    let arrives = c.arrivals-arrivals.ensures ∙ ap (λ (due : Bool). cond due (arrivals_by c.args.tracks.now before.incoming.links) NOTHING) (sym c.requires.due) in
-    record {
-      steps = record {
-        incoming = refl;
-        script = c.look.ensures.script;
-        number = c.look.ensures.number;
-        shown = c.look.ensures.shown;
-        steps =
-            subst (λ (v : PinView). StepsOn slot (taken_by c.args.tracks.now before) v before.seat after) (c.view.ensures ∙ c.look.ensures.view)
-            (subst (λ (a : Arrivals). StepsOn slot a c.view.result.now before.seat after) arrives c.step.ensures.steps);
-      };
-    }
+    let taken = c.arrivals-arrivals.ensures ∙ ap (λ (due : Bool). cond due (arrivals_by c.args.tracks.now before.incoming.links) NOTHING) (sym c.requires.due) in
+    let look = c.look-changed.ensures in
+    record { steps = station_steps c.args.slot c.args.tracks.now before _ _ c.view.result.now refl look.script look.number look.shown taken c.view.ensures look.view c.step.ensures.steps }
