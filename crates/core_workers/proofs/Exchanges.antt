@@ -1,5 +1,5 @@
 -- What the parts of a turn make of a worker.
-use Rattle.std.proofs.Common.{◌≡◌, ℕ, ◌<◌, ◌≤◌, Option, Some, None, List, [], ◌∷◌, slice_get, refl, sym, ap, ◌∙◌, subst, arith}
+use Rattle.std.proofs.Common.{◌≡◌, ℕ, ◌≤◌, Option, Some, None, List, [], ◌∷◌, slice_get, refl, sym, ap, ◌∙◌, subst, arith}
 use Rattle.std.specs.List.{All, AllZip, AllByRecursion}
 use Rattle.std.proofs.lemmas.List.Elements.{All-from_recursion}
 use Rattle.std.proofs.lemmas.Option.{same_Some, slice_get_within, get_or_from_slice_get}
@@ -8,14 +8,16 @@ use Rattle.sys_plan.specs.Plan.{PlanRec, IsPlan, delay_of}
 use Rattle.ahead_limits.specs.declared.horizon.Seen.{Seen}
 use Rattle.ahead_limits.specs.Horizon.{HorizonRec, Sees, StopsAt, horizon_at}
 use Rattle.link_logs.specs.Logs.{WriteRec}
-use Rattle.node_runners.specs.Runner.{RunnerRec}
+use Rattle.node_runners.specs.declared.runner.Ran.{Ran}
+use Rattle.node_runners.specs.declared.runner.Ran.TheVariants.{Slot as one_slot, Blocked, AtLimit}
+use Rattle.node_runners.specs.Runner.{RunnerRec, Stops}
 use Rattle.plan_cells.specs.declared.ends.Hand.{Hand}
 use Rattle.plan_cells.specs.declared.ends.Outgoing.{Outgoing}
 use Rattle.plan_cells.specs.declared.ends.Incoming.{Incoming}
 use Rattle.plan_cells.specs.declared.ends.Ends.{Ends}
 use Rattle.plan_cells.specs.Ends.{CellsRec}
 use Rattle.core_workers.specs.declared.turn.Turn.TheVariants as turn
-use Rattle.core_workers.specs.Worker.{WorkerRec, IsInHand, IsHeard, Listens, Tells, HasSteppedBusy, IsWorker, StaysIncoming, StaysOutgoing, Looked, Published, reach, Stays, Exchanged, IsReadTo, Answers, shut_links}
+use Rattle.core_workers.specs.Worker.{WorkerRec, IsInHand, IsHeard, Listens, Tells, RunsOn, IsWorker, StaysIncoming, StaysOutgoing, Looked, Published, reach, Stays, Exchanged, IsReadTo, Answers, shut_links}
 use Rattle.core_workers.proofs.Counting.{busy_by}
 use Rattle.core_workers.proofs.Hearing.{fits_at}
 use Rattle.core_workers.proofs.Passes.{all_zip_refl}
@@ -102,10 +104,112 @@ module _ (cells : CellsRec) (is : IsPlan cells.plan) (runner : RunnerRec) (ends 
         let below = reach_below cells.plan runner.horizon.limit ends reads.place reads.reader reads.at in
         omega (arith, stop.is_horizon, ap horizon_at reads.same, below, clock_above)
 
--- ---- The parts of a turn, one after the other
+-- ---- The parts of a turn
+
+abbrev pub worker : CellsRec → RunnerRec → Ends → WorkerRec
+worker cells runner ends = record { cells = cells; runner = runner; ends = ends }
+
+-- the logs were looked at: what the node has seen of its links changes, and the ends that read
+pub record Heard (before : WorkerRec) (runner : RunnerRec) (ends : Ends) : Type 0 where
+  pub listens : Listens before.cells runner ends.incoming.items
+  pub rest : runner ≡ record before.runner { horizon = record before.runner.horizon { ends = runner.horizon.ends } }
+  pub outgoing : ends.outgoing ≡ before.ends.outgoing
+  pub stays : AllZip StaysIncoming before.ends.incoming.items ends.incoming.items
+
+-- what the node has sent was published: up to which slots it is changes, and the ends that write
+pub record Told (before : WorkerRec) (runner : RunnerRec) (ends : Ends) : Type 0 where
+  pub tells : Tells before.cells runner ends.outgoing.items
+  pub rest : runner ≡ record before.runner { published = runner.published }
+  pub incoming : ends.incoming ≡ before.ends.incoming
+  pub stays : AllZip StaysOutgoing before.ends.outgoing.items ends.outgoing.items
+
+-- a turn of which only the last part may have wanted memory: the node has heard (`r1`, with `e1`), has run until something stopped it
+-- (`r2`), and has told (`r3`, with `e2`)
+pub record Turned (before : WorkerRec) (r1 : RunnerRec) (e1 : Ends) (stop : Ran) (r2 r3 : RunnerRec) (e2 : Ends) : Type 0 where
+  pub start : IsWorker before
+  pub heard : Heard before r1 e1
+  pub looked : AllZip Looked before.ends.incoming.items e1.incoming.items
+  pub ran : RunsOn r1 r2
+  pub stops : Stops r2.horizon r2.clock stop
+  pub within : r2.clock ≤ r2.horizon.limit
+  pub ahead : (end : EndNumber) (s : Seen) → Sees r2.horizon end s → r2.clock ≤ horizon_at s
+  pub told : Told (worker before.cells r2 e1) r3 e2
+
+-- ---- Each part makes a worker of a worker
 
 none_changes : (o : Outgoing) → StaysOutgoing o o
 none_changes o = record { end = refl; link = refl; table = refl; rest = refl; published = omega arith }
+
+same_writers : {w : WorkerRec} {runner : RunnerRec} {ends : Ends} → Heard w runner ends → ends.outgoing.items ≡ w.ends.outgoing.items
+same_writers heard = λ i. (heard.outgoing i).items
+
+pub heard_worker : {w : WorkerRec} {runner : RunnerRec} {ends : Ends} → IsWorker w → Heard w runner ends → IsWorker (worker w.cells runner ends)
+heard_worker {w} {runner} {ends} is heard =
+    let plan = ap (λ (r : RunnerRec). r.plan) heard.rest in
+    let node = ap (λ (r : RunnerRec). r.node) heard.rest in
+    record {
+      plan_is = is.plan_is;
+      of_plan = plan ∙ is.of_plan;
+      listens = heard.listens;
+      tells =
+          subst (λ (v : List Outgoing). Tells w.cells runner v) (sym (same_writers heard))
+          (tells_by w.cells w.runner runner w.ends.outgoing.items node (ap (λ (r : RunnerRec). r.published) heard.rest) is.tells);
+      busy = busy_by w.runner runner plan node (ap (λ (r : RunnerRec). r.clock) heard.rest) (ap (λ (r : RunnerRec). r.stepped) heard.rest) is.busy;
+    }
+
+pub heard_stays : {w : WorkerRec} {runner : RunnerRec} {ends : Ends} → Heard w runner ends → Stays w (worker w.cells runner ends)
+heard_stays {w} {runner} {ends} heard =
+    let clock : runner.clock ≡ w.runner.clock = ap (λ (r : RunnerRec). r.clock) heard.rest in
+    record {
+      cells = refl;
+      plan = ap (λ (r : RunnerRec). r.plan) heard.rest;
+      node = ap (λ (r : RunnerRec). r.node) heard.rest;
+      limit = ap (λ (r : RunnerRec). r.horizon.limit) heard.rest;
+      clock = omega (arith, clock);
+      incoming = heard.stays;
+      outgoing =
+          subst (λ (v : List Outgoing). AllZip StaysOutgoing w.ends.outgoing.items v) (sym (same_writers heard))
+          (all_zip_refl StaysOutgoing none_changes w.ends.outgoing.items);
+    }
+
+pub ran_worker : {w : WorkerRec} {runner : RunnerRec} → IsWorker w → RunsOn w.runner runner → IsWorker (worker w.cells runner w.ends)
+ran_worker {w} {runner} is ran =
+    let node = ap (λ (r : RunnerRec). r.node) ran.rest in
+    record {
+      plan_is = is.plan_is;
+      of_plan = ap (λ (r : RunnerRec). r.plan) ran.rest ∙ is.of_plan;
+      listens = listens_by w.cells w.runner runner w.ends.incoming.items node (ap (λ (r : RunnerRec). r.horizon) ran.rest) is.listens;
+      tells = tells_by w.cells w.runner runner w.ends.outgoing.items node (ap (λ (r : RunnerRec). r.published) ran.rest) is.tells;
+      busy = ran.busy;
+    }
+
+pub ran_stays : {before w : WorkerRec} {runner : RunnerRec} → Stays before w → RunsOn w.runner runner → Stays before (worker w.cells runner w.ends)
+ran_stays stays ran = record {
+  cells = stays.cells;
+  plan = ap (λ (r : RunnerRec). r.plan) ran.rest ∙ stays.plan;
+  node = ap (λ (r : RunnerRec). r.node) ran.rest ∙ stays.node;
+  limit = ap (λ (r : RunnerRec). r.horizon.limit) ran.rest ∙ stays.limit;
+  clock = omega (arith, stays.clock, ran.on);
+  incoming = stays.incoming;
+  outgoing = stays.outgoing;
+}
+
+told_worker : {w : WorkerRec} {runner : RunnerRec} {ends : Ends} → IsWorker w → Told w runner ends → IsWorker (worker w.cells runner ends)
+told_worker {w} {runner} {ends} is told =
+    let plan = ap (λ (r : RunnerRec). r.plan) told.rest in
+    let node = ap (λ (r : RunnerRec). r.node) told.rest in
+    let same_readers : ends.incoming.items ≡ w.ends.incoming.items = λ i. (told.incoming i).items in
+    record {
+      plan_is = is.plan_is;
+      of_plan = plan ∙ is.of_plan;
+      listens =
+          subst (λ (v : List Incoming). Listens w.cells runner v) (sym same_readers)
+          (listens_by w.cells w.runner runner w.ends.incoming.items node (ap (λ (r : RunnerRec). r.horizon) told.rest) is.listens);
+      tells = told.tells;
+      busy = busy_by w.runner runner plan node (ap (λ (r : RunnerRec). r.clock) told.rest) (ap (λ (r : RunnerRec). r.stepped) told.rest) is.busy;
+    }
+
+-- ---- A whole turn
 
 same_clock : (clock slot : Slot) (old new : List Outgoing) → clock ≡ slot → AllZip (Published slot) old new → AllZip (Published clock) old new
 same_clock clock slot old new is all = subst (λ t. AllZip (Published t) old new) (sym is) all
@@ -122,157 +226,67 @@ all_told slot limit [] (y ∷ new) is all = absurd all
 all_told slot limit (x ∷ old) [] is all = tt
 all_told slot limit (x ∷ old) (y ∷ new) is all = (ap (λ (w : WriteRec PlanRec). w.published) all.0 ∙ is, all_told slot limit old new is all.1)
 
-abbrev worker : CellsRec → RunnerRec → Ends → WorkerRec
-worker cells runner ends = record { cells = cells; runner = runner; ends = ends }
+module _ {w : WorkerRec} {r1 : RunnerRec} {e1 : Ends} {stop : Ran} {r2 r3 : RunnerRec} {e2 : Ends} (t : Turned w r1 e1 stop r2 r3 e2) where
+  worker_2 : IsWorker (worker w.cells r2 e1)
+  worker_2 = ran_worker (heard_worker t.start t.heard) t.ran
 
-module _ (cells : CellsRec) (r0 r1 : RunnerRec) (e0 e1 : Ends) (start : IsWorker (worker cells r0 e0))
-    (listens : Listens cells r1 e1.incoming.items) (heard : r1 ≡ record r0 { horizon = record r0.horizon { ends = r1.horizon.ends } }) (same_outgoing : e1.outgoing ≡ e0.outgoing)
-    (stays_in : AllZip StaysIncoming e0.incoming.items e1.incoming.items) where
-  outgoing_items : e1.outgoing.items ≡ e0.outgoing.items
-  outgoing_items = λ i. (same_outgoing i).items
+  pub turned_worker : IsWorker (worker w.cells r3 e2)
+  turned_worker = told_worker worker_2 t.told
 
-  node_1 : r1.node ≡ r0.node
-  node_1 = ap (λ (r : RunnerRec). r.node) heard
+  incoming_items : e2.incoming.items ≡ e1.incoming.items
+  incoming_items = λ i. (t.told.incoming i).items
 
-  pub plan_1 : r1.plan ≡ cells.plan
-  plan_1 = ap (λ (r : RunnerRec). r.plan) heard ∙ start.of_plan
+  horizon_3 : r3.horizon ≡ r2.horizon
+  horizon_3 = ap (λ (r : RunnerRec). r.horizon) t.told.rest
 
-  tells_1 : Tells cells r1 e1.outgoing.items
-  tells_1 =
-      subst (λ (v : List Outgoing). Tells cells r1 v) (sym outgoing_items)
-      (tells_by cells r0 r1 e0.outgoing.items node_1 (ap (λ (r : RunnerRec). r.published) heard) start.tells)
+  clock_3 : r3.clock ≡ r2.clock
+  clock_3 = ap (λ (r : RunnerRec). r.clock) t.told.rest
 
-  stays_out_1 : AllZip StaysOutgoing e0.outgoing.items e1.outgoing.items
-  stays_out_1 = subst (λ (v : List Outgoing). AllZip StaysOutgoing e0.outgoing.items v) (sym outgoing_items) (all_zip_refl StaysOutgoing none_changes e0.outgoing.items)
+  handed : All (λ (i : Incoming). i.hand ≡ None) e1.incoming.items
+  handed = All-from_recursion (λ (i : Incoming). i.hand ≡ None) e1.incoming.items (all_handed w.ends.incoming.items e1.incoming.items t.looked)
 
-  busy_1 : HasSteppedBusy r1
-  busy_1 = busy_by r0 r1 (ap (λ (r : RunnerRec). r.plan) heard) node_1 (ap (λ (r : RunnerRec). r.clock) heard) (ap (λ (r : RunnerRec). r.stepped) heard) start.busy
+  -- whatever stops the node, it has run as far as it may
+  far : (ran : Ran) → Stops r2.horizon r2.clock ran → r2.clock ≡ reach w.cells.plan r2.horizon.limit e1.incoming.items
+  far one_slot stops = absurd stops
+  far (Blocked end seen) stops = at_stop w.cells t.start.plan_is r2 e1.incoming.items worker_2.listens handed t.within t.ahead end seen stops.1
+  far AtLimit stops = at_limit w.cells t.start.plan_is r2 e1.incoming.items worker_2.listens handed t.within t.ahead stops
 
-  pub worker_1 : IsWorker (worker cells r1 e1)
-  worker_1 = record { plan_is = start.plan_is; of_plan = plan_1; listens = listens; tells = tells_1; busy = busy_1 }
+  stops_by : (ran : Ran) → stop ≡ ran → Stops r2.horizon r2.clock ran
+  stops_by ran is = subst (λ (r : Ran). Stops r2.horizon r2.clock r) is t.stops
 
-  pub stays_1 : Stays (worker cells r0 e0) (worker cells r1 e1)
-  stays_1 =
-      let clock : r1.clock ≡ r0.clock = ap (λ (r : RunnerRec). r.clock) heard in
-      record {
-        cells = refl;
-        plan = ap (λ (r : RunnerRec). r.plan) heard;
-        node = node_1;
-        limit = ap (λ (r : RunnerRec). r.horizon.limit) heard;
-        clock = omega (arith, clock);
-        incoming = stays_in;
-        outgoing = stays_out_1;
-      }
-
-  module _ (r2 : RunnerRec) (ran : r2 ≡ record r1 { clock = r2.clock; stepped = r2.stepped }) (on : r1.clock ≤ r2.clock) (busy : HasSteppedBusy r2) where
-    node_2 : r2.node ≡ r1.node
-    node_2 = ap (λ (r : RunnerRec). r.node) ran
-
-    horizon_2 : r2.horizon ≡ r1.horizon
-    horizon_2 = ap (λ (r : RunnerRec). r.horizon) ran
-
-    pub plan_2 : r2.plan ≡ cells.plan
-    plan_2 = ap (λ (r : RunnerRec). r.plan) ran ∙ plan_1
-
-    listens_2 : Listens cells r2 e1.incoming.items
-    listens_2 = listens_by cells r1 r2 e1.incoming.items node_2 horizon_2 listens
-
-    pub tells_2 : Tells cells r2 e1.outgoing.items
-    tells_2 = tells_by cells r1 r2 e1.outgoing.items node_2 (ap (λ (r : RunnerRec). r.published) ran) tells_1
-
-    pub worker_2 : IsWorker (worker cells r2 e1)
-    worker_2 = record { plan_is = start.plan_is; of_plan = plan_2; listens = listens_2; tells = tells_2; busy = busy }
-
-    pub stays_2 : Stays (worker cells r0 e0) (worker cells r2 e1)
-    stays_2 =
-        let before = stays_1 in
-        let clock : r1.clock ≡ r0.clock = ap (λ (r : RunnerRec). r.clock) heard in
+  -- the node stands at a link end, and no log was found closed
+  pub blocked : {end seen : ℕ} → stop ≡ Blocked end seen → r2.clock ≤ w.runner.clock → shut_links e2.incoming.items ≡ []
+      → Answers w (turn.Blocked end seen) (worker w.cells r3 e2)
+  blocked {end} {seen} is stands none =
+      let stops = stops_by (Blocked end seen) is in
+      let heard_clock : r1.clock ≡ w.runner.clock = ap (λ (r : RunnerRec). r.clock) t.heard.rest in (
         record {
-          cells = refl;
-          plan = ap (λ (r : RunnerRec). r.plan) ran ∙ before.plan;
-          node = node_2 ∙ node_1;
-          limit = ap (λ (h : HorizonRec). h.limit) horizon_2 ∙ before.limit;
-          clock = omega (arith, clock, on);
-          incoming = stays_in;
-          outgoing = stays_out_1;
-        }
+          clock = omega (arith, clock_3, heard_clock, t.ran.on, stands);
+          below = omega (arith, clock_3, ap (λ (h : HorizonRec). h.limit) horizon_3, stops.0);
+        },
+        none,
+        subst (λ (h : HorizonRec). StopsAt h r3.clock end seen) (sym horizon_3) (subst (λ s. StopsAt r2.horizon s end seen) (sym clock_3) stops.1),
+        subst (λ (v : List Incoming). IsReadTo seen end v) (sym incoming_items) (read_at_stop w.cells t.start.plan_is r2 e1.incoming.items worker_2.listens handed end seen stops.1),
+      )
 
-    module _ (r3 : RunnerRec) (e2 : Ends) (tells : Tells cells r3 e2.outgoing.items) (told : r3 ≡ record r2 { published = r3.published }) (same_incoming : e2.incoming ≡ e1.incoming)
-        (stays_out : AllZip StaysOutgoing e1.outgoing.items e2.outgoing.items) where
-      incoming_items : e2.incoming.items ≡ e1.incoming.items
-      incoming_items = λ i. (same_incoming i).items
+  module _ (published : AllZip (Published r2.clock) e1.outgoing.items e2.outgoing.items) where
+    pub exchanged : Exchanged w (worker w.cells r3 e2)
+    exchanged = record {
+      looked = subst (λ (v : List Incoming). AllZip Looked w.ends.incoming.items v) (sym incoming_items) t.looked;
+      ran =
+          clock_3 ∙ far stop t.stops
+          ∙ ap (λ (h : HorizonRec). reach w.cells.plan h.limit e1.incoming.items) (sym horizon_3)
+          ∙ ap (λ (v : List Incoming). reach w.cells.plan r3.horizon.limit v) (sym incoming_items);
+      published =
+          same_clock r3.clock r2.clock w.ends.outgoing.items e2.outgoing.items clock_3
+          (subst (λ (v : List Outgoing). AllZip (Published r2.clock) v e2.outgoing.items) (same_writers t.heard) published);
+    }
 
-      horizon_3 : r3.horizon ≡ r2.horizon
-      horizon_3 = ap (λ (r : RunnerRec). r.horizon) told
-
-      pub clock_3 : r3.clock ≡ r2.clock
-      clock_3 = ap (λ (r : RunnerRec). r.clock) told
-
-      listens_3 : Listens cells r3 e2.incoming.items
-      listens_3 =
-          subst (λ (v : List Incoming). Listens cells r3 v) (sym incoming_items)
-          (listens_by cells r2 r3 e1.incoming.items (ap (λ (r : RunnerRec). r.node) told) horizon_3 listens_2)
-
-      pub worker_3 : IsWorker (worker cells r3 e2)
-      worker_3 = record {
-        plan_is = start.plan_is;
-        of_plan = ap (λ (r : RunnerRec). r.plan) told ∙ plan_2;
-        listens = listens_3;
-        tells = tells;
-        busy = busy_by r2 r3 (ap (λ (r : RunnerRec). r.plan) told) (ap (λ (r : RunnerRec). r.node) told) clock_3 (ap (λ (r : RunnerRec). r.stepped) told) busy;
-      }
-
-      pub stays_3 : Stays (worker cells r0 e0) (worker cells r3 e2)
-      stays_3 =
-          let before = stays_2 in
-          record {
-            cells = refl;
-            plan = ap (λ (r : RunnerRec). r.plan) told ∙ before.plan;
-            node = ap (λ (r : RunnerRec). r.node) told ∙ before.node;
-            limit = ap (λ (h : HorizonRec). h.limit) horizon_3 ∙ before.limit;
-            clock = omega (arith, clock_3, before.clock);
-            incoming = subst (λ (v : List Incoming). AllZip StaysIncoming e0.incoming.items v) (sym incoming_items) stays_in;
-            outgoing = subst (λ (v : List Outgoing). AllZip StaysOutgoing v e2.outgoing.items) outgoing_items stays_out;
-          }
-
-      module _ (looked : AllZip Looked e0.incoming.items e1.incoming.items) (published : AllZip (Published r2.clock) e1.outgoing.items e2.outgoing.items) where
-        handed : All (λ (i : Incoming). i.hand ≡ None) e1.incoming.items
-        handed = All-from_recursion (λ (i : Incoming). i.hand ≡ None) e1.incoming.items (all_handed e0.incoming.items e1.incoming.items looked)
-
-        pub exchanged : r2.clock ≡ reach cells.plan r2.horizon.limit e1.incoming.items → Exchanged (worker cells r0 e0) (worker cells r3 e2)
-        exchanged far = record {
-          looked = subst (λ (v : List Incoming). AllZip Looked e0.incoming.items v) (sym incoming_items) looked;
-          ran =
-              clock_3 ∙ far
-              ∙ ap (λ (h : HorizonRec). reach cells.plan h.limit e1.incoming.items) (sym horizon_3)
-              ∙ ap (λ (v : List Incoming). reach cells.plan r3.horizon.limit v) (sym incoming_items);
-          published =
-              same_clock r3.clock r2.clock e0.outgoing.items e2.outgoing.items clock_3
-              (subst (λ (v : List Outgoing). AllZip (Published r2.clock) v e2.outgoing.items) outgoing_items published);
-        }
-
-        pub far_at_limit : r2.clock ≤ r2.horizon.limit → ((end : EndNumber) (s : Seen) → Sees r2.horizon end s → r2.clock ≤ horizon_at s) → r2.clock ≡ r2.horizon.limit
-            → r2.clock ≡ reach cells.plan r2.horizon.limit e1.incoming.items
-        far_at_limit within ahead at = at_limit cells start.plan_is r2 e1.incoming.items listens_2 handed within ahead at
-
-        pub far_at_stop : r2.clock ≤ r2.horizon.limit → ((end : EndNumber) (s : Seen) → Sees r2.horizon end s → r2.clock ≤ horizon_at s) → (end seen : ℕ) → StopsAt r2.horizon r2.clock end seen
-            → r2.clock ≡ reach cells.plan r2.horizon.limit e1.incoming.items
-        far_at_stop within ahead end seen stop = at_stop cells start.plan_is r2 e1.incoming.items listens_2 handed within ahead end seen stop
-
-        -- the node stands at a link end, and no log was found closed
-        pub blocked : (end seen : ℕ) → r2.clock ≤ r0.clock → r2.clock < r2.horizon.limit → StopsAt r2.horizon r2.clock end seen → shut_links e2.incoming.items ≡ []
-            → Answers (worker cells r0 e0) (turn.Blocked end seen) (worker cells r3 e2)
-        blocked end seen stands below stop none = (
-          record {
-            clock = omega (arith, clock_3, stays_2.clock, stands);
-            below = omega (arith, clock_3, ap (λ (h : HorizonRec). h.limit) horizon_3, below);
-          },
-          none,
-          subst (λ (h : HorizonRec). StopsAt h r3.clock end seen) (sym horizon_3) (subst (λ t. StopsAt r2.horizon t end seen) (sym clock_3) stop),
-          subst (λ (v : List Incoming). IsReadTo seen end v) (sym incoming_items) (read_at_stop cells start.plan_is r2 e1.incoming.items listens_2 handed end seen stop),
+    -- the node is at the limit
+    pub finished : stop ≡ AtLimit → Answers w turn.Finished (worker w.cells r3 e2)
+    finished is =
+        let at = stops_by AtLimit is ∙ ap (λ (h : HorizonRec). h.limit) (sym horizon_3) in (
+          clock_3 ∙ at,
+          All-from_recursion (λ (o : Outgoing). o.w.end.published ≡ r3.horizon.limit) e2.outgoing.items
+              (all_told r2.clock r3.horizon.limit e1.outgoing.items e2.outgoing.items at published),
         )
-
-        pub told_to_limit : r2.clock ≡ r2.horizon.limit → All (λ (o : Outgoing). o.w.end.published ≡ r3.horizon.limit) e2.outgoing.items
-        told_to_limit at =
-            All-from_recursion (λ (o : Outgoing). o.w.end.published ≡ r3.horizon.limit) e2.outgoing.items
-            (all_told r2.clock r3.horizon.limit e1.outgoing.items e2.outgoing.items (at ∙ ap (λ (h : HorizonRec). h.limit) (sym horizon_3)) published)

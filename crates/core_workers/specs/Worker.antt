@@ -63,6 +63,12 @@ pub record Tells (cells : CellsRec) (runner : RunnerRec) (ends : List Outgoing) 
 abbrev pub HasSteppedBusy : RunnerRec → Type 0
 HasSteppedBusy runner = runner.stepped ≡ busy_count runner.plan runner.node runner.clock
 
+-- it has run on: nothing else of it changed
+pub record RunsOn (before now : RunnerRec) : Type 0 where
+  pub rest : now ≡ record before { clock = now.clock; stepped = now.stepped }
+  pub on : before.clock ≤ now.clock
+  pub busy : HasSteppedBusy now
+
 pub record IsWorker (w : WorkerRec) : Type 0 where
   pub plan_is : IsPlan w.cells.plan
   pub of_plan : w.runner.plan ≡ w.cells.plan
