@@ -195,3 +195,20 @@ fn all_ports_have_their_edges_in_a_slot(rt: HostRuntime) {
     assert!(rt; ports.edges(&clocks, 8, &pins, high, &mut out) && ports.ready() == 0x1_0000);
     assert!(rt; ports.is_full(16) && !ports.is_full(3) && ports.is_idle(3) && ports.is_idle(16));
 }
+
+// The reference clock falls in the slots 2, 6, 10 and 14: the last makes the counter 4, and an output for that time leaves.
+#[test]
+fn an_output_for_a_time_is_foreseen(rt: HostRuntime) {
+    let clocks = Clocks::new();
+    let mut ports = Ports::new();
+    let _ = ports.act(0, Ask::Mode(ON), 0);
+    let _ = ports.act(0, Ask::Time(4), 0);
+    let _ = ports.act(0, Ask::Out(1), 0);
+    assert!(rt; ports.still());
+    let near = ports.next_fall(&clocks, 0, 14);
+    let first = ports.next_fall(&clocks, 0, 100);
+    ports.pass(&clocks, 0, first);
+    let level = ports.level(0, 0);
+    let driven = fall(&mut ports, 0);
+    assert!(rt; near == 14 && first == 14 && level == 0 && driven == Seen::Drives(1));
+}

@@ -141,3 +141,35 @@ fn lock_is_for_one_thread_at_a_time(rt: HostRuntime) -> Result<(), Fail> {
     assert!(rt; matches!(core.run_of(1), Run::Going) && matches!(core.run_of(2), Run::Going));
     Ok(())
 }
+
+// The time is after 50 from slot 204 on: thread 0 waits for that from slot 16 on, and frees itself four slots later.
+#[test]
+fn goes_over_the_slots_before_a_timers_moment(rt: HostRuntime) -> Result<(), Fail> {
+    let code = [
+        Instr::Resources(ResIns::Getr(0, 1)),
+        Instr::Words(WordIns::Ldc(1, 50)),
+        Instr::Resources(ResIns::SetcImm(0, 9)),
+        Instr::Resources(ResIns::Setd(0, 1)),
+        Instr::Resources(ResIns::In(2, 0)),
+        Instr::Threads(ThreadIns::Freet),
+    ];
+    let plan = loaded_node(rt.alloc(), 0, &code, &[], 0x0001_0000, 0)?;
+    let mut core = Core::boot(rt.alloc(), &plan, &NO_GAPS)?;
+    let mut out = Emissions::new();
+    for slot in 0..17u32 {
+        core.slot(slot, &NOTHING, &LOW, &mut out);
+    }
+    let waits = matches!(core.run_of(0), Run::Paused(Wait::Timer { timer: 0 }));
+    let near = core.quiet_to(17, 100);
+    let moment = core.quiet_to(17, 1_000);
+    assert!(rt; waits && near == 100 && moment == 204 && !core.may_issue(203));
+    core.skip(17, moment, &LOW);
+    assert!(rt; core.quiet_to(204, 1_000) == 204 && core.may_issue(204));
+    for slot in 204..209u32 {
+        let goes = matches!(core.run_of(0), Run::Going);
+        core.slot(slot, &NOTHING, &LOW, &mut out);
+        assert!(rt; goes == (slot > 204), "slot {slot}");
+    }
+    assert!(rt; matches!(core.run_of(0), Run::Free));
+    Ok(())
+}

@@ -266,3 +266,16 @@ fn a_channel_end_above_31_is_none(rt: HostRuntime) {
     };
     assert!(rt; moved == [None; 3] && lost == chan_id(0, 34));
 }
+
+#[test]
+fn a_switch_is_still_while_nothing_waits(rt: HostRuntime) {
+    let mut node = Node::new(0);
+    let first = node.switch.still(&node.chans, &node.links);
+    let _ = node.chans.set_dest(0, chan_id(1, 0));
+    let _ = node.chans.put(0, END);
+    let waits = node.switch.still(&node.chans, &node.links);
+    for slot in 0..SLOTS {
+        node.slot(slot, None, false);
+    }
+    assert!(rt; first && !waits && node.switch.still(&node.chans, &node.links));
+}
