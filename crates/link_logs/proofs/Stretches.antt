@@ -1,13 +1,39 @@
--- The entries of one stretch of slots and of the next.
-use Rattle.std.proofs.Common.{◌≡◌, ℕ, zero, suc, ◌+◌, ◌-◌, ◌≤◌, List, ◌++◌, length, drop, sym, ap, ◌∙◌, arith, length-append}
+-- The entries of one stretch of slots and of the next, how many there are, and how many tokens and credits are among them.
+use Rattle.std.proofs.Common.{◌≡◌, ℕ, zero, suc, ◌+◌, ◌*◌, ◌-◌, ◌<◌, ◌^◌, ◌≤◌, List, ◌++◌, length, refl, sym, ap, ◌∙◌, arith, not, length-append}
+use Rattle.std.specs.Prelude.{filter}
 use Rattle.std.proofs.lemmas.List.{append-nil, append_assoc}
-use Rattle.std.proofs.Math.Seq.{drop-append_seam}
+use Rattle.std.proofs.lemmas.List.Elements.{filter-append}
+use Rattle.std.proofs.lemmas.List.Filters.{length-filter_both}
 use Rattle.xs_base.specs.Numbers.{Slot}
 use Rattle.xs_base.specs.declared.entry.Entry.{Entry}
-use Rattle.link_logs.specs.Entries.{entries_over, between}
-use Rattle.link_logs.specs.Logs.{LogRec, ReadRec, Reads}
+use Rattle.xs_base.specs.declared.entry.What.{What}
+use Rattle.xs_base.specs.declared.entry.What.TheVariants.{Token, Credit}
+use Rattle.link_logs.specs.Entries.{entries_over, between, is_token, is_credit, tokens_in, credits_in}
+use Rattle.link_logs.specs.Logs.{IsWhole}
+
+-- ---- How many tokens and credits
+
+tokens_on : (xs ys : List Entry) → tokens_in (xs ++ ys) ≡ tokens_in xs + tokens_in ys
+tokens_on xs ys =
+    let test = λ (e : Entry). is_token e.what in
+    ap (length {A = Entry}) (filter-append test xs ys) ∙ length-append (filter test xs) (filter test ys)
+
+credits_on : (xs ys : List Entry) → credits_in (xs ++ ys) ≡ credits_in xs + credits_in ys
+credits_on xs ys =
+    let test = λ (e : Entry). is_credit e.what in
+    ap (length {A = Entry}) (filter-append test xs ys) ∙ length-append (filter test xs) (filter test ys)
+
+either_way : (w : What) → is_credit w ≡ not (is_token w)
+either_way (Token t) = refl
+either_way Credit = refl
+
+-- each entry is one of the two
+all_counted : (es : List Entry) → tokens_in es + credits_in es ≡ length es
+all_counted es = length-filter_both (λ (e : Entry). is_token e.what) (λ (e : Entry). is_credit e.what) (λ (e : Entry). either_way e.what) es
 
 module _ (at : Slot → List Entry) where
+  -- ---- One stretch and the next
+
   over_same : (from m n : ℕ) → m ≡ n → entries_over at from m ≡ entries_over at from n
   over_same from m n e = ap (entries_over at from) e
 
@@ -19,42 +45,35 @@ module _ (at : Slot → List Entry) where
       sym (append_assoc (entries_over at from m) (entries_over at mid n) (at (mid + n)))
       ∙ (λ i. over_on from m n k mid (omega (arith, e)) f i ++ at (same i))
 
-  pub between_on : (from mid to : Slot) → from ≤ mid → mid ≤ to → between at from mid ++ between at mid to ≡ between at from to
+  between_on : (from mid to : Slot) → from ≤ mid → mid ≤ to → between at from mid ++ between at mid to ≡ between at from to
   between_on from mid to h k = over_on from (mid - from) (to - mid) (to - from) mid (omega (arith, h, k)) (omega (arith, h))
 
-  pub between_within : (from mid to : Slot) → from ≤ mid → mid ≤ to → length (between at from mid) ≤ length (between at from to)
-  between_within from mid to h k =
-      let count : length (between at from mid ++ between at mid to) ≡ length (between at from to) = ap (length {A = Entry}) (between_on from mid to h k) in
-      omega (arith, count, length-append (between at from mid) (between at mid to))
+  -- ---- How many entries, where each slot has two at most
 
-  pub between_rest : (from mid to : Slot) → from ≤ mid → mid ≤ to → drop (length (between at from mid)) (between at from to) ≡ between at mid to
-  between_rest from mid to h k =
-      ap (drop (length (between at from mid))) (sym (between_on from mid to h k)) ∙ drop-append_seam (between at from mid) (between at mid to)
+  module _ (few : (slot : Slot) → length (at slot) ≤ 2) where
+    over_few : (from n : ℕ) → length (entries_over at from n) ≤ 2 * n
+    over_few from zero = omega arith
+    over_few from (suc n) = omega (arith, length-append (entries_over at from n) (at (from + n)), over_few from n, few (from + n))
 
--- what a read end has not read of its log
-module _ {Run : Type 0} (entries_at : Run → ℕ → ℕ → List Entry) (log : LogRec Run) (end : ReadRec Run) (count : ℕ) where
-  -- the log is whole from slot 0 on, and the end has passed by the entries that it has read
-  pub record IsKept : Type 0 where
-    pub reads : Reads end log
-    pub whole : log.entries ≡ between (entries_at log.run log.number) 0 log.published
-    pub place : count ≡ length (between (entries_at end.run end.number) 0 end.got)
+    pub between_few : (from to : Slot) → length (between at from to) ≤ 2 * (to - from)
+    between_few from to = over_few from (to - from)
 
-  -- that is so where it is so of what stands for them
-  pub kept_by : (log' : LogRec Run) (end' : ReadRec Run) → log' ≡ log → end' ≡ end → Reads end log → log'.entries ≡ between (entries_at log'.run log'.number) 0 log'.published
-      → count ≡ length (between (entries_at end'.run end'.number) 0 end'.got) → IsKept
-  kept_by log' end' is_log is_end reads whole place = record {
-    reads = reads;
-    whole = sym (λ i. (is_log i).entries) ∙ whole ∙ (λ i. between (entries_at (is_log i).run (is_log i).number) 0 (is_log i).published);
-    place = place ∙ (λ i. length (between (entries_at (is_end i).run (is_end i).number) 0 (is_end i).got));
-  }
+    -- so the counts stay small
+    pub counts_fit : (to : Slot) → to < 2 ^ 32 → tokens_in (between at 0 to) + credits_in (between at 0 to) < 2 ^ 33
+    counts_fit to small = omega (arith, all_counted (between at 0 to), between_few 0 to, small)
 
-  place_in : IsKept → count ≡ length (between (entries_at log.run log.number) 0 end.got)
-  place_in k = k.place ∙ (λ i. length (between (entries_at (k.reads.run i) (k.reads.number i)) 0 end.got))
+  -- ---- A log goes on by the entries of some more slots
 
-  pub place_within : IsKept → count ≤ length log.entries
-  place_within k =
-      let all : length log.entries ≡ length (between (entries_at log.run log.number) 0 log.published) = ap (length {A = Entry}) k.whole in
-      omega (arith, all, place_in k, between_within (entries_at log.run log.number) 0 end.got log.published (omega arith) k.reads.published)
+  module _ {base published : Slot} {entries : List Entry} {tokens credits : ℕ} (is : IsWhole at base published entries tokens credits) (upto : Slot) (on : published ≤ upto)
+      (more : List Entry) (own : more ≡ between at published upto) where
+    all : between at 0 published ++ more ≡ between at 0 upto
+    all = ap (λ (es : List Entry). between at 0 published ++ es) own ∙ between_on 0 published upto (omega arith) on
 
-  pub rest_is : IsKept → drop count log.entries ≡ between (entries_at log.run log.number) end.got log.published
-  rest_is k = (λ i. drop (place_in k i) (k.whole i)) ∙ between_rest (entries_at log.run log.number) 0 end.got log.published (omega arith) k.reads.published
+    pub tokens_go_on : (n : ℕ) → n ≡ tokens_in more → tokens + n ≡ tokens_in (between at 0 upto)
+    tokens_go_on n count = (λ i. is.all_tokens i + count i) ∙ sym (tokens_on (between at 0 published) more) ∙ ap tokens_in all
+
+    pub credits_go_on : (n : ℕ) → n ≡ credits_in more → credits + n ≡ credits_in (between at 0 upto)
+    credits_go_on n count = (λ i. is.all_credits i + count i) ∙ sym (credits_on (between at 0 published) more) ∙ ap credits_in all
+
+    pub entries_go_on : entries ++ more ≡ between at base upto
+    entries_go_on = (λ i. is.own i ++ own i) ∙ between_on base published upto is.on on

@@ -5,7 +5,7 @@ use Rattle.xs_base.specs.declared.entry.Entry.{Entry}
 use Rattle.link_logs.specs.declared.answers.Cause.{Cause}
 use Rattle.link_logs.specs.declared.answers.Got.{Got}
 use Rattle.link_logs.specs.declared.answers.Got.TheVariants.{Entries, Nothing, Closed}
-use Rattle.link_logs.specs.Entries.{between}
+use Rattle.link_logs.specs.Entries.{between, tokens_in, credits_in}
 
 -- a log: of which run and directed link, the entries from one slot on and before another, and, where it is closed, the cause
 pub record LogRec (Run : Type 0) : Type 0 where
@@ -15,6 +15,13 @@ pub record LogRec (Run : Type 0) : Type 0 where
   pub published : Slot
   pub entries : List Entry
   pub cause : Option Cause
+
+-- what a log has of a link: its entries from one slot on and before another, and how many tokens and credits it carried before that, from slot 0 on
+pub record IsWhole (at : Slot → List Entry) (base published : Slot) (entries : List Entry) (tokens credits : ℕ) : Type 0 where
+  pub on : base ≤ published
+  pub own : entries ≡ between at base published
+  pub all_tokens : tokens ≡ tokens_in (between at 0 published)
+  pub all_credits : credits ≡ credits_in (between at 0 published)
 
 -- the end that writes: up to which slot it has published, and, where it has closed the log, the cause
 pub record WriteRec (Run : Type 0) : Type 0 where
@@ -47,8 +54,12 @@ module _ {Run : Type 0} where
   pub record Reads (end : ReadRec Run) (log : LogRec Run) : Type 0 where
     pub run : end.run ≡ log.run
     pub number : end.number ≡ log.number
-    pub base : log.base ≤ end.got
+    pub base : log.base ≡ end.got
     pub published : end.got ≤ log.published
+
+  -- the log after a look: its entries were moved out
+  abbrev pub emptied : LogRec Run → LogRec Run
+  emptied log = record log { base = log.published; entries = [] }
 
   -- what a look finds, where the end had read up to a slot
   abbrev pub Finds : (Slot → List Entry) → LogRec Run → Slot → Got → Type 0

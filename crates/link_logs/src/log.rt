@@ -1,36 +1,39 @@
 //! `Log`, what a directed link carries, and its two ends.
-ghost use Rattle.std.specs.Prelude.{◌≡◌, ◌+◌, ◌-◌, ◌^◌, ◌≤◌, ◌<◌, true, false, min, Some, None, is_some, [], ◌++◌, drop, length, IfOk, OnOk, OnErr};
-ghost use Rattle.link_logs.specs.Entries.{between};
-ghost use Rattle.link_logs.specs.Logs.{Writes, Reads, Finds, looked, new_log, new_write_end, new_read_end};
+ghost use Rattle.std.specs.Prelude.{◌≡◌, ◌≢◌, ◌-◌, ◌*◌, ◌≤◌, Some, None, [], ◌++◌, length, IfOk, IsErr, OnOk, OnErr};
+ghost use Rattle.link_logs.specs.Entries.{between, tokens_in, credits_in};
+ghost use Rattle.link_logs.specs.Logs.{Writes, Reads, Finds, emptied, looked, new_log, new_write_end, new_read_end};
 
 use crate::answers::{Cause, Got};
 use crate::story::Story;
 use known_value::Known;
 use std::alloc::{AllocError, Global};
 use std::marker::Model;
-use xs_base::{Batch, Entry};
+use std::mem;
+use xs_base::{Batch, Entry, What};
 
-/// What a directed link has carried, from slot 0 on and before the published slot. Contracts see a `LogRec` of
-/// `Rattle.link_logs.specs.Logs`. It is used by turns by the end that writes and the end that reads. See docs/LOOKAHEAD.md.
+/// What a directed link has carried and its end that reads has not read: the entries from slot `base` on and before the published
+/// slot, and how many tokens and credits it has carried from slot 0 on. Contracts see a `LogRec` of `Rattle.link_logs.specs.Logs`.
+/// It is used by turns by the end that writes and the end that reads. See docs/inside/LOOKAHEAD_INSIDE.md.
 #[derive(Drop)]
 pub struct Log<S: Story> {
     story: S,
+    base: u32,
     published: u32,
-    entries: Vec<Entry>,
+    entries: Batch,
+    tokens: u64,
+    credits: u64,
     cause: Option<Cause>,
     alloc: Global,
 }
 
 impl<S: Story> Model for Log<S> {
-    ghost use Rattle.std.specs.Prelude.{◌≡◌};
-    ghost use Rattle.link_logs.specs.Entries.{between};
-    ghost use Rattle.link_logs.specs.Logs.{LogRec};
+    ghost use Rattle.link_logs.specs.Logs.{LogRec, IsWhole};
 
     ghost Value = { LogRec S.Run };
 
-    ghost view = { λ log. record { run = S.run log.story; number = S.number log.story; base = 0; published = log.published; entries = log.entries.items; cause = log.cause } };
+    ghost view = { λ log. record { run = S.run log.story; number = S.number log.story; base = log.base; published = log.published; entries = log.entries.entries; cause = log.cause } };
 
-    ghost invariant = { λ log. log.entries.items ≡ between (S.entries_at (S.run log.story) (S.number log.story)) 0 log.published };
+    ghost invariant = { λ log. IsWhole (S.entries_at (S.run log.story) (S.number log.story)) log.base log.published log.entries.entries log.tokens log.credits };
 }
 
 /// The end of a log that writes. There is one for each log, and it knows up to which slot the log is published, and whether it is
@@ -71,22 +74,16 @@ impl<S: Story> WriteEnd<S> {
 pub struct ReadEnd<S: Story> {
     story: Known<S>,
     got: u32,
-    // How many entries it has read.
-    place: usize,
     looks: u64,
     shut: bool,
 }
 
 impl<S: Story> Model for ReadEnd<S> {
-    ghost use Rattle.std.specs.Prelude.{◌≡◌, length};
-    ghost use Rattle.link_logs.specs.Entries.{between};
     ghost use Rattle.link_logs.specs.Logs.{ReadRec};
 
     ghost Value = { ReadRec S.Run };
 
     ghost view = { λ r. record { run = S.run r.story.value; number = S.number r.story.value; got = r.got; looks = r.looks; shut = r.shut } };
-
-    ghost invariant = { λ r. r.place ≡ length (between (S.entries_at (S.run r.story.value) (S.number r.story.value)) 0 r.got) };
 }
 
 impl<S: Story> ReadEnd<S> {
@@ -113,25 +110,50 @@ impl<S: Story> ReadEnd<S> {
 }
 
 impl<S: Story> Log<S> {
-    /// The entries, in the order in which they were sent, from slot 0 on. It takes no memory.
+    /// The entries that were not read, in the order in which they were sent: from slot `base` on and before the published slot. It
+    /// takes no memory.
     pub fn entries(&self) -> &[Entry]
         ensures value { result.now ≡ self.now.entries }
         ensures own { result.now ≡ between (S.entries_at self.now.run self.now.number) self.now.base self.now.published }
-        ensures base { self.now.base ≡ 0 }
+        ensures base { self.now.base ≤ self.now.published }
     {
-        self.entries.as_slice()
+        self.entries.entries()
     }
 
-    /// The slot before which all entries are here. It takes no memory.
+    /// The slot up to which all entries were read, from which on they are here. It takes no memory.
+    pub fn base(&self) -> u32
+        ensures value { result ≡ self.now.base }
+    {
+        self.base
+    }
+
+    /// The slot before which all entries are here, or were read. It takes no memory.
     pub fn published(&self) -> u32
         ensures value { result ≡ self.now.published }
     {
         self.published
     }
 
+    /// How many entries are here: at most two for each slot that was published and not read, and none after a look. It takes no memory.
+    pub fn held(&self) -> usize
+        ensures value { result ≡ length self.now.entries }
+        ensures few { result ≤ 2 * (self.now.published - self.now.base) }
+    {
+        self.entries.entries().len()
+    }
+
+    /// How many tokens and how many credits the link carried, from slot 0 on and before the published slot, read or not. It takes no
+    /// memory.
+    pub fn totals(&self) -> (u64, u64)
+        ensures tokens { result.0 ≡ tokens_in (between (S.entries_at self.now.run self.now.number) 0 self.now.published) }
+        ensures credits { result.1 ≡ credits_in (between (S.entries_at self.now.run self.now.number) 0 self.now.published) }
+    {
+        (self.tokens, self.credits)
+    }
+
     /// Publishes the link's entries up to a slot, `upto`, which is not before the published one: those of `batch`, which are the link's from
-    /// the published slot on and before `upto`. The batch is empty then. The end has to be this log's, and the log not closed. The error
-    /// is want of memory, and changes nothing.
+    /// the published slot on and before `upto`. The batch is empty then: where nothing was here the two are exchanged, and no memory is taken.
+    /// The end has to be this log's, and the log not closed. The error is want of memory, and changes nothing.
     pub fn append(
         &mut self,
         w: &mut WriteEnd<S>,
@@ -145,65 +167,77 @@ impl<S: Story> Log<S> {
         ensures log { OnOk result (self.new ≡ record self.old { published = upto; entries = self.old.entries ++ batch.old.entries }) }
         ensures end { OnOk result (w.new ≡ record w.old { published = upto }) }
         ensures batch { OnOk result (batch.new.entries ≡ []) }
+        ensures memory { IsErr result → self.old.entries ≢ [] }
         ensures err { OnErr result (self.new ≡ self.old) }
         ensures err_end { OnErr result (w.new ≡ w.old) }
         ensures err_batch { OnErr result (batch.new ≡ batch.old) }
     {
-        self.entries.extend_from_slice(batch.entries())?;
-        *batch = Batch::new(self.alloc);
+        let (tokens, credits) = self.totals_at(upto, batch);
+        put_after(self.alloc, &mut self.entries, batch)?;
+        self.tokens = tokens;
+        self.credits = credits;
         self.published = upto;
         w.published = upto;
         Ok(())
     }
 
-    /// Reads what the end has not read. `Nothing` comes exactly where it has read up to the published slot and the log is not closed,
-    /// `Closed` exactly where it has and the log is. Else there are entries: all from where the end had read to the published slot,
-    /// and it has read up to that then. The end has to be this log's. The error is want of memory, and changes nothing.
-    pub fn take(&mut self, r: &mut ReadEnd<S>) -> Result<Got, AllocError>
-        requires end { Reads r.old self.old }
-        ensures log { self.new ≡ self.old }
-        ensures found { IfOk result (λ got. Finds (S.entries_at self.old.run self.old.number) self.old r.old.got got) }
-        ensures end { IfOk result (λ got. r.new ≡ looked self.old got r.old) }
-        ensures more { r.old.looks ≤ r.new.looks }
-        ensures err { OnErr result (r.new ≡ r.old) }
+    // The totals as they are once the link's entries up to a slot, `upto`, are published, which the batch has.
+    fn totals_at(&self, upto: u32, batch: &Batch) -> (u64, u64)
+        requires on { self.now.published ≤ upto }
+        requires own { batch.now.entries ≡ between (S.entries_at self.now.run self.now.number) self.now.published upto }
+        ensures tokens { result.0 ≡ tokens_in (between (S.entries_at self.now.run self.now.number) 0 upto) }
+        ensures credits { result.1 ≡ credits_in (between (S.entries_at self.now.run self.now.number) 0 upto) }
     {
-        let got = self.found(r)?;
+        let (tokens, credits) = count(batch.entries());
+        (self.tokens + tokens, self.credits + credits)
+    }
+
+    /// Reads what the end has not read, which is moved out of the log: that begins at its published slot then. `Nothing` comes exactly
+    /// where the end has read up to the published slot and the log is not closed, `Closed` exactly where it has and the log is. Else
+    /// there are entries: all from where the end had read to the published slot, and it has read up to that then. The end has to be
+    /// this log's. It takes no memory.
+    pub fn take(&mut self, r: &mut ReadEnd<S>) -> Got
+        requires end { Reads r.old self.old }
+        ensures log { self.new ≡ emptied self.old }
+        ensures found { Finds (S.entries_at self.old.run self.old.number) self.old r.old.got result }
+        ensures end { r.new ≡ looked self.old result r.old }
+        ensures more { r.old.looks ≤ r.new.looks }
+    {
+        let got = self.found();
         r.looks = r.looks.saturating_add(1);
         r.shut = r.shut || matches!(got, Got::Closed);
         r.got = self.published;
-        r.place = self.entries.len();
-        Ok(got)
+        got
     }
 
-    // What the end has not read.
-    fn found(&self, r: &ReadEnd<S>) -> Result<Got, AllocError>
-        requires end { Reads r.now self.now }
-        ensures found { IfOk result (λ got. Finds (S.entries_at self.now.run self.now.number) self.now r.now.got got) }
+    // What was not read.
+    fn found(&mut self) -> Got
+        ensures log { self.new ≡ emptied self.old }
+        ensures found { Finds (S.entries_at self.old.run self.old.number) self.old self.old.base result }
     {
-        if r.got < self.published {
-            return self.rest(r);
+        if self.base < self.published {
+            return Got::Entries {
+                from: self.base,
+                to: self.published,
+                batch: self.move_out(),
+            };
         }
         if self.cause.is_some() {
-            Ok(Got::Closed)
+            Got::Closed
         } else {
-            Ok(Got::Nothing {
+            Got::Nothing {
                 published: self.published,
-            })
+            }
         }
     }
 
-    // The entries that the end has not read.
-    fn rest(&self, r: &ReadEnd<S>) -> Result<Got, AllocError>
-        requires end { Reads r.now self.now }
-        requires more { r.now.got < self.now.published }
-        ensures found { IfOk result (λ got. Finds (S.entries_at self.now.run self.now.number) self.now r.now.got got) }
+    // Moves the entries out.
+    fn move_out(&mut self) -> Batch
+        ensures log { self.new ≡ emptied self.old }
+        ensures own { result.entries ≡ between (S.entries_at self.old.run self.old.number) self.old.base self.old.published }
     {
-        let batch = copied(self.alloc, past(&self.entries, r.place))?;
-        Ok(Got::Entries {
-            from: r.got,
-            to: self.published,
-            batch,
-        })
+        self.base = self.published;
+        mem::replace(&mut self.entries, Batch::new(self.alloc))
     }
 
     /// Closes the log, with the cause. The end has to be this log's, and the log not closed. It takes no memory.
@@ -218,24 +252,41 @@ impl<S: Story> Log<S> {
     }
 }
 
-// The entries past the first ones, of which there are so many.
-fn past(entries: &[Entry], count: usize) -> &[Entry]
-    requires { count ≤ length entries.now }
-    ensures { result.now ≡ drop count entries.now }
+// Puts the entries of a batch after those that are held, and empties it. Where none are held the two are exchanged, and nothing is
+// copied. The error is want of memory, and changes nothing.
+fn put_after(alloc: Global, held: &mut Batch, batch: &mut Batch) -> Result<(), AllocError>
+    ensures held { OnOk result (held.new.entries ≡ held.old.entries ++ batch.old.entries) }
+    ensures batch { OnOk result (batch.new.entries ≡ []) }
+    ensures memory { IsErr result → held.old.entries ≢ [] }
+    ensures err { OnErr result (held.new ≡ held.old) }
+    ensures err_batch { OnErr result (batch.new ≡ batch.old) }
 {
-    &entries[count..]
+    if held.entries().is_empty() {
+        mem::swap(held, batch);
+        return Ok(());
+    }
+    held.reserve(batch.entries().len())?;
+    for e in batch.entries() {
+        held.add(*e);
+    }
+    *batch = Batch::new(alloc);
+    Ok(())
 }
 
-// A batch of these entries. The error is want of memory.
-fn copied(alloc: Global, entries: &[Entry]) -> Result<Batch, AllocError>
-    ensures { IfOk result (λ batch. batch.entries ≡ entries.now) }
+// How many of the entries are tokens, and how many are credits.
+fn count(entries: &[Entry]) -> (u64, u64)
+    ensures tokens { result.0 ≡ tokens_in entries.now }
+    ensures credits { result.1 ≡ credits_in entries.now }
 {
-    let mut batch = Batch::new(alloc);
-    batch.reserve(entries.len())?;
+    let mut tokens = 0;
+    let mut credits = 0;
     for e in entries {
-        batch.add(*e);
+        match e.what {
+            What::Token(_) => tokens += 1,
+            What::Credit => credits += 1,
+        }
     }
-    Ok(batch)
+    (tokens, credits)
 }
 
 /// A log of the link that a story names, with nothing in it, and its two ends. The error is want of memory.
@@ -255,14 +306,16 @@ pub fn make_log<S: Story>(
     let r = ReadEnd {
         story: Known::of(&story),
         got: 0,
-        place: 0,
         looks: 0,
         shut: false,
     };
     let log = Log {
         story,
+        base: 0,
         published: 0,
-        entries: Vec::new(alloc),
+        entries: Batch::new(alloc),
+        tokens: 0,
+        credits: 0,
         cause: None,
         alloc,
     };

@@ -1,9 +1,0 @@
-use Rattle.std.proofs.Common.{◌≡◌, ◌+◌, ◌≤◌, length, take}
-use Rattle.link_logs.proofs.log.copied.Given as goal
-
--- the entries so far are copied, and there is room for the others
-abbrev pub invariant-loop-e : goal.invariant-loop-e
-invariant-loop-e l = record {
-  copied : l.batch.entries ≡ take l.e-index l.entries;
-  room : length l.entries ≤ l.e-index + l.batch.spare;
-}
