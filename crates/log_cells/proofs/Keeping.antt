@@ -11,7 +11,7 @@ use Rattle.link_logs.specs.Logs.{LogRec, WriteRec, ReadRec, Writes}
 use Rattle.log_cells.specs.declared.view.View.TheVariants.{Writer, Reader}
 use Rattle.log_cells.specs.Ends.{CellRec, CellWriteRec, CellReadRec, WritesTo, ReadsOf}
 use Rattle.log_cells.specs.Rule.{WritingIn, ReadingIn, ViewIn, Turn, free, writers, readers, home_at, writer_has, reader_has, Agrees, ReadsFrom, Fits, IsCell, write_end_of, writing_of, reading_of}
-use Rattle.log_cells.specs.Plays.{SeatIn, claims_as_writer, claims_as_reader, gives_written, gives_taken, gives_shut, gives_kept, WriterHas, ReaderHas, HasKept, HasTaken}
+use Rattle.log_cells.specs.Plays.{SeatIn, claims_as_writer, claims_as_reader, gives_written, gives_taken, gives_shut, WriterHas, ReaderHas, HasTaken}
 use Rattle.log_cells.specs.Keeps.{CellState, IsMoment, IsWith, HasSeat, IsRead, CellKeeps, WritesOn, ReadsOn, GoesOn, GoesOnBy, StepsGoOn}
 use Rattle.log_cells.proofs.Seats.{writer_seat, reader_seat, is_writers, is_readers}
 
@@ -138,11 +138,6 @@ module _ {Run : Type 0} where
         shut = λ h. (has.same.published ∙ (before.shut h).published, refl);
       }
 
-  keeping : (step : Step (LogRec Run)) (end : ReadRec Run) (refused : ℕ) → GoesOnBy (gives_kept step) (HasKept end refused)
-  keeping step end refused cell s rule me me' found seat kept kind =
-      let has = kept.0 in
-      moves me me' (Reader has.view) (Reader (record has.view { held = None })) ((0, has.log) ∷ []) [] has.me_is (kind has.view has.log has.me_is) (stays_reading has.view None has.view.refused)
-
 pub steps_go_on : (Run : Type 0) → StepsGoOn Run
 steps_go_on Run = record {
   claim_to_write = claims_writing;
@@ -150,5 +145,4 @@ steps_go_on Run = record {
   give_written = writing;
   give_taken = taking;
   give_shut = shutting;
-  give_kept = keeping;
 }

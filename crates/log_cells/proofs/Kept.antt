@@ -1,5 +1,5 @@
--- The eight kinds of step on a cell's words, each of which keeps the rule.
-use Rattle.std.proofs.Common.{◌≡◌, ◌≢◌, ℕ, zero, suc, ◌+◌, ◌≤◌, eqb, List, [], ◌∷◌, ◌++◌, map, set, get_or, sym, refl, ap, ◌∙◌, subst, arith, true, false, true≢false, IsSome, Some, None}
+-- The kinds of step on a cell's words, each of which keeps the rule.
+use Rattle.std.proofs.Common.{◌≡◌, ◌≢◌, ℕ, zero, suc, ◌+◌, eqb, List, [], ◌∷◌, ◌++◌, map, set, get_or, sym, refl, ap, ◌∙◌, subst, arith, true, false, true≢false, IsSome, Some, None}
 use mathlib.Core.Option.{some, none, some-injective, some-ne-none}
 use mathlib.Core.Option as maybe
 use lib.ListN.{get_elem?}
@@ -10,7 +10,7 @@ use Rattle.xs_base.specs.Numbers.{LinkNumber}
 use Rattle.link_logs.specs.Logs.{LogRec, WriteRec, ReadRec, Writes}
 use Rattle.log_cells.specs.declared.view.View.TheVariants.{Whole, Writer, Reader, Joined, Spent}
 use Rattle.log_cells.specs.Rule.{WritingIn, ReadingIn, ViewIn, free, writers, readers, made, parted, joined, ReadsFrom, Agrees, Fits, IsCell, seats_at, new_view}
-use Rattle.log_cells.specs.Plays.{SeatIn, WriterClaims, ReaderClaims, claims_as_writer, claims_as_reader, gives_written, gives_taken, gives_shut, gives_kept, raises, writer_part, reader_part, joined_view, Follows, SameToWriter, WriterHas, HasKept, HasTaken, IsJoined, AgreesWith}
+use Rattle.log_cells.specs.Plays.{SeatIn, WriterClaims, ReaderClaims, claims_as_writer, claims_as_reader, gives_written, gives_taken, gives_shut, raises, writer_part, reader_part, joined_view, Follows, SameToWriter, WriterHas, HasTaken, IsJoined, AgreesWith}
 use Rattle.log_cells.proofs.Seats.{writing_or, reading_or, writer_seat, reader_seat, whole_seat, joined_seat, is_free, is_left, is_writers, is_readers}
 
 abbrev StateIn : Type 0 → Type 0
@@ -46,7 +46,7 @@ module _ {Run : Type 0} where
       reader_has = refl;
       agrees = record {
         writes = record { run = writes.run; number = writes.number; published = writes.published; cause = writes.cause };
-        reads = record { run = writes.run; number = writes.number; base = omega (arith, low); published = omega arith; shut = λ h. absurd (true≢false (sym h)) };
+        reads = record { run = writes.run; number = writes.number; base = low; published = omega arith; shut = λ h. absurd (true≢false (sym h)) };
       };
     };
     of_run = refl;
@@ -231,7 +231,7 @@ module _ {Run : Type 0} {its_run : Run} {its_link : LinkNumber} where
             reads = record {
               run = agrees.reads.run ∙ sym went.run;
               number = agrees.reads.number ∙ sym went.number;
-              base = omega (arith, went.base, agrees.reads.base);
+              base = went.base ∙ agrees.reads.base;
               published = omega (arith, went.published, agrees.reads.published);
               shut = λ h.
                   let before = agrees.reads.shut h in
@@ -265,7 +265,7 @@ module _ {Run : Type 0} {its_run : Run} {its_link : LinkNumber} where
         };
       }
 
-  reader_gives_taken_there : (slots id : ℕ) (v : ReadingIn Run) (found log : LogRec Run) → v.held ≡ Some found → SameToWriter found log → v.run ≡ log.run → v.number ≡ log.number → log.base ≤ log.published
+  reader_gives_taken_there : (slots id : ℕ) (v : ReadingIn Run) (found log : LogRec Run) → v.held ≡ Some found → SameToWriter found log → v.run ≡ log.run → v.number ≡ log.number → log.base ≡ log.published
       → v.shut ≡ false → Allows (IsCell its_run its_link) slots id (Reader v, (0, log) ∷ []) 0 (λ _. 0) (λ _. gives_taken a_step (Reader v, (0, log) ∷ []) 0)
   reader_gives_taken_there slots id v found log held same run number whole is_open s c len at small =
       let r' : ReadingIn Run = record v { got = log.published; held = None } in (
@@ -279,7 +279,7 @@ module _ {Run : Type 0} {its_run : Run} {its_link : LinkNumber} where
             λ i. (Reader (record (is_view i) { got = (is_log i).published; held = None }), [])),
       )
 
-  reader_gives_shut_there : (slots id : ℕ) (v : ReadingIn Run) (found log : LogRec Run) → v.held ≡ Some found → SameToWriter found log → v.run ≡ log.run → v.number ≡ log.number → log.base ≤ log.published
+  reader_gives_shut_there : (slots id : ℕ) (v : ReadingIn Run) (found log : LogRec Run) → v.held ≡ Some found → SameToWriter found log → v.run ≡ log.run → v.number ≡ log.number → log.base ≡ log.published
       → IsSome log.cause → Allows (IsCell its_run its_link) slots id (Reader v, (0, log) ∷ []) 0 (λ _. 0) (λ _. gives_shut a_step (Reader v, (0, log) ∷ []) 0)
   reader_gives_shut_there slots id v found log held same run number whole closed s c len at small =
       let r' : ReadingIn Run = record v { got = log.published; shut = true; held = None } in (
@@ -291,19 +291,6 @@ module _ {Run : Type 0} {its_run : Run} {its_link : LinkNumber} where
             let is_view : v ≡ v' = ap (λ (m : SeatIn Run). reading_or v m.0) e in
             let is_log : log ≡ log' = ap (λ (m : SeatIn Run). log_or log m.1) e in
             λ i. (Reader (record (is_view i) { got = (is_log i).published; shut = true; held = None }), [])),
-      )
-
-  reader_gives_kept_there : (slots id : ℕ) (v : ReadingIn Run) (found log : LogRec Run) → v.held ≡ Some found → SameToWriter found log → ReadsFrom v log
-      → Allows (IsCell its_run its_link) slots id (Reader v, (0, log) ∷ []) 0 (λ _. 0) (λ _. gives_kept a_step (Reader v, (0, log) ∷ []) 0)
-  reader_gives_kept_there slots id v found log held same reads s c len at small =
-      let r' : ReadingIn Run = record v { held = None } in (
-        Reader r',
-        gives,
-        tt,
-        reader_gives id v r' found log s c held same at refl record { run = reads.run; number = reads.number; base = reads.base; published = reads.published; shut = reads.shut },
-        (λ v' log' e.
-            let is_view : v ≡ v' = ap (λ (m : SeatIn Run). reading_or v m.0) e in
-            λ i. (Reader (record (is_view i) { held = None }), [])),
       )
 
   pub writer_claims : (slots id : ℕ) (me : SeatIn Run) (v : WritingIn Run) → me ≡ (Writer v, []) → Allows (IsCell its_run its_link) slots id me 0 (λ n. either (eqb n 0) 1 n) (claims_as_writer a_step me)
@@ -318,22 +305,11 @@ module _ {Run : Type 0} {its_run : Run} {its_link : LinkNumber} where
 
   pub reader_gives_taken : (slots id : ℕ) (me : SeatIn Run) (end : ReadRec Run) (refused : ℕ) → HasTaken end refused me → end.shut ≡ false → Allows (IsCell its_run its_link) slots id me 0 (λ _. 0) (λ _. gives_taken a_step me 0)
   reader_gives_taken slots id me end refused took is_open = let has = took.0 in moved slots id me (Reader has.view, (0, has.log) ∷ []) (λ _. 0) (λ m _. gives_taken a_step m 0) has.me_is
-      (reader_gives_taken_there slots id has.view has.found has.log has.held has.same (has.run ∙ has.reads.run) (has.number ∙ has.reads.number) (omega (arith, has.reads.base, has.reads.published)) (took.2 is_open))
+      (reader_gives_taken_there slots id has.view has.found has.log has.held has.same (has.run ∙ has.reads.run) (has.number ∙ has.reads.number) (has.reads.base ∙ took.1) (took.2 is_open))
 
   pub reader_gives_shut : (slots id : ℕ) (me : SeatIn Run) (end : ReadRec Run) (refused : ℕ) → HasTaken end refused me → end.shut ≡ true → Allows (IsCell its_run its_link) slots id me 0 (λ _. 0) (λ _. gives_shut a_step me 0)
   reader_gives_shut slots id me end refused took shut = let has = took.0 in moved slots id me (Reader has.view, (0, has.log) ∷ []) (λ _. 0) (λ m _. gives_shut a_step m 0) has.me_is
-      (reader_gives_shut_there slots id has.view has.found has.log has.held has.same (has.run ∙ has.reads.run) (has.number ∙ has.reads.number) (omega (arith, has.reads.base, has.reads.published)) (has.shut shut).closed)
-
-  pub reader_gives_kept : (slots id : ℕ) (me : SeatIn Run) (end : ReadRec Run) (refused : ℕ) → HasKept end refused me → Allows (IsCell its_run its_link) slots id me 0 (λ _. 0) (λ _. gives_kept a_step me 0)
-  reader_gives_kept slots id me end refused kept = let has = kept.0 in moved slots id me (Reader has.view, (0, has.log) ∷ []) (λ _. 0) (λ m _. gives_kept a_step m 0) has.me_is
-      (reader_gives_kept_there slots id has.view has.found has.log has.held has.same
-      record {
-        run = has.run ∙ has.reads.run;
-        number = has.number ∙ has.reads.number;
-        base = omega (arith, kept.1, has.reads.base);
-        published = omega (arith, kept.1, has.reads.published);
-        shut = λ h. let ends = has.shut (sym kept.2 ∙ h) in record { published = ends.published ∙ sym kept.1; closed = ends.closed };
-      })
+      (reader_gives_shut_there slots id has.view has.found has.log has.held has.same (has.run ∙ has.reads.run) (has.number ∙ has.reads.number) (has.reads.base ∙ took.1) (has.shut shut).closed)
 
   -- the news are raised
   pub news_rise : (slots id : ℕ) (m : SeatIn Run) (f : ℕ → ℕ) → Allows (IsCell its_run its_link) slots id m 1 f (raises a_step m)

@@ -1,16 +1,16 @@
 -- What an end has after each step of a turn.
-use Rattle.std.proofs.Common.{◌≡◌, ◌≢◌, ℕ, ◌+◌, ◌≤◌, List, [], ◌∷◌, sym, refl, ap, ◌∙◌, subst, arith, le_refl, le_trans, Bool, true, false, ◌||◌, true≢false, is_some, IsSome, Option, Some, None, Result, Ok, Err, IfOk, OnOk, OnErr}
+use Rattle.std.proofs.Common.{◌≡◌, ◌≢◌, ℕ, ◌+◌, ◌≤◌, List, [], ◌∷◌, sym, refl, ap, ◌∙◌, subst, arith, le_refl, le_trans, Bool, true, false, ◌||◌, true≢false, is_some, IsSome, Option, Some, None, Result, Ok, Err, OnOk, OnErr}
 use Rattle.atomic_table.specs.Table.{rest}
 use Rattle.xs_base.specs.Numbers.{Slot}
 use Rattle.xs_base.specs.declared.entry.Entry.{Entry}
 use Rattle.link_logs.specs.declared.answers.Cause.{Cause}
 use Rattle.link_logs.specs.declared.answers.Got.{Got}
 use Rattle.link_logs.specs.declared.answers.Got.TheVariants.{Entries, Nothing, Closed}
-use Rattle.link_logs.specs.Logs.{LogRec, WriteRec, ReadRec, is_closed, Writes, Reads, Finds, looked}
+use Rattle.link_logs.specs.Logs.{LogRec, WriteRec, ReadRec, is_closed, Writes, Reads, Finds, emptied, looked}
 use Rattle.log_cells.specs.declared.view.View.TheVariants.{Writer, Reader}
 use Rattle.log_cells.specs.Rule.{writing_of, reading_of, refused_of}
 use Rattle.log_cells.specs.Ends.{EndsAt, LooksAt}
-use Rattle.log_cells.specs.Plays.{SeatIn, writer_at, reader_at, WriterClaims, ReaderClaims, gives_written, gives_taken, gives_shut, gives_kept, Follows, SameToWriter, WriterHas, ReaderHas, HasKept, HasTaken}
+use Rattle.log_cells.specs.Plays.{SeatIn, writer_at, reader_at, WriterClaims, ReaderClaims, gives_written, gives_taken, gives_shut, Follows, SameToWriter, WriterHas, ReaderHas, HasClaimed, HasTaken}
 use Rattle.log_cells.proofs.Kept.{a_step, log_or}
 
 module _ {Run : Type 0} (refused found : ℕ) (m : SeatIn Run) where
@@ -40,7 +40,7 @@ module _ {Run : Type 0} (refused found : ℕ) (m : SeatIn Run) where
   pub writer_lost_later : (end : WriteRec Run) → WriterClaims (writing_of end refused) found m → found ≢ 0 → refused ≤ refused_of m.0
   writer_lost_later end k n = omega (arith, writer_lost_more end k n)
 
-  pub reader_won : (end : ReadRec Run) → ReaderClaims (reading_of end refused) found m → found ≡ 0 → HasKept end (refused_of m.0) m
+  pub reader_won : (end : ReadRec Run) → ReaderClaims (reading_of end refused) found m → found ≡ 0 → HasClaimed end (refused_of m.0) m
   reader_won end k z = let t = k.0 z in (
     record {
       view = record (reading_of end refused) { held = Some t.0 };
@@ -55,7 +55,6 @@ module _ {Run : Type 0} (refused found : ℕ) (m : SeatIn Run) where
       shut = t.1.shut;
       same = record { run = refl; number = refl; published = refl; cause = refl };
     },
-    refl,
     refl,
   )
 
@@ -83,10 +82,6 @@ module _ {Run : Type 0} (refused : ℕ) (m m' : SeatIn Run) where
   pub gave_shut : (end : ReadRec Run) → HasTaken end refused m → end.shut ≡ true → gives_shut a_step m 0 m' → m' ≡ reader_at end refused
   gave_shut end took shut gave = let has = took.0 in gave has.view has.log has.me_is
       ∙ (λ i. (Reader (record { run = has.run i; number = has.number i; got = sym took.1 i; shut = sym shut i; held = None; refused = has.refused_is i }), []))
-
-  pub gave_kept : (end : ReadRec Run) → HasKept end refused m → gives_kept a_step m 0 m' → m' ≡ reader_at end refused
-  gave_kept end kept gave = let has = kept.0 in gave has.view has.log has.me_is
-      ∙ (λ i. (Reader (record { run = has.run i; number = has.number i; got = kept.1 i; shut = kept.2 i; held = None; refused = has.refused_is i }), []))
 
 slot_of : {Run : Type 0} (carried : List (ℕ × LogRec Run)) (log : LogRec Run) → carried ≡ (0, log) ∷ [] → carried ≡ (0, log) ∷ rest carried
 slot_of carried log e = e ∙ (λ i. (0, log) ∷ rest (sym e i))
@@ -134,27 +129,6 @@ module _ {Run : Type 0} {refused : ℕ} {m : SeatIn Run} where
               record { published = there.published ∙ here.published; closed = there.closed };
           cause = λ h. went.cause (before.closed h).closed ∙ before.cause h;
         };
-      }
-
-  -- the log was read, by an end that has read its part of it
-  abbrev pub read : {end : ReadRec Run} (has : ReaderHas end refused m) (log log' : LogRec Run) (end' : ReadRec Run) → m.1 ≡ (0, log) ∷ rest m.1
-      → log' ≡ log → end'.run ≡ end.run → end'.number ≡ end.number → Reads end' log' → (end'.shut ≡ true → EndsAt end'.got log')
-      → ReaderHas end' refused (m.0, (0, log') ∷ rest m.1)
-  read has log log' end' at stays run number reads shut =
-      let here = reader_log has log at in
-      let same : SameToWriter has.found log' = subst (λ (l : LogRec Run). SameToWriter has.found l) (here ∙ sym stays) has.same in
-      record {
-        view = has.view;
-        found = has.found;
-        log = log';
-        me_is = λ i. ((has.me_is i).0, (0, log') ∷ rest (has.me_is i).1);
-        held = has.held;
-        refused_is = has.refused_is;
-        run = has.run ∙ sym run;
-        number = has.number ∙ sym number;
-        reads = reads;
-        shut = shut;
-        same = same;
       }
 
 -- what a log and its end have after the end has written
@@ -248,51 +222,46 @@ neither : (a b : Bool) → a || b ≡ false → a ≡ false
 neither true b e = e
 neither false b e = refl
 
-module _ {Run : Type 0} {E : Type 0} (log : LogRec Run) (end end' : ReadRec Run) where
-  -- an answer of a look
-  pub looks_at : (at : Slot → List Entry) (x : Result Got E) → Reads end log → (end.shut ≡ true → EndsAt end.got log) → IfOk x (λ got. Finds at log end.got got) → IfOk x (λ got. end' ≡ looked log got end) → IfOk x (λ got. LooksAt at end got end')
-  looks_at at (Ok got) reads ends finds is_end = record { log = log; reads = reads; shut = ends; finds = finds; end = is_end }
-  looks_at at (Err e) reads ends finds is_end = tt
+module _ {Run : Type 0} (log : LogRec Run) (end end' : ReadRec Run) (at : Slot → List Entry) (got : Got) (reads : Reads end log) (ends : end.shut ≡ true → EndsAt end.got log)
+    (finds : Finds at log end.got got) (is_end : end' ≡ looked log got end) where
+  pub looks_at : LooksAt at end got end'
+  looks_at = record { log = log; reads = reads; shut = ends; finds = finds; end = is_end }
 
-  pub stays_shut : (at : Slot → List Entry) (x : Result Got E) → (end.shut ≡ true → EndsAt end.got log) → IfOk x (λ got. Finds at log end.got got) → IfOk x (λ got. end.shut ≡ true → got ≡ Closed)
-  stays_shut at (Ok got) ends finds = λ h. ends_closed log end.got at got finds (ends h)
-  stays_shut at (Err e) ends finds = tt
+  pub stays_shut : end.shut ≡ true → got ≡ Closed
+  stays_shut h = ends_closed log end.got at got finds (ends h)
 
   -- the log after a look
-  pub takes_all : (log' : LogRec Run) (refused : ℕ) (m : SeatIn Run) (at : Slot → List Entry) (x : Result Got E) → HasKept end refused m → m.1 ≡ (0, log) ∷ rest m.1 → log' ≡ log → Reads end log
-      → (end.shut ≡ true → EndsAt end.got log) → IfOk x (λ got. Finds at log end.got got) → IfOk x (λ got. end' ≡ looked log got end) → OnOk x (HasTaken end' refused (m.0, (0, log') ∷ rest m.1))
-  takes_all log' refused m at (Ok got) kept here same reads ends finds is_end =
+  pub takes_all : (log' : LogRec Run) (refused : ℕ) (m : SeatIn Run) → HasClaimed end refused m → m.1 ≡ (0, log) ∷ rest m.1 → log' ≡ emptied log → HasTaken end' refused (m.0, (0, log') ∷ rest m.1)
+  takes_all log' refused m claimed here is_log =
+      let has = claimed.0 in
+      let was : SameToWriter has.found log = subst (λ (l : LogRec Run). SameToWriter has.found l) (reader_log has log here) has.same in
+      let log_run : log'.run ≡ log.run = ap (λ (l : LogRec Run). l.run) is_log in
+      let log_number : log'.number ≡ log.number = ap (λ (l : LogRec Run). l.number) is_log in
+      let base : log'.base ≡ log.published = ap (λ (l : LogRec Run). l.base) is_log in
+      let published : log'.published ≡ log.published = ap (λ (l : LogRec Run). l.published) is_log in
+      let cause : log'.cause ≡ log.cause = ap (λ (l : LogRec Run). l.cause) is_log in
       let run : end'.run ≡ end.run = ap (λ (r : ReadRec Run). r.run) is_end in
       let number : end'.number ≡ end.number = ap (λ (r : ReadRec Run). r.number) is_end in
       let shut : end'.shut ≡ end.shut || is_closed got = ap (λ (r : ReadRec Run). r.shut) is_end in
-      let all : end'.got ≡ log'.published = ap (λ (r : ReadRec Run). r.got) is_end ∙ sym (ap (λ (l : LogRec Run). l.published) same) in (
-        read kept.0 log log' end' here same run number record {
-          run = run ∙ reads.run ∙ sym (ap (λ (l : LogRec Run). l.run) same);
-          number = number ∙ reads.number ∙ sym (ap (λ (l : LogRec Run). l.number) same);
-          base = omega (arith, all, reads.base, reads.published, ap (λ (l : LogRec Run). l.base) same, ap (λ (l : LogRec Run). l.published) same);
-          published = omega (arith, all);
-        } (λ h. record { published = sym all; closed = ap (λ (l : LogRec Run). is_some l.cause) same ∙ found_closed log end.got at end.shut got ends finds (sym shut ∙ h) }),
+      let all : end'.got ≡ log'.published = ap (λ (r : ReadRec Run). r.got) is_end ∙ sym published in (
+        record {
+          view = has.view;
+          found = has.found;
+          log = log';
+          me_is = λ i. ((has.me_is i).0, (0, log') ∷ rest (has.me_is i).1);
+          held = has.held;
+          refused_is = has.refused_is;
+          run = has.run ∙ sym run;
+          number = has.number ∙ sym number;
+          reads = record {
+            run = run ∙ reads.run ∙ sym log_run;
+            number = number ∙ reads.number ∙ sym log_number;
+            base = base ∙ sym published ∙ sym all;
+            published = omega (arith, all);
+          };
+          shut = λ h. record { published = sym all; closed = ap (λ (c : Option Cause). is_some c) cause ∙ found_closed log end.got at end.shut got ends finds (sym shut ∙ h) };
+          same = record { run = log_run ∙ was.run; number = log_number ∙ was.number; published = published ∙ was.published; cause = cause ∙ was.cause };
+        },
         all,
-        (λ is_open. kept.2 ∙ neither end.shut (is_closed got) (sym shut ∙ is_open)),
-      )
-  takes_all log' refused m at (Err e) kept here same reads ends finds is_end = tt
-
-  pub takes_none : (log' : LogRec Run) (refused : ℕ) (m : SeatIn Run) (x : Result Got E) → HasKept end refused m → m.1 ≡ (0, log) ∷ rest m.1 → log' ≡ log → Reads end log
-      → (end.shut ≡ true → EndsAt end.got log) → OnErr x (end' ≡ end) → OnErr x (HasKept end' refused (m.0, (0, log') ∷ rest m.1))
-  takes_none log' refused m (Ok got) kept here same reads ends is_end = tt
-  takes_none log' refused m (Err e) kept here same reads ends is_end =
-      let run : end'.run ≡ end.run = ap (λ (r : ReadRec Run). r.run) is_end in
-      let number : end'.number ≡ end.number = ap (λ (r : ReadRec Run). r.number) is_end in
-      let got : end'.got ≡ end.got = ap (λ (r : ReadRec Run). r.got) is_end in
-      let shut : end'.shut ≡ end.shut = ap (λ (r : ReadRec Run). r.shut) is_end in (
-        read kept.0 log log' end' here same run number record {
-          run = run ∙ reads.run ∙ sym (ap (λ (l : LogRec Run). l.run) same);
-          number = number ∙ reads.number ∙ sym (ap (λ (l : LogRec Run). l.number) same);
-          base = omega (arith, got, reads.base, ap (λ (l : LogRec Run). l.base) same);
-          published = omega (arith, got, reads.published, ap (λ (l : LogRec Run). l.published) same);
-        } (λ h.
-            let there = ends (sym shut ∙ h) in
-            record { published = ap (λ (l : LogRec Run). l.published) same ∙ there.published ∙ sym got; closed = ap (λ (l : LogRec Run). is_some l.cause) same ∙ there.closed }),
-        kept.1 ∙ sym got,
-        kept.2 ∙ sym shut,
+        (λ is_open. claimed.1 ∙ neither end.shut (is_closed got) (sym shut ∙ is_open)),
       )

@@ -10,7 +10,7 @@ use Rattle.link_logs.specs.Logs.{LogRec, WriteRec, ReadRec, Writes, Reads}
 use Rattle.log_cells.specs.declared.view.View.TheVariants.{Writer, Reader}
 use Rattle.log_cells.specs.Ends.{CellRec, CellWriteRec, CellReadRec, WritesTo, ReadsOf, EndsAt}
 use Rattle.log_cells.specs.Rule.{WritingIn, ReadingIn, ViewIn, Turn, free, writers, readers, turn_word, Stage, seats_at, IsCell, writing_of, reading_of}
-use Rattle.log_cells.specs.Plays.{SeatIn, claims_as_writer, claims_as_reader, gives_written, gives_taken, gives_shut, gives_kept, WriterHas, HasKept, HasTaken}
+use Rattle.log_cells.specs.Plays.{SeatIn, claims_as_writer, claims_as_reader, gives_written, gives_taken, gives_shut, WriterHas, HasTaken}
 
 -- a cell's words, its log where that is in its place, and what its seats know
 abbrev pub CellState : Type 0 → Type 0
@@ -54,8 +54,8 @@ module _ {Run : Type 0} where
     pub link : IsOfLink cell log
     pub run : (writer.run ≡ log.run) × (reader.run ≡ log.run)
     pub number : (writer.number ≡ log.number) × (reader.number ≡ log.number)
-    -- the log begins no later than what was read ends, and that no later than what is published
-    pub base : log.base ≤ reader.got
+    -- the log begins where what was read ends, and that no later than what is published
+    pub base : log.base ≡ reader.got
     pub got : reader.got ≤ log.published
     pub published : writer.published ≡ log.published
     -- what the link carries from the base on and before the published slot, each entry once and in order
@@ -111,4 +111,3 @@ pub record StepsGoOn (Run : Type 0) : Type 0 where
   pub give_written : (step : Step (LogRec Run)) (end : WriteRec Run) (refused : ℕ) → GoesOnBy (gives_written step) (WriterHas end refused)
   pub give_taken : (step : Step (LogRec Run)) (end : ReadRec Run) (refused : ℕ) → GoesOnBy (gives_taken step) (HasTaken end refused)
   pub give_shut : (step : Step (LogRec Run)) (end : ReadRec Run) (refused : ℕ) → GoesOnBy (gives_shut step) (HasTaken end refused)
-  pub give_kept : (step : Step (LogRec Run)) (end : ReadRec Run) (refused : ℕ) → GoesOnBy (gives_kept step) (HasKept end refused)

@@ -53,10 +53,6 @@ module _ {Run : Type 0} where
   abbrev pub gives_shut : Step (LogRec Run) → SeatIn Run → ℕ → SeatIn Run → Type 0
   gives_shut st m found m' = (v : ReadingIn Run) (log : LogRec Run) → m ≡ (Reader v, (0, log) ∷ []) → m' ≡ (Reader (record v { got = log.published; shut = true; held = None }), [])
 
-  -- the log is given back, and nothing was taken
-  abbrev pub gives_kept : Step (LogRec Run) → SeatIn Run → ℕ → SeatIn Run → Type 0
-  gives_kept st m found m' = (v : ReadingIn Run) (log : LogRec Run) → m ≡ (Reader v, (0, log) ∷ []) → m' ≡ (Reader (record v { held = None }), [])
-
   abbrev pub raises : Step (LogRec Run) → SeatIn Run → ℕ → SeatIn Run → Type 0
   raises st m found m' = m' ≡ m
 
@@ -126,9 +122,9 @@ module _ {Run : Type 0} where
     pub shut : end.shut ≡ true → EndsAt end.got log
     pub same : SameToWriter found log
 
-  -- it has taken nothing yet; it has taken all, and where it has not found the log closed it had not before
-  abbrev pub HasKept : ReadRec Run → ℕ → SeatIn Run → Type 0
-  HasKept end refused m = (has : ReaderHas end refused m) × (has.view.got ≡ end.got) × (has.view.shut ≡ end.shut)
+  -- it has not looked yet; it has taken all, and where it has not found the log closed it had not before
+  abbrev pub HasClaimed : ReadRec Run → ℕ → SeatIn Run → Type 0
+  HasClaimed end refused m = (has : ReaderHas end refused m) × (has.view.shut ≡ end.shut)
 
   abbrev pub HasTaken : ReadRec Run → ℕ → SeatIn Run → Type 0
   HasTaken end refused m = (has : ReaderHas end refused m) × (end.got ≡ has.log.published) × (end.shut ≡ false → has.view.shut ≡ false)

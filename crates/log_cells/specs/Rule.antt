@@ -50,11 +50,11 @@ module _ {Run : Type 0} where
   abbrev pub write_end_of : WritingIn Run → WriteRec Run
   write_end_of w = record { run = w.run; number = w.number; published = w.published; cause = w.cause }
 
-  -- the end of a log that reads has read up to a slot that is between its base and the published slot; where it has found the log closed, the log ends there
+  -- the end of a log that reads has read up to the slot at which the log begins; where it has found the log closed, the log ends there
   pub record ReadsFrom (r : ReadingIn Run) (log : LogRec Run) : Type 0 where
     pub run : r.run ≡ log.run
     pub number : r.number ≡ log.number
-    pub base : log.base ≤ r.got
+    pub base : log.base ≡ r.got
     pub published : r.got ≤ log.published
     pub shut : r.shut ≡ true → EndsAt r.got log
 

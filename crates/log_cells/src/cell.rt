@@ -4,7 +4,7 @@ ghost use Rattle.link_logs.specs.Entries.{between};
 ghost use Rattle.link_logs.specs.declared.answers.Got.TheVariants.{Closed};
 ghost use Rattle.link_logs.specs.Logs.{new_write_end, new_read_end};
 ghost use Rattle.log_cells.specs.Plays.{IsSized, IsJoined, AgreesWith};
-ghost use Rattle.log_cells.specs.Ends.{WritesTo, ReadsOf, StaysWriter, StaysReader, LooksAt, Gives, WaitsFor, IsNews, having_looked};
+ghost use Rattle.log_cells.specs.Ends.{WritesTo, ReadsOf, StaysWriter, StaysReader, LooksAt, Gives, WaitsFor, IsNews};
 
 use crate::ends::{ReadEnd, WriteEnd};
 use crate::plays::TwoEnds;
@@ -103,31 +103,23 @@ impl<S: Story> Cell<S> {
 
     /// Waits for its turn, and reads what the end has not read. `Nothing` comes exactly where it has read up to the published slot and
     /// the log is not closed, `Closed` exactly where it has and the log is. Else there are entries: all from where the end had read to
-    /// the published slot, and it has read up to that then. An end that had found its log closed finds it closed again. The end has
-    /// to be this cell's. The error is want of memory, and changes nothing.
-    pub fn poll<R: Wait>(&self, rt: &R, r: &mut ReadEnd<S>) -> Result<Got, AllocError>
+    /// the published slot, which are moved out of the log, and it has read up to that then. An end that had found its log closed finds
+    /// it closed again. The end has to be this cell's. It takes no memory.
+    pub fn poll<R: Wait>(&self, rt: &R, r: &mut ReadEnd<S>) -> Got
         requires cell { ReadsOf r.old self.now }
         ensures stays { StaysReader r.old r.new }
-        ensures log { IfOk result (λ got. LooksAt (S.entries_at r.old.end.run r.old.end.number) r.old.end got r.new.end) }
-        ensures gives { IfOk result (λ got. Gives (S.entries_at r.old.end.run r.old.end.number) r.old.end got r.new.end) }
-        ensures shut { IfOk result (λ got. r.old.end.shut ≡ true → got ≡ Closed) }
+        ensures log { LooksAt (S.entries_at r.old.end.run r.old.end.number) r.old.end result r.new.end }
+        ensures gives { Gives (S.entries_at r.old.end.run r.old.end.number) r.old.end result r.new.end }
+        ensures shut { r.old.end.shut ≡ true → result ≡ Closed }
         ensures more { r.old.end.looks ≤ r.new.end.looks }
-        ensures err { OnErr result (r.new.end ≡ r.old.end) }
     {
         let top = &self.table.shared;
         let news = steps::news(top);
         steps::claim_to_read(rt, top, &mut r.seat, &r.end);
-        match steps::take(top, &mut r.seat, &mut r.end) {
-            Ok(found) => {
-                steps::give_taken(top, &mut r.seat, &r.end);
-                r.heard = heard_after(r.heard, news, &found);
-                Ok(found)
-            }
-            Err(error) => {
-                steps::give_kept(top, &mut r.seat, &r.end);
-                Err(error)
-            }
-        }
+        let found = steps::take(top, &mut r.seat, &mut r.end);
+        steps::give_taken(top, &mut r.seat, &r.end);
+        r.heard = heard_after(r.heard, news, &found);
+        found
     }
 
     /// Waits for its turn, and closes the log, with the cause. The end has to be this cell's, and the log not closed. Who waits for news
@@ -147,22 +139,20 @@ impl<S: Story> Cell<S> {
     }
 
     /// Polls until there is something, and waits for news in between: it looks for them a number of times, and then sleeps. It never
-    /// answers `Nothing`. An end that had found its log closed finds it closed again. The error is want of memory: the end has then read
-    /// no more than before, and may have looked.
-    pub fn wait_news<R: Wait>(&self, rt: &R, r: &mut ReadEnd<S>) -> Result<Got, AllocError>
+    /// answers `Nothing`. An end that had found its log closed finds it closed again. The end has to be this cell's. It takes no memory.
+    pub fn wait_news<R: Wait>(&self, rt: &R, r: &mut ReadEnd<S>) -> Got
         requires cell { ReadsOf r.old self.now }
         ensures stays { StaysReader r.old r.new }
-        ensures news { IfOk result (λ got. IsNews got) }
-        ensures waits { IfOk result (λ got. WaitsFor (S.entries_at r.old.end.run r.old.end.number) r.old.end got r.new.end) }
-        ensures shut { IfOk result (λ got. r.old.end.shut ≡ true → got ≡ Closed) }
+        ensures news { IsNews result }
+        ensures waits { WaitsFor (S.entries_at r.old.end.run r.old.end.number) r.old.end result r.new.end }
+        ensures shut { r.old.end.shut ≡ true → result ≡ Closed }
         ensures more { r.old.end.looks ≤ r.new.end.looks }
-        ensures err { OnErr result (r.new.end ≡ having_looked r.old.end r.new.end.looks) }
     {
         for _ in rt.forever() {
             self.await_news(rt, r);
-            match self.poll(rt, r)? {
+            match self.poll(rt, r) {
                 Got::Nothing { published: _ } => {}
-                got => return Ok(got),
+                got => return got,
             }
         }
         unreachable!()
@@ -201,17 +191,18 @@ impl<S: Story> Cell<S> {
 }
 
 impl<S: Story + Drop> Cell<S> {
-    /// The log, where both ends have done with it. They have to be this cell's. It takes no memory.
+    /// The log, where both ends have done with it: it has what was published and not read, and tells how much the link carried. They have
+    /// to be this cell's. It takes no memory.
     pub fn done(self, w: WriteEnd<S>, r: ReadEnd<S>) -> Log<S>
         requires writer { WritesTo w self }
         requires reader { ReadsOf r self }
         ensures run { result.run ≡ self.run }
         ensures number { result.number ≡ self.number }
-        ensures base { result.base ≡ 0 }
+        ensures base { result.base ≡ r.end.got }
         ensures published { result.published ≡ w.end.published }
         ensures cause { result.cause ≡ w.end.cause }
         ensures got { r.end.got ≤ result.published }
-        ensures own { result.entries ≡ between (S.entries_at result.run result.number) 0 result.published }
+        ensures own { result.entries ≡ between (S.entries_at result.run result.number) result.base result.published }
     {
         let WriteEnd { mut seat, end: _ } = w;
         let ReadEnd { seat: other, .. } = r;

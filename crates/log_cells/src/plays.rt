@@ -1,5 +1,5 @@
 //! The kinds of step on a cell's words. There are no others.
-ghost use Rattle.log_cells.specs.Plays.{claims_as_writer, claims_as_reader, gives_written, gives_taken, gives_shut, gives_kept, raises, writer_part, reader_part, joined_view};
+ghost use Rattle.log_cells.specs.Plays.{claims_as_writer, claims_as_reader, gives_written, gives_taken, gives_shut, raises, writer_part, reader_part, joined_view};
 ghost use Rattle.log_cells.specs.declared.view.View.TheVariants.{Spent};
 
 use crate::view::View;
@@ -39,13 +39,6 @@ pub struct GiveShut;
 
 impl<S: Story> Play<Log<S>, View<Log<S>, S::Run>> for GiveShut {
     ghost then = { gives_shut };
-}
-
-// Gives the turn back, where nothing was taken for want of memory.
-pub struct GiveKept;
-
-impl<S: Story> Play<Log<S>, View<Log<S>, S::Run>> for GiveKept {
-    ghost then = { gives_kept };
 }
 
 // Raises the news.

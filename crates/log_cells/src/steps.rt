@@ -1,12 +1,12 @@
 //! What is done in a turn: the turn is claimed, the log is used, and the turn is given back.
-ghost use Rattle.std.specs.Prelude.{◌≡◌, ◌≤◌, [], Some, None, true, IfOk, OnOk, OnErr};
+ghost use Rattle.std.specs.Prelude.{◌≡◌, ◌≤◌, [], Some, None, true, OnOk, OnErr};
 ghost use Rattle.link_logs.specs.Entries.{between};
 ghost use Rattle.link_logs.specs.declared.answers.Got.TheVariants.{Closed};
 ghost use Rattle.log_cells.specs.Rule.{refused_of};
 ghost use Rattle.log_cells.specs.Ends.{LooksAt};
-ghost use Rattle.log_cells.specs.Plays.{IsSized, writer_at, reader_at, WriterHas, ReaderHas, HasKept, HasTaken};
+ghost use Rattle.log_cells.specs.Plays.{IsSized, writer_at, reader_at, WriterHas, HasClaimed, HasTaken};
 
-use crate::plays::{ClaimToRead, ClaimToWrite, GiveKept, GiveShut, GiveTaken, GiveWritten, Raise};
+use crate::plays::{ClaimToRead, ClaimToWrite, GiveShut, GiveTaken, GiveWritten, Raise};
 use crate::view::{Place, Top};
 use link_logs::{Cause, Got, ReadEnd, Story, WriteEnd};
 use std::alloc::AllocError;
@@ -55,7 +55,7 @@ pub fn claim_to_read<S: Story, R: Wait>(rt: &R, top: &Top<S>, seat: &mut Place<S
     requires table { (seat.old.table_id ≡ top.now.table_id) × IsSized top.now.table_id }
     requires reader { seat.old.me ≡ reader_at end.now (refused_of seat.old.me.0) }
     ensures table { seat.new.table_id ≡ seat.old.table_id }
-    ensures has { HasKept end.now (refused_of seat.new.me.0) seat.new.me }
+    ensures has { HasClaimed end.now (refused_of seat.new.me.0) seat.new.me }
     ensures refused { refused_of seat.old.me.0 ≤ refused_of seat.new.me.0 }
 {
     for _ in rt.forever() {
@@ -106,21 +106,15 @@ pub fn close<S: Story>(top: &Top<S>, seat: &mut Place<S>, end: &mut WriteEnd<S>,
 }
 
 // `Log::take`, where the seat has the log.
-pub fn take<S: Story>(
-    top: &Top<S>,
-    seat: &mut Place<S>,
-    end: &mut ReadEnd<S>,
-) -> Result<Got, AllocError>
+pub fn take<S: Story>(top: &Top<S>, seat: &mut Place<S>, end: &mut ReadEnd<S>) -> Got
     requires table { seat.old.table_id ≡ top.now.table_id }
-    requires has { HasKept end.old (refused_of seat.old.me.0) seat.old.me }
+    requires has { HasClaimed end.old (refused_of seat.old.me.0) seat.old.me }
     ensures table { seat.new.table_id ≡ seat.old.table_id }
     ensures refused { refused_of seat.new.me.0 ≡ refused_of seat.old.me.0 }
-    ensures got { IfOk result (λ got. LooksAt (S.entries_at end.old.run end.old.number) end.old got end.new) }
-    ensures shut { IfOk result (λ got. end.old.shut ≡ true → got ≡ Closed) }
+    ensures got { LooksAt (S.entries_at end.old.run end.old.number) end.old result end.new }
+    ensures shut { end.old.shut ≡ true → result ≡ Closed }
     ensures more { end.old.looks ≤ end.new.looks }
-    ensures has { OnOk result (HasTaken end.new (refused_of seat.new.me.0) seat.new.me) }
-    ensures err { OnErr result (end.new ≡ end.old) }
-    ensures err_has { OnErr result (HasKept end.new (refused_of seat.new.me.0) seat.new.me) }
+    ensures has { HasTaken end.new (refused_of seat.new.me.0) seat.new.me }
 {
     let log = seat.slot_mut(top, LOG);
     log.take(end)
@@ -148,16 +142,6 @@ pub fn give_taken<S: Story>(top: &Top<S>, seat: &mut Place<S>, end: &ReadEnd<S>)
     } else {
         top.store::<GiveTaken>(seat, TURN, FREE);
     }
-}
-
-// Gives the turn back after the end has taken nothing.
-pub fn give_kept<S: Story>(top: &Top<S>, seat: &mut Place<S>, end: &ReadEnd<S>)
-    requires table { (seat.old.table_id ≡ top.now.table_id) × IsSized top.now.table_id }
-    requires has { HasKept end.now (refused_of seat.old.me.0) seat.old.me }
-    ensures table { seat.new.table_id ≡ seat.old.table_id }
-    ensures reader { seat.new.me ≡ reader_at end.now (refused_of seat.old.me.0) }
-{
-    top.store::<GiveKept>(seat, TURN, FREE);
 }
 
 // How often the news were raised, in its low 32 bits.
