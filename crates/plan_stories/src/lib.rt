@@ -4,5 +4,5 @@
 mod histories;
 mod story;
 
-pub use histories::{history_in, stories_are_histories};
+pub use histories::{history_in, stories_are_histories, totals_in};
 pub use story::PlanStory;
