@@ -1,5 +1,5 @@
 -- The ends are taken back from the last arc on, and each log is as its end that writes has left it.
-use Rattle.std.proofs.Common.{◌≡◌, ℕ, zero, suc, ◌+◌, ◌<◌, Some, List, [], ◌∷◌, ◌++◌, length, map, take, get_or, slice_get, refl, sym, ap, ◌∙◌, subst, arith, inl, inr}
+use Rattle.std.proofs.Common.{◌≡◌, ℕ, zero, suc, ◌+◌, ◌<◌, ◌≤◌, Some, List, [], ◌∷◌, ◌++◌, length, map, take, get_or, slice_get, refl, sym, ap, ◌∙◌, subst, arith, inl, inr}
 use Rattle.std.specs.Prelude.{reverse}
 use mathlib.Core.Logic.{◌⊎◌}
 use Rattle.std.specs.List.{AllByRecursion}
@@ -85,10 +85,10 @@ has_left logs o is =
 pub record IsTaken (cell : CellRec PlanRec) (o : Outgoing) (log : LogRec PlanRec) : Type 0 where
   pub run : log.run ≡ cell.run
   pub number : log.number ≡ cell.number
-  pub base : log.base ≡ 0
+  pub base : log.base ≤ log.published
   pub published : log.published ≡ o.w.end.published
   pub cause : log.cause ≡ o.w.end.cause
-  pub own : log.entries ≡ between (carried_at log.run log.number) 0 log.published
+  pub own : log.entries ≡ between (carried_at log.run log.number) log.base log.published
 
 log_of : (plan : PlanRec) (link : LinkNumber) (cell : CellRec PlanRec) (o : Outgoing) (log : LogRec PlanRec) → IsCellOf plan link cell → IsTaken cell o log → IsLogOf plan link log
 log_of plan link cell o log is taken =
@@ -98,7 +98,7 @@ log_of plan link cell o log is taken =
       run = run;
       number = number;
       base = taken.base;
-      entries = taken.own ∙ (λ i. between (carried_at (run i) (number i)) 0 log.published) ∙ between_is_history plan link 0 log.published (omega arith);
+      entries = taken.own ∙ (λ i. between (carried_at (run i) (number i)) log.base log.published) ∙ between_is_history plan link log.base log.published taken.base;
     }
 
 -- ---- From the last arc on

@@ -1,5 +1,5 @@
 -- The cells of a plan's arcs, and the ends of these cells that the nodes hold.
-use Rattle.std.specs.Prelude.{◌≡◌, ◌+◌, Bool, ◌==◌, if◌then◌else◌, Some, None, List, [], ◌∷◌, map, slice_get}
+use Rattle.std.specs.Prelude.{◌≡◌, ◌≤◌, ◌+◌, Bool, ◌==◌, if◌then◌else◌, Some, None, List, [], ◌∷◌, map, slice_get}
 use Rattle.std.specs.List.{AllByRecursion}
 use Rattle.atomic_table.specs.Seated.{TableId}
 use Rattle.xs_base.specs.Numbers.{EndNumber, Position, LinkNumber}
@@ -77,12 +77,12 @@ pub record AreNewEnds (cells : CellsRec) (n : Position) (ends : Ends) : Type 0 w
 
 -- ---- The logs at the end
 
--- the log of an arc: all that the link carries before the published slot
+-- the log of an arc: all that the link carries from the base on and before the published slot
 pub record IsLogOf (plan : PlanRec) (link : LinkNumber) (log : LogRec PlanRec) : Type 0 where
   pub run : log.run ≡ plan
   pub number : log.number ≡ link
-  pub base : log.base ≡ 0
-  pub entries : log.entries ≡ history plan link 0 log.published
+  pub base : log.base ≤ log.published
+  pub entries : log.entries ≡ history plan link log.base log.published
 
 -- among logs by number, that of an end's link is as the end has left it
 pub record HasLeft (logs : List (LogRec PlanRec)) (o : Outgoing) : Type 0 where

@@ -1,4 +1,4 @@
-use Rattle.std.proofs.Common.{◌≡◌, Some, List, slice_get, sym, ◌∙◌, subst}
+use Rattle.std.proofs.Common.{◌≡◌, Some, List, slice_get, sym, ◌∙◌, subst, arith}
 use Rattle.std.specs.List.{AllByRecursion}
 use Rattle.xs_base.specs.Numbers.{Position, LinkNumber}
 use Rattle.sys_plan.specs.Plan.{PlanRec}
@@ -47,7 +47,7 @@ loop-cell-preserved-in_ok-push c =
     c.ends_of-ends.ensures.ends
     c.last_outgoing-outgoing.result c.last_outgoing-outgoing.new.all.items c.last_outgoing-outgoing.ensures.outgoing c.last_outgoing-outgoing.ensures.incoming
     c.last_incoming-incoming.result c.last_incoming-incoming.new.all.items c.last_incoming-incoming.ensures.incoming c.last_incoming-incoming.ensures.outgoing c.done.result
-    (record { run = d.run; number = d.number; base = d.base; published = d.published; cause = d.cause; own = d.own }) c.in_ok-push.ensures.items
+    (record { run = d.run; number = d.number; base = omega (arith, d.base, d.got); published = d.published; cause = d.cause; own = d.own }) c.in_ok-push.ensures.items
 
 pub loop-cell-preserved : goal.loop-cell-preserved
 loop-cell-preserved c =
@@ -56,7 +56,7 @@ loop-cell-preserved c =
     c.ends_of-ends.ensures.ends
     c.last_outgoing-outgoing.result c.last_outgoing-outgoing.new.all.items c.last_outgoing-outgoing.ensures.outgoing c.last_outgoing-outgoing.ensures.incoming
     c.last_incoming-incoming.result c.last_incoming-incoming.new.all.items c.last_incoming-incoming.ensures.incoming c.last_incoming-incoming.ensures.outgoing c.done.result
-    (record { run = d.run; number = d.number; base = d.base; published = d.published; cause = d.cause; own = d.own }) c.in_ok-push.ensures.items
+    (record { run = d.run; number = d.number; base = omega (arith, d.base, d.got); published = d.published; cause = d.cause; own = d.own }) c.in_ok-push.ensures.items
 
 pub returns-clause-own : goal.returns-clause-own
 returns-clause-own c =
