@@ -1,4 +1,4 @@
--- The ends are taken back from the last arc on, and each log is as its end that writes has left it.
+-- The ends are taken back from the last arc on, and each log is as its end that writes has left it, and begins where its end that reads has read to.
 use Rattle.std.proofs.Common.{◌≡◌, ℕ, zero, suc, ◌+◌, ◌<◌, ◌≤◌, Some, List, [], ◌∷◌, ◌++◌, length, map, take, get_or, slice_get, refl, sym, ap, ◌∙◌, subst, arith, inl, inr}
 use Rattle.std.specs.Prelude.{reverse}
 use mathlib.Core.Logic.{◌⊎◌}
@@ -17,7 +17,7 @@ use Rattle.plan_cells.specs.declared.arc_ends.ArcEnds.{ArcEnds}
 use Rattle.plan_cells.specs.declared.ends.Outgoing.{Outgoing}
 use Rattle.plan_cells.specs.declared.ends.Incoming.{Incoming}
 use Rattle.plan_cells.specs.declared.ends.Ends.{Ends}
-use Rattle.plan_cells.specs.Ends.{LinkAt, leaves_at, comes_at, IsOutgoing, IsIncoming, AreEnds, IsLogOf, HasLeft}
+use Rattle.plan_cells.specs.Ends.{LinkAt, leaves_at, comes_at, IsOutgoing, IsIncoming, AreEnds, IsLogOf, HasLeft, HasRead}
 use Rattle.plan_cells.specs.Inside.{Lies, OutgoingLie, IncomingLie, from_of, to_of, from_end_of, to_end_of, handed, tables_of, cells_of, outgoing_items, incoming_items, outgoing_of, incoming_of, IsCellOf, AreCells, AreArcEnds}
 use Rattle.plan_cells.proofs.Lists.{some_at, before_push, at_push, all_give, map_at, map_or_at}
 use Rattle.plan_cells.proofs.Dealing.{take_next, length_first, some_lie, last_at, last_fit, fewer_lie}
@@ -64,41 +64,58 @@ module _ {X : Type 0} where
 
 -- ---- The logs so far: those of the arcs from a number on
 
--- the log of an end's link is among them, as the end has left it
-pub record LeftFrom (k : LinkNumber) (logs : List (LogRec PlanRec)) (o : Outgoing) : Type 0 where
+-- the log of a link is among them, and this holds of it
+pub record IsAmong (k : LinkNumber) (logs : List (LogRec PlanRec)) (link : LinkNumber) (Is : LogRec PlanRec → Type 0) : Type 0 where
   pub place : ℕ
-  pub link_is : o.link ≡ k + place
+  pub link_is : link ≡ k + place
   pub log : LogRec PlanRec
   pub log_at : slice_get logs place ≡ Some log
-  pub published : log.published ≡ o.w.end.published
-  pub cause : log.cause ≡ o.w.end.cause
+  pub is : Is log
 
-left_stays : (k : LinkNumber) (logs : List (LogRec PlanRec)) (log : LogRec PlanRec) (o : Outgoing) → LeftFrom (k + 1) logs o → LeftFrom k (log ∷ logs) o
-left_stays k logs log o is = record { place = suc is.place; link_is = omega (arith, is.link_is); log = is.log; log_at = is.log_at; published = is.published; cause = is.cause }
+among_stays : (k : LinkNumber) (logs : List (LogRec PlanRec)) (log : LogRec PlanRec) (link : LinkNumber) (Is : LogRec PlanRec → Type 0) → IsAmong (k + 1) logs link Is → IsAmong k (log ∷ logs) link Is
+among_stays k logs log link Is h = record { place = suc h.place; link_is = omega (arith, h.link_is); log = h.log; log_at = h.log_at; is = h.is }
 
-pub has_left : (logs : List (LogRec PlanRec)) (o : Outgoing) → LeftFrom 0 logs o → HasLeft logs o
-has_left logs o is =
-    let at : o.link ≡ is.place = omega (arith, is.link_is) in
-    record { log = is.log; log_at = ap (slice_get logs) at ∙ is.log_at; published = is.published; cause = is.cause }
+at_its_link : (logs : List (LogRec PlanRec)) (link : LinkNumber) (Is : LogRec PlanRec → Type 0) (h : IsAmong 0 logs link Is) → slice_get logs link ≡ Some h.log
+at_its_link logs link Is h = let at : link ≡ h.place = omega (arith, h.link_is) in ap (slice_get logs) at ∙ h.log_at
+
+-- as an end has left it that writes; and begun where one has read to that reads
+abbrev IsLeftBy : Outgoing → LogRec PlanRec → Type 0
+IsLeftBy o log = (log.published ≡ o.w.end.published) × (log.cause ≡ o.w.end.cause)
+
+abbrev IsReadBy : Incoming → LogRec PlanRec → Type 0
+IsReadBy i log = log.base ≡ i.r.end.got
+
+abbrev pub LeftFrom : LinkNumber → List (LogRec PlanRec) → Outgoing → Type 0
+LeftFrom k logs o = IsAmong k logs o.link (IsLeftBy o)
+
+abbrev pub ReadFrom : LinkNumber → List (LogRec PlanRec) → Incoming → Type 0
+ReadFrom k logs i = IsAmong k logs i.link (IsReadBy i)
+
+has_left : (logs : List (LogRec PlanRec)) (o : Outgoing) → LeftFrom 0 logs o → HasLeft logs o
+has_left logs o h = record { log = h.log; log_at = at_its_link logs o.link (IsLeftBy o) h; published = h.is.0; cause = h.is.1 }
+
+has_read : (logs : List (LogRec PlanRec)) (i : Incoming) → ReadFrom 0 logs i → HasRead logs i
+has_read logs i h = record { log = h.log; log_at = at_its_link logs i.link (IsReadBy i) h; base = h.is }
 
 -- what was taken out of a cell
-pub record IsTaken (cell : CellRec PlanRec) (o : Outgoing) (log : LogRec PlanRec) : Type 0 where
+pub record IsTaken (cell : CellRec PlanRec) (o : Outgoing) (i : Incoming) (log : LogRec PlanRec) : Type 0 where
   pub run : log.run ≡ cell.run
   pub number : log.number ≡ cell.number
   pub base : log.base ≤ log.published
+  pub begun : log.base ≡ i.r.end.got
   pub published : log.published ≡ o.w.end.published
   pub cause : log.cause ≡ o.w.end.cause
   pub own : log.entries ≡ between (carried_at log.run log.number) log.base log.published
 
-log_of : (plan : PlanRec) (link : LinkNumber) (cell : CellRec PlanRec) (o : Outgoing) (log : LogRec PlanRec) → IsCellOf plan link cell → IsTaken cell o log → IsLogOf plan link log
-log_of plan link cell o log is taken =
+log_of : (plan : PlanRec) (link : LinkNumber) (cell : CellRec PlanRec) (o : Outgoing) (i : Incoming) (log : LogRec PlanRec) → IsCellOf plan link cell → IsTaken cell o i log → IsLogOf plan link log
+log_of plan link cell o i log is taken =
     let run = taken.run ∙ is.run in
     let number = taken.number ∙ is.number in
     record {
       run = run;
       number = number;
       base = taken.base;
-      entries = taken.own ∙ (λ i. between (carried_at (run i) (number i)) log.base log.published) ∙ between_is_history plan link log.base log.published taken.base;
+      entries = taken.own ∙ (λ j. between (carried_at (run j) (number j)) log.base log.published) ∙ between_is_history plan link log.base log.published taken.base;
     }
 
 -- ---- From the last arc on
@@ -112,6 +129,7 @@ pub record Gathers (plan : PlanRec) (whole : List (CellRec PlanRec)) (given : Li
   pub incoming : IncomingLie (IsIncoming (cells_of plan whole)) (take (length cells) (arcs plan)) (incoming_of all)
   pub own : (k : ℕ) (log : LogRec PlanRec) → slice_get (reverse logs) k ≡ Some log → IsLogOf plan (length cells + k) log
   pub left : AllParted (LeftFrom (length cells) (reverse logs)) (outgoing_of given) (outgoing_of all)
+  pub read : AllParted (ReadFrom (length cells) (reverse logs)) (incoming_of given) (incoming_of all)
 
 -- before the first step
 module _ (plan : PlanRec) (whole : List (CellRec PlanRec)) (given : List Ends) (are : AreCells plan whole) (nodes : length given ≡ length plan.nodes)
@@ -138,6 +156,7 @@ module _ (plan : PlanRec) (whole : List (CellRec PlanRec)) (given : List Ends) (
         (record { places = is.incoming_at; fit = is.incoming_fit }));
     own = λ k log h. absurd (none-some log h);
     left = none_parted (LeftFrom (length whole) []) (outgoing_of given);
+    read = none_parted (ReadFrom (length whole) []) (incoming_of given);
   }
 
 -- after the last
@@ -146,19 +165,25 @@ module _ {plan : PlanRec} {whole cells : List (CellRec PlanRec)} {given all : Li
   emptied : Gathers plan whole given [] all logs
   emptied = subst (λ (cs : List (CellRec PlanRec)). Gathers plan whole given cs all logs) none so_far
 
-  none_left : (n : Position) → n < length (outgoing_of all) → get_or (outgoing_of all) n [] ≡ []
-  none_left n below = map_none (get_or (outgoing_of all) n []) (emptied.outgoing n below).places
-    where
-      map_none : (xs : List Outgoing) → map leaves_at xs ≡ [] → xs ≡ []
-      map_none [] h = refl
-      map_none (x ∷ xs) h = cc
+  map_none : {X : Type 0} (at : X → LinkAt) (xs : List X) → map at xs ≡ [] → xs ≡ []
+  map_none at [] h = refl
+  map_none at (x ∷ xs) h = cc
 
   pub all_left : (n : Position) (e : Ends) → slice_get given n ≡ Some e → AllByRecursion (HasLeft (reverse logs)) e.outgoing.items
   all_left n e h =
       let inside : n < length (outgoing_of all) = omega (arith, slice_get_within given n e h, nodes, emptied.nodes, length-map all outgoing_items) in
-      let done = all_parted (LeftFrom 0 (reverse logs)) (get_or (outgoing_of given) n []) (get_or (outgoing_of all) n []) (emptied.left n) (none_left n inside) in
+      let none_left = map_none leaves_at (get_or (outgoing_of all) n []) (emptied.outgoing n inside).places in
+      let done = all_parted (LeftFrom 0 (reverse logs)) (get_or (outgoing_of given) n []) (get_or (outgoing_of all) n []) (emptied.left n) none_left in
       subst (AllByRecursion (HasLeft (reverse logs))) (map_or_at outgoing_items given n e [] h)
       (all_give (has_left (reverse logs)) (get_or (outgoing_of given) n []) done)
+
+  pub all_read : (n : Position) (e : Ends) → slice_get given n ≡ Some e → AllByRecursion (HasRead (reverse logs)) e.incoming.items
+  all_read n e h =
+      let inside : n < length (incoming_of all) = omega (arith, slice_get_within given n e h, nodes, emptied.nodes, length-map all incoming_items) in
+      let none_left = map_none comes_at (get_or (incoming_of all) n []) (emptied.incoming n inside).places in
+      let done = all_parted (ReadFrom 0 (reverse logs)) (get_or (incoming_of given) n []) (get_or (incoming_of all) n []) (emptied.read n) none_left in
+      subst (AllByRecursion (HasRead (reverse logs))) (map_or_at incoming_items given n e [] h)
+      (all_give (has_read (reverse logs)) (get_or (incoming_of given) n []) done)
 
   pub all_own : (k : LinkNumber) (log : LogRec PlanRec) → slice_get (reverse logs) k ≡ Some log → IsLogOf plan k log
   all_own k log h = let none : 0 + k ≡ k = omega arith in subst (λ (l : LinkNumber). IsLogOf plan l log) none (emptied.own k log h)
@@ -277,24 +302,31 @@ module _ {plan : PlanRec} {whole before : List (CellRec PlanRec)} {given all : L
           reads_of (cells_of plan whole) cell link table_is (are.each link cell cell_here).run (are.each link cell cell_here).number i
           (last_fit comes_at to_of to_end_of FitsIncoming (take link ds) d (incoming_of after) i i_lie to_after) i_link
 
-      module _ (log : LogRec PlanRec) (taken : IsTaken cell o log) where
+      module _ (log : LogRec PlanRec) (taken : IsTaken cell o i log) where
         reversed_are : reverse (logs ++ log ∷ []) ≡ log ∷ reverse logs
         reversed_are = reverse-append logs (log ∷ [])
 
         own_at : (k : ℕ) (x : LogRec PlanRec) → slice_get (log ∷ reverse logs) k ≡ Some x → IsLogOf plan (link + k) x
         own_at zero x h =
             let none : link ≡ link + 0 = omega arith in
-            subst (λ (l : LinkNumber). IsLogOf plan l x) none (subst (IsLogOf plan link) (same_Some log x h) (log_of plan link cell o log (are.each link cell cell_here) taken))
+            subst (λ (l : LinkNumber). IsLogOf plan l x) none (subst (IsLogOf plan link) (same_Some log x h) (log_of plan link cell o i log (are.each link cell cell_here) taken))
         own_at (suc k) x h =
             let more : length (cells ++ cell ∷ []) + k ≡ link + suc k = omega (arith, length_push cells cell) in
             subst (λ (l : LinkNumber). IsLogOf plan l x) more (with_cell.own k x h)
 
         left_all : AllParted (LeftFrom link (log ∷ reverse logs)) (outgoing_of given) (outgoing_of mid)
         left_all =
-            more_parted (LeftFrom (link + 1) (reverse logs)) (LeftFrom link (log ∷ reverse logs)) (left_stays link (reverse logs) log) (outgoing_of given) (outgoing_of mid) d.from o
+            more_parted (LeftFrom (link + 1) (reverse logs)) (LeftFrom link (log ∷ reverse logs)) (λ (x : Outgoing) was. among_stays link (reverse logs) log x.link (IsLeftBy x) was) (outgoing_of given) (outgoing_of mid) d.from o
             (subst (λ (k : ℕ). AllParted (LeftFrom k (reverse logs)) (outgoing_of given) (handed (outgoing_of mid) d.from o)) (length_push cells cell)
             (subst (AllParted (LeftFrom (length (cells ++ cell ∷ [])) (reverse logs)) (outgoing_of given)) o_back with_cell.left))
-            (record { place = 0; link_is = omega (arith, o_link); log = log; log_at = refl; published = taken.published; cause = taken.cause }) from_mid
+            (record { place = 0; link_is = omega (arith, o_link); log = log; log_at = refl; is = (taken.published, taken.cause) }) from_mid
+
+        read_all : AllParted (ReadFrom link (log ∷ reverse logs)) (incoming_of given) (incoming_of after)
+        read_all =
+            more_parted (ReadFrom (link + 1) (reverse logs)) (ReadFrom link (log ∷ reverse logs)) (λ (x : Incoming) was. among_stays link (reverse logs) log x.link (IsReadBy x) was) (incoming_of given) (incoming_of after) d.to i
+            (subst (λ (k : ℕ). AllParted (ReadFrom k (reverse logs)) (incoming_of given) (handed (incoming_of after) d.to i)) (length_push cells cell)
+            (subst (AllParted (ReadFrom (length (cells ++ cell ∷ [])) (reverse logs)) (incoming_of given)) (sym i_stay ∙ i_back) with_cell.read))
+            (record { place = 0; link_is = omega (arith, i_link); log = log; log_at = refl; is = taken.begun }) to_after
 
         gathers_pushed : Gathers plan whole given cells after (logs ++ log ∷ [])
         gathers_pushed = record {
@@ -310,6 +342,7 @@ module _ {plan : PlanRec} {whole before : List (CellRec PlanRec)} {given all : L
           left =
               subst (λ (ls : List (LogRec PlanRec)). AllParted (LeftFrom link ls) (outgoing_of given) (outgoing_of after)) (sym reversed_are)
               (subst (AllParted (LeftFrom link (log ∷ reverse logs)) (outgoing_of given)) (sym o_stay) left_all);
+          read = subst (λ (ls : List (LogRec PlanRec)). AllParted (ReadFrom link ls) (incoming_of given) (incoming_of after)) (sym reversed_are) read_all;
         }
 
         pub gathers_more : {grown : List (LogRec PlanRec)} → grown ≡ logs ++ log ∷ [] → Gathers plan whole given cells after grown

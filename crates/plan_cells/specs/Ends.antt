@@ -90,3 +90,9 @@ pub record HasLeft (logs : List (LogRec PlanRec)) (o : Outgoing) : Type 0 where
   pub log_at : slice_get logs o.link ≡ Some log
   pub published : log.published ≡ o.w.end.published
   pub cause : log.cause ≡ o.w.end.cause
+
+-- and it begins where the end that reads it has read to
+pub record HasRead (logs : List (LogRec PlanRec)) (i : Incoming) : Type 0 where
+  pub log : LogRec PlanRec
+  pub log_at : slice_get logs i.link ≡ Some log
+  pub base : log.base ≡ i.r.end.got

@@ -5,7 +5,7 @@ ghost use Rattle.xs_base.specs.Numbers.{Position, LinkNumber};
 ghost use Rattle.sys_plan.specs.Plan.{PlanRec, arc_count};
 ghost use Rattle.link_logs.specs.Logs.{LogRec};
 ghost use Rattle.plan_cells.specs.declared.ends.Ends.{Ends};
-ghost use Rattle.plan_cells.specs.Ends.{AreEnds, AreNewEnds, IsLogOf, HasLeft};
+ghost use Rattle.plan_cells.specs.Ends.{AreEnds, AreNewEnds, IsLogOf, HasLeft, HasRead};
 
 use crate::deal::{deal_all, no_ends};
 use crate::ends::Ends;
@@ -71,13 +71,14 @@ impl PlanCells {
     }
 
     /// The logs of all arcs, by number, where the ends of all nodes are given back, by position: each log is as its write
-    /// end has left it. The error is want of memory, and leaves nothing.
+    /// end has left it, and begins where its read end has read to. The error is want of memory, and leaves nothing.
     pub fn logs(self, alloc: Global, all: Vec<Ends>) -> Result<Vec<Log<PlanStory>>, AllocError>
         requires nodes { length all.items ≡ length self.plan.nodes }
         requires ends { (n : Position) (ends : Ends) → slice_get all.items n ≡ Some ends → AreEnds self n ends }
         ensures links { IfOk result (λ logs. length logs.items ≡ arc_count self.plan) }
         ensures own { IfOk result (λ logs. (link : LinkNumber) (log : LogRec PlanRec) → slice_get logs.items link ≡ Some log → IsLogOf self.plan link log) }
         ensures left { IfOk result (λ logs. (n : Position) (ends : Ends) → slice_get all.items n ≡ Some ends → AllByRecursion (HasLeft logs.items) ends.outgoing.items) }
+        ensures read { IfOk result (λ logs. (n : Position) (ends : Ends) → slice_get all.items n ≡ Some ends → AllByRecursion (HasRead logs.items) ends.incoming.items) }
     {
         let PlanCells { plan, cells } = self;
         logs_of(alloc, &plan, cells, all)

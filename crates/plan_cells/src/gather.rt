@@ -5,7 +5,7 @@ ghost use Rattle.xs_base.specs.Numbers.{Position, LinkNumber};
 ghost use Rattle.sys_plan.specs.Plan.{PlanRec, arc_count};
 ghost use Rattle.link_logs.specs.Logs.{LogRec};
 ghost use Rattle.plan_cells.specs.declared.ends.Ends as ends;
-ghost use Rattle.plan_cells.specs.Ends.{AreEnds, IsLogOf, HasLeft};
+ghost use Rattle.plan_cells.specs.Ends.{AreEnds, IsLogOf, HasLeft, HasRead};
 ghost use Rattle.plan_cells.specs.Inside.{AreCells, handed, outgoing_of, incoming_of, cells_of};
 
 use crate::arc_ends::ends_of;
@@ -29,6 +29,7 @@ pub(crate) fn logs_of(
     ensures links { IfOk result (λ logs. length logs.items ≡ arc_count plan.now) }
     ensures own { IfOk result (λ logs. (link : LinkNumber) (log : LogRec PlanRec) → slice_get logs.items link ≡ Some log → IsLogOf plan.now link log) }
     ensures left { IfOk result (λ logs. (n : Position) (e : ends.Ends) → slice_get all.items n ≡ Some e → AllByRecursion (HasLeft logs.items) e.outgoing.items) }
+    ensures read { IfOk result (λ logs. (n : Position) (e : ends.Ends) → slice_get all.items n ≡ Some e → AllByRecursion (HasRead logs.items) e.incoming.items) }
 {
     let mut cells = cells;
     let mut all = all;

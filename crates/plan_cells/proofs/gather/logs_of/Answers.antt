@@ -4,9 +4,9 @@ use Rattle.xs_base.specs.Numbers.{Position, LinkNumber}
 use Rattle.sys_plan.specs.Plan.{PlanRec}
 use Rattle.link_logs.specs.Logs.{LogRec}
 use Rattle.plan_cells.specs.declared.ends.Ends.{Ends}
-use Rattle.plan_cells.specs.Ends.{IsLogOf, HasLeft}
+use Rattle.plan_cells.specs.Ends.{IsLogOf, HasLeft, HasRead}
 use Rattle.plan_cells.proofs.Lists.{no_items}
-use Rattle.plan_cells.proofs.Gathering.{Gathers, gathers_none, gathers_more, all_left, all_own, some_outgoing, some_incoming, o_writes, i_reads}
+use Rattle.plan_cells.proofs.Gathering.{Gathers, gathers_none, gathers_more, all_left, all_read, all_own, some_outgoing, some_incoming, o_writes, i_reads}
 use Rattle.plan_cells.proofs.gather.logs_of.Goals as goal
 
 pub loop-cell-init : goal.loop-cell-init
@@ -47,7 +47,7 @@ loop-cell-preserved-in_ok-push c =
     c.ends_of-ends.ensures.ends
     c.last_outgoing-outgoing.result c.last_outgoing-outgoing.new.all.items c.last_outgoing-outgoing.ensures.outgoing c.last_outgoing-outgoing.ensures.incoming
     c.last_incoming-incoming.result c.last_incoming-incoming.new.all.items c.last_incoming-incoming.ensures.incoming c.last_incoming-incoming.ensures.outgoing c.done.result
-    (record { run = d.run; number = d.number; base = omega (arith, d.base, d.got); published = d.published; cause = d.cause; own = d.own }) c.in_ok-push.ensures.items
+    (record { run = d.run; number = d.number; base = omega (arith, d.base, d.got); begun = d.base; published = d.published; cause = d.cause; own = d.own }) c.in_ok-push.ensures.items
 
 pub loop-cell-preserved : goal.loop-cell-preserved
 loop-cell-preserved c =
@@ -56,7 +56,7 @@ loop-cell-preserved c =
     c.ends_of-ends.ensures.ends
     c.last_outgoing-outgoing.result c.last_outgoing-outgoing.new.all.items c.last_outgoing-outgoing.ensures.outgoing c.last_outgoing-outgoing.ensures.incoming
     c.last_incoming-incoming.result c.last_incoming-incoming.new.all.items c.last_incoming-incoming.ensures.incoming c.last_incoming-incoming.ensures.outgoing c.done.result
-    (record { run = d.run; number = d.number; base = omega (arith, d.base, d.got); published = d.published; cause = d.cause; own = d.own }) c.in_ok-push.ensures.items
+    (record { run = d.run; number = d.number; base = omega (arith, d.base, d.got); begun = d.base; published = d.published; cause = d.cause; own = d.own }) c.in_ok-push.ensures.items
 
 pub returns-clause-own : goal.returns-clause-own
 returns-clause-own c =
@@ -69,3 +69,9 @@ returns-clause-left c =
     let none = no_items c.loop-cell.cells.items (sym c.loop-cell.cells.ok.0 ∙ c.in_default.ensures.cases.0) in
     subst (λ (ls : List (LogRec PlanRec)). (n : Position) (e : Ends) → slice_get c.args.all.items n ≡ Some e → AllByRecursion (HasLeft ls) e.outgoing.items) (sym c.reverse.ensures.items)
     (all_left c.loop-cell.invariant none c.requires.nodes)
+
+pub returns-clause-read : goal.returns-clause-read
+returns-clause-read c =
+    let none = no_items c.loop-cell.cells.items (sym c.loop-cell.cells.ok.0 ∙ c.in_default.ensures.cases.0) in
+    subst (λ (ls : List (LogRec PlanRec)). (n : Position) (e : Ends) → slice_get c.args.all.items n ≡ Some e → AllByRecursion (HasRead ls) e.incoming.items) (sym c.reverse.ensures.items)
+    (all_read c.loop-cell.invariant none c.requires.nodes)
