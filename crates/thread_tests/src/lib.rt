@@ -4,6 +4,8 @@
 #[cfg(test)]
 mod ahead_limits_tests;
 #[cfg(test)]
+mod header_bytes;
+#[cfg(test)]
 mod link_logs_tests;
 #[cfg(test)]
 mod log_cells_tests;

@@ -4,6 +4,7 @@ ghost use Rattle.xs_base.specs.declared.entry.Entry.{Entry};
 ghost use Rattle.xs_base.specs.declared.entry.What.TheVariants.{Credit};
 ghost use Rattle.std.proofs.Common.{rules};
 
+use crate::header_bytes::{HeaderBytes, byte_in, header, holds, is_header};
 use link_logs::{Cause, Got, Story, make_log};
 use std::alloc::AllocError;
 use xs_base::{Batch, Entry, What};
@@ -31,7 +32,7 @@ impl Story for OneCredit {
 #[test]
 fn what_is_published_is_read(rt: HostRuntime) -> Result<(), AllocError> {
     let (mut log, mut w, mut r) = make_log(rt.alloc(), OneCredit)?;
-    let nothing = matches!(log.take(&mut r)?, Got::Nothing { published: 0 });
+    let nothing = matches!(log.take(&mut r), Got::Nothing { published: 0 });
     assert!(rt; nothing && OneCredit.link() == 7);
 
     let mut batch = Batch::new(rt.alloc());
@@ -48,7 +49,7 @@ fn what_is_published_is_read(rt: HostRuntime) -> Result<(), AllocError> {
             && log.published() == 3
             && log.entries() == [credit].as_slice()
     );
-    let is_read = match log.take(&mut r)? {
+    let is_read = match log.take(&mut r) {
         Got::Entries { from, to, batch } => {
             from == 0 && to == 3 && batch.entries() == [credit].as_slice()
         }
@@ -58,14 +59,42 @@ fn what_is_published_is_read(rt: HostRuntime) -> Result<(), AllocError> {
 
     // Slots in which nothing is sent are published too.
     log.append(&mut w, 5, &mut batch)?;
-    let is_read = match log.take(&mut r)? {
+    let is_read = match log.take(&mut r) {
         Got::Entries { from, to, batch } => from == 3 && to == 5 && batch.entries().is_empty(),
         _ => false,
     };
-    let nothing = matches!(log.take(&mut r)?, Got::Nothing { published: 5 });
+    let nothing = matches!(log.take(&mut r), Got::Nothing { published: 5 });
     log.close(&mut w, Cause::Neighbour { link: 4 });
-    let is_closed = matches!(log.take(&mut r)?, Got::Closed);
+    let is_closed = matches!(log.take(&mut r), Got::Closed);
     let cause = Some(Cause::Neighbour { link: 4 });
     assert!(rt; is_read && nothing && is_closed && w.cause() == cause && r.is_shut());
+    Ok(())
+}
+
+#[test]
+fn what_is_read_is_held_no_more_and_still_counted(rt: HostRuntime) -> Result<(), AllocError> {
+    let (mut log, mut w, mut r) = make_log(rt.alloc(), HeaderBytes)?;
+    let mut batch = header(rt.alloc())?;
+    log.append(&mut w, 20, &mut batch)?;
+    assert!(rt; holds(&log, 0, 2));
+    let got = log.take(&mut r);
+    assert!(rt; is_header(&got) && holds(&log, 20, 0));
+    Ok(())
+}
+
+// The second append finds the first one's entry there.
+#[test]
+fn what_is_published_by_and_by_is_read_at_once(rt: HostRuntime) -> Result<(), AllocError> {
+    let (mut log, mut w, mut r) = make_log(rt.alloc(), HeaderBytes)?;
+    let mut batch = Batch::new(rt.alloc());
+    batch.reserve(1)?;
+    batch.add(byte_in(13, 0));
+    log.append(&mut w, 15, &mut batch)?;
+    batch.reserve(1)?;
+    batch.add(byte_in(17, 1));
+    log.append(&mut w, 20, &mut batch)?;
+    assert!(rt; holds(&log, 0, 2));
+    let got = log.take(&mut r);
+    assert!(rt; is_header(&got) && holds(&log, 20, 0));
     Ok(())
 }

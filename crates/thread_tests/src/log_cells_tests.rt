@@ -4,6 +4,7 @@ ghost use Rattle.xs_base.specs.declared.entry.Entry.{Entry};
 ghost use Rattle.log_cells.specs.Ends.{WritesTo, ReadsOf};
 ghost use Rattle.std.proofs.Common.{rules};
 
+use crate::header_bytes::{HeaderBytes, header, holds, is_header};
 use link_logs::{Cause, Got, Story};
 use log_cells::{Cell, ReadEnd, WriteEnd, make_cell};
 use std::alloc::{AllocError, Global};
@@ -38,11 +39,11 @@ fn what_is_published_is_polled_once(rt: HostRuntime) -> Result<(), AllocError> {
     let mut batch = Batch::new(rt.alloc());
     cell.publish(&rt, &mut w, 5, &mut batch)?;
     assert!(rt; batch.entries().is_empty() && w.published() == 5 && w.cause().is_none());
-    let is_read = match cell.poll(&rt, &mut r)? {
+    let is_read = match cell.poll(&rt, &mut r) {
         Got::Entries { from, to, batch } => from == 0 && to == 5 && batch.entries().is_empty(),
         _ => false,
     };
-    let nothing = matches!(cell.poll(&rt, &mut r)?, Got::Nothing { published: 5 });
+    let nothing = matches!(cell.poll(&rt, &mut r), Got::Nothing { published: 5 });
     assert!(rt; is_read && nothing && r.got() == 5 && r.looks() == 2 && !r.is_shut());
     Ok(())
 }
@@ -53,7 +54,7 @@ fn a_closed_log_is_read_to_its_end_and_comes_home(rt: HostRuntime) -> Result<(),
     let mut batch = Batch::new(rt.alloc());
     cell.publish(&rt, &mut w, 3, &mut batch)?;
     cell.end(&rt, &mut w, Cause::Neighbour { link: 2 });
-    let news = cell.wait_news(&rt, &mut r)?;
+    let news = cell.wait_news(&rt, &mut r);
     let is_read = matches!(
         news,
         Got::Entries {
@@ -63,14 +64,35 @@ fn a_closed_log_is_read_to_its_end_and_comes_home(rt: HostRuntime) -> Result<(),
         }
     );
     assert!(rt; is_read && w.cause() == Some(Cause::Neighbour { link: 2 }));
-    let first = matches!(cell.wait_news(&rt, &mut r)?, Got::Closed);
-    let second = matches!(cell.poll(&rt, &mut r)?, Got::Closed);
+    let first = matches!(cell.wait_news(&rt, &mut r), Got::Closed);
+    let second = matches!(cell.poll(&rt, &mut r), Got::Closed);
     // Nothing comes any more, and nobody waits for it.
     cell.await_news(&rt, &r);
-    let third = matches!(cell.wait_news(&rt, &mut r)?, Got::Closed);
+    let third = matches!(cell.wait_news(&rt, &mut r), Got::Closed);
     assert!(rt; first && second && third && r.got() == 3 && r.looks() == 4 && r.is_shut());
     let log = cell.done(w, r);
     assert!(rt; log.published() == 3 && log.entries().is_empty());
+    Ok(())
+}
+
+#[test]
+fn what_is_polled_is_held_no_more_and_still_counted(rt: HostRuntime) -> Result<(), AllocError> {
+    let (cell, mut w, mut r) = make_cell(rt.alloc(), HeaderBytes)?;
+    let mut batch = header(rt.alloc())?;
+    cell.publish(&rt, &mut w, 20, &mut batch)?;
+    let got = cell.poll(&rt, &mut r);
+    let log = cell.done(w, r);
+    assert!(rt; is_header(&got) && holds(&log, 20, 0));
+    Ok(())
+}
+
+#[test]
+fn what_was_not_polled_comes_home(rt: HostRuntime) -> Result<(), AllocError> {
+    let (cell, mut w, r) = make_cell(rt.alloc(), HeaderBytes)?;
+    let mut batch = header(rt.alloc())?;
+    cell.publish(&rt, &mut w, 20, &mut batch)?;
+    let log = cell.done(w, r);
+    assert!(rt; holds(&log, 0, 2));
     Ok(())
 }
 
@@ -81,10 +103,10 @@ fn who_has_not_found_nothing_does_not_wait(rt: HostRuntime) -> Result<(), AllocE
     cell.publish(&rt, &mut w, 5, &mut batch)?;
     cell.end(&rt, &mut w, Cause::Memory);
     cell.await_news(&rt, &r);
-    let is_read = matches!(cell.poll(&rt, &mut r)?, Got::Entries { .. });
+    let is_read = matches!(cell.poll(&rt, &mut r), Got::Entries { .. });
     // The log was closed before this poll, which did not say so.
     cell.await_news(&rt, &r);
-    assert!(rt; is_read && matches!(cell.poll(&rt, &mut r)?, Got::Closed));
+    assert!(rt; is_read && matches!(cell.poll(&rt, &mut r), Got::Closed));
     Ok(())
 }
 
@@ -122,30 +144,26 @@ fn publish_alone<R: Wait + Clock>(
 }
 
 // How many slots were waited for, until the log was closed.
-fn hear<R: Wait>(rt: &R, cell: &Cell<Silence>, mut r: ReadEnd<Silence>) -> Result<u32, AllocError>
+fn hear<R: Wait>(rt: &R, cell: &Cell<Silence>, mut r: ReadEnd<Silence>) -> u32
     requires { ReadsOf r cell.now }
 {
     for _ in rt.forever() {
-        if matches!(cell.wait_news(rt, &mut r)?, Got::Closed) {
+        if matches!(cell.wait_news(rt, &mut r), Got::Closed) {
             break;
         }
     }
-    Ok(r.got())
+    r.got()
 }
 
 // How many slots were read, once there was something to read.
-fn hear_once<R: Wait>(
-    rt: &R,
-    cell: &Cell<Silence>,
-    mut r: ReadEnd<Silence>,
-) -> Result<u32, AllocError>
+fn hear_once<R: Wait>(rt: &R, cell: &Cell<Silence>, mut r: ReadEnd<Silence>) -> u32
     requires { ReadsOf r cell.now }
 {
-    let news = cell.wait_news(rt, &mut r)?;
+    let news = cell.wait_news(rt, &mut r);
     if matches!(news, Got::Closed) {
-        return Ok(0);
+        return 0;
     }
-    Ok(r.got())
+    r.got()
 }
 
 // It would sleep for ever where only a close woke it.
@@ -159,7 +177,7 @@ fn a_publish_alone_wakes_a_sleeper(rt: HostRuntime) -> Result<(), AllocError> {
         || hear_once(&rt, &cell, r),
     );
     told?;
-    assert!(rt; heard? == 5);
+    assert!(rt; heard == 5);
     Ok(())
 }
 
@@ -173,6 +191,6 @@ fn a_sleeper_wakes_at_each_news(rt: HostRuntime) -> Result<(), AllocError> {
         || hear(&rt, &cell, r),
     );
     told?;
-    assert!(rt; heard? == 5);
+    assert!(rt; heard == 5);
     Ok(())
 }
