@@ -7,4 +7,3 @@ mod sent;
 mod together;
 
 pub use run::FinishedRun;
-pub use sent::count_sent;

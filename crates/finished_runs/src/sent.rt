@@ -5,7 +5,7 @@ ghost use Rattle.trace_model.specs.Trace.{tokens_sent, credits_sent};
 use xs_base::{Entry, What};
 
 /// How many tokens, and how many credits, a history has.
-pub fn count_sent(history: &[Entry]) -> (u64, u64)
+pub(crate) fn count_sent(history: &[Entry]) -> (u64, u64)
     ensures tokens { result.0 ≡ tokens_sent history.now }
     ensures credits { result.1 ≡ credits_sent history.now }
 {
