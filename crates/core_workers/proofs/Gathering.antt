@@ -117,7 +117,7 @@ module _ (cells : CellsRec) (limit : Slot) (parts : List WorkerRec)
     each_total link sent here =
         let log = from_map sent_in logs link sent here in
         let full = each_link link log.0 log.1 in
-        let carried : log.0.entries ≡ history cells.plan link 0 limit = full.log_of.entries ∙ ap (history cells.plan link 0) full.published in
+        let carried : history log.0.run log.0.number 0 log.0.published ≡ history cells.plan link 0 limit = λ i. history (full.log_of.run i) (full.log_of.number i) 0 (full.published i) in
         record {
           tokens = ap (λ (t : Totals). t.0) (sym log.2) ∙ ap (λ (es : List Entry). tokens_sent es) carried;
           credits = ap (λ (t : Totals). t.1) (sym log.2) ∙ ap (λ (es : List Entry). credits_sent es) carried;

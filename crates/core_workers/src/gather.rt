@@ -10,16 +10,16 @@ ghost use Rattle.core_workers.specs.Gathered.{sent_in};
 ghost use Rattle.core_workers.specs.Finished.{AreBusyCounts};
 
 use crate::worker::Part;
-use finished_runs::{FinishedRun, count_sent};
+use finished_runs::FinishedRun;
 use known_value::Known;
 use link_logs::Log;
 use node_runners::NodeRunner;
 use plan_cells::{Ends, PlanCells};
-use plan_stories::PlanStory;
+use plan_stories::{PlanStory, totals_in};
 use std::alloc::{AllocError, Global};
 
 /// The run of which the workers of all nodes of these cells have left these parts, by position, each at the limit; and how many slots each
-/// node has stepped. The totals are counted in the logs that the cells have. The error is want of memory, and leaves nothing.
+/// node has stepped. The totals are those that the logs of the cells have counted. The error is want of memory, and leaves nothing.
 pub(crate) fn gather(
     alloc: Global,
     cells: PlanCells,
@@ -68,13 +68,13 @@ fn stepped_of(alloc: Global, runners: &[NodeRunner]) -> Result<Vec<u32>, AllocEr
     Ok(stepped)
 }
 
-// How many tokens, and how many credits, each of these logs has. The error is want of memory.
+// How many tokens, and how many credits, the link of each of these logs has carried, read or not. The error is want of memory.
 fn totals_of(alloc: Global, logs: Vec<Log<PlanStory>>) -> Result<Vec<(u64, u64)>, AllocError>
     ensures { IfOk result (λ totals. totals.items ≡ map sent_in logs.items) }
 {
     let mut totals = Vec::new(alloc);
     for log in logs {
-        totals.push(count_sent(log.entries()))?;
+        totals.push(totals_in(&log))?;
     }
     Ok(totals)
 }

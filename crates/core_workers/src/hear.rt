@@ -52,7 +52,7 @@ fn hear<R: Wait>(
 {
     hand_over(reader, runner)?;
     let cell = cells.cell(reader.link);
-    match cell.poll(rt, &mut reader.r)? {
+    match cell.poll(rt, &mut reader.r) {
         Got::Entries { to, batch, .. } => {
             let hand = Hand { batch, to };
             reader.hand = Some(hand);
