@@ -8,7 +8,7 @@ use Rattle.sys_plan.specs.declared.Step.TheVariants.{Take, Run, Send}
 use Rattle.sys_plan.specs.Plan.{PlanRec, arc_count, leaves_by, comes_to, outgoing, incoming, delay_of}
 use Rattle.serial_model.specs.Serial.{history}
 use Rattle.link_logs.specs.declared.answers.Got.{Got}
-use Rattle.link_logs.specs.Logs.{looked}
+use Rattle.link_logs.specs.Logs.{emptied, looked}
 use Rattle.ahead_limits.specs.declared.horizon.Seen.{Seen}
 use Rattle.ahead_limits.specs.Horizon.{HorizonRec, seen_to, seen_at, seen_by_end}
 use Rattle.ahead_limits.specs.Schedule.{ScheduleRec, seen_of_link, horizon_of, clock_after, after_take, after_send, after_step}
@@ -155,11 +155,18 @@ module _ (plan : PlanRec) (limit : Slot) (runners : List RunnerRec) (lanes : Lis
     pub own_published : get_or (published_of lanes) link 0 ≡ lane.log.published
     own_published = number_at (λ (l : Lane). l.log.published) lanes link lane lane_below lane_is
 
+    -- what a node has seen of its link is what the end that reads has read
+    pub read_is_seen : (node end : ℕ) (runner : RunnerRec) → runner ≡ get_or runners node runner → node < length plan.nodes → incoming plan node end ≡ Some link → end < 8 → lane.r.got ≡ seen_at runner.horizon end
+    read_is_seen node end runner runner_is below here inside =
+        sym own_seen
+        ∙ sym (seen_here plan limit (seen_of lanes) node end link 0 here seen_below inside)
+        ∙ ap (λ (h : HorizonRec). seen_at h end) (sym (own_runner node runner runner_is below).horizon_is)
+
     -- ---- A take
 
     module _ (node end : ℕ) (here : incoming plan node end ≡ Some link) (inside : end < 8) (got : Got) (number : ℕ) (number_is : number ≡ lane.log.published) where
       abbrev taken : Lane
-      taken = record lane { r = looked lane.log got lane.r }
+      taken = record lane { log = emptied lane.log; r = looked lane.log got lane.r }
 
       seen_then : seen_of (set lanes link taken) ≡ set (seen_of lanes) link lane.log.published
       seen_then = map-set (λ (l : Lane). l.r.got) lanes link taken
@@ -174,11 +181,11 @@ module _ (plan : PlanRec) (limit : Slot) (runners : List RunnerRec) (lanes : Lis
             of_plan = own.of_plan;
             number_is = own.number_is;
             open_is = own.open_is;
-            writes = own.writes;
+            writes = record { run = own.writes.run; number = own.writes.number; published = own.writes.published; cause = own.writes.cause };
             reads = record {
               run = own.reads.run;
               number = own.reads.number;
-              base = omega (arith, own.reads.base, own.reads.published);
+              base = refl;
               published = omega arith;
             };
           }

@@ -80,7 +80,7 @@ impl Stage {
         };
         let lane = &mut self.lanes[link as usize];
         let step = Step::Take { node, end };
-        match lane.log.take(&mut lane.r)? {
+        match lane.log.take(&mut lane.r) {
             Got::Entries { to, batch, .. } => {
                 let runner = &mut self.runners[node as usize];
                 hear(runner, end, batch, to)?;

@@ -1,4 +1,4 @@
-use Rattle.std.proofs.Common.{◌≡◌, ℕ, suc, ◌<◌, ◌≤◌, Some, None, List, [], set, sym, ap, ◌∙◌, subst, refl, arith, inl, inr}
+use Rattle.std.proofs.Common.{◌≡◌, ℕ, suc, ◌<◌, ◌≤◌, Some, None, List, [], set, sym, ◌∙◌, subst, refl, arith, inl, inr}
 use mathlib.Core.Logic.{◌⊎◌}
 use Rattle.std.proofs.lemmas.Bool.{cases_lt}
 use Rattle.play_model.specs.Play.{PlayedStep}
@@ -8,14 +8,13 @@ use Rattle.sys_plan.specs.declared.Step.TheVariants.{Take}
 use Rattle.sys_plan.specs.Plan.{PlanRec, incoming}
 use Rattle.serial_model.specs.Serial.{history}
 use Rattle.link_logs.specs.declared.answers.Got.{Got}
-use Rattle.link_logs.specs.Logs.{Finds, looked}
+use Rattle.link_logs.specs.Logs.{Finds, emptied, looked}
 use Rattle.link_logs.specs.Entries.{between}
-use Rattle.ahead_limits.specs.Horizon.{HorizonRec, seen_at}
+use Rattle.ahead_limits.specs.Horizon.{seen_at}
 use Rattle.node_runners.specs.Runner.{RunnerRec}
 use Rattle.run_drive.specs.declared.lane.Lane.{Lane}
-use Rattle.run_drive.specs.Stages.{seen_of}
 use Rattle.plan_stories.proofs.Stories.{between_is_history}
-use Rattle.run_drive.proofs.Steps.{Goes, own_runner, own_lane, own_seen, seen_here, seen_below, take_nothing, take_entries}
+use Rattle.run_drive.proofs.Steps.{Goes, own_runner, own_lane, read_is_seen, take_nothing, take_entries}
 use Rattle.run_drive.proofs.stage.Stage.take.Goals as goal
 
 -- a link end past the last has no link
@@ -32,6 +31,18 @@ heard_is : (entries : List Entry) (run plan : PlanRec) (number link got seen pub
 heard_is entries run plan number link got seen published to p l s t less is =
     is ∙ between_is_history run number got published (omega (arith, less)) ∙ (λ i. history (p i) (l i) (s i) (sym t i))
 
+pub hear-requires-clause-on : goal.hear-requires-clause-on
+hear-requires-clause-on c =
+    let plan = c.args.plan.now in
+    let stage = c.args.self.now in
+    let lane = c.index_mut-lane.result.now in
+    let runner = c.index_mut-runner.result.now in
+    let inside = below_eight c.args.end c.in-Some.link c.in-Some.ensures.none_past in
+    let found = subst (λ (g : Got). Finds (λ slot. history lane.log.run lane.log.number slot (suc slot)) lane.log lane.r.got g) c.in-Entries.is c.take.ensures.found in
+    let got_is = read_is_seen plan stage.limit.value stage.runners.items stage.lanes.items c.requires.at c.in-Some.link lane c.index_mut-lane.ensures.value c.in-Some.ensures.bound
+    c.args.node c.args.end runner c.index_mut-runner.ensures.value c.requires.there.0 (sym c.in-Some.ensures.value) inside in
+    omega (arith, got_is, found.0, found.2)
+
 pub hear-requires-clause-own : goal.hear-requires-clause-own
 hear-requires-clause-own c = λ link is.
     let plan = c.args.plan.now in
@@ -44,13 +55,10 @@ hear-requires-clause-own c = λ link is.
     let inside = below_eight c.args.end c.in-Some.link c.in-Some.ensures.none_past in
     let own = own_runner plan stage.limit.value runners lanes c.requires.at c.args.node runner c.index_mut-runner.ensures.value c.requires.there.0 in
     let its = own_lane plan stage.limit.value runners lanes c.requires.at c.in-Some.link lane c.index_mut-lane.ensures.value c.in-Some.ensures.bound in
-    let found = subst (λ (g : Got). Finds (λ slot. history lane.log.run lane.log.number slot (suc slot)) lane.log lane.r.got g) c.in-Entries.is c.in_ok-to.ensures.found in
+    let found = subst (λ (g : Got). Finds (λ slot. history lane.log.run lane.log.number slot (suc slot)) lane.log lane.r.got g) c.in-Entries.is c.take.ensures.found in
     let same_link : c.in-Some.link ≡ link = same_Some c.in-Some.link link (sym here ∙ (λ i. incoming (sym own.of_plan i) (sym own.node_is i) c.args.end) ∙ is) in
-    let got_is : lane.r.got ≡ seen_at runner.horizon c.args.end
-    = sym (own_seen plan stage.limit.value runners lanes c.requires.at c.in-Some.link lane c.index_mut-lane.ensures.value c.in-Some.ensures.bound)
-    ∙ sym (seen_here plan stage.limit.value (seen_of lanes) c.args.node c.args.end c.in-Some.link 0 here
-    (seen_below plan stage.limit.value runners lanes c.requires.at c.in-Some.link lane c.index_mut-lane.ensures.value c.in-Some.ensures.bound) inside)
-    ∙ ap (λ (h : HorizonRec). seen_at h c.args.end) (sym own.horizon_is) in
+    let got_is = read_is_seen plan stage.limit.value runners lanes c.requires.at c.in-Some.link lane c.index_mut-lane.ensures.value c.in-Some.ensures.bound
+    c.args.node c.args.end runner c.index_mut-runner.ensures.value c.requires.there.0 here inside in
     heard_is c.in-Entries.batch.entries lane.log.run runner.plan lane.log.number link lane.r.got (seen_at runner.horizon c.args.end) lane.log.published c.in-Entries.to
     (its.of_plan ∙ sym own.of_plan) (its.number_is ∙ same_link) got_is found.2 found.0 found.3
 
@@ -65,13 +73,13 @@ returns-in_ok-hear-in-Entries c =
     let runner = c.index_mut-runner.result.now in
     let step = Take c.args.node c.args.end in
     let line : PlayedStep = record { step = step; number = c.in-Entries.to; entries = [] } in
-    let found = subst (λ (g : Got). Finds (λ slot. history lane.log.run lane.log.number slot (suc slot)) lane.log lane.r.got g) c.in-Entries.is c.in_ok-to.ensures.found in
+    let found = subst (λ (g : Got). Finds (λ slot. history lane.log.run lane.log.number slot (suc slot)) lane.log lane.r.got g) c.in-Entries.is c.take.ensures.found in
     let goes = take_entries plan limit runners lanes c.requires.at c.in-Some.link lane c.index_mut-lane.ensures.value c.in-Some.ensures.bound
-    c.args.node c.args.end (sym c.in-Some.ensures.value) (below_eight c.args.end c.in-Some.link c.in-Some.ensures.none_past) c.in_ok-to.field-0 c.in-Entries.to found.2
+    c.args.node c.args.end (sym c.in-Some.ensures.value) (below_eight c.args.end c.in-Some.link c.in-Some.ensures.none_past) c.take.result c.in-Entries.to found.2
     runner c.index_mut-runner.ensures.value c.requires.there.0 c.in-Entries.to found.2 in
-    let taken : Lane = record lane { r = looked lane.log c.in_ok-to.field-0 lane.r } in
+    let taken : Lane = record lane { log = emptied lane.log; r = looked lane.log c.take.result lane.r } in
     let after : Lane = record { log = c.take.new.self; w = lane.w; r = c.take.new.r } in
-    let lane_is : taken ≡ after = λ i. record { log = sym c.in_ok-to.ensures.log i; w = lane.w; r = sym c.in_ok-to.ensures.end i } in
+    let lane_is : taken ≡ after = λ i. record { log = sym c.take.ensures.log i; w = lane.w; r = sym c.take.ensures.end i } in
     let heard = subst (λ (r : RunnerRec). Goes plan limit step runners lanes (set runners c.args.node r) (set lanes c.in-Some.link taken) line) (sym c.in_ok-hear-in-Entries.ensures.taken) goes in
     let whole = subst (λ (l : Lane). Goes plan limit step runners lanes (set runners c.args.node c.hear.new.runner) (set lanes c.in-Some.link l) line) lane_is heard in
     record { plays = record { same_limit = refl; is_at = whole.is_at; goes_on = whole.goes_on; tells = c.quiet_line.ensures.line ∙ whole.tells } }
@@ -86,12 +94,12 @@ returns-in-Nothing c =
     let lane = c.index_mut-lane.result.now in
     let step = Take c.args.node c.args.end in
     let line : PlayedStep = record { step = step; number = c.in-Nothing.published; entries = [] } in
-    let found = subst (λ (g : Got). Finds (λ slot. history lane.log.run lane.log.number slot (suc slot)) lane.log lane.r.got g) c.in-Nothing.is c.in_ok-to.ensures.found in
+    let found = subst (λ (g : Got). Finds (λ slot. history lane.log.run lane.log.number slot (suc slot)) lane.log lane.r.got g) c.in-Nothing.is c.take.ensures.found in
     let goes = take_nothing plan limit runners lanes c.requires.at c.in-Some.link lane c.index_mut-lane.ensures.value c.in-Some.ensures.bound
-    c.args.node c.args.end (sym c.in-Some.ensures.value) (below_eight c.args.end c.in-Some.link c.in-Some.ensures.none_past) c.in_ok-to.field-0 c.in-Nothing.published (found.2 ∙ sym found.0)
+    c.args.node c.args.end (sym c.in-Some.ensures.value) (below_eight c.args.end c.in-Some.link c.in-Some.ensures.none_past) c.take.result c.in-Nothing.published (found.2 ∙ sym found.0)
     found.0 in
-    let taken : Lane = record lane { r = looked lane.log c.in_ok-to.field-0 lane.r } in
+    let taken : Lane = record lane { log = emptied lane.log; r = looked lane.log c.take.result lane.r } in
     let after : Lane = record { log = c.take.new.self; w = lane.w; r = c.take.new.r } in
-    let lane_is : taken ≡ after = λ i. record { log = sym c.in_ok-to.ensures.log i; w = lane.w; r = sym c.in_ok-to.ensures.end i } in
+    let lane_is : taken ≡ after = λ i. record { log = sym c.take.ensures.log i; w = lane.w; r = sym c.take.ensures.end i } in
     let whole = subst (λ (l : Lane). Goes plan limit step runners lanes runners (set lanes c.in-Some.link l) line) lane_is goes in
     record { plays = record { same_limit = refl; is_at = whole.is_at; goes_on = whole.goes_on; tells = c.quiet_line-in-Nothing.ensures.line ∙ whole.tells } }
