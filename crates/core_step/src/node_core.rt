@@ -131,9 +131,7 @@ impl Core {
             Emissions::clear(out);
             return;
         }
-        if !self.acts(arrives, changed, slot, arrivals, pins, out) {
-            self.find_rest(slot);
-        }
+        self.acts(arrives, changed, slot, arrivals, pins, out);
     }
 
     // Goes over a slot in which nothing arrives, where it is known to be quiet in it: the answer tells whether it was.
@@ -156,7 +154,7 @@ impl Core {
         true
     }
 
-    // A slot, phase by phase. The answer tells whether a thread issued.
+    // A slot, phase by phase.
     fn acts(
         &mut self,
         arrives: bool,
@@ -165,7 +163,7 @@ impl Core {
         arrivals: &Arrivals,
         pins: &PinView,
         out: &mut Emissions,
-    ) -> bool
+    )
         requires before { SlotsBefore self.old slot }
         requires levels { LevelsFit pins.now.level }
         requires arrives { arrives ≡ false → NothingArrives arrivals.now }
@@ -180,30 +178,45 @@ impl Core {
         self.units.edges(slot, pins, high, out);
         self.network
             .bring(&mut self.units, arrives, slot, arrivals, out);
-        let issued = self
-            .units
+        self.units
             .issue(&self.program, slot, pins, &self.network, out);
         self.levels.note(changed, pins);
-        issued
     }
 
-    // Looks how long it is quiet after a slot in which no thread issued.
-    fn find_rest(&mut self, slot: u32)
-        ensures { self.new ≡ self.old }
+    /// Looks how long the core is quiet from a slot on, before which it stands: `slot_where` is short in these slots then, and `rests_to`
+    /// tells the last. That costs little where it is known, and where some thread may issue in that slot. It takes no memory. See
+    /// docs/QUIET_SLOTS.md.
+    #[inline]
+    pub fn find_rest(&mut self, from: u32)
+        ensures unchanged { self.new ≡ self.old }
     {
-        if let Some(from) = slot.checked_add(1) {
+        if !self.rest.begins(from) && !self.may_issue(from) {
             let until = self.quiet_to(from, u32::MAX);
             self.rest = Rest { from, until };
         }
     }
 
+    /// The slot up to which the core is known to be quiet from a slot on, where nothing arrives until then: that slot itself, where
+    /// `find_rest` found nothing, or the core does not stand before it. It takes no memory. See docs/QUIET_SLOTS.md.
+    #[inline]
+    pub fn rests_to(&self, from: u32) -> u32
+        ensures on { from ≤ result }
+        ensures quiet { from < result → IsQuietTo self.now from result }
+    {
+        if self.rest.begins(from) {
+            self.rest.until
+        } else {
+            from
+        }
+    }
+
     /// Whether some thread may issue in a slot, where nothing changes until then. It takes no memory. See docs/QUIET_SLOTS.md.
     #[inline]
-    pub fn may_issue(&self, slot: u32) -> bool
-        requires slot { slot < 2 ^ 32 - 1 }
-        ensures value { result ≡ some_eligible self.now.core slot }
+    pub fn may_issue(&mut self, slot: u32) -> bool
+        ensures value { result ≡ some_eligible self.old.core slot }
+        ensures unchanged { self.new ≡ self.old }
     {
-        self.units.eligible_from(slot, slot + 1) == slot
+        self.units.may_issue(slot)
     }
 
     /// The first slot from `from` on and before `bound` in which the node stirs where nothing arrives until then: something is on

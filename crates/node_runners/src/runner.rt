@@ -156,7 +156,7 @@ impl NodeRunner {
         idle_where_not_busy();
         let from = self.clock;
         // In most busy slots a thread may issue, which takes less to see than what arrives and what else goes on.
-        if from < u32::MAX && self.seat.may_issue(from) {
+        if self.seat.may_issue(from) {
             return 0;
         }
         let stop = self.horizon.clock_after(from, u32::MAX);

@@ -83,11 +83,30 @@ impl Seat {
 
     /// Whether some thread of the node may issue in a slot, where nothing changes until then. See docs/QUIET_SLOTS.md.
     #[inline]
-    pub fn may_issue(&self, slot: u32) -> bool
-        requires slot { slot < 2 ^ 32 - 1 }
-        ensures value { result ≡ some_eligible self.now.core.core slot }
+    pub fn may_issue(&mut self, slot: u32) -> bool
+        ensures value { result ≡ some_eligible self.old.core.core slot }
+        ensures unchanged { self.new ≡ self.old }
     {
         self.core.may_issue(slot)
+    }
+
+    /// Looks how long the node is quiet from a slot on, before which it stands, so that its slots are short there, and `rests_to` tells.
+    /// See docs/QUIET_SLOTS.md.
+    #[inline]
+    pub fn find_rest(&mut self, from: u32)
+        ensures unchanged { self.new ≡ self.old }
+    {
+        self.core.find_rest(from);
+    }
+
+    /// The slot up to which the node is known to be quiet from a slot on, where nothing arrives until then: that slot itself, where
+    /// nothing is known. See docs/QUIET_SLOTS.md.
+    #[inline]
+    pub fn rests_to(&self, from: u32) -> u32
+        ensures on { from ≤ result }
+        ensures quiet { from < result → IsQuietTo self.now.core from result }
+    {
+        self.core.rests_to(from)
     }
 
     /// The first slot from `from` on and before `bound` in which the node stirs where nothing arrives until then, and `bound` where it

@@ -20,12 +20,15 @@ any_alike p q same (k ∷ ks) all = ap₂ (λ a b. a || b) (same k all.0) (any_a
 some_alike : (p q : ℕ → Bool) → ((k : ℕ) → k < 8 → p k ≡ q k) → list_any p thread_numbers ≡ list_any q thread_numbers
 some_alike p q same = any_alike p q same thread_numbers (omega arith, (omega arith, (omega arith, (omega arith, (omega arith, (omega arith, (omega arith, (omega arith, tt))))))))
 
+-- some thread may issue where one of those that are able is rested
+pub by_mask : (core : CoreRec) (able slot : ℕ) → ((k : ℕ) → k < 8 → in_mask able k ≡ is_able core k slot) → some_may_pick able core.slots.last slot ≡ some_eligible core slot
+by_mask core able slot are =
+    some_alike (may_pick able core.slots.last slot) (λ k. eligible core k slot) (λ k h. ap (λ its. its && is_rested (last_of core k) slot) (are k h))
+
 module _ (core : CoreRec) (able : Able) (slot : ℕ) (known : AreAble core able) (at : IsFor able slot) where
-  -- some thread may issue where one of those that are able is rested
+  -- some thread may issue where one of those that are known to be able is rested
   pub by_able : some_may_pick able.threads core.slots.last slot ≡ some_eligible core slot
-  by_able =
-      some_alike (may_pick able.threads core.slots.last slot) (λ k. eligible core k slot)
-      (λ k h. ap (λ its. its && is_rested (last_of core k) slot) (known.at slot k at h))
+  by_able = by_mask core able.threads slot (λ k. known.at slot k at)
 
   -- and none may where none is able
   pub none_able : able.threads ≡ 0 → some_eligible core slot ≡ false

@@ -31,8 +31,8 @@ use xs_model::traps::ILLEGAL_PC;
 use xs_model::{Event, Happen, Outcome, PinView, Run, Thread};
 
 impl Processor {
-    /// At most one issue, by the thread that is picked in a slot. What happens is put after the events of `out`. The answer tells
-    /// whether a thread issued. See docs/MACHINE.md.
+    /// At most one issue, by the thread that is picked in a slot. What happens is put after the events of `out`. See
+    /// docs/MACHINE.md.
     #[inline]
     pub fn issue<H: Holders>(
         &mut self,
@@ -41,21 +41,16 @@ impl Processor {
         pins: &PinView,
         holders: &H,
         out: &mut Emissions,
-    ) -> bool
+    )
         requires room { length out.old.events + ISSUE_EVENTS ≤ EVENT_ROOM }
         requires levels { LevelsFit pins.now.level }
-        ensures issued { result ≡ is_some (picked self.old slot) }
         ensures units { (here : Setting) → IsHere program.now.id slot pins.now (H.busy holders.now) here →
             self.new ≡ (issued program.now.code here self.old).core }
         ensures events { (here : Setting) → IsHere program.now.id slot pins.now (H.busy holders.now) here →
             out.new ≡ and_happened out.old slot (issued program.now.code here self.old).happened }
     {
-        match self.picked(slot) {
-            Some(k) => {
-                self.issue_by(k, program, slot, pins, holders, out);
-                true
-            }
-            None => false,
+        if let Some(k) = self.picked(slot) {
+            self.issue_by(k, program, slot, pins, holders, out);
         }
     }
 

@@ -4,6 +4,7 @@ ghost use Rattle.xs_base.specs.declared.numbers.TheConstants.{THREADS};
 ghost use Rattle.xs_model.specs.Picks.{is_able, picked};
 ghost use Rattle.xs_model.specs.Masks.{in_mask};
 ghost use Rattle.xs_model.specs.Choices.{choice};
+ghost use Rattle.quiet_model.specs.Stirs.{some_eligible};
 ghost use Rattle.event_unit.specs.Ready.{choice_of};
 ghost use Rattle.core_waits.specs.Parts.{IsFor, AreAble};
 
@@ -21,6 +22,16 @@ impl Processor {
     {
         let able = self.able(slot);
         pick(&self.units, able, slot)
+    }
+
+    /// Whether some thread may issue in a slot. It costs little where it is known which threads are able. It takes no memory.
+    #[inline]
+    pub fn may_issue(&mut self, slot: u32) -> bool
+        ensures value { result ≡ some_eligible self.old slot }
+        ensures unchanged { self.new ≡ self.old }
+    {
+        let able = self.able(slot);
+        some_may_issue(&self.units, able, slot)
     }
 
     // The threads that may issue in a slot but for the four slots of rest: bit k for thread k.
@@ -65,6 +76,15 @@ fn pick(units: &Units, able: u8, slot: u32) -> Option<u8>
     ensures within { IfSome result (λ k. k < THREADS) }
 {
     units.slots.pick(able, slot)
+}
+
+// Whether some thread may issue in a slot, where these are able.
+#[inline]
+fn some_may_issue(units: &Units, able: u8, slot: u32) -> bool
+    requires able { (k : ℕ) → k < THREADS → in_mask able k ≡ is_able units.now k slot }
+    ensures value { result ≡ some_eligible units.now slot }
+{
+    units.slots.some_rested(able, slot)
 }
 
 // Which threads are able in a slot, found anew.

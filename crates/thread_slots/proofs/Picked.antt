@@ -9,16 +9,16 @@ use Rattle.thread_slots.specs.Able.{may_pick}
 use Rattle.thread_slots.specs.Turns.{rested_from, turn_of, last_in, AreTurns, IsLeast}
 use Rattle.thread_slots.proofs.Best.{IsBestAt, rest_at, same_best, pick_at, pick_none, earlier_from, not_earlier_from}
 
-rested_if : (last : Option ℕ) (slot : ℕ) → rested_from last ≤ slot → is_rested last slot ≡ true
+pub rested_if : (last : Option ℕ) (slot : ℕ) → rested_from last ≤ slot → is_rested last slot ≡ true
 rested_if None slot h = refl
 rested_if (Some last) slot h = le-leb (last + 4) slot h
 
-not_rested_if : (last : Option ℕ) (slot : ℕ) → slot < rested_from last → is_rested last slot ≡ false
+pub not_rested_if : (last : Option ℕ) (slot : ℕ) → slot < rested_from last → is_rested last slot ≡ false
 not_rested_if None slot h = absurd (omega arith)
 not_rested_if (Some last) slot h = lt-leb (last + 4) slot h
 
 -- the turn of a thread, by its last issue
-turn_at : (turns : List ℕ) (k : ℕ) → AreTurns turns → k < 8 → get_or turns k 0 ≡ 8 * rest_at (map last_in turns) k + k
+pub turn_at : (turns : List ℕ) (k : ℕ) → AreTurns turns → k < 8 → get_or turns k 0 ≡ 8 * rest_at (map last_in turns) k + k
 turn_at turns k are h =
     (are.each k (omega (arith, are.threads))).its ∙ ap (turn_of k) (sym (get_or-map last_in turns k 0))
 

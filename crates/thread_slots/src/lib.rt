@@ -3,7 +3,7 @@
 //! See docs/MACHINE.md.
 #![tactic(auto)]
 
-ghost use Rattle.std.specs.Prelude.{◌≡◌, ◌≢◌, ◌<◌, ◌≤◌, ◌↔◌, ℕ, Bool, true, false, List, Option, Some, None, length, replicate, slice_index_or, slice_set, IfSome};
+ghost use Rattle.std.specs.Prelude.{◌≡◌, ◌≢◌, ◌<◌, ◌≤◌, ◌↔◌, ℕ, Bool, true, false, List, Option, Some, None, length, replicate, slice_index, slice_index_or, slice_set, IfSome};
 ghost use Rattle.xs_base.specs.declared.numbers.TheConstants.{THREADS};
 ghost use Rattle.xs_model.specs.Record.{never_divided};
 ghost use Rattle.xs_model.specs.Waits.{division_is_over};
@@ -112,6 +112,14 @@ impl Slots {
         rested.max(u64::from(from)).min(u64::from(bound)) as u32
     }
 
+    /// Whether a thread of a mask is rested in a slot. Bit k of `mask` is that of thread k. It takes no memory. See docs/MACHINE.md.
+    #[inline]
+    pub fn some_rested(&self, mask: u8, slot: u32) -> bool
+        ensures value { result ≡ some_may_pick mask self.now.last slot }
+    {
+        some_turn_before(&self.turns, mask, 8 * (u64::from(slot) + 1))
+    }
+
     /// Whether the core's divider is free in a slot: false exactly where the core divided last in this slot, in one of the 31
     /// before it, or in a later one. It takes no memory. See docs/MACHINE.md.
     #[inline]
@@ -163,6 +171,23 @@ pub fn with_able(able: u8, th: u8) -> u8
     ensures others { (k : ℕ) → k ≢ th → in_mask result k ≡ in_mask able k }
 {
     able | (1 << th)
+}
+
+/// Whether the turn of some thread in a mask is less than a number. It goes no further than the first.
+#[inline]
+fn some_turn_before(turns: &[u64; 8], mask: u8, end: u64) -> bool
+    ensures some { result ≡ true → (k : ℕ) × (k < THREADS) × (in_mask mask k ≡ true) × (slice_index turns.now k < end) }
+    ensures none { result ≡ false → (k : ℕ) → k < THREADS → in_mask mask k ≡ true → end ≤ slice_index turns.now k }
+{
+    let mut left = mask;
+    while left != 0 {
+        let k = left.trailing_zeros();
+        if turns[k as usize] < end {
+            return true;
+        }
+        left &= left - 1;
+    }
+    false
 }
 
 /// The least turn of the threads in a mask, `u64::MAX` where there is none. Both ways lead to the same: where only the first
