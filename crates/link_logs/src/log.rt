@@ -173,7 +173,7 @@ impl<S: Story> Log<S> {
         ensures err_batch { OnErr result (batch.new ≡ batch.old) }
     {
         let (tokens, credits) = self.totals_at(upto, batch);
-        put_after(self.alloc, &mut self.entries, batch)?;
+        put_after(&mut self.entries, batch)?;
         self.tokens = tokens;
         self.credits = credits;
         self.published = upto;
@@ -254,7 +254,7 @@ impl<S: Story> Log<S> {
 
 // Puts the entries of a batch after those that are held, and empties it. Where none are held the two are exchanged, and nothing is
 // copied. The error is want of memory, and changes nothing.
-fn put_after(alloc: Global, held: &mut Batch, batch: &mut Batch) -> Result<(), AllocError>
+fn put_after(held: &mut Batch, batch: &mut Batch) -> Result<(), AllocError>
     ensures held { OnOk result (held.new.entries ≡ held.old.entries ++ batch.old.entries) }
     ensures batch { OnOk result (batch.new.entries ≡ []) }
     ensures memory { IsErr result → held.old.entries ≢ [] }
@@ -269,7 +269,7 @@ fn put_after(alloc: Global, held: &mut Batch, batch: &mut Batch) -> Result<(), A
     for e in batch.entries() {
         held.add(*e);
     }
-    *batch = Batch::new(alloc);
+    batch.clear();
     Ok(())
 }
 

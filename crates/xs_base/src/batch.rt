@@ -1,5 +1,5 @@
 //! `Batch`, entries of a link in a row.
-ghost use Rattle.std.specs.Prelude.{◌≡◌, ◌+◌, ◌≤◌, [], ◌∷◌, ◌++◌, OnOk, OnErr};
+ghost use Rattle.std.specs.Prelude.{◌≡◌, ◌+◌, ◌≤◌, [], ◌∷◌, ◌++◌, length, OnOk, OnErr};
 
 use crate::entry::Entry;
 use std::alloc::{AllocError, Global};
@@ -61,6 +61,15 @@ impl Batch {
         // It cannot fail: the room is there.
         let _ = self.entries.push(e);
         self.spare -= 1;
+    }
+
+    /// No entries any more, and room for those that were there as well. It takes no memory.
+    pub fn clear(&mut self)
+        ensures entries { self.new.entries ≡ [] }
+        ensures spare { self.new.spare ≡ self.old.spare + length self.old.entries }
+    {
+        self.spare += self.entries.len();
+        self.entries.clear();
     }
 
     /// The entries, in order.
