@@ -1,7 +1,7 @@
 -- In which slots some thread may issue, by the threads that are able there.
 use Rattle.std.specs.Prelude.{Bool, false, ◌&&◌, ◌||◌, List, [], ◌∷◌}
 use Rattle.std.specs.List.{list_any}
-use Rattle.std.proofs.Common.{◌≡◌, ◌≤◌, ◌<◌, ◌+◌, ℕ, refl, ap, ap₂, sym, ◌∙◌, eqb, arith}
+use Rattle.std.proofs.Common.{◌≡◌, ◌<◌, ℕ, refl, ap, ap₂, sym, ◌∙◌, eqb, arith}
 use Rattle.std.specs.List.{AllByRecursion}
 use Rattle.std.proofs.lemmas.Nat.Bits.{bit_at-zero}
 use Rattle.xs_model.specs.Masks.{in_mask}

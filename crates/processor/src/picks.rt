@@ -81,8 +81,8 @@ fn pick(units: &Units, able: u8, slot: u32) -> Option<u8>
 // Whether some thread may issue in a slot, where these are able.
 #[inline]
 fn some_may_issue(units: &Units, able: u8, slot: u32) -> bool
-    requires able { (k : ℕ) → k < THREADS → in_mask able k ≡ is_able units.now k slot }
-    ensures value { result ≡ some_eligible units.now slot }
+    requires { (k : ℕ) → k < THREADS → in_mask able k ≡ is_able units.now k slot }
+    ensures { result ≡ some_eligible units.now slot }
 {
     units.slots.some_rested(able, slot)
 }
