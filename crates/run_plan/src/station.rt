@@ -18,7 +18,8 @@ pub(crate) struct Station {
 }
 
 impl Station {
-    /// One slot of the node, with what comes to it: what arrives by its arcs, and what its pins show from outside. Its events are kept, in room that was made for them.
+    /// One slot of the node, with what comes to it: what arrives by its arcs, and what its pins show from outside. Its events are kept,
+    /// in room that was made for them. Then it is looked how long the node is quiet, so that its quiet slots are short.
     pub(crate) fn step(&mut self, tracks: &[Track], slot: u32)
         requires slot { slot < 2 ^ 32 - 1 }
         requires station { IsStation slot (length tracks.now) self.old }
@@ -32,6 +33,7 @@ impl Station {
             let nothing = self.incoming.nothing();
             self.seat
                 .step(slot, false, nothing, changed, self.pins.view());
+            self.seat.find_rest(slot + 1);
         }
     }
 
@@ -49,6 +51,7 @@ impl Station {
         let changed = self.pins.look(slot);
         self.seat
             .step(slot, true, &arrivals, changed, self.pins.view());
+        self.seat.find_rest(slot + 1);
         self.due = false;
     }
 }

@@ -1,6 +1,7 @@
 use Rattle.std.proofs.Common.{Bool, cond, sym, ap, subst, refl, ◌∙◌}
 use Rattle.core_step.specs.Core.{NothingArrives}
 use Rattle.core_step.specs.PinLevels.{from_outside}
+use Rattle.node_seats.specs.Seats.{StepsOn}
 use Rattle.node_seats.proofs.Seats.{noted-still}
 use Rattle.run_plan.specs.declared.inbound.TheConstants.{NOTHING}
 use Rattle.run_plan.specs.Inbound.{arrivals_by}
@@ -20,4 +21,5 @@ returns-else-self c =
     let before = c.args.self.now in
     let taken = c.nothing-nothing.ensures ∙ ap (λ (due : Bool). cond due (arrivals_by c.args.tracks.now before.incoming.links) NOTHING) (sym c.if-self.false) in
     let look = c.look-changed.ensures in
-    record { steps = station_steps c.args.slot c.args.tracks.now before _ _ c.view.result.now refl look.script look.number look.shown taken c.view.ensures look.view c.step.ensures.steps }
+    let steps = subst (StepsOn c.args.slot c.nothing-nothing.result.now c.view.result.now before.seat) (sym c.find_rest.ensures.unchanged) c.step.ensures.steps in
+    record { steps = station_steps c.args.slot c.args.tracks.now before _ _ c.view.result.now refl look.script look.number look.shown taken c.view.ensures look.view steps }

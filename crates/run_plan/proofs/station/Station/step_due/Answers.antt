@@ -1,5 +1,6 @@
-use Rattle.std.proofs.Common.{Bool, cond, sym, ap, refl, ◌∙◌}
+use Rattle.std.proofs.Common.{Bool, cond, sym, ap, subst, refl, ◌∙◌}
 use Rattle.core_step.specs.PinLevels.{from_outside}
+use Rattle.node_seats.specs.Seats.{StepsOn}
 use Rattle.node_seats.proofs.Seats.{noted-still}
 use Rattle.run_plan.specs.declared.inbound.TheConstants.{NOTHING}
 use Rattle.run_plan.specs.Inbound.{arrivals_by}
@@ -15,4 +16,5 @@ returns c =
     let before = c.args.self.now in
     let taken = c.arrivals-arrivals.ensures ∙ ap (λ (due : Bool). cond due (arrivals_by c.args.tracks.now before.incoming.links) NOTHING) (sym c.requires.due) in
     let look = c.look-changed.ensures in
-    record { steps = station_steps c.args.slot c.args.tracks.now before _ _ c.view.result.now refl look.script look.number look.shown taken c.view.ensures look.view c.step.ensures.steps }
+    let steps = subst (StepsOn c.args.slot c.arrivals-arrivals.result c.view.result.now before.seat) (sym c.find_rest.ensures.unchanged) c.step.ensures.steps in
+    record { steps = station_steps c.args.slot c.args.tracks.now before _ _ c.view.result.now refl look.script look.number look.shown taken c.view.ensures look.view steps }
