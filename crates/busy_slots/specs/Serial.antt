@@ -7,9 +7,13 @@ use Rattle.step_model.specs.Start.{fixed_of}
 use Rattle.serial_model.specs.Serial.{serial, pins_at, history}
 use Rattle.locality_laws.specs.Locality.{node_in, events_in}
 use Rattle.quiet_model.specs.Slots.{NoneBefore, IsFirst}
-use Rattle.quiet_laws.specs.Undisturbed.{undisturbed_until}
+use Rattle.quiet_laws.specs.Undisturbed.{undisturbed_until, IsWhole}
 use Rattle.quiet_laws.specs.Quiet.{StirsFirst}
 use Rattle.busy_slots.specs.Busy.{something_arrives, is_busy, busy_count}
+
+-- each node has all its ports before every slot, and notes for each thread the slot of its last issue, or never
+abbrev pub NodesAreWhole : Type 0
+NodesAreWhole = (plan : PlanRec) (n : Position) (slot : Slot) → IsWhole (node_in (serial plan slot) n).core
 
 -- the node at a position went from one slot to another as one at which nothing arrives, nothing happened, and it sent nothing
 pub record WasIdle (plan : PlanRec) (n : Position) (node : NodePlan) (from to : Slot) : Type 0 where

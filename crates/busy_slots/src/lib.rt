@@ -1,13 +1,20 @@
 //! The busy slots of the nodes of a system, and what lies between them. See docs/QUIET_SLOTS.md.
 #![tactic(auto)]
 
-ghost use Rattle.busy_slots.specs.Serial.{IdleWhereNotBusy, QuietSlotsAreNotCounted, FirstBusySlot};
+ghost use Rattle.busy_slots.specs.Serial.{NodesAreWhole, IdleWhereNotBusy, QuietSlotsAreNotCounted, FirstBusySlot};
 ghost use Rattle.busy_slots.specs.Arrivals.{NothingByAnyEnd, SomethingByOneEnd, WaitingStays, FirstBusyByBoth, NoneIsCountedAtStart, BusySlotIsCounted};
 
 use locality_laws::{links_tell_ahead, nodes_are_local};
 use quiet_laws::quiet_slots_only_count;
 use quiet_model::first_slots;
 use step_laws::slot_has_few_events;
+
+/// Each node of the serial machine has before every slot all that a node has. It does nothing.
+pub fn nodes_are_whole()
+    ensures whole { NodesAreWhole }
+{
+    slot_has_few_events();
+}
 
 /// Between its busy slots a node of the serial machine is one at which nothing arrives; nothing happens, it sends nothing, and none
 /// of these slots is counted. It does nothing.
