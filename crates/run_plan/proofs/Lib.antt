@@ -6,3 +6,6 @@ pub mod Steps
 pub mod Starts
 pub mod Arrivals
 pub mod Stations
+pub mod Rested
+pub mod Waiting
+pub mod Skipped

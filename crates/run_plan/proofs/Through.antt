@@ -1,5 +1,5 @@
 -- Passes over lists.
-use Rattle.std.proofs.Common.{◌≡◌, ℕ, zero, suc, ◌+◌, ◌<◌, ◌≤◌, List, [], ◌∷◌, length, get_or, refl, sym, ap, subst, arith}
+use Rattle.std.proofs.Common.{◌≡◌, ℕ, zero, suc, ◌+◌, ◌<◌, ◌≤◌, List, [], ◌∷◌, length, take, get_or, refl, sym, ap, subst, arith}
 use Rattle.std.specs.Prelude.{slice_set}
 use Rattle.std.specs.List.{AllByRecursion, AllZip}
 use Rattle.run_plan.specs.Passes.{Through}
@@ -88,3 +88,32 @@ through-to R S w zero xs ys h = h
 through-to R S w (suc i) [] ys h = absurd h
 through-to R S w (suc i) (x ∷ xs) [] h = absurd h
 through-to R S w (suc i) (x ∷ xs) (y ∷ ys) h = (w x y h.0, through-to R S w i xs ys h.1)
+
+-- ---- The first places of a list
+
+-- one more of them
+first-more : {X : Type 0} (P : X → Type 0) (i : ℕ) (xs : List X) (d : X) → AllByRecursion P (take i xs) → i < length xs → P (get_or xs i d) → AllByRecursion P (take (i + 1) xs)
+first-more P i [] d all h p = absurd (omega (arith, h))
+first-more P zero (x ∷ xs) d all h p = (p, tt)
+first-more P (suc i) (x ∷ xs) d all h p =
+    let next : suc i + 1 ≡ suc (i + 1) = omega arith in
+    rw next (all.0, first-more P i xs d all.1 (omega (arith, h)) p)
+
+pub first-item : {X : Type 0} (P : X → Type 0) (i : ℕ) (xs : List X) (x : X) → AllByRecursion P (take i xs) → i < length xs → x ≡ get_or xs i x → P x → AllByRecursion P (take (i + 1) xs)
+first-item P i xs x all h is p = first-more P i xs x all h (subst P is p)
+
+-- all of them
+pub first-all : {X : Type 0} (P : X → Type 0) (i : ℕ) (xs : List X) → AllByRecursion P (take i xs) → length xs ≤ i → AllByRecursion P xs
+first-all P i [] all h = tt
+first-all P zero (x ∷ xs) all h = absurd (omega (arith, h))
+first-all P (suc i) (x ∷ xs) all h = (all.0, first-all P i xs all.1 (omega (arith, h)))
+
+pub all-first : {X : Type 0} (P : X → Type 0) (i : ℕ) (xs : List X) → AllByRecursion P xs → AllByRecursion P (take i xs)
+all-first P zero xs all = tt
+all-first P (suc i) [] all = tt
+all-first P (suc i) (x ∷ xs) all = (all.0, all-first P i xs all.1)
+
+-- what holds of each element, where two other things do
+pub all-both : {X : Type 0} (P Q R : X → Type 0) → ((x : X) → P x → Q x → R x) → (xs : List X) → AllByRecursion P xs → AllByRecursion Q xs → AllByRecursion R xs
+all-both P Q R f [] p q = tt
+all-both P Q R f (x ∷ xs) p q = (f x p.0 q.0, all-both P Q R f xs p.1 q.1)

@@ -2,6 +2,7 @@ pub mod Tracks
 pub mod Inbound
 pub mod Stations
 pub mod Passes
+pub mod Quiet
 pub mod Run
 pub mod Starts
 pub mod Machine

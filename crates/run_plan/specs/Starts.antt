@@ -1,5 +1,5 @@
 -- The nodes and the arcs of a plan as they start.
-use Rattle.std.specs.Prelude.{ℕ, ◌≡◌, ◌+◌, Some, List, [], ◌∷◌, length, map, slice_get}
+use Rattle.std.specs.Prelude.{ℕ, ◌≡◌, ◌+◌, Some, List, [], ◌∷◌, map, slice_get}
 use Rattle.xs_base.specs.Numbers.{Position, EndNumber}
 use Rattle.sys_plan.specs.declared.NodePlan.{NodePlan}
 use Rattle.sys_plan.specs.Plan.{PlanRec, Arc, arc_count, gaps_of}

@@ -4,6 +4,7 @@
 mod inbound;
 mod machine;
 mod passes;
+mod quiet;
 mod station;
 mod track;
 mod wiring;

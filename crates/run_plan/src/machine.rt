@@ -8,6 +8,7 @@ ghost use Rattle.core_step.specs.Core.{StandsAt};
 ghost use Rattle.xs_model.specs.Record.{first_node};
 
 use crate::passes::pass_slot;
+use crate::quiet::pass_quiet;
 use crate::station::Station;
 use crate::track::Track;
 use crate::wiring::{stations_of, tracks_of};
@@ -81,9 +82,23 @@ impl SerialMachine {
     {
         // By the clock alone: with a range beside it, another number would be counted up in every slot.
         while self.clock < limit {
-            self.slot()?;
+            self.pass_quiet_slots(limit);
+            if self.clock < limit {
+                self.slot()?;
+            }
         }
         Ok(())
+    }
+
+    // Goes over the slots before a limit in which nothing happens anywhere, as far as that is known: there may be none.
+    #[inline]
+    fn pass_quiet_slots(&mut self, limit: u32)
+        requires before { self.old.now ≤ limit }
+        ensures plan { self.new.plan ≡ self.old.plan }
+        ensures on { self.old.now ≤ self.new.now }
+        ensures within { self.new.now ≤ limit }
+    {
+        self.clock = pass_quiet(&mut self.stations, &self.tracks, self.clock, limit);
     }
 
     /// How many slots have passed.

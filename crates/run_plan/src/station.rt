@@ -2,6 +2,7 @@
 ghost use Rattle.std.specs.Prelude.{◌≡◌, ◌-◌, ◌^◌, ◌<◌, true, length};
 ghost use Rattle.node_seats.specs.Seats.{HasEventRoom};
 ghost use Rattle.run_plan.specs.Stations.{IsStation, StationSteps};
+ghost use Rattle.run_plan.specs.Quiet.{MaySkip, StationSkips};
 
 use crate::inbound::Inbound;
 use crate::track::Track;
@@ -53,5 +54,17 @@ impl Station {
             .step(slot, true, &arrivals, changed, self.pins.view());
         self.seat.find_rest(slot + 1);
         self.due = false;
+    }
+
+    /// Goes over the slots from one on and before another at once: nothing arrives in them, and the node is quiet. It is looked then how
+    /// long it is quiet on.
+    pub(crate) fn skip(&mut self, from: u32, to: u32)
+        requires some { from < to }
+        requires quiet { MaySkip from to self.old }
+        ensures skips { StationSkips from to self.old self.new }
+    {
+        self.pins.look(to - 1);
+        self.seat.skip(from, to, self.pins.view());
+        self.seat.find_rest(to);
     }
 }

@@ -4,10 +4,11 @@ ghost use Rattle.xs_base.specs.declared.numbers.TheConstants.{LINK_ENDS};
 ghost use Rattle.serial_model.specs.Serial.{sent_by};
 ghost use Rattle.crossings.specs.Crossings.{due_of, seen_of, no_crossing, entry_count};
 ghost use Rattle.run_plan.specs.Tracks.{IsTrack, GoesOn};
+ghost use Rattle.run_plan.specs.Quiet.{ArrivesAfter};
 
 use crossings::{Crossing, due};
 use trace_lines::Emissions;
-use xs_base::Batch;
+use xs_base::{Batch, Entry};
 
 /// An arc: it leads from a link end of the node at a position to the node at another, with a delay in slots.
 #[derive(Drop)]
@@ -94,5 +95,38 @@ impl Track {
         self.pass();
         self.append(slot, sent);
         self.see(slot + 1)
+    }
+
+    /// The last slot up to a limit in which, and before which from a slot on, nothing arrives. It is before that slot where something
+    /// arrives in it.
+    pub(crate) fn nothing_arrives_to(&self, from: u32, limit: u32) -> u32
+        requires track { IsTrack from self.now }
+        ensures within { result ≤ limit }
+        ensures quiet { from ≤ result → ArrivesAfter result self.now }
+    {
+        match self.next_entry() {
+            None => limit,
+            Some(e) => before(u64::from(e.slot) + u64::from(self.delay), limit),
+        }
+    }
+
+    // The first entry that has not arrived before this slot.
+    fn next_entry(&self) -> Option<Entry>
+        ensures { result ≡ slice_get self.now.history.entries self.now.first }
+    {
+        self.history.entries().get(self.first).copied()
+    }
+}
+
+// The last slot before another, and up to a limit.
+fn before(slot: u64, limit: u32) -> u32
+    requires some { 1 ≤ slot }
+    ensures within { result ≤ limit }
+    ensures before { result < slot }
+{
+    if slot <= u64::from(limit) {
+        (slot - 1) as u32
+    } else {
+        limit
     }
 }

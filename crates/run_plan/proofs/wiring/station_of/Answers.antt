@@ -1,4 +1,4 @@
-use Rattle.std.proofs.Common.{◌<◌, arith}
+use Rattle.std.proofs.Common.{arith}
 use Rattle.run_plan.proofs.wiring.station_of.Goals as goal
 
 pub returns : goal.returns

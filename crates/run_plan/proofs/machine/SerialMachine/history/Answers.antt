@@ -1,4 +1,4 @@
-use Rattle.std.proofs.Common.{◌<◌, length, ap, ◌∙◌, arith, []}
+use Rattle.std.proofs.Common.{◌<◌, ap, ◌∙◌, arith, []}
 use Rattle.std.specs.Prelude.{slice_index_or}
 use Rattle.sys_plan.specs.Plan.{arcs, arc_count}
 use Rattle.serial_model.specs.Serial.{serial}

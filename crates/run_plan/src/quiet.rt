@@ -1,0 +1,97 @@
+//! The slots in which nothing happens anywhere, gone over at once. See docs/QUIET_SLOTS.md.
+ghost use Rattle.std.specs.Prelude.{◌≡◌, ◌+◌, ◌-◌, ◌^◌, ◌<◌, ◌≤◌, length};
+ghost use Rattle.std.specs.List.{AllByRecursion, AllZip};
+ghost use Rattle.sys_plan.specs.Plan.{PlanRec};
+ghost use Rattle.serial_model.specs.Serial.{serial};
+ghost use Rattle.run_plan.specs.Stations.{IsStation};
+ghost use Rattle.run_plan.specs.Tracks.{IsTrack};
+ghost use Rattle.run_plan.specs.Passes.{IsReadyTrack};
+ghost use Rattle.run_plan.specs.Quiet.{RestsTo, ArrivesAfter, IsQuietSystem, MaySkip, StationSkips};
+ghost use Rattle.run_plan.specs.Run.{AreReady};
+
+use crate::station::Station;
+use crate::track::Track;
+use busy_slots::nodes_are_whole;
+use quiet_laws::{first_stirring_slot, quiet_slots_only_count};
+
+/// Goes over the slots from one on and before a limit in which nothing happens anywhere, as far as that is known. The answer is the
+/// slot before which all then stand, which may be the first. Where some node may do something in the first, that takes no more than
+/// to come to such a node.
+#[inline]
+pub(crate) fn pass_quiet(stations: &mut [Station], tracks: &[Track], from: u32, limit: u32) -> u32
+    requires before { from ≤ limit }
+    requires stations { AllByRecursion (IsStation from (length tracks.now)) stations.old }
+    requires tracks { AllByRecursion (IsReadyTrack from (length stations.old)) tracks.now }
+    ensures on { from ≤ result }
+    ensures within { result ≤ limit }
+    ensures ready { (plan : PlanRec) → AreReady plan from (serial plan from) stations.old tracks.now → AreReady plan result (serial plan result) stations.new tracks.now }
+{
+    let to = quiet_to(stations, tracks, from, limit);
+    if to <= from {
+        return from;
+    }
+    nodes_are_whole();
+    first_stirring_slot();
+    quiet_slots_only_count();
+    skip_all(stations, from, to);
+    to
+}
+
+// The slot up to which nothing happens anywhere from a slot on, as far as that is known. It is not after that slot where nothing is.
+#[inline]
+fn quiet_to(stations: &[Station], tracks: &[Track], from: u32, limit: u32) -> u32
+    requires tracks { AllByRecursion (IsTrack from) tracks.now }
+    ensures within { result ≤ limit }
+    ensures quiet { from < result → IsQuietSystem from result stations.now tracks.now }
+{
+    let to = nodes_rest_to(stations, from, limit);
+    if to <= from {
+        return to;
+    }
+    nothing_arrives_to(tracks, from, to)
+}
+
+// The slot up to which every node is quiet from a slot on, as far as that is known, and up to a limit. It is not after that slot where
+// some node may do something in it.
+#[inline]
+fn nodes_rest_to(stations: &[Station], from: u32, limit: u32) -> u32
+    ensures within { result ≤ limit }
+    ensures quiet { from < result → AllByRecursion (RestsTo from result) stations.now }
+{
+    let mut to = limit;
+    for station in stations {
+        to = to.min(station.seat.rests_to(from));
+        if to <= from {
+            return to;
+        }
+    }
+    to
+}
+
+// The last slot up to a limit in which, and before which from a slot on, nothing arrives by any arc. It is not after that slot where
+// something arrives in it or in the next.
+fn nothing_arrives_to(tracks: &[Track], from: u32, limit: u32) -> u32
+    requires tracks { AllByRecursion (IsTrack from) tracks.now }
+    ensures within { result ≤ limit }
+    ensures quiet { from < result → AllByRecursion (ArrivesAfter result) tracks.now }
+{
+    let mut to = limit;
+    for track in tracks {
+        to = track.nothing_arrives_to(from, to);
+        if to <= from {
+            return to;
+        }
+    }
+    to
+}
+
+// Each node goes over the slots from one on and before another, in which it is quiet.
+fn skip_all(stations: &mut [Station], from: u32, to: u32)
+    requires some { from < to }
+    requires stations { AllByRecursion (MaySkip from to) stations.old }
+    ensures skips { AllZip (StationSkips from to) stations.old stations.new }
+{
+    for station in stations.iter_mut() {
+        station.skip(from, to);
+    }
+}
