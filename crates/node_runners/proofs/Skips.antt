@@ -171,6 +171,11 @@ module _ (plan : PlanRec) (n : Position) (clock : Slot) (horizon : HorizonRec) (
 
 -- ---- Where a thread may issue
 
+-- a look at the seat left it as it was
+pub with_seat : (plan : PlanRec) (n : Position) (clock : Slot) (horizon : HorizonRec) (seat after : Seat) (pins : Pins) (inlets : List InletRec) (batches : List BatchRec) (published : List Slot)
+    → IsRunner plan n clock horizon seat pins inlets batches published → after ≡ seat → IsRunner plan n clock horizon after pins inlets batches published
+with_seat plan n clock horizon seat after pins inlets batches published is same = subst (λ (s : Seat). IsRunner plan n clock horizon s pins inlets batches published) (sym same) is
+
 late_true : (x y z : Bool) → x || (y || (true || z)) ≡ true
 late_true true y z = refl
 late_true false true z = refl
