@@ -1,15 +1,14 @@
 -- What arrives at a node, link end by link end.
-use Rattle.std.proofs.Common.{◌≡◌, ℕ, zero, suc, ◌+◌, ◌<◌, ◌≤◌, Bool, false, Option, None, List, [], ◌∷◌, ◌++◌, length, take, drop, map, replicate, get_or, refl, sym, ap, ◌∙◌, arith}
+use Rattle.std.proofs.Common.{◌≡◌, ℕ, zero, suc, ◌+◌, ◌<◌, false, Option, None, List, [], ◌∷◌, ◌++◌, length, take, drop, map, replicate, get_or, refl, ◌∙◌, arith}
 use Rattle.std.specs.Prelude.{slice_set}
-use Rattle.std.proofs.lemmas.List.{set-get_or}
 use Rattle.xs_base.specs.Numbers.{Slot}
 use Rattle.xs_base.specs.declared.token.Token.{Token}
 use Rattle.xs_model.specs.declared.outside.Arrivals.{Arrivals}
 use Rattle.core_step.specs.Core.{NothingArrives}
 use Rattle.serial_model.specs.Serial.{arriving}
 use Rattle.crossings.specs.declared.crossing.Crossing.{Crossing}
-use Rattle.crossings.specs.Crossings.{crossing_of, no_crossing}
-use Rattle.node_runners.specs.Queue.{InletRec, no_inlet, inlet_at, after_slot, arrivals_by}
+use Rattle.crossings.specs.Crossings.{crossing_of}
+use Rattle.node_runners.specs.Queue.{InletRec, inlet_at, no_arrivals, after_slot, arrivals_by}
 
 -- what is noted of one link end
 abbrev pub noted : ℕ → Crossing → Arrivals → Arrivals
@@ -43,10 +42,10 @@ module _ (slot : Slot) where
   rest-at (x ∷ xs) zero d h = refl
   rest-at (x ∷ xs) (suc end) d h = rest-at xs end d (omega (arith, h))
 
-abbrev no_tokens : ℕ → List (Option Token)
-no_tokens n = replicate n None
+abbrev no_token : Option Token
+no_token = None
 
-no-token : (n e : ℕ) → get_or (no_tokens n) e None ≡ None
+no-token : (n e : ℕ) → get_or (replicate n no_token) e None ≡ None
 no-token zero e = refl
 no-token (suc n) zero = refl
 no-token (suc n) (suc e) = no-token n e
@@ -56,18 +55,5 @@ no-credit zero e = refl
 no-credit (suc n) zero = refl
 no-credit (suc n) (suc e) = no-credit n e
 
-abbrev pub nothing : Arrivals
-nothing = record { tokens = replicate 8 None; credits = replicate 8 false }
-
-pub nothing-arrives : NothingArrives nothing
+pub nothing-arrives : NothingArrives no_arrivals
 nothing-arrives = record { tokens = no-token 8; credits = no-credit 8 }
-
-none_set : (end : ℕ) → slice_set nothing.tokens end None ≡ nothing.tokens
-none_set end = ap (λ (t : Option Token). slice_set nothing.tokens end t) (sym (no-token 8 end)) ∙ set-get_or nothing.tokens end None
-
-false_set : (end : ℕ) → slice_set nothing.credits end false ≡ nothing.credits
-false_set end = ap (λ (b : Bool). slice_set nothing.credits end b) (sym (no-credit 8 end)) ∙ set-get_or nothing.credits end false
-
--- where nothing crosses, nothing is noted
-pub nothing-more : (end : ℕ) (c : Crossing) (a : Arrivals) → a ≡ nothing → c ≡ no_crossing → noted end c a ≡ nothing
-nothing-more end c a is none = (λ i. noted end (none i) (is i)) ∙ (λ i. record { tokens = none_set end i; credits = false_set end i })

@@ -1,17 +1,17 @@
 -- The first slot in which something arrives of what waits at the link ends of a node.
-use Rattle.std.proofs.Common.{◌≡◌, ℕ, zero, suc, ◌+◌, ◌<◌, ◌≤◌, ◌⊎◌, inl, inr, true, false, eqb, Option, Some, None, List, [], ◌∷◌, length, fold, slice_get, refl, sym, ap, ◌∙◌, subst, arith}
+use Rattle.std.proofs.Common.{◌≡◌, ℕ, zero, suc, ◌+◌, ◌<◌, ◌≤◌, ◌⊎◌, inl, inr, true, false, eqb, Option, Some, None, List, [], ◌∷◌, length, map, fold, slice_get, refl, sym, ap, ◌∙◌, subst, arith}
 use Rattle.std.specs.List.{AllByRecursion}
 use Rattle.std.proofs.Math.Nat.{eq-or-lt_of_le}
-use Rattle.std.proofs.lemmas.Bool.{cases_lt, ne_eqb, eq-eqb}
+use Rattle.std.proofs.lemmas.Bool.{cases_lt, ne_eqb, eq-eqb, lt-ltb}
 use Rattle.std.proofs.lemmas.Option.{none-some, same_Some}
 use Rattle.xs_base.specs.Numbers.{Slot, EndNumber}
 use Rattle.xs_base.specs.declared.entry.Entry.{Entry}
-use Rattle.serial_model.specs.Serial.{arriving}
+use Rattle.serial_model.specs.Serial.{arriving, arrivals_of}
 use Rattle.locality_laws.proofs.Entries.{all_weaker, filter_none}
 use Rattle.crossings.specs.Crossings.{MayFollow, AreInSendingOrder, Later, Beside}
 use Rattle.quiet_model.specs.Slots.{IsFirst}
 use Rattle.busy_slots.proofs.Brought.{none_brought, one_brought}
-use Rattle.node_runners.specs.Queue.{InletRec, no_inlet, inlet_at, AllWait, arriving_at, some_arrive, arrival_of, nearer_arrival}
+use Rattle.node_runners.specs.Queue.{InletRec, no_inlet, inlet_at, no_arrivals, AreWaiting, AllWait, arriving_after, after_slot, arriving_at, arrivals_by, some_arrive, arrival_of, nearer_arrival, AwaitsUntil}
 
 -- ---- The least of the bound and the first arrivals
 
@@ -25,7 +25,7 @@ pub record ArrivesFirst (inlets : List InletRec) (slot : Slot) : Type 0 where
 
 pub record IsNearest (bound : Slot) (inlets : List InletRec) (result : Slot) : Type 0 where
   pub within : result ≤ bound
-  pub least : (end : EndNumber) (e : Entry) → slice_get (inlet_at inlets end).queue 0 ≡ Some e → result ≤ e.slot + (inlet_at inlets end).delay
+  pub least : AwaitsUntil result inlets
   pub one : (result ≡ bound) ⊎ ArrivesFirst inlets result
 
 nearer_within : (bound delay : ℕ) (o : Option Entry) → arrival_of bound delay o ≤ bound
@@ -106,22 +106,56 @@ past [] end h = refl
 past (x ∷ inlets) zero h = absurd (omega (arith, h))
 past (x ∷ inlets) (suc end) h = past inlets end (omega (arith, h))
 
-first_due : (delay from : ℕ) (queue : List Entry) (e : Entry) → AllByRecursion (λ (f : Entry). from ≤ f.slot + delay) queue → slice_get queue 0 ≡ Some e → from ≤ e.slot + delay
-first_due delay from [] e all is = absurd (none-some e is)
-first_due delay from (f ∷ queue) e all is = subst (λ (g : Entry). from ≤ g.slot + delay) (same_Some f e is) all.0
+first_of_all : (P : Entry → Type 0) (queue : List Entry) (e : Entry) → AllByRecursion P queue → slice_get queue 0 ≡ Some e → P e
+first_of_all P [] e all is = absurd (none-some e is)
+first_of_all P (f ∷ queue) e all is = subst P (same_Some f e is) all.0
+
+-- ---- Before the first arrival
+
+module _ (from slot next : Slot) (before : slot < next) where
+  none_by : (i : InletRec) → AreWaiting from i.delay i.queue → ((e : Entry) → slice_get i.queue 0 ≡ Some e → next ≤ e.slot + i.delay) → arriving slot i.delay i.queue ≡ []
+  none_by i wait until = none_arrive slot i.delay i.queue wait.in_order (λ e first. omega (arith, before, until e first))
+
+  module _ (inlets : List InletRec) (wait : AllWait from inlets) (until : AwaitsUntil next inlets) where
+    -- nothing arrives
+    pub none_at : (end : EndNumber) → arriving_at slot inlets end ≡ []
+    none_at end = by_place (cases_lt end (length inlets))
+      where
+        by_place : (end < length inlets) ⊎ (length inlets ≤ end) → arriving_at slot inlets end ≡ []
+        by_place (inr none) = ap (λ (i : InletRec). arriving slot i.delay i.queue) (past inlets end none)
+        by_place (inl there) = none_by (inlet_at inlets end) (wait end there) (until end)
+
+    pub nothing_comes : arrivals_by slot inlets ≡ no_arrivals
+    nothing_comes = λ k. arrivals_of (λ end. none_at end k)
+
+  all_stay : (delay : ℕ) (queue : List Entry) → AreInSendingOrder queue → ((e : Entry) → slice_get queue 0 ≡ Some e → next ≤ e.slot + delay) → arriving_after slot delay queue ≡ queue
+  all_stay delay [] order until = refl
+  all_stay delay (e ∷ queue) order until =
+      let here : next ≤ e.slot + delay = until e refl in
+      let rest : arriving_after slot delay queue ≡ queue = all_stay delay queue order.1 (λ f is. follows_until e f here (first_of_all (MayFollow e) queue f order.0 is)) in
+      rw (lt-ltb slot (e.slot + delay) (omega (arith, before, here))) (ap (λ (es : List Entry). e ∷ es) rest)
+    where
+      follows_until : (e f : Entry) → next ≤ e.slot + delay → MayFollow e f → next ≤ f.slot + delay
+      follows_until e f here (Later after) = omega (arith, here, after)
+      follows_until e f here (Beside same token credit) = omega (arith, here, same)
+
+  stays : (i : InletRec) → AreWaiting from i.delay i.queue → ((e : Entry) → slice_get i.queue 0 ≡ Some e → next ≤ e.slot + i.delay) → after_slot slot i ≡ i
+  stays i wait until = λ k. record i { queue = all_stay i.delay i.queue wait.in_order until k }
+
+  -- so nothing leaves the queues
+  pub nothing_leaves : (inlets : List InletRec) → AllWait from inlets → AwaitsUntil next inlets → map (after_slot slot) inlets ≡ inlets
+  nothing_leaves [] wait until = refl
+  nothing_leaves (i ∷ inlets) wait until =
+      let here : after_slot slot i ≡ i = stays i (wait 0 (omega arith)) (until 0) in
+      let rest : map (after_slot slot) inlets ≡ inlets = nothing_leaves inlets (λ end there. wait (suc end) (omega (arith, there))) (λ end. until (suc end)) in
+      λ k. here k ∷ rest k
+
+-- ---- The first arrival
 
 module _ (inlets : List InletRec) (few : length inlets ≤ 8) (bound from : Slot) (wait : AllWait from inlets) (result : Slot) (is : IsNearest bound inlets result) where
-  by_end : (slot : Slot) → slot < result → (end : EndNumber) → arriving_at slot inlets end ≡ []
-  by_end slot before end = by_place (cases_lt end (length inlets))
-    where
-      by_place : (end < length inlets) ⊎ (length inlets ≤ end) → arriving_at slot inlets end ≡ []
-      by_place (inr none) = ap (λ (i : InletRec). arriving slot i.delay i.queue) (past inlets end none)
-      by_place (inl there) =
-          none_arrive slot (inlet_at inlets end).delay (inlet_at inlets end).queue (wait end there).in_order (λ e first. omega (arith, before, is.least end e first))
-
   pub first_is : IsFirst (some_arrive inlets) from bound result
   first_is = record {
-    none_before = λ slot on before. none_brought (arriving_at slot inlets) (by_end slot before);
+    none_before = λ slot on before. none_brought (arriving_at slot inlets) (none_at from slot result before inlets wait is.least);
     there = by_one is.one (eq-or-lt_of_le is.within);
   }
     where
@@ -130,7 +164,7 @@ module _ (inlets : List InletRec) (few : length inlets ≤ 8) (bound from : Slot
       by_one (inr first) (inl same) = inr same
       by_one (inr first) (inr less) =
           let i = inlet_at inlets first.end in
-          let due : from ≤ first.entry.slot + i.delay = first_due i.delay from i.queue first.entry (wait first.end first.there).due first.first in
+          let due : from ≤ first.entry.slot + i.delay = first_of_all (λ (f : Entry). from ≤ f.slot + i.delay) i.queue first.entry (wait first.end first.there).due first.first in
           inl (
             omega (arith, due, first.at),
             less,
@@ -139,6 +173,9 @@ module _ (inlets : List InletRec) (few : length inlets ≤ 8) (bound from : Slot
 
 pub nearest_is_first : (inlets : List InletRec) → length inlets ≤ 8 → (bound from : Slot) → AllWait from inlets → IsFirst (some_arrive inlets) from bound (fold nearer_arrival bound inlets)
 nearest_is_first inlets few bound from wait = first_is inlets few bound from wait (fold nearer_arrival bound inlets) (is_nearest bound inlets)
+
+pub nearest_awaits : (inlets : List InletRec) (bound : Slot) → AwaitsUntil (fold nearer_arrival bound inlets) inlets
+nearest_awaits inlets bound = (is_nearest bound inlets).least
 
 pub nearest_within : (inlets : List InletRec) (bound : Slot) → fold nearer_arrival bound inlets ≤ bound
 nearest_within inlets bound = (is_nearest bound inlets).within

@@ -1,19 +1,19 @@
 -- A node's links where the batch of a link end by which a link leaves is another, from another published slot on.
-use Rattle.std.proofs.Common.{◌≡◌, ℕ, true, false, ◌<◌, ◌≤◌, Option, Some, None, IsSome, List, [], ◌∷◌, ◌++◌, length, get_or, refl, sym, ap, ◌∙◌, subst, arith, inl, inr, length-append}
+use Rattle.std.proofs.Common.{◌≡◌, true, false, ◌<◌, ◌≤◌, Option, Some, None, IsSome, List, [], length, refl, sym, ap, ◌∙◌, subst, arith, inl, inr}
 use Rattle.std.specs.Prelude.{slice_set, slice_index}
 use Rattle.std.proofs.lemmas.Bool.{cases_eq}
-use Rattle.std.proofs.lemmas.List.{get_or-set_same, get_or-set_other}
+use Rattle.std.proofs.lemmas.List.{get_or-set_same, get_or-set_other, set-get_or}
 use Rattle.std.proofs.Math.ListN.{length-set}
 use Rattle.xs_base.specs.Numbers.{Slot, Position, LinkNumber, EndNumber}
 use Rattle.xs_base.specs.Batch.{BatchRec}
-use Rattle.xs_base.specs.declared.entry.Entry.{Entry}
 use Rattle.sys_plan.specs.Plan.{PlanRec, outgoing}
 use Rattle.serial_model.specs.Serial.{history}
+use Rattle.locality_laws.proofs.Links.{none_carried}
 use Rattle.ahead_limits.specs.Horizon.{HorizonRec}
 use Rattle.node_seats.specs.declared.pins.Pins.{Pins}
 use Rattle.node_seats.specs.declared.seat.Seat.{Seat}
 use Rattle.node_runners.specs.Queue.{InletRec}
-use Rattle.node_runners.specs.Sent.{batch_at}
+use Rattle.node_runners.specs.Sent.{no_batch, batch_at}
 use Rattle.node_runners.specs.Inside.{IsRunner, Tells}
 use Rattle.node_runners.proofs.Batches.{here, there}
 use Rattle.sys_plan.proofs.Routes.{outgoing-end}
@@ -87,3 +87,13 @@ module _ (plan : PlanRec) (n : Position) (clock : Slot) (horizon : HorizonRec) (
         behind = behind_at;
       };
     }
+
+  -- where it has no entries it is published up to the clock, and stays as it is
+  module _ (none : (batch_at batches end).entries ≡ []) where
+    pub nothing_carried : (link : LinkNumber) → outgoing plan n end ≡ Some link → [] ≡ history plan link (slice_index published end) clock
+    nothing_carried link at = sym none ∙ (is.links.tells end link at).batch
+
+    pub publishes_nothing : IsRunner plan n clock horizon seat pins inlets batches (slice_set published end clock)
+    publishes_nothing =
+        subst (λ (bs : List BatchRec). IsRunner plan n clock horizon seat pins inlets bs (slice_set published end clock)) (set-get_or batches end no_batch)
+        (publishes (batch_at batches end) clock (omega arith) (λ link at. none ∙ sym (none_carried plan link clock)))

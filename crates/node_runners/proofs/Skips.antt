@@ -200,19 +200,16 @@ pub record GoesTo (plan : PlanRec) (n : Position) (clock : Slot) (horizon : Hori
   pub quiet : NoneBefore (is_busy plan n) clock to
   pub greatest : may_run horizon to ≡ true → is_busy plan n to ≡ true
 
-module _ (plan : PlanRec) (n : Position) (clock : Slot) (horizon : HorizonRec) (seat : Seat) (pins : Pins) (inlets lent : List InletRec) (batches : List BatchRec) (published : List Slot)
-    (is : IsRunner plan n clock horizon seat pins inlets batches published) (same : lent ≡ inlets) (stop arrival to : Slot)
+module _ (plan : PlanRec) (n : Position) (clock : Slot) (horizon : HorizonRec) (seat : Seat) (pins : Pins) (inlets : List InletRec) (batches : List BatchRec) (published : List Slot)
+    (is : IsRunner plan n clock horizon seat pins inlets batches published) (stop arrival to : Slot)
     (stop_is : stop ≡ clock_after horizon (2 ^ 32 - 1) clock)
-    (arrives : (from : Slot) → from ≤ stop → AllWait from lent → IsFirst (some_arrive lent) from stop arrival) (early : arrival ≤ stop) (by_both : FirstBusyByBoth)
+    (arrives : (from : Slot) → from ≤ stop → AllWait from inlets → IsFirst (some_arrive inlets) from stop arrival) (early : arrival ≤ stop) (by_both : FirstBusyByBoth)
     (stirring : (rec : NodeRec) (shown : Slot → PinView) → StandsAt seat.core rec clock → ((slot : Slot) → ShowsAll (shown slot)) → StirsFirst seat.core.fixed rec clock shown arrival to) where
   far : IsHorizon horizon clock stop
   far = subst (IsHorizon horizon clock) (sym stop_is) (is_horizon horizon clock is.small)
 
   found : IsFirst (some_arrive inlets) clock stop arrival
-  found =
-      let all : (from : Slot) → from ≤ stop → AllWait from inlets → IsFirst (some_arrive inlets) from stop arrival =
-      subst (λ (xs : List InletRec). (from : Slot) → from ≤ stop → AllWait from xs → IsFirst (some_arrive xs) from stop arrival) same arrives in
-      all clock far.on (all_wait plan n clock horizon seat pins inlets batches published is stop far)
+  found = arrives clock far.on (all_wait plan n clock horizon seat pins inlets batches published is stop far)
 
   pub goes_to : GoesTo plan n clock horizon to
   goes_to = record {

@@ -1,26 +1,23 @@
 -- A node that has seen more of a link that comes to it.
-use Rattle.std.proofs.Common.{◌≡◌, ℕ, ◌+◌, ◌-◌, ◌<◌, ◌≤◌, false, true, Option, Some, None, List, ◌++◌, length, get_or, slice_index_or, refl, sym, ap, ◌∙◌, subst, arith, inl, inr}
+use Rattle.std.proofs.Common.{◌≡◌, ◌-◌, ◌<◌, ◌≤◌, false, true, Option, Some, None, List, ◌++◌, length, get_or, slice_index_or, refl, sym, ◌∙◌, subst, arith, inl, inr}
 use Rattle.std.specs.Prelude.{slice_set, IsSome, is_some}
 use Rattle.std.proofs.lemmas.Bool.{cases_eq}
 use Rattle.std.proofs.lemmas.List.{length-set, get_or-set_same, get_or-set_other}
 use Rattle.xs_base.specs.Numbers.{Slot, Position, LinkNumber, EndNumber}
 use Rattle.xs_base.specs.Batch.{BatchRec}
 use Rattle.xs_base.specs.declared.entry.Entry.{Entry}
-use Rattle.sys_plan.specs.Plan.{PlanRec, IsPlan, incoming, delay_of}
+use Rattle.sys_plan.specs.Plan.{PlanRec, incoming, delay_of}
 use Rattle.serial_model.specs.Serial.{history}
 use Rattle.locality_laws.proofs.Links.{histories_grow}
 use Rattle.ahead_limits.specs.declared.horizon.Seen.{Seen}
-use Rattle.ahead_limits.specs.Horizon.{HorizonRec, seen_at, seen_by_end, seen_to, horizon_at}
+use Rattle.ahead_limits.specs.Horizon.{HorizonRec, seen_at, seen_by_end, seen_to}
 use Rattle.node_seats.specs.declared.pins.Pins.{Pins}
 use Rattle.node_seats.specs.declared.seat.Seat.{Seat}
-use Rattle.node_runners.specs.Queue.{InletRec, no_inlet, inlet_at}
-use Rattle.node_runners.specs.Inside.{HearsLink, Hears, HasLinks, IsRunner}
+use Rattle.node_runners.specs.Queue.{InletRec, no_inlet, inlet_at, longer}
+use Rattle.node_runners.specs.Inside.{Hears, HasLinks, IsRunner}
 
 none_is_not : false ≡ true → ⊥
 none_is_not h = cc
-
-abbrev pub longer : InletRec → List Entry → InletRec
-longer i entries = record i { queue = i.queue ++ entries }
 
 module _ (plan : PlanRec) (clock to : Slot) (entries : List Entry) where
   more-here : (l : Option LinkNumber) (s : Option Seen) (i : InletRec) → Hears plan clock l s i → is_some l ≡ true → seen_by_end s ≤ to
@@ -77,11 +74,11 @@ module _ (plan : PlanRec) (clock to : Slot) (entries : List Entry) where
       behind = is.behind;
     }
 
-    pub runner-taken : (seat : Seat) (pins : Pins) (later : HorizonRec) (inlet : InletRec) → IsRunner plan n clock horizon seat pins inlets batches published → later ≡ record horizon { ends = sees }
-        → inlet ≡ longer (inlet_at inlets end) entries → IsRunner plan n clock later seat pins (slice_set inlets end inlet) batches published
-    runner-taken seat pins later inlet r is_later is_inlet =
-        subst (λ (h : HorizonRec). IsRunner plan n clock h seat pins (slice_set inlets end inlet) batches published) (sym is_later)
-        (subst (λ (i : InletRec). IsRunner plan n clock (record horizon { ends = sees }) seat pins (slice_set inlets end i) batches published) (sym is_inlet) (record {
+    pub runner-taken : (seat : Seat) (pins : Pins) (later : HorizonRec) (after : List InletRec) → IsRunner plan n clock horizon seat pins inlets batches published → later ≡ record horizon { ends = sees }
+        → after ≡ inlets_after → IsRunner plan n clock later seat pins after batches published
+    runner-taken seat pins later after r is_later is_after =
+        subst (λ (h : HorizonRec). IsRunner plan n clock h seat pins after batches published) (sym is_later)
+        (subst (λ (is : List InletRec). IsRunner plan n clock (record horizon { ends = sees }) seat pins is batches published) (sym is_after) (record {
           plan_is = r.plan_is;
           within = r.within;
           small = r.small;

@@ -1,5 +1,5 @@
 -- What comes to the link ends of a node and has not arrived yet.
-use Rattle.std.specs.Prelude.{ℕ, ◌≡◌, ◌+◌, ◌<◌, ◌≤◌, nat_lt, min, Bool, Option, Some, None, List, [], length, filter, map, slice_get, slice_index_or}
+use Rattle.std.specs.Prelude.{ℕ, ◌≡◌, ◌+◌, ◌<◌, ◌≤◌, nat_lt, min, Bool, false, Option, Some, None, List, [], ◌++◌, length, filter, replicate, slice_get, slice_index_or}
 use Rattle.std.specs.List.{AllByRecursion}
 use Rattle.xs_base.specs.Numbers.{Slot, EndNumber}
 use Rattle.xs_base.specs.declared.entry.Entry.{Entry}
@@ -19,6 +19,18 @@ no_inlet = record { delay = 0; queue = [] }
 
 abbrev pub inlet_at : List InletRec → EndNumber → InletRec
 inlet_at inlets end = slice_index_or inlets end no_inlet
+
+-- a link end of which this was seen after what waits there
+abbrev pub longer : InletRec → List Entry → InletRec
+longer inlet entries = record inlet { queue = inlet.queue ++ entries }
+
+-- what waits at the link ends of a node, and what arrived in the slot that was asked of last
+pub record InletsRec : Type 0 where
+  pub ends : List InletRec
+  pub arrived : Arrivals
+
+abbrev pub no_arrivals : Arrivals
+no_arrivals = record { tokens = replicate 8 None; credits = replicate 8 false }
 
 -- entries in the order in which they were sent, none of which arrived before a slot
 pub record AreWaiting (slot : Slot) (delay : ℕ) (entries : List Entry) : Type 0 where
@@ -57,3 +69,12 @@ arrival_of bound delay (Some e) = min (e.slot + delay) bound
 -- the slot in which the first entry that waits at a link end arrives, if that is before a bound
 abbrev pub nearer_arrival : Slot → InletRec → Slot
 nearer_arrival bound inlet = arrival_of bound inlet.delay (slice_get inlet.queue 0)
+
+-- nothing of what waits at these link ends arrives before a slot, since the first entry of none of them does
+abbrev pub AwaitsUntil : Slot → List InletRec → Type 0
+AwaitsUntil next inlets = (end : EndNumber) (e : Entry) → slice_get (inlet_at inlets end).queue 0 ≡ Some e → next ≤ e.slot + (inlet_at inlets end).delay
+
+-- what the link ends of a node keep beside what waits there: the slot up to which nothing arrives, and what arrives where nothing does
+pub record AreInlets (next : Slot) (inlets : List InletRec) (nothing : Arrivals) : Type 0 where
+  pub until : AwaitsUntil next inlets
+  pub is_nothing : nothing ≡ no_arrivals

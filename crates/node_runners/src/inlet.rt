@@ -1,18 +1,16 @@
 //! `Inlet`, what comes to a link end and has not arrived yet. See docs/LOOKAHEAD.md.
-ghost use Rattle.std.specs.Prelude.{ℕ, ◌≡◌, ◌+◌, ◌<◌, ◌≤◌, [], ◌++◌, false, length, map, fold, slice_get, OnOk, OnErr};
+ghost use Rattle.std.specs.Prelude.{◌≡◌, ◌+◌, ◌≤◌, [], ◌++◌, length, map, fold, slice_get, IfErr, OnOk, OnErr};
 ghost use Rattle.std.specs.VecDeque.{deque_len, deque_capacity};
-ghost use Rattle.xs_base.specs.Numbers.{Slot};
-ghost use Rattle.core_step.specs.Core.{NothingArrives};
 ghost use Rattle.crossings.specs.Crossings.{crossing_of};
 ghost use Rattle.serial_model.specs.Serial.{arriving};
-ghost use Rattle.quiet_model.specs.Slots.{IsFirst};
-ghost use Rattle.node_runners.specs.Queue.{AreWaiting, AllWait, after_slot, arrivals_by, inlet_at, nearer_arrival, some_arrive};
+ghost use Rattle.node_runners.specs.Queue.{AreWaiting, AllWait, after_slot, arrivals_by, longer, nearer_arrival};
 
 use crossings::{Crossing, due};
-use std::alloc::{AllocError, Global};
+use std::alloc::Global;
 use std::collections::VecDeque;
 use std::marker::Model;
-use xs_base::Entry;
+use std::mem;
+use xs_base::{Batch, Entry};
 use xs_model::Arrivals;
 
 /// What was seen of the link that comes to a link end, and has not arrived yet. Contracts see it as an `InletRec` of
@@ -21,6 +19,8 @@ use xs_model::Arrivals;
 pub(crate) struct Inlet {
     delay: u32,
     queue: VecDeque<Entry>,
+    // No entries, and the buffer of the batch that came last, unless that was given away.
+    spare: Batch,
 }
 
 impl Model for Inlet {
@@ -28,7 +28,11 @@ impl Model for Inlet {
 
     ghost Value = { InletRec };
 
+    ghost use Rattle.std.specs.Prelude.{◌≡◌, []};
+
     ghost view = { λ i. record { delay = i.delay; queue = i.queue.items } };
+
+    ghost invariant = { λ i. i.spare.entries ≡ [] };
 }
 
 impl Inlet {
@@ -39,17 +43,40 @@ impl Inlet {
         Inlet {
             delay,
             queue: VecDeque::new(alloc),
+            spare: Batch::new(alloc),
         }
     }
 
-    /// Puts what was seen after what waits. The error is want of memory, and changes nothing.
-    pub(crate) fn append(&mut self, entries: &[Entry]) -> Result<(), AllocError>
-        ensures ok { OnOk result (self.new ≡ record self.old { queue = self.old.queue ++ entries.now }) }
+    /// Puts what was seen after what waits, and keeps the buffer of the batch as a spare one. The error is want of memory: it changes
+    /// nothing, and has the batch.
+    pub(crate) fn append(&mut self, mut batch: Batch) -> Result<(), Batch>
+        ensures ok { OnOk result (self.new ≡ longer self.old batch.entries) }
         ensures err { OnErr result (self.new ≡ self.old) }
+        ensures batch { IfErr result (λ b. b.entries ≡ batch.entries) }
     {
-        self.queue.reserve(entries.len())?;
-        put_all(&mut self.queue, entries);
+        if self.queue.reserve(batch.entries().len()).is_err() {
+            return Err(batch);
+        }
+        put_all(&mut self.queue, batch.entries());
+        batch.clear();
+        self.spare = batch;
         Ok(())
+    }
+
+    /// The buffer of a batch with no entries is the spare one from now on.
+    pub(crate) fn keep(&mut self, batch: Batch)
+        requires { batch.entries ≡ [] }
+        ensures { self.new ≡ self.old }
+    {
+        self.spare = batch;
+    }
+
+    /// A batch with no entries, and the spare buffer if there is one. It takes no memory.
+    pub(crate) fn spare(&mut self, alloc: Global) -> Batch
+        ensures empty { result.entries ≡ [] }
+        ensures same { self.new ≡ self.old }
+    {
+        mem::replace(&mut self.spare, Batch::new(alloc))
     }
 
     // What arrives in a slot leaves the queue.
@@ -97,22 +124,13 @@ fn put_all(queue: &mut VecDeque<Entry>, entries: &[Entry])
     }
 }
 
-/// What arrives at a node in a slot, and whether anything does.
-#[derive(Drop)]
-pub(crate) struct Arrived {
-    pub(crate) some: bool,
-    pub(crate) arrivals: Arrivals,
-}
-
 /// What arrives in a slot leaves the queues of a node's link ends.
-pub(crate) fn arrive_all(inlets: &mut [Inlet], slot: u32) -> Arrived
+pub(crate) fn arrive_all(inlets: &mut [Inlet], slot: u32) -> Arrivals
     requires few { length inlets.old ≤ 8 }
-    requires waits { (end : ℕ) → end < length inlets.old → AreWaiting slot (inlet_at inlets.old end).delay (inlet_at inlets.old end).queue }
-    ensures arrivals { result.arrivals ≡ arrivals_by slot inlets.old }
-    ensures nothing { result.some ≡ false → NothingArrives result.arrivals }
+    requires waits { AllWait slot inlets.old }
+    ensures arrivals { result ≡ arrivals_by slot inlets.old }
     ensures left { inlets.new ≡ map (after_slot slot) inlets.old }
 {
-    let mut some = false;
     let mut arrivals = Arrivals {
         tokens: [None; 8],
         credits: [false; 8],
@@ -121,23 +139,13 @@ pub(crate) fn arrive_all(inlets: &mut [Inlet], slot: u32) -> Arrived
         let crossing = inlet.arrive(slot);
         arrivals.tokens[end] = crossing.token;
         arrivals.credits[end] = crossing.credit;
-        some |= crossing.is_some();
     }
-    Arrived { some, arrivals }
+    arrivals
 }
 
-/// The first slot before a bound in which something arrives of what waits at a node's link ends, and the bound where nothing does. No queue
-/// is gone through: the entries of each wait in the order in which they arrive.
-pub(crate) fn first_arrival(inlets: &[Inlet], bound: u32) -> u32
-    requires few { length inlets.now ≤ 8 }
-    ensures first { (from : Slot) → from ≤ bound → AllWait from inlets.now → IsFirst (some_arrive inlets.now) from bound result }
-    ensures within { result ≤ bound }
-{
-    nearest_arrival(inlets, bound)
-}
-
-// The least of a bound and of the slots in which the first entry of each of these link ends arrives.
-fn nearest_arrival(inlets: &[Inlet], bound: u32) -> u32
+/// The least of a bound and of the slots in which the first entry of each of these link ends arrives. No queue is gone through: the entries
+/// of each wait in the order in which they arrive.
+pub(crate) fn nearest_arrival(inlets: &[Inlet], bound: u32) -> u32
     ensures { result ≡ fold nearer_arrival bound inlets.now }
 {
     inlets

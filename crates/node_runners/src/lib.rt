@@ -2,6 +2,7 @@
 #![tactic(auto)]
 
 mod inlet;
+mod inlets;
 mod outlet;
 mod runner;
 mod starts;

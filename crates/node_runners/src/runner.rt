@@ -13,7 +13,7 @@ ghost use Rattle.ahead_limits.specs.declared.horizon.Seen.{Seen};
 ghost use Rattle.ahead_limits.specs.Horizon.{seen_at, seen_to, Sees, horizon_at, may_run};
 ghost use Rattle.node_runners.specs.Runner.{new_runner, Runs, Stops};
 
-use crate::inlet::{Inlet, arrive_all, first_arrival};
+use crate::inlets::Inlets;
 use crate::outlet::{make_room, put_all};
 use crate::starts::{batches_of, inlets_of};
 use ahead_limits::Horizon;
@@ -53,8 +53,7 @@ pub struct NodeRunner {
     horizon: Horizon,
     seat: Seat,
     pins: Pins,
-    // By link end, as far as the last to which a link comes.
-    inlets: Vec<Inlet>,
+    inlets: Inlets,
     // What was sent and not published, by link end, as far as the last by which a link leaves.
     batches: Vec<Batch>,
     published: [u32; ENDS],
@@ -70,7 +69,7 @@ impl Model for NodeRunner {
 
     ghost view = { λ r. record { plan = r.plan.value; node = r.node; clock = r.clock; stepped = r.stepped; horizon = r.horizon; published = r.published } };
 
-    ghost invariant = { λ r. (r.stepped ≤ r.clock) × IsRunner r.plan.value r.node r.clock r.horizon r.seat r.pins r.inlets.items r.batches.items r.published };
+    ghost invariant = { λ r. (r.stepped ≤ r.clock) × IsRunner r.plan.value r.node r.clock r.horizon r.seat r.pins r.inlets.ends r.batches.items r.published };
 }
 
 impl NodeRunner {
@@ -83,7 +82,7 @@ impl NodeRunner {
         let horizon = Horizon::of(plan, node, limit);
         let seat = Seat::of(alloc, plan, node)?;
         let pins = Pins::of(plan, node)?;
-        let inlets = inlets_of(alloc, plan, node)?;
+        let ends = inlets_of(alloc, plan, node)?;
         let batches = batches_of(alloc, plan, node)?;
         Ok(NodeRunner {
             plan: Known::of(plan),
@@ -94,14 +93,15 @@ impl NodeRunner {
             horizon,
             seat,
             pins,
-            inlets,
+            inlets: Inlets::of(ends),
             batches,
             published: [0; ENDS],
         })
     }
 
     /// The link that comes to a link end, 0 to 7, was seen up to a slot, `to`, which is not before the one up to which it was seen: `batch` has
-    /// its entries from there on. The error is want of memory: it changes nothing, and has the batch.
+    /// its entries from there on. Its buffer is used again for what is sent by this link end. The error is want of memory: it changes
+    /// nothing, and has the batch.
     pub fn take(&mut self, end: u8, batch: Batch, to: u32) -> Result<(), Batch>
         requires there { IsSome (incoming self.old.plan self.old.node end) }
         requires on { seen_at self.old.horizon end ≤ to }
@@ -110,10 +110,7 @@ impl NodeRunner {
         ensures err { OnErr result (self.new ≡ self.old) }
         ensures batch { IfErr result (λ b. b.entries ≡ batch.entries) }
     {
-        let inlet = &mut self.inlets[end as usize];
-        if inlet.append(batch.entries()).is_err() {
-            return Err(batch);
-        }
+        self.inlets.append(end, batch)?;
         self.horizon.see(end, to);
         Ok(())
     }
@@ -129,12 +126,12 @@ impl NodeRunner {
         }
         self.seat.reserve()?;
         make_room(&mut self.batches)?;
-        let arrived = arrive_all(&mut self.inlets, self.clock);
+        let arrives = self.inlets.arrive(self.clock);
         let changed = self.pins.look(self.clock);
         self.seat.step(
             self.clock,
-            arrived.some,
-            &arrived.arrivals,
+            arrives,
+            self.inlets.arrived(),
             changed,
             self.pins.view(),
         );
@@ -160,7 +157,7 @@ impl NodeRunner {
             return 0;
         }
         let stop = self.horizon.clock_after(from, u32::MAX);
-        let arrival = first_arrival(&self.inlets, stop);
+        let arrival = self.inlets.first_arrival(stop);
         let to = self.seat.quiet_to(from, arrival);
         if to <= from {
             return 0;
@@ -179,7 +176,12 @@ impl NodeRunner {
         ensures rest { self.new ≡ record self.old { published = slice_set self.old.published end self.old.clock } }
     {
         let clock = self.clock;
-        let none = Batch::new(self.alloc);
+        if self.batches[end as usize].entries().is_empty() {
+            // A buffer goes only with entries.
+            self.published[end as usize] = clock;
+            return Batch::new(self.alloc);
+        }
+        let none = self.inlets.spare(self.alloc, end);
         self.exchange(end, none, clock)
     }
 
@@ -193,6 +195,15 @@ impl NodeRunner {
         ensures rest { self.new ≡ record self.old { published = slice_set self.old.published end from } }
     {
         let _ = self.exchange(end, batch, from);
+    }
+
+    /// Keeps the buffer of a batch that `send` gave for a link end and that has no entries any more, for what is sent by it later. It takes no
+    /// memory.
+    pub fn keep(&mut self, end: u8, batch: Batch)
+        requires empty { batch.entries ≡ [] }
+        ensures same { self.new ≡ self.old }
+    {
+        self.inlets.keep(end, batch);
     }
 
     // What is sent by the link end of a link and not published is this batch, and begins at this slot. The answer is what it was.

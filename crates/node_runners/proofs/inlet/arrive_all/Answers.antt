@@ -1,12 +1,11 @@
-use Rattle.std.proofs.Common.{◌≡◌, ◌+◌, ◌<◌, length, take, drop, get_or, sym, ap, ◌∙◌, subst, arith}
+use Rattle.std.proofs.Common.{◌<◌, length, get_or, sym, ap, ◌∙◌, subst, arith}
 use Rattle.std.specs.Prelude.{slice_set}
-use Rattle.std.proofs.lemmas.Bool.{or_parts}
 use Rattle.std.proofs.lemmas.List.{get_or_default}
 use Rattle.std.proofs.lemmas.List.Edits.{map_over_more}
 use Rattle.crossings.specs.Crossings.{crossing_of}
 use Rattle.serial_model.specs.Serial.{arriving}
-use Rattle.node_runners.specs.Queue.{InletRec, no_inlet, inlet_at, AreWaiting, after_slot}
-use Rattle.node_runners.proofs.Gathers.{arrivals-more, nothing-more, rest-at}
+use Rattle.node_runners.specs.Queue.{InletRec, AreWaiting, after_slot}
+use Rattle.node_runners.proofs.Gathers.{arrivals-more, rest-at}
 use Rattle.node_runners.proofs.inlet.arrive_all.Goals as goal
 
 pub arrive-crossing-requires : goal.arrive-crossing-requires
@@ -32,7 +31,4 @@ loop-end-preserved c =
     record {
       left = ap (slice_set now end) c.arrive-crossing.ensures.left ∙ map_over_more (after_slot slot) old now end (get_or now end item) within c.loop-end.invariant.left (get_or_default now end item (get_or now end item) within_now);
       arrivals = arrivals-more slot end old c.arrive-crossing.result c.loop-end.arrivals within eight c.loop-end.invariant.arrivals crossed;
-      none = λ none.
-          let parts = or_parts c.loop-end.some c.is_some-some.result none in
-          nothing-more end c.arrive-crossing.result c.loop-end.arrivals (c.loop-end.invariant.none parts.0) (c.is_some-some.ensures.nothing parts.1);
     }

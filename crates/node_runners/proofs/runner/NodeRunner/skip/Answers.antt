@@ -9,20 +9,20 @@ use Rattle.node_runners.proofs.runner.NodeRunner.skip.Goals as goal
 pub invariant_of-self : goal.invariant_of-self
 invariant_of-self c =
     let i = c.self.inside in
-    (c.self.invariant.0, with_seat i.plan.value i.node i.clock i.horizon i.seat c.may_issue.new.self i.pins i.inlets.items i.batches.items i.published c.self.invariant.1 c.may_issue.ensures.unchanged)
+    (c.self.invariant.0, with_seat i.plan.value i.node i.clock i.horizon i.seat c.may_issue.new.self i.pins i.inlets.ends i.batches.items i.published c.self.invariant.1 c.may_issue.ensures.unchanged)
 
 pub returns-then-may_issue-clause-greatest : goal.returns-then-may_issue-clause-greatest
 returns-then-may_issue-clause-greatest c =
     let i = c.self.inside in
     let may : c.may_issue.result ≡ true = cc in
-    λ _. issue_is_busy i.plan.value i.node i.clock i.horizon i.seat i.pins i.inlets.items i.batches.items i.published c.self.invariant.1 (sym c.may_issue.ensures.value ∙ may)
+    λ _. issue_is_busy i.plan.value i.node i.clock i.horizon i.seat i.pins i.inlets.ends i.batches.items i.published c.self.invariant.1 (sym c.may_issue.ensures.value ∙ may)
 
 pub returns-then-to-from-clause-greatest : goal.returns-then-to-from-clause-greatest
 returns-then-to-from-clause-greatest c =
     let i = c.self.inside in
     let seat = c.may_issue.new.self in
-    let is = with_seat i.plan.value i.node i.clock i.horizon i.seat c.may_issue.new.self i.pins i.inlets.items i.batches.items i.published c.self.invariant.1 c.may_issue.ensures.unchanged in
-    let goes = goes_to i.plan.value i.node i.clock i.horizon seat i.pins i.inlets.items c.deref.result.now i.batches.items i.published is c.deref.ensures.value
+    let is = with_seat i.plan.value i.node i.clock i.horizon i.seat c.may_issue.new.self i.pins i.inlets.ends i.batches.items i.published c.self.invariant.1 c.may_issue.ensures.unchanged in
+    let goes = goes_to i.plan.value i.node i.clock i.horizon seat i.pins i.inlets.ends i.batches.items i.published is
     c.clock_after-stop.result c.first_arrival-arrival.result c.quiet_to-to.result c.clock_after-stop.ensures.value c.first_arrival-arrival.ensures.first c.first_arrival-arrival.ensures.within
     c.first_busy_by_both.ensures.first c.quiet_to-to.ensures.first in
     let same : c.quiet_to-to.result ≡ i.clock = omega (arith, c.if-to-from.true, goes.on) in
@@ -32,8 +32,8 @@ pub returns-clause-quiet : goal.returns-clause-quiet
 returns-clause-quiet c =
     let i = c.self.inside in
     let seat = c.may_issue.new.self in
-    let is = with_seat i.plan.value i.node i.clock i.horizon i.seat c.may_issue.new.self i.pins i.inlets.items i.batches.items i.published c.self.invariant.1 c.may_issue.ensures.unchanged in
-    let goes = goes_to i.plan.value i.node i.clock i.horizon seat i.pins i.inlets.items c.deref.result.now i.batches.items i.published is c.deref.ensures.value
+    let is = with_seat i.plan.value i.node i.clock i.horizon i.seat c.may_issue.new.self i.pins i.inlets.ends i.batches.items i.published c.self.invariant.1 c.may_issue.ensures.unchanged in
+    let goes = goes_to i.plan.value i.node i.clock i.horizon seat i.pins i.inlets.ends i.batches.items i.published is
     c.clock_after-stop.result c.first_arrival-arrival.result c.quiet_to-to.result c.clock_after-stop.ensures.value c.first_arrival-arrival.ensures.first c.first_arrival-arrival.ensures.within
     c.first_busy_by_both.ensures.first c.quiet_to-to.ensures.first in
     subst (λ (r : RunnerRec). NoneBefore (is_busy r.plan r.node) r.clock (r.clock + (c.quiet_to-to.result - i.clock))) c.self.view_is
@@ -43,8 +43,8 @@ pub returns-clause-greatest : goal.returns-clause-greatest
 returns-clause-greatest c =
     let i = c.self.inside in
     let seat = c.may_issue.new.self in
-    let is = with_seat i.plan.value i.node i.clock i.horizon i.seat c.may_issue.new.self i.pins i.inlets.items i.batches.items i.published c.self.invariant.1 c.may_issue.ensures.unchanged in
-    let goes = goes_to i.plan.value i.node i.clock i.horizon seat i.pins i.inlets.items c.deref.result.now i.batches.items i.published is c.deref.ensures.value
+    let is = with_seat i.plan.value i.node i.clock i.horizon i.seat c.may_issue.new.self i.pins i.inlets.ends i.batches.items i.published c.self.invariant.1 c.may_issue.ensures.unchanged in
+    let goes = goes_to i.plan.value i.node i.clock i.horizon seat i.pins i.inlets.ends i.batches.items i.published is
     c.clock_after-stop.result c.first_arrival-arrival.result c.quiet_to-to.result c.clock_after-stop.ensures.value c.first_arrival-arrival.ensures.first c.first_arrival-arrival.ensures.within
     c.first_busy_by_both.ensures.first c.quiet_to-to.ensures.first in
     goes.greatest
@@ -52,14 +52,14 @@ returns-clause-greatest c =
 pub invariant_of-self-then-to-from : goal.invariant_of-self-then-to-from
 invariant_of-self-then-to-from c =
     let i = c.self.inside in
-    (c.self.invariant.0, with_seat i.plan.value i.node i.clock i.horizon i.seat c.may_issue.new.self i.pins i.inlets.items i.batches.items i.published c.self.invariant.1 c.may_issue.ensures.unchanged)
+    (c.self.invariant.0, with_seat i.plan.value i.node i.clock i.horizon i.seat c.may_issue.new.self i.pins i.inlets.ends i.batches.items i.published c.self.invariant.1 c.may_issue.ensures.unchanged)
 
 pub invariant_of-self-2 : goal.invariant_of-self-2
 invariant_of-self-2 c =
     let i = c.self.inside in
     let seat = c.may_issue.new.self in
-    let is = with_seat i.plan.value i.node i.clock i.horizon i.seat c.may_issue.new.self i.pins i.inlets.items i.batches.items i.published c.self.invariant.1 c.may_issue.ensures.unchanged in
-    let goes = goes_to i.plan.value i.node i.clock i.horizon seat i.pins i.inlets.items c.deref.result.now i.batches.items i.published is c.deref.ensures.value
+    let is = with_seat i.plan.value i.node i.clock i.horizon i.seat c.may_issue.new.self i.pins i.inlets.ends i.batches.items i.published c.self.invariant.1 c.may_issue.ensures.unchanged in
+    let goes = goes_to i.plan.value i.node i.clock i.horizon seat i.pins i.inlets.ends i.batches.items i.published is
     c.clock_after-stop.result c.first_arrival-arrival.result c.quiet_to-to.result c.clock_after-stop.ensures.value c.first_arrival-arrival.ensures.first c.first_arrival-arrival.ensures.within
     c.first_busy_by_both.ensures.first c.quiet_to-to.ensures.first in
     let pins = c.self.invariant.1.pins_are in
@@ -67,7 +67,7 @@ invariant_of-self-2 c =
     let shows = c.view.ensures ∙ c.look.ensures.view ∙ shown_last i.plan.value i.node i.clock (to - 1) i.pins pins in
     let pins_are = pins_skipped i.plan.value i.node i.clock to i.pins c.look.new.self pins c.look.ensures.script c.look.ensures.number c.look.ensures.shown c.if-to-from.false in (
       omega (arith, c.self.invariant.0, goes.on),
-      goes_on i.plan.value i.node i.clock i.horizon seat i.pins i.inlets.items c.deref.result.now i.batches.items i.published is c.deref.ensures.value
+      goes_on i.plan.value i.node i.clock i.horizon seat i.pins i.inlets.ends i.batches.items i.published is
           c.clock_after-stop.result c.first_arrival-arrival.result c.quiet_to-to.result c.clock_after-stop.ensures.value c.first_arrival-arrival.ensures.first c.first_arrival-arrival.ensures.within
           c.first_busy_by_both.ensures.first c.quiet_to-to.ensures.first
           c.idle_where_not_busy.ensures.idle c.arrivals_by_link_ends.ensures.waiting c.skip.new.self c.look.new.self c.view.result.now shows c.view.ensures c.skip.ensures.skips pins_are,

@@ -1,15 +1,24 @@
-use Rattle.std.proofs.Common.{◌≡◌, ◌≤◌, Some, sym, ◌∙◌, subst, arith, rules}
+use Rattle.std.proofs.Common.{◌≡◌, ◌≤◌, Some, sym, ap, subst, arith, rules}
 use Rattle.std.specs.Prelude.{IsSome, is_ok, true}
-use Rattle.std.proofs.lemmas.List.{get_or_default}
 use Rattle.xs_base.specs.Numbers.{LinkNumber}
 use Rattle.sys_plan.specs.Plan.{incoming}
 use Rattle.serial_model.specs.Serial.{history}
 use Rattle.ahead_limits.specs.Horizon.{seen_at}
-use Rattle.node_runners.specs.Queue.{InletRec, no_inlet}
+use Rattle.node_runners.specs.Queue.{InletsRec}
 use Rattle.node_runners.specs.Runner.{RunnerRec}
 use Rattle.node_runners.proofs.Whole.{went-well}
-use Rattle.node_runners.proofs.Takes.{inside, longer, runner-taken}
+use Rattle.node_runners.proofs.Takes.{inside, runner-taken}
 use Rattle.node_runners.proofs.runner.NodeRunner.take.Goals as goal
+
+pub append-requires : goal.append-requires
+append-requires c =
+    let i = c.self.inside in
+    let end = c.args.end in
+    let to = c.args.to in
+    let there = subst (λ (r : RunnerRec). IsSome (incoming r.plan r.node end)) (sym c.self.view_is) c.requires.there in
+    let on = subst (λ (r : RunnerRec). seen_at r.horizon end ≤ to) (sym c.self.view_is) c.requires.on in
+    let own = subst (λ (r : RunnerRec). (link : LinkNumber) → incoming r.plan r.node end ≡ Some link → c.args.batch.entries ≡ history r.plan link (seen_at r.horizon end) to) (sym c.self.view_is) c.requires.own in
+    record { end = inside i.plan.value i.clock to c.args.batch.entries i.node end i.horizon i.inlets.ends i.batches.items i.published c.self.invariant.1.links there on own }
 
 pub invariant_of-self-2 : goal.invariant_of-self-2
 invariant_of-self-2 c =
@@ -20,9 +29,8 @@ invariant_of-self-2 c =
     let there = subst (λ (r : RunnerRec). IsSome (incoming r.plan r.node end)) (sym c.self.view_is) c.requires.there in
     let on = subst (λ (r : RunnerRec). seen_at r.horizon end ≤ to) (sym c.self.view_is) c.requires.on in
     let own = subst (λ (r : RunnerRec). (link : LinkNumber) → incoming r.plan r.node end ≡ Some link → entries ≡ history r.plan link (seen_at r.horizon end) to) (sym c.self.view_is) c.requires.own in
-    let links = c.self.invariant.1.links in
-    let within = inside i.plan.value i.clock to entries i.node end i.horizon i.inlets.items i.batches.items i.published links there on own in
-    let was = c.index_mut-inlet.ensures.value ∙ get_or_default i.inlets.items end c.index_mut-inlet.result.now no_inlet within in
     let went : is_ok c.append.result ≡ true = first_of (cc, search rules, grind (arith)) in
-    let is = went-well c.append.result went c.append.ensures.ok ∙ (λ k. longer (was k) (c.entries.ensures.value k)) in
-    (c.self.invariant.0, runner-taken i.plan.value i.clock to entries i.node end i.horizon i.inlets.items i.batches.items i.published links there on own i.seat i.pins c.see.new.self c.append.new.self c.self.invariant.1 c.see.ensures.ends is)
+    let is = ap (λ (x : InletsRec). x.ends) (went-well c.append.result went c.append.ensures.ok) in (
+      c.self.invariant.0,
+      runner-taken i.plan.value i.clock to entries i.node end i.horizon i.inlets.ends i.batches.items i.published c.self.invariant.1.links there on own i.seat i.pins c.see.new.self c.append.new.self.ends c.self.invariant.1 c.see.ensures.ends is,
+    )
