@@ -161,22 +161,26 @@ gives_nothing first counts value rec slot pins whole all stands quiet =
 
 -- ---- It is still quiet after the first of the slots
 
-counted_later : (clocks : List ClockRec) (from n : ℕ) (ports : List PortRec) → ports_counted clocks (from + 1) n (ports_counted clocks from 1 ports) ≡ ports_counted clocks from (suc n) ports
-counted_later clocks from zero ports = ports_uncounted clocks (from + 1) (ports_counted clocks from 1 ports)
-counted_later clocks from (suc n) ports =
-    let here : from + 1 + n ≡ from + suc n = omega arith in
-    sym (ports_count_on clocks (from + 1) n (ports_counted clocks from 1 ports))
-    ∙ ap₂ (λ slot ports. ports_counted clocks slot 1 ports) here (counted_later clocks from n ports)
-    ∙ ports_count_on clocks from (suc n) ports
+counted_later : (clocks : List ClockRec) (from k n : ℕ) (ports : List PortRec) → ports_counted clocks (from + k) n (ports_counted clocks from k ports) ≡ ports_counted clocks from (k + n) ports
+counted_later clocks from k zero ports =
+    let none : k ≡ k + 0 = omega arith in
+    ports_uncounted clocks (from + k) (ports_counted clocks from k ports) ∙ ap (λ count. ports_counted clocks from count ports) none
+counted_later clocks from k (suc n) ports =
+    let here : from + k + n ≡ from + (k + n) = omega arith in
+    let one : suc (k + n) ≡ k + suc n = omega arith in
+    sym (ports_count_on clocks (from + k) n (ports_counted clocks from k ports))
+    ∙ ap₂ (λ slot ports. ports_counted clocks slot 1 ports) here (counted_later clocks from k n ports)
+    ∙ ports_count_on clocks from (k + n) ports
+    ∙ ap (λ count. ports_counted clocks from count ports) one
 
-found_later : (core : CoreRec) (from t : Slot) → from < t → found (core_counted from 1 core) (from + 1) t ≡ found core from t
-found_later core from t less =
-    let so_many : suc (t - (from + 1)) ≡ t - from = omega (arith, less) in
-    ap₂ (λ ports some. ports_stir core.clocks t ports || some) (counted_later core.clocks from (t - (from + 1)) core.ports ∙ ap (λ n. ports_counted core.clocks from n core.ports) so_many) (some_alike from 1 core t)
+found_later : (core : CoreRec) (from k t : Slot) → from + k ≤ t → found (core_counted from k core) (from + k) t ≡ found core from t
+found_later core from k t on =
+    let so_many : k + (t - (from + k)) ≡ t - from = omega (arith, on) in
+    ap₂ (λ ports some. ports_stir core.clocks t ports || some) (counted_later core.clocks from k (t - (from + k)) core.ports ∙ ap (λ n. ports_counted core.clocks from n core.ports) so_many) (some_alike from k core t)
 
-pub quiet_after_one : (value : CoreValue) (from to : Slot) (last : PinView) → IsQuietTo value from to → IsQuietTo (value_counted from 1 last value) (from + 1) to
-quiet_after_one value from to last quiet = record {
+pub quiet_after : (value : CoreValue) (from k to : Slot) (last : PinView) → IsQuietTo value from to → IsQuietTo (value_counted from k last value) (from + k) to
+quiet_after value from k to last quiet = record {
   network = quiet.network;
-  ports = ports_stay_still value.core.clocks from 1 value.core.ports ∙ quiet.ports;
-  none = λ t first before. found_later value.core from t (omega (arith, first)) ∙ quiet.none t (omega (arith, first)) before;
+  ports = ports_stay_still value.core.clocks from k value.core.ports ∙ quiet.ports;
+  none = λ t first before. found_later value.core from k t first ∙ quiet.none t (omega (arith, first)) before;
 }

@@ -250,7 +250,7 @@ impl Core {
 
     /// Goes over the slots from `from` on and before `to` at once: nothing arrives in them, and none of them is one in which the node
     /// stirs, as `quiet_to` tells. `last` is what the pins show from outside in the last of them, slot `to - 1`. The core then stands
-    /// for what stepping each of these slots gives. See docs/QUIET_SLOTS.md.
+    /// for what stepping each of these slots gives; what was known of later quiet slots is known still. See docs/QUIET_SLOTS.md.
     pub fn skip(&mut self, from: u32, to: u32, last: &PinView)
         requires some { from < to }
         requires quiet { IsQuietTo self.old from to }
@@ -264,9 +264,9 @@ impl Core {
     {
         first_stirring_slot();
         quiet_slots_only_count();
-        self.rest = Rest::none();
         self.units.keeps();
         self.units.pass(from, to);
         self.levels.note(true, last);
+        self.rest = self.rest.after(from, to);
     }
 }

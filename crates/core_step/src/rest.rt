@@ -24,4 +24,19 @@ impl Rest {
     {
         self.from == slot && slot < self.until
     }
+
+    /// Those of them from slot `to` on, where slot `from` is the first of them, and else none.
+    #[inline]
+    pub(crate) fn after(&self, from: u32, to: u32) -> Rest
+        ensures { result.from < result.until → (self.now.from ≡ from) × ((result.from ≡ to) × (result.until ≡ self.now.until)) }
+    {
+        if self.from == from {
+            Rest {
+                from: to,
+                until: self.until,
+            }
+        } else {
+            Rest::none()
+        }
+    }
 }

@@ -9,7 +9,7 @@ use Rattle.core_step.specs.PinLevels.{from_outside}
 use Rattle.core_step.specs.Core.{CoreValue, StandsAt, SentBefore}
 use Rattle.core_step.specs.Quiet.{IsQuietTo}
 use Rattle.core_step.specs.Inside.{value_of}
-use Rattle.core_step.proofs.Quiet.{skipped, sooner, after_one, gives_nothing, quiet_after_one, sent_before_later}
+use Rattle.core_step.proofs.Quiet.{skipped, sooner, after_one, gives_nothing, quiet_after, sent_before_later}
 use Rattle.core_step.proofs.node_core.Core.rests.Goals as goal
 use Rattle.core_step.proofs.node_core.Core.rests.Goals.{After-note}
 
@@ -37,7 +37,7 @@ invariant_of-self c = record {
       λ less.
       let d = (goal.at.invariant_of-self c).After-note in
       let v = value_of d.self.inside in
-      let there = quiet_after_one v d.args.slot d.self.inside.rest.until d.args.pins.now (quiet d) in
+      let there = quiet_after v d.args.slot 1 d.self.inside.rest.until d.args.pins.now (quiet d) in
       subst (λ (levels : PinLevels). IsQuietTo (record v { core = d.pass.new.self; levels = levels }) (d.args.slot + 1) d.self.inside.rest.until) (sym d.note.ensures.levels)
       (subst (λ (core : CoreRec). IsQuietTo (record v { core = core; levels = from_outside d.args.pins.now }) (d.args.slot + 1) d.self.inside.rest.until) (counted d) there);
 }
