@@ -1,5 +1,5 @@
 //! What a worker publishes of the links that leave its node.
-ghost use Rattle.std.specs.Prelude.{◌≡◌, ◌<◌, Some, All, OnOk, length};
+ghost use Rattle.std.specs.Prelude.{◌≡◌, ◌<◌, Some, All, OnOk, [], length};
 ghost use Rattle.std.specs.List.{AllByRecursion, AllZip};
 ghost use Rattle.sys_plan.specs.Plan.{IsPlan, outgoing};
 ghost use Rattle.plan_cells.specs.Ends.{IsOutgoing};
@@ -11,6 +11,7 @@ use node_runners::NodeRunner;
 use plan_cells::{Ends, Outgoing, PlanCells};
 use std::alloc::AllocError;
 use std::sync::Wait;
+use xs_base::Batch;
 
 // Publishes up to the node's clock a link that leaves it. The error is want of memory, and publishes nothing. Where all is published it
 // does nothing, so that no one is woken for nothing.
@@ -37,13 +38,27 @@ fn tell<R: Wait>(
         return Ok(());
     }
     let mut batch = runner.send(writer.end);
+    let carries = !batch.entries().is_empty();
     let cell = cells.cell(writer.link);
     match cell.publish(rt, &mut writer.w, clock, &mut batch) {
-        Ok(()) => Ok(()),
+        Ok(()) => {
+            keep(runner, writer.end, carries, batch);
+            Ok(())
+        }
         Err(error) => {
             runner.unsend(writer.end, batch, from);
             Err(error)
         }
+    }
+}
+
+// Keeps the buffer of a batch that was published. One that carried nothing had none, and would take the place of a better one.
+fn keep(runner: &mut NodeRunner, end: u8, carried: bool, batch: Batch)
+    requires empty { batch.entries ≡ [] }
+    ensures same { runner.new ≡ runner.old }
+{
+    if carried {
+        runner.keep(end, batch);
     }
 }
 
