@@ -1,5 +1,5 @@
 -- A cell keeps what it is said to keep, and each kind of step goes on from what an end knew.
-use Rattle.std.proofs.Common.{◌≡◌, ◌≢◌, ℕ, zero, suc, ◌+◌, List, [], ◌∷◌, sym, refl, ap, ◌∙◌, subst, arith, true, is_some, Option, Some, None, get_or}
+use Rattle.std.proofs.Common.{◌≡◌, ℕ, ◌+◌, List, [], ◌∷◌, sym, refl, ap, ◌∙◌, subst, arith, true, is_some, Option, Some, None, get_or}
 use mathlib.Core.Option.{some, none}
 use mathlib.Core.Option as maybe
 use lib.ListN.{get_elem?}
@@ -14,10 +14,7 @@ use Rattle.log_cells.specs.Rule.{WritingIn, ReadingIn, ViewIn, Turn, free, write
 use Rattle.log_cells.specs.Plays.{SeatIn, claims_as_writer, claims_as_reader, gives_written, gives_taken, gives_shut, WriterHas, ReaderHas, HasTaken}
 use Rattle.log_cells.specs.Keeps.{CellState, IsMoment, IsWith, HasSeat, IsRead, CellKeeps, WritesOn, ReadsOn, GoesOn, GoesOnBy, StepsGoOn}
 use Rattle.log_cells.proofs.Seats.{writer_seat, reader_seat, is_writers, is_readers}
-
-by_word : {Z : Type 0} (found : ℕ) → (found ≡ 0 → Z) → (found ≢ 0 → Z) → Z
-by_word zero a b = a refl
-by_word (suc n) a b = b (λ h. omega (arith, h))
+use Rattle.log_cells.proofs.Kept.{by_word}
 
 module _ {Run : Type 0} where
   with_by : (turn : Turn) (s : CellState Run) (w : WritingIn Run) (r : ReadingIn Run) (home : maybe.Option (LogRec Run)) (log : LogRec Run) → s.homes ≡ home ∷ [] → home ≡ home_at turn log → w.held ≡ writer_has turn log → r.held ≡ reader_has turn log
@@ -33,7 +30,7 @@ module _ {Run : Type 0} where
         let writes = subst (λ (w : WritingIn Run). Writes (write_end_of w) c.fits.log) here.2 c.fits.agrees.writes in
         record { run = writes.run; number = writes.number; published = writes.published; cause = writes.cause }
 
-    read_by : (end : CellReadRec Run) → ReadsOf end cell → HasSeat s (Reader (reading_of end.end end.refused)) → IsRead c.fits.log end.end
+    read_by : (end : CellReadRec Run) → ReadsOf end cell → HasSeat s (Reader (reading_of end.end end.refused end.turns)) → IsRead c.fits.log end.end
     read_by end of seat =
         let here = reader_seat c.stage c.w c.r seat.0 _ (ap (λ (l : List (ViewIn Run)). get_elem? l seat.0) (sym c.views) ∙ seat.1) in
         let reads = subst (λ (r : ReadingIn Run). ReadsFrom r c.fits.log) here.2 c.fits.agrees.reads in
@@ -72,8 +69,8 @@ module _ {Run : Type 0} where
   stays_writing : (v : WritingIn Run) (held : Option (LogRec Run)) (refused : ℕ) → WritesOn v (record v { held = held; refused = refused })
   stays_writing v held refused = record { run = refl; number = refl; published = omega arith; closed = λ h. (refl, refl) }
 
-  stays_reading : (v : ReadingIn Run) (held : Option (LogRec Run)) (refused : ℕ) → ReadsOn v (record v { held = held; refused = refused })
-  stays_reading v held refused = record { run = refl; number = refl; got = omega arith; shut = λ h. (refl, h) }
+  stays_reading : (v : ReadingIn Run) (held : Option (LogRec Run)) (refused : ℕ) (turns : List (LogRec Run)) → ReadsOn v (record v { held = held; refused = refused; turns = turns })
+  stays_reading v held refused turns = record { run = refl; number = refl; got = omega arith; shut = λ h. (refl, h) }
 
   claims_writing : (step : Step (LogRec Run)) (v : WritingIn Run) → GoesOnBy (claims_as_writer step) (λ me. me ≡ (Writer v, []))
   claims_writing step v cell s rule me me' found seat is kind = by_word found
@@ -82,8 +79,8 @@ module _ {Run : Type 0} where
 
   claims_reading : (step : Step (LogRec Run)) (v : ReadingIn Run) → GoesOnBy (claims_as_reader step) (λ me. me ≡ (Reader v, []))
   claims_reading step v cell s rule me me' found seat is kind = by_word found
-      (λ z. let won = (kind v is).0 z in moves me me' (Reader v) (Reader (record v { held = Some won.0 })) [] ((0, won.0) ∷ []) is won.2 (stays_reading v (Some won.0) v.refused))
-      (λ n. moves me me' (Reader v) (Reader (record v { refused = v.refused + 1 })) [] [] is ((kind v is).1 n) (stays_reading v v.held (v.refused + 1)))
+      (λ z. let won = (kind v is).0 z in moves me me' (Reader v) (Reader (record v { held = Some won.0; turns = won.0 ∷ v.turns })) [] ((0, won.0) ∷ []) is won.2 (stays_reading v (Some won.0) v.refused (won.0 ∷ v.turns)))
+      (λ n. moves me me' (Reader v) (Reader (record v { refused = v.refused + 1 })) [] [] is ((kind v is).1 n) (stays_reading v v.held (v.refused + 1) v.turns))
 
   -- where an end has the log, that agreed with both ends as it was found
   found_by_writer : (cell : CellRec Run) (s : CellState Run) (c : IsCell cell.run cell.number s) (me : SeatIn Run) (end : WriteRec Run) (refused : ℕ) → HasSeat s me.0 → (has : WriterHas end refused me) → Agrees has.found has.view c.r
@@ -92,8 +89,8 @@ module _ {Run : Type 0} where
       let here = writer_seat c.stage c.w c.r seat.0 has.view at in
       (is_writers c.word c.home has.view c.r has.found (subst (λ (w : WritingIn Run). Fits c.word c.home w c.r) here.2 c.fits) has.held).2
 
-  found_by_reader : (cell : CellRec Run) (s : CellState Run) (c : IsCell cell.run cell.number s) (me : SeatIn Run) (end : ReadRec Run) (refused : ℕ) → HasSeat s me.0 → (has : ReaderHas end refused me) → Agrees has.found c.w has.view
-  found_by_reader cell s c me end refused seat has =
+  found_by_reader : (cell : CellRec Run) (s : CellState Run) (c : IsCell cell.run cell.number s) (me : SeatIn Run) (end : ReadRec Run) (refused : ℕ) (turns : List (LogRec Run)) → HasSeat s me.0 → (has : ReaderHas end refused turns me) → Agrees has.found c.w has.view
+  found_by_reader cell s c me end refused turns seat has =
       let at = ap (λ (l : List (ViewIn Run)). get_elem? l seat.0) (sym c.views) ∙ seat.1 ∙ ap (λ (m : SeatIn Run). some m.0) has.me_is in
       let here = reader_seat c.stage c.w c.r seat.0 has.view at in
       (is_readers c.word c.home c.w has.view has.found (subst (λ (r : ReadingIn Run). Fits c.word c.home c.w r) here.2 c.fits) has.held).2
@@ -112,12 +109,12 @@ module _ {Run : Type 0} where
             ((has.follows.closed closed).published ∙ sym before.published, has.follows.cause closed ∙ sym before.cause);
       }
 
-  taking : (step : Step (LogRec Run)) (end : ReadRec Run) (refused : ℕ) → GoesOnBy (gives_taken step) (HasTaken end refused)
-  taking step end refused cell s rule me me' found seat took kind =
+  taking : (step : Step (LogRec Run)) (end : ReadRec Run) (refused : ℕ) (turns : List (LogRec Run)) → GoesOnBy (gives_taken step) (HasTaken end refused turns)
+  taking step end refused turns cell s rule me me' found seat took kind =
       let has = took.0 in
       let v = has.view in
       let log = has.log in
-      let before = (found_by_reader cell s rule me end refused seat has).reads in
+      let before = (found_by_reader cell s rule me end refused turns seat has).reads in
       moves me me' (Reader v) (Reader (record v { got = log.published; held = None })) ((0, log) ∷ []) [] has.me_is (kind v log has.me_is) record {
         run = refl;
         number = refl;
@@ -125,12 +122,12 @@ module _ {Run : Type 0} where
         shut = λ h. (has.same.published ∙ (before.shut h).published, h);
       }
 
-  shutting : (step : Step (LogRec Run)) (end : ReadRec Run) (refused : ℕ) → GoesOnBy (gives_shut step) (HasTaken end refused)
-  shutting step end refused cell s rule me me' found seat took kind =
+  shutting : (step : Step (LogRec Run)) (end : ReadRec Run) (refused : ℕ) (turns : List (LogRec Run)) → GoesOnBy (gives_shut step) (HasTaken end refused turns)
+  shutting step end refused turns cell s rule me me' found seat took kind =
       let has = took.0 in
       let v = has.view in
       let log = has.log in
-      let before = (found_by_reader cell s rule me end refused seat has).reads in
+      let before = (found_by_reader cell s rule me end refused turns seat has).reads in
       moves me me' (Reader v) (Reader (record v { got = log.published; shut = true; held = None })) ((0, log) ∷ []) [] has.me_is (kind v log has.me_is) record {
         run = refl;
         number = refl;

@@ -20,6 +20,10 @@ StateIn Run = State (LogRec Run) (ViewIn Run)
 abbrev pub a_step : {Run : Type 0} → Step (LogRec Run)
 a_step = step 0 0 0 0 none
 
+pub by_word : {Z : Type 0} (found : ℕ) → (found ≡ 0 → Z) → (found ≢ 0 → Z) → Z
+by_word zero a b = a refl
+by_word (suc n) a b = b (λ h. omega (arith, h))
+
 abbrev pub log_or : {Run : Type 0} → LogRec Run → List (ℕ × LogRec Run) → LogRec Run
 log_or d [] = d
 log_or d (x ∷ xs) = x.1
@@ -33,7 +37,7 @@ module _ {Run : Type 0} where
     home = some log;
     stage = made;
     w = record { run = end.run; number = end.number; published = end.published; cause = end.cause; held = None; refused = 0 };
-    r = record { run = end.run; number = end.number; got = 0; shut = false; held = None; refused = 0 };
+    r = record { run = end.run; number = end.number; got = 0; shut = false; held = None; refused = 0; turns = [] };
     words = are;
     homes = ap (map some) is;
     views = refl;
@@ -166,7 +170,7 @@ module _ {Run : Type 0} {its_run : Run} {its_link : LinkNumber} where
       → (w : ViewIn Run) × (a : Act (LogRec Run)) × Valid s.homes [] a × IsCell its_run its_link (stepped s 0 2 id [] w a) × claims_as_reader a_step (Reader v, []) (get_or s.words 0 0) (w, carried_after [] a)
   reader_hits slots id v s c at zero_there =
       let home = is_free c.word c.home c.w v (fits_reader s c id v at) (sym (word_is s c id) ∙ zero_there) in
-      let r' : ReadingIn Run = record v { held = Some home.log } in (
+      let r' : ReadingIn Run = record v { held = Some home.log; turns = home.log ∷ v.turns } in (
         Reader r',
         takes 0 home.log,
         ap (λ (l : List (maybe.Option (LogRec Run))). get_elem? l 0) c.homes ∙ ap some home.home_is,
@@ -303,12 +307,12 @@ module _ {Run : Type 0} {its_run : Run} {its_link : LinkNumber} where
   writer_gives slots id me end refused has = moved slots id me (Writer has.view, (0, has.log) ∷ []) (λ _. 0) (λ m _. gives_written a_step m 0) has.me_is
       (writer_gives_there slots id has.view has.found has.log has.held has.follows)
 
-  pub reader_gives_taken : (slots id : ℕ) (me : SeatIn Run) (end : ReadRec Run) (refused : ℕ) → HasTaken end refused me → end.shut ≡ false → Allows (IsCell its_run its_link) slots id me 0 (λ _. 0) (λ _. gives_taken a_step me 0)
-  reader_gives_taken slots id me end refused took is_open = let has = took.0 in moved slots id me (Reader has.view, (0, has.log) ∷ []) (λ _. 0) (λ m _. gives_taken a_step m 0) has.me_is
+  pub reader_gives_taken : (slots id : ℕ) (me : SeatIn Run) (end : ReadRec Run) (refused : ℕ) (turns : List (LogRec Run)) → HasTaken end refused turns me → end.shut ≡ false → Allows (IsCell its_run its_link) slots id me 0 (λ _. 0) (λ _. gives_taken a_step me 0)
+  reader_gives_taken slots id me end refused turns took is_open = let has = took.0 in moved slots id me (Reader has.view, (0, has.log) ∷ []) (λ _. 0) (λ m _. gives_taken a_step m 0) has.me_is
       (reader_gives_taken_there slots id has.view has.found has.log has.held has.same (has.run ∙ has.reads.run) (has.number ∙ has.reads.number) (has.reads.base ∙ took.1) (took.2 is_open))
 
-  pub reader_gives_shut : (slots id : ℕ) (me : SeatIn Run) (end : ReadRec Run) (refused : ℕ) → HasTaken end refused me → end.shut ≡ true → Allows (IsCell its_run its_link) slots id me 0 (λ _. 0) (λ _. gives_shut a_step me 0)
-  reader_gives_shut slots id me end refused took shut = let has = took.0 in moved slots id me (Reader has.view, (0, has.log) ∷ []) (λ _. 0) (λ m _. gives_shut a_step m 0) has.me_is
+  pub reader_gives_shut : (slots id : ℕ) (me : SeatIn Run) (end : ReadRec Run) (refused : ℕ) (turns : List (LogRec Run)) → HasTaken end refused turns me → end.shut ≡ true → Allows (IsCell its_run its_link) slots id me 0 (λ _. 0) (λ _. gives_shut a_step me 0)
+  reader_gives_shut slots id me end refused turns took shut = let has = took.0 in moved slots id me (Reader has.view, (0, has.log) ∷ []) (λ _. 0) (λ m _. gives_shut a_step m 0) has.me_is
       (reader_gives_shut_there slots id has.view has.found has.log has.held has.same (has.run ∙ has.reads.run) (has.number ∙ has.reads.number) (has.reads.base ∙ took.1) (has.shut shut).closed)
 
   -- the news are raised

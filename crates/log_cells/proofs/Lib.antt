@@ -1,4 +1,5 @@
 pub mod Seats
 pub mod Kept
 pub mod Turns
+pub mod Looks
 pub mod Keeping

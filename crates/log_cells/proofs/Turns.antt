@@ -1,5 +1,5 @@
 -- What an end has after each step of a turn.
-use Rattle.std.proofs.Common.{◌≡◌, ◌≢◌, ℕ, ◌+◌, ◌≤◌, List, [], ◌∷◌, sym, refl, ap, ◌∙◌, subst, arith, le_refl, le_trans, Bool, true, false, ◌||◌, true≢false, is_some, IsSome, Option, Some, None, Result, Ok, Err, OnOk, OnErr}
+use Rattle.std.proofs.Common.{◌≡◌, ◌≢◌, ℕ, ◌+◌, ◌≤◌, List, [], ◌∷◌, ◌++◌, sym, refl, ap, ◌∙◌, subst, arith, le_refl, le_trans, Bool, true, false, ◌||◌, true≢false, is_some, IsSome, Option, Some, None, Result, Ok, Err, OnOk, OnErr}
 use Rattle.atomic_table.specs.Table.{rest}
 use Rattle.xs_base.specs.Numbers.{Slot}
 use Rattle.xs_base.specs.declared.entry.Entry.{Entry}
@@ -8,14 +8,14 @@ use Rattle.link_logs.specs.declared.answers.Got.{Got}
 use Rattle.link_logs.specs.declared.answers.Got.TheVariants.{Entries, Nothing, Closed}
 use Rattle.link_logs.specs.Logs.{LogRec, WriteRec, ReadRec, is_closed, Writes, Reads, Finds, emptied, looked}
 use Rattle.log_cells.specs.declared.view.View.TheVariants.{Writer, Reader}
-use Rattle.log_cells.specs.Rule.{writing_of, reading_of, refused_of}
+use Rattle.log_cells.specs.Rule.{writing_of, reading_of, refused_of, turns_of}
 use Rattle.log_cells.specs.Ends.{EndsAt, LooksAt}
-use Rattle.log_cells.specs.Plays.{SeatIn, writer_at, reader_at, WriterClaims, ReaderClaims, gives_written, gives_taken, gives_shut, Follows, SameToWriter, WriterHas, ReaderHas, HasClaimed, HasTaken}
-use Rattle.log_cells.proofs.Kept.{a_step, log_or}
+use Rattle.log_cells.specs.Plays.{SeatIn, writer_at, reader_at, logs_in, WriterClaims, ReaderClaims, gives_written, gives_taken, gives_shut, Follows, SameToWriter, WriterHas, ReaderHas, HasClaimed, HasTaken}
+use Rattle.log_cells.proofs.Kept.{by_word, a_step, log_or}
 
-module _ {Run : Type 0} (refused found : ℕ) (m : SeatIn Run) where
-  pub writer_won : (end : WriteRec Run) → WriterClaims (writing_of end refused) found m → found ≡ 0 → WriterHas end (refused_of m.0) m
-  writer_won end k z = let t = k.0 z in record {
+module _ {Run : Type 0} (refused found : ℕ) (m : SeatIn Run) (end : WriteRec Run) (k : WriterClaims (writing_of end refused) found m) where
+  pub writer_won : found ≡ 0 → WriterHas end (refused_of m.0) m
+  writer_won z = let t = k.0 z in record {
     view = record (writing_of end refused) { held = Some t.0 };
     found = t.0;
     log = t.0;
@@ -28,27 +28,26 @@ module _ {Run : Type 0} (refused found : ℕ) (m : SeatIn Run) where
     follows = record { run = refl; number = refl; base = refl; published = le_refl t.0.published; closed = λ h. record { published = refl; closed = h }; cause = λ h. refl };
   }
 
-  pub writer_won_later : (end : WriteRec Run) → WriterClaims (writing_of end refused) found m → found ≡ 0 → refused ≤ refused_of m.0
-  writer_won_later end k z = omega (arith, ap (λ (x : SeatIn Run). refused_of x.0) (k.0 z).2)
+  pub writer_won_once : found ≡ 0 → refused_of m.0 ≡ refused
+  writer_won_once z = ap (λ (x : SeatIn Run). refused_of x.0) (k.0 z).2
 
-  writer_lost_more : (end : WriteRec Run) → WriterClaims (writing_of end refused) found m → found ≢ 0 → refused_of m.0 ≡ refused + 1
-  writer_lost_more end k n = ap (λ (x : SeatIn Run). refused_of x.0) (k.1 n)
+  pub writer_lost_once : found ≢ 0 → refused_of m.0 ≡ refused + 1
+  writer_lost_once n = ap (λ (x : SeatIn Run). refused_of x.0) (k.1 n)
 
-  pub writer_lost : (end : WriteRec Run) → WriterClaims (writing_of end refused) found m → found ≢ 0 → m ≡ writer_at end (refused_of m.0)
-  writer_lost end k n = k.1 n ∙ (λ i. writer_at end (sym (writer_lost_more end k n) i))
+  pub writer_lost : found ≢ 0 → m ≡ writer_at end (refused_of m.0)
+  writer_lost n = k.1 n ∙ (λ i. writer_at end (sym (writer_lost_once n) i))
 
-  pub writer_lost_later : (end : WriteRec Run) → WriterClaims (writing_of end refused) found m → found ≢ 0 → refused ≤ refused_of m.0
-  writer_lost_later end k n = omega (arith, writer_lost_more end k n)
-
-  pub reader_won : (end : ReadRec Run) → ReaderClaims (reading_of end refused) found m → found ≡ 0 → HasClaimed end (refused_of m.0) m
-  reader_won end k z = let t = k.0 z in (
+module _ {Run : Type 0} (refused : ℕ) (turns : List (LogRec Run)) (found : ℕ) (m : SeatIn Run) (end : ReadRec Run) (k : ReaderClaims (reading_of end refused turns) found m) where
+  pub reader_won : found ≡ 0 → HasClaimed end (refused_of m.0) (turns_of m.0) m
+  reader_won z = let t = k.0 z in (
     record {
-      view = record (reading_of end refused) { held = Some t.0 };
+      view = record (reading_of end refused turns) { held = Some t.0; turns = t.0 ∷ turns };
       found = t.0;
       log = t.0;
       me_is = t.2;
       held = refl;
       refused_is = sym (ap (λ (x : SeatIn Run). refused_of x.0) t.2);
+      turns_are = sym (ap (λ (x : SeatIn Run). turns_of x.0) t.2);
       run = refl;
       number = refl;
       reads = record { run = t.1.run; number = t.1.number; base = t.1.base; published = t.1.published };
@@ -58,30 +57,36 @@ module _ {Run : Type 0} (refused found : ℕ) (m : SeatIn Run) where
     refl,
   )
 
-  pub reader_won_later : (end : ReadRec Run) → ReaderClaims (reading_of end refused) found m → found ≡ 0 → refused ≤ refused_of m.0
-  reader_won_later end k z = omega (arith, ap (λ (x : SeatIn Run). refused_of x.0) (k.0 z).2)
+  pub reader_won_once : found ≡ 0 → refused_of m.0 ≡ refused
+  reader_won_once z = ap (λ (x : SeatIn Run). refused_of x.0) (k.0 z).2
 
-  reader_lost_more : (end : ReadRec Run) → ReaderClaims (reading_of end refused) found m → found ≢ 0 → refused_of m.0 ≡ refused + 1
-  reader_lost_more end k n = ap (λ (x : SeatIn Run). refused_of x.0) (k.1 n)
+  pub reader_lost_once : found ≢ 0 → refused_of m.0 ≡ refused + 1
+  reader_lost_once n = ap (λ (x : SeatIn Run). refused_of x.0) (k.1 n)
 
-  pub reader_lost : (end : ReadRec Run) → ReaderClaims (reading_of end refused) found m → found ≢ 0 → m ≡ reader_at end (refused_of m.0)
-  reader_lost end k n = k.1 n ∙ (λ i. reader_at end (sym (reader_lost_more end k n) i))
+  no_turn : found ≢ 0 → turns_of m.0 ≡ turns
+  no_turn n = ap (λ (x : SeatIn Run). turns_of x.0) (k.1 n)
 
-  pub reader_lost_later : (end : ReadRec Run) → ReaderClaims (reading_of end refused) found m → found ≢ 0 → refused ≤ refused_of m.0
-  reader_lost_later end k n = omega (arith, reader_lost_more end k n)
+  pub reader_lost : found ≢ 0 → m ≡ reader_at end (refused_of m.0) (turns_of m.0)
+  reader_lost n = k.1 n ∙ (λ i. reader_at end (sym (reader_lost_once n) i) (sym (no_turn n) i))
+
+  -- the log that it has is that of one more turn
+  pub one_more_turn : turns_of m.0 ≡ logs_in m.1 ++ turns
+  one_more_turn = by_word found
+      (λ z. let is = (k.0 z).2 in ap (λ (x : SeatIn Run). turns_of x.0) is ∙ sym (ap (λ (x : SeatIn Run). logs_in x.1 ++ turns) is))
+      (λ n. no_turn n ∙ sym (ap (λ (x : SeatIn Run). logs_in x.1 ++ turns) (k.1 n)))
 
 module _ {Run : Type 0} (refused : ℕ) (m m' : SeatIn Run) where
   pub gave_written : (end : WriteRec Run) → WriterHas end refused m → gives_written a_step m 0 m' → m' ≡ writer_at end refused
   gave_written end has gave = gave has.view has.log has.me_is
       ∙ (λ i. (Writer (record { run = has.run i; number = has.number i; published = sym has.writes.published i; cause = sym has.writes.cause i; held = None; refused = has.refused_is i }), []))
 
-  pub gave_taken : (end : ReadRec Run) → HasTaken end refused m → end.shut ≡ false → gives_taken a_step m 0 m' → m' ≡ reader_at end refused
-  gave_taken end took is_open gave = let has = took.0 in gave has.view has.log has.me_is
-      ∙ (λ i. (Reader (record { run = has.run i; number = has.number i; got = sym took.1 i; shut = (took.2 is_open ∙ sym is_open) i; held = None; refused = has.refused_is i }), []))
+  pub gave_taken : (end : ReadRec Run) (turns : List (LogRec Run)) → HasTaken end refused turns m → end.shut ≡ false → gives_taken a_step m 0 m' → m' ≡ reader_at end refused turns
+  gave_taken end turns took is_open gave = let has = took.0 in gave has.view has.log has.me_is
+      ∙ (λ i. (Reader (record { run = has.run i; number = has.number i; got = sym took.1 i; shut = (took.2 is_open ∙ sym is_open) i; held = None; refused = has.refused_is i; turns = has.turns_are i }), []))
 
-  pub gave_shut : (end : ReadRec Run) → HasTaken end refused m → end.shut ≡ true → gives_shut a_step m 0 m' → m' ≡ reader_at end refused
-  gave_shut end took shut gave = let has = took.0 in gave has.view has.log has.me_is
-      ∙ (λ i. (Reader (record { run = has.run i; number = has.number i; got = sym took.1 i; shut = sym shut i; held = None; refused = has.refused_is i }), []))
+  pub gave_shut : (end : ReadRec Run) (turns : List (LogRec Run)) → HasTaken end refused turns m → end.shut ≡ true → gives_shut a_step m 0 m' → m' ≡ reader_at end refused turns
+  gave_shut end turns took shut gave = let has = took.0 in gave has.view has.log has.me_is
+      ∙ (λ i. (Reader (record { run = has.run i; number = has.number i; got = sym took.1 i; shut = sym shut i; held = None; refused = has.refused_is i; turns = has.turns_are i }), []))
 
 slot_of : {Run : Type 0} (carried : List (ℕ × LogRec Run)) (log : LogRec Run) → carried ≡ (0, log) ∷ [] → carried ≡ (0, log) ∷ rest carried
 slot_of carried log e = e ∙ (λ i. (0, log) ∷ rest (sym e i))
@@ -90,17 +95,8 @@ module _ {Run : Type 0} {refused : ℕ} {m : SeatIn Run} where
   pub writer_slot : {end : WriteRec Run} → WriterHas end refused m → (log : LogRec Run) × (m.1 ≡ (0, log) ∷ rest m.1)
   writer_slot has = (has.log, slot_of m.1 has.log (ap (λ (x : SeatIn Run). x.1) has.me_is))
 
-  pub reader_slot : {end : ReadRec Run} → ReaderHas end refused m → (log : LogRec Run) × (m.1 ≡ (0, log) ∷ rest m.1)
-  reader_slot has = (has.log, slot_of m.1 has.log (ap (λ (x : SeatIn Run). x.1) has.me_is))
-
   pub writer_log : {end : WriteRec Run} (has : WriterHas end refused m) (log : LogRec Run) → m.1 ≡ (0, log) ∷ rest m.1 → has.log ≡ log
   writer_log has log e = ap (log_or has.log) (sym (ap (λ (x : SeatIn Run). x.1) has.me_is) ∙ e)
-
-  pub reader_log : {end : ReadRec Run} (has : ReaderHas end refused m) (log : LogRec Run) → m.1 ≡ (0, log) ∷ rest m.1 → has.log ≡ log
-  reader_log has log e = ap (log_or has.log) (sym (ap (λ (x : SeatIn Run). x.1) has.me_is) ∙ e)
-
-  pub reader_ends : (end : ReadRec Run) (has : ReaderHas end refused m) (log : LogRec Run) → m.1 ≡ (0, log) ∷ rest m.1 → end.shut ≡ true → EndsAt end.got log
-  reader_ends end has log e = subst (λ (l : LogRec Run). end.shut ≡ true → EndsAt end.got l) (reader_log has log e) has.shut
 
   -- the log was written, by an end that knows what it has now
   pub wrote : {end : WriteRec Run} (has : WriterHas end refused m) (log log' : LogRec Run) (end' : WriteRec Run) → m.1 ≡ (0, log) ∷ rest m.1
@@ -130,6 +126,19 @@ module _ {Run : Type 0} {refused : ℕ} {m : SeatIn Run} where
           cause = λ h. went.cause (before.closed h).closed ∙ before.cause h;
         };
       }
+
+module _ {Run : Type 0} {refused : ℕ} {turns : List (LogRec Run)} {m : SeatIn Run} where
+  pub reader_slot : {end : ReadRec Run} → ReaderHas end refused turns m → (log : LogRec Run) × (m.1 ≡ (0, log) ∷ rest m.1)
+  reader_slot has = (has.log, slot_of m.1 has.log (ap (λ (x : SeatIn Run). x.1) has.me_is))
+
+  pub reader_log : {end : ReadRec Run} (has : ReaderHas end refused turns m) (log : LogRec Run) → m.1 ≡ (0, log) ∷ rest m.1 → has.log ≡ log
+  reader_log has log e = ap (log_or has.log) (sym (ap (λ (x : SeatIn Run). x.1) has.me_is) ∙ e)
+
+  pub reader_logs : {end : ReadRec Run} (has : ReaderHas end refused turns m) (log : LogRec Run) → m.1 ≡ (0, log) ∷ rest m.1 → logs_in m.1 ≡ log ∷ []
+  reader_logs has log e = ap (λ (x : SeatIn Run). logs_in x.1) has.me_is ∙ ap (λ (l : LogRec Run). l ∷ []) (reader_log has log e)
+
+  pub reader_ends : (end : ReadRec Run) (has : ReaderHas end refused turns m) (log : LogRec Run) → m.1 ≡ (0, log) ∷ rest m.1 → end.shut ≡ true → EndsAt end.got log
+  reader_ends end has log e = subst (λ (l : LogRec Run). end.shut ≡ true → EndsAt end.got l) (reader_log has log e) has.shut
 
 -- what a log and its end have after the end has written
 pub record WentOn {Run : Type 0} (log log' : LogRec Run) (end end' : WriteRec Run) : Type 0 where
@@ -224,15 +233,16 @@ neither false b e = refl
 
 module _ {Run : Type 0} (log : LogRec Run) (end end' : ReadRec Run) (at : Slot → List Entry) (got : Got) (reads : Reads end log) (ends : end.shut ≡ true → EndsAt end.got log)
     (finds : Finds at log end.got got) (is_end : end' ≡ looked log got end) where
-  pub looks_at : LooksAt at end got end'
-  looks_at = record { log = log; reads = reads; shut = ends; finds = finds; end = is_end }
+  -- the log that is looked at is the one that the seat has
+  pub looks_at : (logs : List (LogRec Run)) → logs ≡ log ∷ [] → (look : LooksAt at end got end') × (logs ≡ look.log ∷ [])
+  looks_at logs has = (record { log = log; reads = reads; shut = ends; finds = finds; end = is_end }, has)
 
   pub stays_shut : end.shut ≡ true → got ≡ Closed
   stays_shut h = ends_closed log end.got at got finds (ends h)
 
   -- the log after a look
-  pub takes_all : (log' : LogRec Run) (refused : ℕ) (m : SeatIn Run) → HasClaimed end refused m → m.1 ≡ (0, log) ∷ rest m.1 → log' ≡ emptied log → HasTaken end' refused (m.0, (0, log') ∷ rest m.1)
-  takes_all log' refused m claimed here is_log =
+  pub takes_all : (log' : LogRec Run) (refused : ℕ) (turns : List (LogRec Run)) (m : SeatIn Run) → HasClaimed end refused turns m → m.1 ≡ (0, log) ∷ rest m.1 → log' ≡ emptied log → HasTaken end' refused turns (m.0, (0, log') ∷ rest m.1)
+  takes_all log' refused turns m claimed here is_log =
       let has = claimed.0 in
       let was : SameToWriter has.found log = subst (λ (l : LogRec Run). SameToWriter has.found l) (reader_log has log here) has.same in
       let log_run : log'.run ≡ log.run = ap (λ (l : LogRec Run). l.run) is_log in
@@ -251,6 +261,7 @@ module _ {Run : Type 0} (log : LogRec Run) (end end' : ReadRec Run) (at : Slot �
           me_is = λ i. ((has.me_is i).0, (0, log') ∷ rest (has.me_is i).1);
           held = has.held;
           refused_is = has.refused_is;
+          turns_are = has.turns_are;
           run = has.run ∙ sym run;
           number = has.number ∙ sym number;
           reads = record {

@@ -14,7 +14,8 @@ pub record CellRec (Run : Type 0) : Type 0 where
   pub run : Run
   pub number : LinkNumber
 
--- an end of a cell: which table it is of, the end of the log, and how often it was refused the turn
+-- an end of a cell: which table it is of, the end of the log, and how often it was refused the turn; of the end that reads, also the log as
+-- it found it at each turn that it had, the last first
 pub record CellWriteRec (Run : Type 0) : Type 0 where
   pub table : TableId
   pub end : WriteRec Run
@@ -24,6 +25,7 @@ pub record CellReadRec (Run : Type 0) : Type 0 where
   pub table : TableId
   pub end : ReadRec Run
   pub refused : ℕ
+  pub turns : List (LogRec Run)
 
 abbrev pub one_more : ℕ → ℕ
 one_more looks = min (looks + 1) 0xffffffffffffffff

@@ -69,7 +69,7 @@ module _ {Run : Type 0} where
     pub with : IsWith turn s writer reader log
     -- of an end of this cell that is not at work
     pub written : (end : CellWriteRec Run) → WritesTo end cell → HasSeat s (Writer (writing_of end.end end.refused)) → Writes end.end log
-    pub read : (end : CellReadRec Run) → ReadsOf end cell → HasSeat s (Reader (reading_of end.end end.refused)) → IsRead log end.end
+    pub read : (end : CellReadRec Run) → ReadsOf end cell → HasSeat s (Reader (reading_of end.end end.refused end.turns)) → IsRead log end.end
 
   -- ---- From one step to the next
 
@@ -109,5 +109,5 @@ pub record StepsGoOn (Run : Type 0) : Type 0 where
   pub claim_to_write : (step : Step (LogRec Run)) (view : WritingIn Run) → GoesOnBy (claims_as_writer step) (λ me. me ≡ (Writer view, []))
   pub claim_to_read : (step : Step (LogRec Run)) (view : ReadingIn Run) → GoesOnBy (claims_as_reader step) (λ me. me ≡ (Reader view, []))
   pub give_written : (step : Step (LogRec Run)) (end : WriteRec Run) (refused : ℕ) → GoesOnBy (gives_written step) (WriterHas end refused)
-  pub give_taken : (step : Step (LogRec Run)) (end : ReadRec Run) (refused : ℕ) → GoesOnBy (gives_taken step) (HasTaken end refused)
-  pub give_shut : (step : Step (LogRec Run)) (end : ReadRec Run) (refused : ℕ) → GoesOnBy (gives_shut step) (HasTaken end refused)
+  pub give_taken : (step : Step (LogRec Run)) (end : ReadRec Run) (refused : ℕ) (turns : List (LogRec Run)) → GoesOnBy (gives_taken step) (HasTaken end refused turns)
+  pub give_shut : (step : Step (LogRec Run)) (end : ReadRec Run) (refused : ℕ) (turns : List (LogRec Run)) → GoesOnBy (gives_shut step) (HasTaken end refused turns)

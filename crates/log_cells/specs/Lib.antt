@@ -1,4 +1,5 @@
 pub mod Rule
 pub mod Plays
 pub mod Ends
+pub mod Tries
 pub mod Keeps

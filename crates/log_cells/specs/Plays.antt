@@ -1,5 +1,5 @@
 -- What each kind of step on a cell's words tells, and what an end has while it is its turn.
-use Rattle.std.specs.Prelude.{◌≡◌, ◌≢◌, ℕ, ◌≤◌, ◌+◌, true, false, IsSome, [], ◌∷◌, Some, None}
+use Rattle.std.specs.Prelude.{◌≡◌, ◌≢◌, ℕ, ◌≤◌, ◌+◌, true, false, IsSome, List, [], ◌∷◌, Some, None}
 use Rattle.atomic_table.specs.Table.{Me, Step}
 use Rattle.atomic_table.specs.Seated.{TableId}
 use Rattle.link_logs.specs.Logs.{LogRec, WriteRec, ReadRec, Writes, Reads}
@@ -20,8 +20,13 @@ module _ {Run : Type 0} where
   abbrev pub writer_at : WriteRec Run → ℕ → SeatIn Run
   writer_at end refused = (Writer (writing_of end refused), [])
 
-  abbrev pub reader_at : ReadRec Run → ℕ → SeatIn Run
-  reader_at end refused = (Reader (reading_of end refused), [])
+  abbrev pub reader_at : ReadRec Run → ℕ → List (LogRec Run) → SeatIn Run
+  reader_at end refused turns = (Reader (reading_of end refused turns), [])
+
+  -- the logs that a seat has
+  abbrev pub logs_in : List (ℕ × LogRec Run) → List (LogRec Run)
+  logs_in [] = []
+  logs_in (x ∷ xs) = x.1 ∷ logs_in xs
 
   -- a claim: where the word is free the log is the seat's, and where it is held the seat was refused
   abbrev pub WriterClaims : WritingIn Run → ℕ → SeatIn Run → Type 0
@@ -31,7 +36,7 @@ module _ {Run : Type 0} where
 
   abbrev pub ReaderClaims : ReadingIn Run → ℕ → SeatIn Run → Type 0
   ReaderClaims v found m' =
-      (found ≡ 0 → (log : LogRec Run) × ReadsFrom v log × (m' ≡ (Reader (record v { held = Some log }), (0, log) ∷ [])))
+      (found ≡ 0 → (log : LogRec Run) × ReadsFrom v log × (m' ≡ (Reader (record v { held = Some log; turns = log ∷ v.turns }), (0, log) ∷ [])))
       × (found ≢ 0 → m' ≡ (Reader (record v { refused = v.refused + 1 }), []))
 
   abbrev pub claims_as_writer : Step (LogRec Run) → SeatIn Run → ℕ → SeatIn Run → Type 0
@@ -108,14 +113,15 @@ module _ {Run : Type 0} where
     pub writes : Writes end log
     pub follows : Follows found log
 
-  -- the same of the end that reads
-  pub record ReaderHas (end : ReadRec Run) (refused : ℕ) (m : SeatIn Run) : Type 0 where
+  -- the same of the end that reads, and what its turns found
+  pub record ReaderHas (end : ReadRec Run) (refused : ℕ) (turns : List (LogRec Run)) (m : SeatIn Run) : Type 0 where
     pub view : ReadingIn Run
     pub found : LogRec Run
     pub log : LogRec Run
     pub me_is : m ≡ (Reader view, (0, log) ∷ [])
     pub held : view.held ≡ Some found
     pub refused_is : view.refused ≡ refused
+    pub turns_are : view.turns ≡ turns
     pub run : view.run ≡ end.run
     pub number : view.number ≡ end.number
     pub reads : Reads end log
@@ -123,11 +129,11 @@ module _ {Run : Type 0} where
     pub same : SameToWriter found log
 
   -- it has not looked yet; it has taken all, and where it has not found the log closed it had not before
-  abbrev pub HasClaimed : ReadRec Run → ℕ → SeatIn Run → Type 0
-  HasClaimed end refused m = (has : ReaderHas end refused m) × (has.view.shut ≡ end.shut)
+  abbrev pub HasClaimed : ReadRec Run → ℕ → List (LogRec Run) → SeatIn Run → Type 0
+  HasClaimed end refused turns m = (has : ReaderHas end refused turns m) × (has.view.shut ≡ end.shut)
 
-  abbrev pub HasTaken : ReadRec Run → ℕ → SeatIn Run → Type 0
-  HasTaken end refused m = (has : ReaderHas end refused m) × (end.got ≡ has.log.published) × (end.shut ≡ false → has.view.shut ≡ false)
+  abbrev pub HasTaken : ReadRec Run → ℕ → List (LogRec Run) → SeatIn Run → Type 0
+  HasTaken end refused turns m = (has : ReaderHas end refused turns m) × (end.got ≡ has.log.published) × (end.shut ≡ false → has.view.shut ≡ false)
 
   -- the seat of two ends that were joined, neither of which has the log; and what is then known of the log
   abbrev pub IsJoined : ViewIn Run → Type 0

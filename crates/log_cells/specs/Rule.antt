@@ -43,8 +43,8 @@ module _ {Run : Type 0} where
   abbrev pub writing_of : WriteRec Run → ℕ → WritingIn Run
   writing_of end refused = record { run = end.run; number = end.number; published = end.published; cause = end.cause; held = None; refused = refused }
 
-  abbrev pub reading_of : ReadRec Run → ℕ → ReadingIn Run
-  reading_of end refused = record { run = end.run; number = end.number; got = end.got; shut = end.shut; held = None; refused = refused }
+  abbrev pub reading_of : ReadRec Run → ℕ → List (LogRec Run) → ReadingIn Run
+  reading_of end refused turns = record { run = end.run; number = end.number; got = end.got; shut = end.shut; held = None; refused = refused; turns = turns }
 
   -- the end of a log that knows as much as a seat
   abbrev pub write_end_of : WritingIn Run → WriteRec Run
@@ -110,7 +110,7 @@ module _ {Run : Type 0} where
 
   -- of a new log
   abbrev pub new_view : WriteRec Run → ViewIn Run
-  new_view end = Whole (writing_of end 0) (record { run = end.run; number = end.number; got = 0; shut = false; held = None; refused = 0 })
+  new_view end = Whole (writing_of end 0) (record { run = end.run; number = end.number; got = 0; shut = false; held = None; refused = 0; turns = [] })
 
   -- how often a seat was refused the turn
   abbrev pub refused_of : ViewIn Run → ℕ
@@ -119,3 +119,11 @@ module _ {Run : Type 0} where
   refused_of (Reader r) = r.refused
   refused_of (Joined w r) = 0
   refused_of Spent = 0
+
+  -- the log as the seat of an end that reads found it at each turn that it had, the last first
+  abbrev pub turns_of : ViewIn Run → List (LogRec Run)
+  turns_of (Whole w r) = []
+  turns_of (Writer w) = []
+  turns_of (Reader r) = r.turns
+  turns_of (Joined w r) = []
+  turns_of Spent = []

@@ -5,7 +5,9 @@ ghost use Rattle.link_logs.specs.declared.answers.Got.TheVariants.{Closed};
 ghost use Rattle.link_logs.specs.Logs.{new_write_end, new_read_end};
 ghost use Rattle.log_cells.specs.Plays.{IsSized, IsJoined, AgreesWith};
 ghost use Rattle.log_cells.specs.Ends.{WritesTo, ReadsOf, StaysWriter, StaysReader, LooksAt, Gives, WaitsFor, IsNews};
+ghost use Rattle.log_cells.specs.Tries.{Publishes, Takes, Closes};
 
+use crate::answers::{Sent, TryGot};
 use crate::ends::{ReadEnd, WriteEnd};
 use crate::plays::TwoEnds;
 use crate::steps;
@@ -49,7 +51,7 @@ pub fn make_cell<S: Story + Drop>(
 ) -> Result<(Cell<S>, WriteEnd<S>, ReadEnd<S>), AllocError>
     ensures cell { IfOk result (λ made. (made.0.run ≡ S.run story) × (made.0.number ≡ S.number story)) }
     ensures write_end { IfOk result (λ made. made.1 ≡ record { table = made.0.table; end = new_write_end (S.run story) (S.number story); refused = 0 }) }
-    ensures read_end { IfOk result (λ made. made.2 ≡ record { table = made.0.table; end = new_read_end (S.run story) (S.number story); refused = 0 }) }
+    ensures read_end { IfOk result (λ made. made.2 ≡ record { table = made.0.table; end = new_read_end (S.run story) (S.number story); refused = 0; turns = [] }) }
 {
     let (log, write_end, read_end) = link_logs::make_log(alloc, story)?;
     let mut slots = Vec::new(alloc);
@@ -92,13 +94,37 @@ impl<S: Story> Cell<S> {
         ensures err_end { OnErr result (w.new.end ≡ w.old.end) }
         ensures err_batch { OnErr result (batch.new ≡ batch.old) }
     {
+        for _ in rt.forever() {
+            match self.try_publish(w, upto, batch) {
+                Sent::Done => return Ok(()),
+                Sent::Busy => yield_now(),
+                Sent::Memory => return Err(AllocError),
+            }
+        }
+        unreachable!()
+    }
+
+    /// `publish` that waits for nobody: it claims the turn once, and `Busy` comes exactly where the turn was held. Nothing is changed then, but
+    /// that the end was refused once more.
+    pub fn try_publish(&self, w: &mut WriteEnd<S>, upto: u32, batch: &mut Batch) -> Sent
+        requires cell { WritesTo w.old self.now }
+        requires open { w.old.end.cause ≡ None }
+        requires on { w.old.end.published ≤ upto }
+        requires own { batch.old.entries ≡ between (S.entries_at w.old.end.run w.old.end.number) w.old.end.published upto }
+        ensures publishes { Publishes w.old batch.old upto result w.new batch.new }
+    {
         let top = &self.table.shared;
-        steps::claim_to_write(rt, top, &mut w.seat, &w.end);
+        if !steps::claim_to_write(top, &mut w.seat, &w.end) {
+            return Sent::Busy;
+        }
         let answer = steps::append(top, &mut w.seat, &mut w.end, upto, batch);
         steps::give_written(top, &mut w.seat, &w.end);
         steps::raise(top, &mut w.seat, &w.end);
         self.wake();
-        answer
+        match answer {
+            Ok(()) => Sent::Done,
+            Err(AllocError) => Sent::Memory,
+        }
     }
 
     /// Waits for its turn, and reads what the end has not read. `Nothing` comes exactly where it has read up to the published slot and
@@ -113,13 +139,30 @@ impl<S: Story> Cell<S> {
         ensures shut { r.old.end.shut ≡ true → result ≡ Closed }
         ensures more { r.old.end.looks ≤ r.new.end.looks }
     {
+        for _ in rt.forever() {
+            match self.try_take(r) {
+                TryGot::Got(found) => return found,
+                TryGot::Busy => yield_now(),
+            }
+        }
+        unreachable!()
+    }
+
+    /// `poll` that waits for nobody: it claims the turn once, and `Busy` comes exactly where the turn was held. Nothing is changed then, but
+    /// that the end was refused once more. What a look gives is told of the log as this turn found it. It takes no memory.
+    pub fn try_take(&self, r: &mut ReadEnd<S>) -> TryGot
+        requires cell { ReadsOf r.old self.now }
+        ensures takes { Takes (S.entries_at r.old.end.run r.old.end.number) r.old result r.new }
+    {
         let top = &self.table.shared;
         let news = steps::news(top);
-        steps::claim_to_read(rt, top, &mut r.seat, &r.end);
+        if !steps::claim_to_read(top, &mut r.seat, &r.end) {
+            return TryGot::Busy;
+        }
         let found = steps::take(top, &mut r.seat, &mut r.end);
         steps::give_taken(top, &mut r.seat, &r.end);
         r.heard = heard_after(r.heard, news, &found);
-        found
+        TryGot::Got(found)
     }
 
     /// Waits for its turn, and closes the log, with the cause. The end has to be this cell's, and the log not closed. Who waits for news
@@ -130,12 +173,30 @@ impl<S: Story> Cell<S> {
         ensures stays { StaysWriter w.old w.new }
         ensures end { w.new.end ≡ record w.old.end { cause = Some cause } }
     {
+        for _ in rt.forever() {
+            if self.try_end(w, cause) {
+                return;
+            }
+            yield_now();
+        }
+    }
+
+    /// `end` that waits for nobody: it claims the turn once, and tells whether it had it. Else the turn was held, and nothing is changed, but
+    /// that the end was refused once more. It takes no memory.
+    pub fn try_end(&self, w: &mut WriteEnd<S>, cause: Cause) -> bool
+        requires cell { WritesTo w.old self.now }
+        requires open { w.old.end.cause ≡ None }
+        ensures closes { Closes w.old cause result w.new }
+    {
         let top = &self.table.shared;
-        steps::claim_to_write(rt, top, &mut w.seat, &w.end);
+        if !steps::claim_to_write(top, &mut w.seat, &w.end) {
+            return false;
+        }
         steps::close(top, &mut w.seat, &mut w.end, cause);
         steps::give_written(top, &mut w.seat, &w.end);
         steps::raise(top, &mut w.seat, &w.end);
         self.wake();
+        true
     }
 
     /// Polls until there is something, and waits for news in between: it looks for them a number of times, and then sleeps. It never

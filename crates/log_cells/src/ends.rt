@@ -57,12 +57,12 @@ impl<S: Story> Model for ReadEnd<S> {
 
     ghost Value = { CellReadRec S.Run };
 
-    ghost use Rattle.log_cells.specs.Rule.{refused_of};
+    ghost use Rattle.log_cells.specs.Rule.{refused_of, turns_of};
     ghost use Rattle.log_cells.specs.Plays.{reader_at};
 
-    ghost view = { λ r. record { table = r.seat.table_id; end = r.end; refused = refused_of r.seat.me.0 } };
+    ghost view = { λ r. record { table = r.seat.table_id; end = r.end; refused = refused_of r.seat.me.0; turns = turns_of r.seat.me.0 } };
 
-    ghost invariant = { λ r. r.seat.me ≡ reader_at r.end (refused_of r.seat.me.0) };
+    ghost invariant = { λ r. r.seat.me ≡ reader_at r.end (refused_of r.seat.me.0) (turns_of r.seat.me.0) };
 }
 
 impl<S: Story> ReadEnd<S> {

@@ -2,6 +2,7 @@
 //! See docs/LOOKAHEAD.md.
 #![tactic(auto)]
 
+mod answers;
 mod cell;
 mod ends;
 mod keeps;
@@ -11,5 +12,6 @@ mod steps;
 mod tests;
 mod view;
 
+pub use answers::{Sent, TryGot};
 pub use cell::{Cell, make_cell};
 pub use ends::{ReadEnd, WriteEnd};

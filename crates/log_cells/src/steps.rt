@@ -1,17 +1,16 @@
 //! What is done in a turn: the turn is claimed, the log is used, and the turn is given back.
-ghost use Rattle.std.specs.Prelude.{◌≡◌, ◌≤◌, [], Some, None, true, OnOk, OnErr};
+ghost use Rattle.std.specs.Prelude.{◌≡◌, ◌≤◌, ◌+◌, [], ◌∷◌, ◌++◌, Some, None, true, false, OnOk, OnErr};
 ghost use Rattle.link_logs.specs.Entries.{between};
 ghost use Rattle.link_logs.specs.declared.answers.Got.TheVariants.{Closed};
-ghost use Rattle.log_cells.specs.Rule.{refused_of};
+ghost use Rattle.log_cells.specs.Rule.{refused_of, turns_of};
 ghost use Rattle.log_cells.specs.Ends.{LooksAt};
-ghost use Rattle.log_cells.specs.Plays.{IsSized, writer_at, reader_at, WriterHas, HasClaimed, HasTaken};
+ghost use Rattle.log_cells.specs.Plays.{IsSized, writer_at, reader_at, logs_in, WriterHas, HasClaimed, HasTaken};
 
 use crate::plays::{ClaimToRead, ClaimToWrite, GiveShut, GiveTaken, GiveWritten, Raise};
 use crate::view::{Place, Top};
 use link_logs::{Cause, Got, ReadEnd, Story, WriteEnd};
 use std::alloc::AllocError;
 use std::sync::Wait;
-use std::thread::yield_now;
 use xs_base::Batch;
 
 // The word that says whose turn it is, and its three values.
@@ -29,41 +28,31 @@ const NEWS: usize = 1;
 // The log.
 const LOG: usize = 0;
 
-// Tries to claim the turn until the end that writes has it.
-pub fn claim_to_write<S: Story, R: Wait>(
-    rt: &R,
-    top: &Top<S>,
-    seat: &mut Place<S>,
-    end: &WriteEnd<S>,
-)
+// Claims the turn once for the end that writes, and tells whether it has it: it is refused where the turn is held.
+pub fn claim_to_write<S: Story>(top: &Top<S>, seat: &mut Place<S>, end: &WriteEnd<S>) -> bool
     requires table { (seat.old.table_id ≡ top.now.table_id) × IsSized top.now.table_id }
     requires writer { seat.old.me ≡ writer_at end.now (refused_of seat.old.me.0) }
     ensures table { seat.new.table_id ≡ seat.old.table_id }
-    ensures has { WriterHas end.now (refused_of seat.new.me.0) seat.new.me }
-    ensures refused { refused_of seat.old.me.0 ≤ refused_of seat.new.me.0 }
+    ensures has { result ≡ true → WriterHas end.now (refused_of seat.new.me.0) seat.new.me }
+    ensures same { result ≡ true → refused_of seat.new.me.0 ≡ refused_of seat.old.me.0 }
+    ensures writer { result ≡ false → seat.new.me ≡ writer_at end.now (refused_of seat.new.me.0) }
+    ensures refused { result ≡ false → refused_of seat.new.me.0 ≡ refused_of seat.old.me.0 + 1 }
 {
-    for _ in rt.forever() {
-        if top.compare_exchange::<ClaimToWrite>(seat, TURN, FREE, WRITERS) == FREE {
-            return;
-        }
-        yield_now();
-    }
+    top.compare_exchange::<ClaimToWrite>(seat, TURN, FREE, WRITERS) == FREE
 }
 
-// The same for the end that reads.
-pub fn claim_to_read<S: Story, R: Wait>(rt: &R, top: &Top<S>, seat: &mut Place<S>, end: &ReadEnd<S>)
+// The same for the end that reads: the log that it has then is that of one more turn.
+pub fn claim_to_read<S: Story>(top: &Top<S>, seat: &mut Place<S>, end: &ReadEnd<S>) -> bool
     requires table { (seat.old.table_id ≡ top.now.table_id) × IsSized top.now.table_id }
-    requires reader { seat.old.me ≡ reader_at end.now (refused_of seat.old.me.0) }
+    requires reader { seat.old.me ≡ reader_at end.now (refused_of seat.old.me.0) (turns_of seat.old.me.0) }
     ensures table { seat.new.table_id ≡ seat.old.table_id }
-    ensures has { HasClaimed end.now (refused_of seat.new.me.0) seat.new.me }
-    ensures refused { refused_of seat.old.me.0 ≤ refused_of seat.new.me.0 }
+    ensures has { result ≡ true → HasClaimed end.now (refused_of seat.new.me.0) (turns_of seat.new.me.0) seat.new.me }
+    ensures same { result ≡ true → refused_of seat.new.me.0 ≡ refused_of seat.old.me.0 }
+    ensures reader { result ≡ false → seat.new.me ≡ reader_at end.now (refused_of seat.new.me.0) (turns_of seat.new.me.0) }
+    ensures refused { result ≡ false → refused_of seat.new.me.0 ≡ refused_of seat.old.me.0 + 1 }
+    ensures turns { turns_of seat.new.me.0 ≡ logs_in seat.new.me.1 ++ turns_of seat.old.me.0 }
 {
-    for _ in rt.forever() {
-        if top.compare_exchange::<ClaimToRead>(seat, TURN, FREE, READERS) == FREE {
-            return;
-        }
-        yield_now();
-    }
+    top.compare_exchange::<ClaimToRead>(seat, TURN, FREE, READERS) == FREE
 }
 
 // `Log::append`, where the seat has the log.
@@ -108,13 +97,14 @@ pub fn close<S: Story>(top: &Top<S>, seat: &mut Place<S>, end: &mut WriteEnd<S>,
 // `Log::take`, where the seat has the log.
 pub fn take<S: Story>(top: &Top<S>, seat: &mut Place<S>, end: &mut ReadEnd<S>) -> Got
     requires table { seat.old.table_id ≡ top.now.table_id }
-    requires has { HasClaimed end.old (refused_of seat.old.me.0) seat.old.me }
+    requires has { HasClaimed end.old (refused_of seat.old.me.0) (turns_of seat.old.me.0) seat.old.me }
     ensures table { seat.new.table_id ≡ seat.old.table_id }
     ensures refused { refused_of seat.new.me.0 ≡ refused_of seat.old.me.0 }
-    ensures got { LooksAt (S.entries_at end.old.run end.old.number) end.old result end.new }
+    ensures turns { turns_of seat.new.me.0 ≡ turns_of seat.old.me.0 }
+    ensures got { (look : LooksAt (S.entries_at end.old.run end.old.number) end.old result end.new) × (logs_in seat.old.me.1 ≡ look.log ∷ []) }
     ensures shut { end.old.shut ≡ true → result ≡ Closed }
     ensures more { end.old.looks ≤ end.new.looks }
-    ensures has { HasTaken end.new (refused_of seat.new.me.0) seat.new.me }
+    ensures has { HasTaken end.new (refused_of seat.new.me.0) (turns_of seat.new.me.0) seat.new.me }
 {
     let log = seat.slot_mut(top, LOG);
     log.take(end)
@@ -133,9 +123,9 @@ pub fn give_written<S: Story>(top: &Top<S>, seat: &mut Place<S>, end: &WriteEnd<
 // Gives the turn back after the end has taken all that it had not read.
 pub fn give_taken<S: Story>(top: &Top<S>, seat: &mut Place<S>, end: &ReadEnd<S>)
     requires table { (seat.old.table_id ≡ top.now.table_id) × IsSized top.now.table_id }
-    requires has { HasTaken end.now (refused_of seat.old.me.0) seat.old.me }
+    requires has { HasTaken end.now (refused_of seat.old.me.0) (turns_of seat.old.me.0) seat.old.me }
     ensures table { seat.new.table_id ≡ seat.old.table_id }
-    ensures reader { seat.new.me ≡ reader_at end.now (refused_of seat.old.me.0) }
+    ensures reader { seat.new.me ≡ reader_at end.now (refused_of seat.old.me.0) (turns_of seat.old.me.0) }
 {
     if end.is_shut() {
         top.store::<GiveShut>(seat, TURN, FREE);

@@ -2,6 +2,7 @@
 use atomic_table::{Seat, Shared, Table, TableRule};
 use link_logs::{Cause, Log, Story};
 use std::alloc::Global;
+use std::collections::LinkedList;
 use std::marker::PhantomData;
 
 /// What the seat of the end that writes knows: the log's run and link, up to which slot the log is published, where it is closed the
@@ -16,7 +17,8 @@ pub struct Writing<L, N> {
 }
 
 /// What the seat of the end that reads knows: the log's run and link, up to which slot it has read, whether it has found the log closed,
-/// where this seat has the turn the log as it found it, and how often it was refused the turn. No value of it is made.
+/// where this seat has the turn the log as it found it, how often it was refused the turn, and the log as it found it at each turn that it
+/// had, the last first. No value of it is made.
 pub struct Reading<L, N> {
     pub run: N,
     pub number: u32,
@@ -24,6 +26,7 @@ pub struct Reading<L, N> {
     pub shut: bool,
     pub held: Option<L>,
     pub refused: u64,
+    pub turns: LinkedList<L, Global>,
 }
 
 /// What a seat knows. No value of it is made.

@@ -1,6 +1,6 @@
 use Rattle.std.proofs.Common.{sym, subst}
 use Rattle.link_logs.specs.Logs.{Reads, Finds}
-use Rattle.log_cells.proofs.Turns.{reader_slot, reader_log, reader_ends, looks_at, stays_shut, takes_all}
+use Rattle.log_cells.proofs.Turns.{reader_slot, reader_log, reader_logs, reader_ends, looks_at, stays_shut, takes_all}
 use Rattle.log_cells.proofs.steps.take.Goals as goal
 
 pub slot_mut-log-requires : goal.slot_mut-log-requires
@@ -15,7 +15,7 @@ returns-clause-got g c =
     let reads = subst (λ l. Reads end l) (reader_log has log here) has.reads in
     let at = g.S.Story.entries_at in
     let found = subst (λ entries. Finds entries log end.got c.take.result) (λ i. at (sym reads.run i) (sym reads.number i)) c.take.ensures.found in
-    looks_at log end c.take.new.r (at end.run end.number) c.take.result reads (reader_ends end has log here) found c.take.ensures.end
+    looks_at log end c.take.new.r (at end.run end.number) c.take.result reads (reader_ends end has log here) found c.take.ensures.end _ (reader_logs has log here)
 
 pub returns-clause-shut : goal.returns-clause-shut
 returns-clause-shut g c =
@@ -33,4 +33,4 @@ returns-clause-has g c =
     let log = c.slot_mut-log.result.now in
     let end = c.args.end.now in
     let reads = subst (λ l. Reads end l) (reader_log has log here) has.reads in
-    takes_all log end c.take.new.r (g.S.Story.entries_at log.run log.number) c.take.result reads (reader_ends end has log here) c.take.ensures.found c.take.ensures.end c.take.new.self _ _ c.requires.has here c.take.ensures.log
+    takes_all log end c.take.new.r (g.S.Story.entries_at log.run log.number) c.take.result reads (reader_ends end has log here) c.take.ensures.found c.take.ensures.end c.take.new.self _ _ _ c.requires.has here c.take.ensures.log
