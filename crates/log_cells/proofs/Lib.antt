@@ -3,3 +3,4 @@ pub mod Kept
 pub mod Turns
 pub mod Looks
 pub mod Keeping
+pub mod Counting

@@ -36,7 +36,8 @@ module _ {Run : Type 0} (at : Slot → List Entry) where
 
   -- the one turn that was had is the one of the look
   pub looks_in_turn : (old new : CellReadRec Run) (got : Got) (logs : List (LogRec Run)) → (look : LooksAt at old.end got new.end) × (logs ≡ look.log ∷ [])
-      → new.table ≡ old.table → new.refused ≡ old.refused → new.turns ≡ logs ++ old.turns → (old.end.shut ≡ true → got ≡ Closed) → old.end.looks ≤ new.end.looks → LooksInTurn at old got new
+      → new.table ≡ old.table → new.refused ≡ old.refused → new.turns ≡ logs ++ old.turns
+      → (old.end.shut ≡ true → got ≡ Closed) → old.end.looks ≤ new.end.looks → LooksInTurn at old got new
   looks_in_turn old new got logs looks table refused turns shut more = record {
     look = looks.0;
     turn = λ i. record { table = table i; end = new.end; refused = refused i; turns = (turns ∙ ap (λ (l : List (LogRec Run)). l ++ old.turns) looks.1) i };

@@ -1,5 +1,5 @@
 -- What every cell keeps between any two steps of any two threads, and what a step of an end leaves of what that end knows.
-use Rattle.std.specs.Prelude.{◌≡◌, ℕ, ◌≤◌, true, IsSome, slice_index, List, [], ◌∷◌, Some, None}
+use Rattle.std.specs.Prelude.{◌≡◌, ℕ, zero, suc, ◌≤◌, ◌+◌, true, IsSome, slice_index, List, [], ◌∷◌, ◌++◌, Some, None}
 use mathlib.Core.Option.{some, none}
 use lib.ListN.{get_elem?}
 use Rattle.atomic_table.specs.Table.{State, Step}
@@ -9,12 +9,17 @@ use Rattle.link_logs.specs.Entries.{between}
 use Rattle.link_logs.specs.Logs.{LogRec, WriteRec, ReadRec, Writes, Reads}
 use Rattle.log_cells.specs.declared.view.View.TheVariants.{Writer, Reader}
 use Rattle.log_cells.specs.Ends.{CellRec, CellWriteRec, CellReadRec, WritesTo, ReadsOf, EndsAt}
-use Rattle.log_cells.specs.Rule.{WritingIn, ReadingIn, ViewIn, Turn, free, writers, readers, turn_word, Stage, seats_at, IsCell, writing_of, reading_of}
-use Rattle.log_cells.specs.Plays.{SeatIn, claims_as_writer, claims_as_reader, gives_written, gives_taken, gives_shut, WriterHas, HasTaken}
+use Rattle.log_cells.specs.Rule.{WritingIn, ReadingIn, ViewIn, Turn, free, writers, readers, turn_word, Stage, seats_at, IsCell, writing_of, reading_of, refused_of, turns_of}
+use Rattle.log_cells.specs.Plays.{SeatIn, logs_in, claims_as_writer, claims_as_reader, gives_written, gives_taken, gives_shut, raises, WriterHas, HasTaken}
 
 -- a cell's words, its log where that is in its place, and what its seats know
 abbrev pub CellState : Type 0 → Type 0
 CellState Run = State (LogRec Run) (ViewIn Run)
+
+-- how often a claim is refused that finds this turn word: once where the word is held
+abbrev pub refusals : ℕ → ℕ
+refusals zero = 0
+refusals (suc held) = 1
 
 module _ {Run : Type 0} where
   -- ---- At a moment between two steps
@@ -104,6 +109,20 @@ module _ {Run : Type 0} where
   abbrev pub GoesOnBy : (SeatIn Run → ℕ → SeatIn Run → Type 0) → (SeatIn Run → Type 0) → Type 0
   GoesOnBy kind Is = (cell : CellRec Run) (s : CellState Run) → IsCell cell.run cell.number s → (me me' : SeatIn Run) (found : ℕ) → HasSeat s me.0 → Is me → kind me found me' → GoesOn me.0 me'.0
 
+  -- ---- What is counted
+
+  -- a seat was refused the turn so many times more, and has had the turns besides in which it found these logs
+  pub record Counts (more : ℕ) (found : List (LogRec Run)) (before after : SeatIn Run) : Type 0 where
+    pub refused : refused_of after.0 ≡ refused_of before.0 + more
+    pub turns : turns_of after.0 ≡ found ++ turns_of before.0
+
+  -- a claim is counted by the word that it finds and the logs that the seat takes, and another step is not
+  abbrev pub CountsClaim : (SeatIn Run → ℕ → SeatIn Run → Type 0) → (SeatIn Run → List (LogRec Run)) → SeatIn Run → Type 0
+  CountsClaim kind found me = (me' : SeatIn Run) (word : ℕ) → kind me word me' → Counts (refusals word) (found me') me me'
+
+  abbrev pub CountsNothing : (SeatIn Run → ℕ → SeatIn Run → Type 0) → SeatIn Run → Type 0
+  CountsNothing kind me = (me' : SeatIn Run) (word : ℕ) → kind me word me' → Counts 0 [] me me'
+
 -- each kind of step of an end, from where its calls make it
 pub record StepsGoOn (Run : Type 0) : Type 0 where
   pub claim_to_write : (step : Step (LogRec Run)) (view : WritingIn Run) → GoesOnBy (claims_as_writer step) (λ me. me ≡ (Writer view, []))
@@ -111,3 +130,12 @@ pub record StepsGoOn (Run : Type 0) : Type 0 where
   pub give_written : (step : Step (LogRec Run)) (end : WriteRec Run) (refused : ℕ) → GoesOnBy (gives_written step) (WriterHas end refused)
   pub give_taken : (step : Step (LogRec Run)) (end : ReadRec Run) (refused : ℕ) (turns : List (LogRec Run)) → GoesOnBy (gives_taken step) (HasTaken end refused turns)
   pub give_shut : (step : Step (LogRec Run)) (end : ReadRec Run) (refused : ℕ) (turns : List (LogRec Run)) → GoesOnBy (gives_shut step) (HasTaken end refused turns)
+
+-- a claim that finds the turn word held is counted as a refusal, and one by the end that reads that finds it free as a turn in which it found the log that it takes; nothing else is counted
+pub record StepsCount (Run : Type 0) : Type 0 where
+  pub claim_to_write : (step : Step (LogRec Run)) (view : WritingIn Run) → CountsClaim (claims_as_writer step) (λ me. []) (Writer view, [])
+  pub claim_to_read : (step : Step (LogRec Run)) (view : ReadingIn Run) → CountsClaim (claims_as_reader step) (λ me. logs_in me.1) (Reader view, [])
+  pub give_written : (step : Step (LogRec Run)) (view : WritingIn Run) (log : LogRec Run) → CountsNothing (gives_written step) (Writer view, (0, log) ∷ [])
+  pub give_taken : (step : Step (LogRec Run)) (view : ReadingIn Run) (log : LogRec Run) → CountsNothing (gives_taken step) (Reader view, (0, log) ∷ [])
+  pub give_shut : (step : Step (LogRec Run)) (view : ReadingIn Run) (log : LogRec Run) → CountsNothing (gives_shut step) (Reader view, (0, log) ∷ [])
+  pub raise : (step : Step (LogRec Run)) (me : SeatIn Run) → CountsNothing (raises step) me
