@@ -27,7 +27,7 @@ const MOST_LOOKS: u32 = 64;
 /// `Rattle.log_cells.specs.Ends`. See docs/LOOKAHEAD.md.
 #[derive(Drop)]
 pub struct Cell<S: Story> {
-    table: Board<S>,
+    pub(crate) table: Board<S>,
     // Whether the end that reads may be asleep: only then a publish has to wake it. Nothing else hangs on it.
     asleep: AtomicBool,
 }

@@ -1,10 +1,11 @@
-//! The sleep of the end that reads, by itself: only in a race does a wait come to it with news that were raised before.
+//! What only a race of two threads brings about by the calls of a cell alone: a wait that comes to its sleep with news that were raised
+//! before, and a turn that is held.
 ghost use Rattle.std.specs.Prelude.{List, []};
 ghost use Rattle.xs_base.specs.declared.entry.Entry.{Entry};
 ghost use Rattle.std.proofs.Common.{rules};
 
-use crate::make_cell;
-use link_logs::{Cause, Story};
+use crate::{ReadEnd, Sent, TryGot, WriteEnd, make_cell, steps};
+use link_logs::{Cause, Got, Story};
 use std::alloc::AllocError;
 use xs_base::Batch;
 
@@ -38,5 +39,40 @@ fn who_saw_the_news_before_does_not_sleep(rt: HostRuntime) -> Result<(), AllocEr
     let _ = cell.poll(&rt, &mut r);
     cell.end(&rt, &mut w, Cause::Memory);
     cell.sleep(&rt, r.heard);
+    Ok(())
+}
+
+#[test]
+fn who_looks_while_the_turn_is_held_is_told_so(rt: HostRuntime) -> Result<(), AllocError> {
+    let (cell, w, mut r) = make_cell(rt.alloc(), Silence)?;
+    let WriteEnd { mut seat, end } = w;
+    let top = &cell.table.shared;
+    if !steps::claim_to_write(top, &mut seat, &end) {
+        panic!(rt; "the turn of a new cell is free");
+    }
+    let is_held = matches!(cell.try_take(&mut r), TryGot::Busy);
+    steps::give_written(top, &mut seat, &end);
+    let is_free = matches!(
+        cell.try_take(&mut r),
+        TryGot::Got(Got::Nothing { published: 0 })
+    );
+    assert!(rt; is_held && is_free && r.looks() == 1);
+    Ok(())
+}
+
+#[test]
+fn who_writes_while_the_turn_is_held_is_told_so(rt: HostRuntime) -> Result<(), AllocError> {
+    let (cell, mut w, r) = make_cell(rt.alloc(), Silence)?;
+    let ReadEnd { mut seat, end, .. } = r;
+    let top = &cell.table.shared;
+    let mut batch = Batch::new(rt.alloc());
+    if !steps::claim_to_read(top, &mut seat, &end) {
+        panic!(rt; "the turn of a new cell is free");
+    }
+    if cell.try_end(&mut w, Cause::Memory) {
+        panic!(rt; "the turn is held");
+    }
+    let is_held = cell.try_publish(&mut w, 5, &mut batch) == Sent::Busy;
+    assert!(rt; is_held && w.published() == 0 && w.cause().is_none());
     Ok(())
 }
