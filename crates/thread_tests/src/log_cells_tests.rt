@@ -6,7 +6,7 @@ ghost use Rattle.std.proofs.Common.{rules};
 
 use crate::header_bytes::{HeaderBytes, header, holds, is_header};
 use link_logs::{Cause, Got, Story};
-use log_cells::{Cell, ReadEnd, WriteEnd, make_cell};
+use log_cells::{Cell, ReadEnd, Sent, TryGot, WriteEnd, make_cell};
 use std::alloc::{AllocError, Global};
 use std::sync::Wait;
 use std::thread;
@@ -45,6 +45,31 @@ fn what_is_published_is_polled_once(rt: HostRuntime) -> Result<(), AllocError> {
     };
     let nothing = matches!(cell.poll(&rt, &mut r), Got::Nothing { published: 5 });
     assert!(rt; is_read && nothing && r.got() == 5 && r.looks() == 2 && !r.is_shut());
+    Ok(())
+}
+
+#[test]
+fn what_is_published_at_once_is_taken_once(rt: HostRuntime) -> Result<(), AllocError> {
+    let (cell, mut w, mut r) = make_cell(rt.alloc(), Silence)?;
+    let mut batch = Batch::new(rt.alloc());
+    match cell.try_publish(&mut w, 5, &mut batch) {
+        Sent::Done => {}
+        Sent::Busy | Sent::Memory => panic!(rt; "nobody else has the turn"),
+    }
+    let is_read = match cell.try_take(&mut r) {
+        TryGot::Got(Got::Entries { from, to, batch }) => {
+            from == 0 && to == 5 && batch.entries().is_empty()
+        }
+        _ => false,
+    };
+    let nothing = matches!(
+        cell.try_take(&mut r),
+        TryGot::Got(Got::Nothing { published: 5 })
+    );
+    assert!(rt; is_read && nothing && w.published() == 5 && r.got() == 5);
+    let is_closed = cell.try_end(&mut w, Cause::Memory);
+    let is_found = matches!(cell.try_take(&mut r), TryGot::Got(Got::Closed));
+    assert!(rt; is_closed && is_found && r.looks() == 3 && r.is_shut());
     Ok(())
 }
 
