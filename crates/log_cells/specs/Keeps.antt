@@ -131,7 +131,8 @@ pub record StepsGoOn (Run : Type 0) : Type 0 where
   pub give_taken : (step : Step (LogRec Run)) (end : ReadRec Run) (refused : ℕ) (turns : List (LogRec Run)) → GoesOnBy (gives_taken step) (HasTaken end refused turns)
   pub give_shut : (step : Step (LogRec Run)) (end : ReadRec Run) (refused : ℕ) (turns : List (LogRec Run)) → GoesOnBy (gives_shut step) (HasTaken end refused turns)
 
--- a claim that finds the turn word held is counted as a refusal, and one by the end that reads that finds it free as a turn in which it found the log that it takes; nothing else is counted
+-- a claim that finds the turn word held is counted as a refusal; one by the end that reads that finds it free, as a turn in which it found the
+-- log that it takes; no other step counts anything
 pub record StepsCount (Run : Type 0) : Type 0 where
   pub claim_to_write : (step : Step (LogRec Run)) (view : WritingIn Run) → CountsClaim (claims_as_writer step) (λ me. []) (Writer view, [])
   pub claim_to_read : (step : Step (LogRec Run)) (view : ReadingIn Run) → CountsClaim (claims_as_reader step) (λ me. logs_in me.1) (Reader view, [])

@@ -7,9 +7,9 @@ use Rattle.link_logs.specs.declared.answers.Cause.{Cause}
 use Rattle.link_logs.specs.declared.answers.Got.{Got}
 use Rattle.link_logs.specs.declared.answers.Got.TheVariants.{Closed}
 use Rattle.log_cells.specs.declared.answers.Sent.{Sent}
-use Rattle.log_cells.specs.declared.answers.Sent.TheVariants.{Done, Busy as is_held, Memory}
+use Rattle.log_cells.specs.declared.answers.Sent.TheVariants.{Done, Busy as held, Memory}
 use Rattle.log_cells.specs.declared.answers.TryGot.{TryGot}
-use Rattle.log_cells.specs.declared.answers.TryGot.TheVariants.{Got as had, Busy}
+use Rattle.log_cells.specs.declared.answers.TryGot.TheVariants.{Got as found, Busy}
 use Rattle.log_cells.specs.Ends.{CellWriteRec, CellReadRec, LooksAt, Gives}
 
 module _ {Run : Type 0} where
@@ -20,10 +20,10 @@ module _ {Run : Type 0} where
   abbrev pub reader_refused : CellReadRec Run → CellReadRec Run
   reader_refused r = record r { refused = r.refused + 1 }
 
-  -- what an end and a batch are after a publish up to a slot
+  -- what an end and a batch are after a publish up to a slot, or where the turn was held or memory was wanting
   abbrev pub Publishes : CellWriteRec Run → BatchRec → Slot → Sent → CellWriteRec Run → BatchRec → Type 0
   Publishes old batch upto Done new left = (new ≡ record old { end = record old.end { published = upto } }) × (left.entries ≡ [])
-  Publishes old batch upto is_held new left = (new ≡ writer_refused old) × (left ≡ batch)
+  Publishes old batch upto held new left = (new ≡ writer_refused old) × (left ≡ batch)
   Publishes old batch upto Memory new left = (new ≡ old) × (left ≡ batch)
 
   -- what an end is after a close, or where the turn was held
@@ -41,5 +41,5 @@ module _ {Run : Type 0} where
 
   -- what an end is after a look, or where the turn was held
   abbrev pub Takes : (Slot → List Entry) → CellReadRec Run → TryGot → CellReadRec Run → Type 0
-  Takes at old (had got) new = LooksInTurn at old got new
+  Takes at old (found got) new = LooksInTurn at old got new
   Takes at old Busy new = new ≡ reader_refused old

@@ -104,8 +104,8 @@ impl<S: Story> Cell<S> {
         unreachable!()
     }
 
-    /// `publish` that waits for nobody: it claims the turn once, and `Busy` comes exactly where the turn was held. Nothing is changed then, but
-    /// that the end was refused once more.
+    /// As `publish`, but it waits for nobody: it claims the turn once. `Busy` comes exactly where the turn was held, and changes nothing, but that
+    /// the end was refused once more. Where it had the turn, who waits for news is woken.
     pub fn try_publish(&self, w: &mut WriteEnd<S>, upto: u32, batch: &mut Batch) -> Sent
         requires cell { WritesTo w.old self.now }
         requires open { w.old.end.cause ≡ None }
@@ -148,8 +148,9 @@ impl<S: Story> Cell<S> {
         unreachable!()
     }
 
-    /// `poll` that waits for nobody: it claims the turn once, and `Busy` comes exactly where the turn was held. Nothing is changed then, but
-    /// that the end was refused once more. What a look gives is told of the log as this turn found it. It takes no memory.
+    /// As `poll`, but it waits for nobody: it claims the turn once. `Busy` comes exactly where the turn was held, and changes nothing, but that
+    /// the end was refused once more. Else it looks at the log as this turn found it: `Nothing` comes exactly where that log is open and was read
+    /// up to its published slot. It takes no memory.
     pub fn try_take(&self, r: &mut ReadEnd<S>) -> TryGot
         requires cell { ReadsOf r.old self.now }
         ensures takes { Takes (S.entries_at r.old.end.run r.old.end.number) r.old result r.new }
@@ -181,7 +182,7 @@ impl<S: Story> Cell<S> {
         }
     }
 
-    /// `end` that waits for nobody: it claims the turn once, and tells whether it had it. Else the turn was held, and nothing is changed, but
+    /// As `end`, but it waits for nobody: it claims the turn once, and tells whether it had it. Else the turn was held, and nothing is changed, but
     /// that the end was refused once more. It takes no memory.
     pub fn try_end(&self, w: &mut WriteEnd<S>, cause: Cause) -> bool
         requires cell { WritesTo w.old self.now }
