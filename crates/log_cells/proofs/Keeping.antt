@@ -1,5 +1,6 @@
 -- A cell keeps what it is said to keep, and each kind of step goes on from what an end knew.
 use Rattle.std.proofs.Common.{◌≡◌, ℕ, ◌+◌, List, [], ◌∷◌, sym, refl, ap, ◌∙◌, subst, arith, true, is_some, Option, Some, None, get_or}
+use Rattle.std.specs.List.{AllByRecursion}
 use mathlib.Core.Option.{some, none}
 use mathlib.Core.Option as maybe
 use lib.ListN.{get_elem?}
@@ -10,7 +11,7 @@ use Rattle.link_logs.specs.Entries.{between}
 use Rattle.link_logs.specs.Logs.{LogRec, WriteRec, ReadRec, Writes}
 use Rattle.log_cells.specs.declared.view.View.TheVariants.{Writer, Reader}
 use Rattle.log_cells.specs.Ends.{CellRec, CellWriteRec, CellReadRec, WritesTo, ReadsOf}
-use Rattle.log_cells.specs.Rule.{WritingIn, ReadingIn, ViewIn, Turn, free, writers, readers, home_at, writer_has, reader_has, Agrees, ReadsFrom, Fits, IsCell, write_end_of, writing_of, reading_of}
+use Rattle.log_cells.specs.Rule.{WritingIn, ReadingIn, ViewIn, Turn, free, writers, readers, home_at, writer_has, reader_has, Agrees, ReadsFrom, WasOnce, Fits, IsCell, write_end_of, writing_of, reading_of}
 use Rattle.log_cells.specs.Plays.{SeatIn, claims_as_writer, claims_as_reader, gives_written, gives_taken, gives_shut, WriterHas, ReaderHas, HasTaken}
 use Rattle.log_cells.specs.Keeps.{CellState, IsMoment, IsWith, HasSeat, IsRead, CellKeeps, WritesOn, ReadsOn, GoesOn, GoesOnBy, StepsGoOn}
 use Rattle.log_cells.proofs.Seats.{writer_seat, reader_seat, is_writers, is_readers}
@@ -30,11 +31,12 @@ module _ {Run : Type 0} where
         let writes = subst (λ (w : WritingIn Run). Writes (write_end_of w) c.fits.log) here.2 c.fits.agrees.writes in
         record { run = writes.run; number = writes.number; published = writes.published; cause = writes.cause }
 
-    read_by : (end : CellReadRec Run) → ReadsOf end cell → HasSeat s (Reader (reading_of end.end end.refused end.turns)) → IsRead c.fits.log end.end
+    read_by : (end : CellReadRec Run) → ReadsOf end cell → HasSeat s (Reader (reading_of end.end end.refused end.turns)) → IsRead c.fits.log end
     read_by end of seat =
         let here = reader_seat c.stage c.w c.r seat.0 _ (ap (λ (l : List (ViewIn Run)). get_elem? l seat.0) (sym c.views) ∙ seat.1) in
         let reads = subst (λ (r : ReadingIn Run). ReadsFrom r c.fits.log) here.2 c.fits.agrees.reads in
-        record { reads = record { run = reads.run; number = reads.number; base = reads.base; published = reads.published }; shut = reads.shut }
+        let turns = subst (λ (r : ReadingIn Run). AllByRecursion (WasOnce c.fits.log) r.turns) here.2 c.fits.agrees.turns in
+        record { reads = record { run = reads.run; number = reads.number; base = reads.base; published = reads.published }; shut = reads.shut; turns = turns }
 
   kept_by : (at : Run → LinkNumber → Slot → List Entry) (cell : CellRec Run) (s : CellState Run) (c : IsCell cell.run cell.number s) → c.fits.log.entries ≡ between (at c.fits.log.run c.fits.log.number) c.fits.log.base c.fits.log.published
       → CellKeeps at cell s c.fits.log
@@ -52,6 +54,7 @@ module _ {Run : Type 0} where
     entries = own;
     cause = f.agrees.writes.cause;
     shut = f.agrees.reads.shut;
+    turns = f.agrees.turns;
     turn = f.turn;
     word = ap (λ (l : List ℕ). get_or l 0 0) c.words ∙ f.word_is;
     with = with_by f.turn s c.w c.r c.home f.log c.homes f.home_is f.writer_has f.reader_has;

@@ -1,5 +1,6 @@
 -- The kinds of step on a cell's words, each of which keeps the rule.
-use Rattle.std.proofs.Common.{◌≡◌, ◌≢◌, ℕ, zero, suc, ◌+◌, eqb, List, [], ◌∷◌, ◌++◌, map, set, get_or, sym, refl, ap, ◌∙◌, subst, arith, true, false, true≢false, IsSome, Some, None}
+use Rattle.std.proofs.Common.{◌≡◌, ◌≢◌, ℕ, zero, suc, ◌+◌, eqb, List, [], ◌∷◌, ◌++◌, map, set, get_or, sym, refl, ap, ◌∙◌, subst, arith, true, false, true≢false, is_some, IsSome, Some, None}
+use Rattle.std.specs.List.{AllByRecursion}
 use mathlib.Core.Option.{some, none, some-injective, some-ne-none}
 use mathlib.Core.Option as maybe
 use lib.ListN.{get_elem?}
@@ -9,7 +10,7 @@ use Rattle.atomic_table.proofs.Lists.{set_again, exchanged}
 use Rattle.xs_base.specs.Numbers.{LinkNumber}
 use Rattle.link_logs.specs.Logs.{LogRec, WriteRec, ReadRec, Writes}
 use Rattle.log_cells.specs.declared.view.View.TheVariants.{Whole, Writer, Reader, Joined, Spent}
-use Rattle.log_cells.specs.Rule.{WritingIn, ReadingIn, ViewIn, free, writers, readers, made, parted, joined, ReadsFrom, Agrees, Fits, IsCell, seats_at, new_view}
+use Rattle.log_cells.specs.Rule.{WritingIn, ReadingIn, ViewIn, free, writers, readers, made, parted, joined, ReadsFrom, WasOnce, Agrees, Fits, IsCell, seats_at, new_view}
 use Rattle.log_cells.specs.Plays.{SeatIn, WriterClaims, ReaderClaims, claims_as_writer, claims_as_reader, gives_written, gives_taken, gives_shut, raises, writer_part, reader_part, joined_view, Follows, SameToWriter, WriterHas, HasTaken, IsJoined, AgreesWith}
 use Rattle.log_cells.proofs.Seats.{writing_or, reading_or, writer_seat, reader_seat, whole_seat, joined_seat, is_free, is_left, is_writers, is_readers}
 
@@ -27,6 +28,35 @@ by_word (suc n) a b = b (λ h. omega (arith, h))
 abbrev pub log_or : {Run : Type 0} → LogRec Run → List (ℕ × LogRec Run) → LogRec Run
 log_or d [] = d
 log_or d (x ∷ xs) = x.1
+
+-- what a log was before it went on
+module _ {Run : Type 0} where
+  was_itself : (log : LogRec Run) → WasOnce log log
+  was_itself log = record { run = refl; number = refl; published = omega arith; closed = λ h. (refl, refl) }
+
+  followed : (log log' : LogRec Run) → Follows log log' → (before : LogRec Run) → WasOnce log before → WasOnce log' before
+  followed log log' went before was = record {
+    run = went.run ∙ was.run;
+    number = went.number ∙ was.number;
+    published = omega (arith, was.published, went.published);
+    closed = λ h.
+        let then = was.closed h in
+        let closed = ap is_some then.1 ∙ h in
+        ((went.closed closed).published ∙ then.0, went.cause closed ∙ then.1);
+  }
+
+  stayed : (log log' : LogRec Run) → SameToWriter log log' → (before : LogRec Run) → WasOnce log before → WasOnce log' before
+  stayed log log' same before was = record {
+    run = same.run ∙ was.run;
+    number = same.number ∙ was.number;
+    published = omega (arith, was.published, same.published);
+    closed = λ h. let then = was.closed h in (same.published ∙ then.0, same.cause ∙ then.1);
+  }
+
+  all_went_on : (log log' : LogRec Run) (turns : List (LogRec Run)) → ((before : LogRec Run) → WasOnce log before → WasOnce log' before)
+      → AllByRecursion (WasOnce log) turns → AllByRecursion (WasOnce log') turns
+  all_went_on log log' [] on all = tt
+  all_went_on log log' (before ∷ turns) on all = (on before all.0, all_went_on log log' turns on all.1)
 
 module _ {Run : Type 0} where
   -- a cell begins with its rule
@@ -51,6 +81,7 @@ module _ {Run : Type 0} where
       agrees = record {
         writes = record { run = writes.run; number = writes.number; published = writes.published; cause = writes.cause };
         reads = record { run = writes.run; number = writes.number; base = low; published = omega arith; shut = λ h. absurd (true≢false (sym h)) };
+        turns = tt;
       };
     };
     of_run = refl;
@@ -133,7 +164,7 @@ module _ {Run : Type 0} {its_run : Run} {its_link : LinkNumber} where
           home_is = refl;
           writer_has = refl;
           reader_has = home.reader_has;
-          agrees = record { writes = home.agrees.writes; reads = home.agrees.reads };
+          agrees = record { writes = home.agrees.writes; reads = home.agrees.reads; turns = home.agrees.turns };
         },
         (λ v' e. subst (λ (u : WritingIn Run). WriterClaims u (get_or s.words 0 0) (Writer w', (0, home.log) ∷ [])) (ap (λ (m : SeatIn Run). writing_or v m.0) e)
             ((λ _. (home.log, home.agrees.writes, refl)), (λ n. absurd (n zero_there)))),
@@ -154,7 +185,7 @@ module _ {Run : Type 0} {its_run : Run} {its_link : LinkNumber} where
           home_is = f.home_is;
           writer_has = f.writer_has;
           reader_has = f.reader_has;
-          agrees = record { writes = f.agrees.writes; reads = f.agrees.reads };
+          agrees = record { writes = f.agrees.writes; reads = f.agrees.reads; turns = f.agrees.turns };
         },
         (λ v' e. subst (λ (u : WritingIn Run). WriterClaims u (get_or s.words 0 0) (Writer w', [])) (ap (λ (m : SeatIn Run). writing_or v m.0) e)
             ((λ n. absurd (held_there n)), (λ _. refl))),
@@ -181,7 +212,7 @@ module _ {Run : Type 0} {its_run : Run} {its_link : LinkNumber} where
           home_is = refl;
           writer_has = home.writer_has;
           reader_has = refl;
-          agrees = record { writes = home.agrees.writes; reads = record { run = home.agrees.reads.run; number = home.agrees.reads.number; base = home.agrees.reads.base; published = home.agrees.reads.published; shut = home.agrees.reads.shut } };
+          agrees = record { writes = home.agrees.writes; reads = record { run = home.agrees.reads.run; number = home.agrees.reads.number; base = home.agrees.reads.base; published = home.agrees.reads.published; shut = home.agrees.reads.shut }; turns = (was_itself home.log, home.agrees.turns) };
         },
         (λ v' e. subst (λ (u : ReadingIn Run). ReaderClaims u (get_or s.words 0 0) (Reader r', (0, home.log) ∷ [])) (ap (λ (m : SeatIn Run). reading_or v m.0) e)
             ((λ _. (home.log, home.agrees.reads, refl)), (λ n. absurd (n zero_there)))),
@@ -202,7 +233,7 @@ module _ {Run : Type 0} {its_run : Run} {its_link : LinkNumber} where
           home_is = f.home_is;
           writer_has = f.writer_has;
           reader_has = f.reader_has;
-          agrees = record { writes = f.agrees.writes; reads = record { run = f.agrees.reads.run; number = f.agrees.reads.number; base = f.agrees.reads.base; published = f.agrees.reads.published; shut = f.agrees.reads.shut } };
+          agrees = record { writes = f.agrees.writes; reads = record { run = f.agrees.reads.run; number = f.agrees.reads.number; base = f.agrees.reads.base; published = f.agrees.reads.published; shut = f.agrees.reads.shut }; turns = f.agrees.turns };
         },
         (λ v' e. subst (λ (u : ReadingIn Run). ReaderClaims u (get_or s.words 0 0) (Reader r', [])) (ap (λ (m : SeatIn Run). reading_or v m.0) e)
             ((λ n. absurd (held_there n)), (λ _. refl))),
@@ -242,6 +273,7 @@ module _ {Run : Type 0} {its_run : Run} {its_link : LinkNumber} where
                   let after = went.closed before.closed in
                   record { published = after.published ∙ before.published; closed = after.closed };
             };
+            turns = all_went_on found log c.r.turns (followed found log went) agrees.turns;
           };
         },
         (λ v' log' e.
@@ -251,9 +283,9 @@ module _ {Run : Type 0} {its_run : Run} {its_link : LinkNumber} where
       )
 
   -- the reader gives back a log that is the one that it found to the writer's eyes, with what it has taken
-  reader_gives : (id : ℕ) (v r' : ReadingIn Run) (found log : LogRec Run) (s : StateIn Run) (c : IsCell its_run its_link s) → v.held ≡ Some found → SameToWriter found log → get_elem? s.views id ≡ some (Reader v) → r'.held ≡ None → ReadsFrom r' log
+  reader_gives : (id : ℕ) (v r' : ReadingIn Run) (found log : LogRec Run) (s : StateIn Run) (c : IsCell its_run its_link s) → v.held ≡ Some found → SameToWriter found log → get_elem? s.views id ≡ some (Reader v) → r'.held ≡ None → r'.turns ≡ v.turns → ReadsFrom r' log
       → IsCell its_run its_link (stepped s 0 0 id ((0, log) ∷ []) (Reader r') gives)
-  reader_gives id v r' found log s c held same at gone reads =
+  reader_gives id v r' found log s c held same at gone kept reads =
       let out = is_readers c.word c.home c.w v found (fits_reader s c id v at) held in
       let writes = out.2.writes in
       reader_steps s c id v r' 0 (set s.homes 0 (some log)) (some log) at (ap (λ (l : List (maybe.Option (LogRec Run))). set l 0 (some log)) c.homes) record {
@@ -266,6 +298,7 @@ module _ {Run : Type 0} {its_run : Run} {its_link : LinkNumber} where
         agrees = record {
           writes = record { run = writes.run ∙ sym same.run; number = writes.number ∙ sym same.number; published = writes.published ∙ sym same.published; cause = writes.cause ∙ sym same.cause };
           reads = reads;
+          turns = subst (λ (t : List (LogRec Run)). AllByRecursion (WasOnce log) t) (sym kept) (all_went_on found log v.turns (stayed found log same) out.2.turns);
         };
       }
 
@@ -276,7 +309,7 @@ module _ {Run : Type 0} {its_run : Run} {its_link : LinkNumber} where
         Reader r',
         gives,
         tt,
-        reader_gives id v r' found log s c held same at refl record { run = run; number = number; base = whole; published = omega arith; shut = λ h. absurd (true≢false (sym h ∙ is_open)) },
+        reader_gives id v r' found log s c held same at refl refl record { run = run; number = number; base = whole; published = omega arith; shut = λ h. absurd (true≢false (sym h ∙ is_open)) },
         (λ v' log' e.
             let is_view : v ≡ v' = ap (λ (m : SeatIn Run). reading_or v m.0) e in
             let is_log : log ≡ log' = ap (λ (m : SeatIn Run). log_or log m.1) e in
@@ -290,7 +323,7 @@ module _ {Run : Type 0} {its_run : Run} {its_link : LinkNumber} where
         Reader r',
         gives,
         tt,
-        reader_gives id v r' found log s c held same at refl record { run = run; number = number; base = whole; published = omega arith; shut = λ _. record { published = refl; closed = closed } },
+        reader_gives id v r' found log s c held same at refl refl record { run = run; number = number; base = whole; published = omega arith; shut = λ _. record { published = refl; closed = closed } },
         (λ v' log' e.
             let is_view : v ≡ v' = ap (λ (m : SeatIn Run). reading_or v m.0) e in
             let is_log : log ≡ log' = ap (λ (m : SeatIn Run). log_or log m.1) e in

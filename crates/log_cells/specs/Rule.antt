@@ -1,6 +1,7 @@
 -- The rule of a cell: one log, whose turn it is, and what its two ends know.
 -- The turn word is 0 where it is nobody's turn, 1 where it is the writer's and 2 where it is the reader's. Of the news word nothing is said.
-use Rattle.std.specs.Prelude.{◌≡◌, ℕ, ◌≤◌, true, false, List, [], ◌∷◌, Option, Some, None}
+use Rattle.std.specs.Prelude.{◌≡◌, ℕ, ◌≤◌, true, false, IsSome, List, [], ◌∷◌, Option, Some, None}
+use Rattle.std.specs.List.{AllByRecursion}
 use mathlib.Core.Option.{some, none}
 use mathlib.Core.Option as maybe
 use Rattle.atomic_table.specs.Table.{State}
@@ -58,10 +59,18 @@ module _ {Run : Type 0} where
     pub published : r.got ≤ log.published
     pub shut : r.shut ≡ true → EndsAt r.got log
 
-  -- what is said of the log at home, and of a log that an end has, as it found it
+  -- what a log was before: since then no less is published, and where it was closed, no more, and for the same cause
+  pub record WasOnce (log before : LogRec Run) : Type 0 where
+    pub run : log.run ≡ before.run
+    pub number : log.number ≡ before.number
+    pub published : before.published ≤ log.published
+    pub closed : IsSome before.cause → (log.published ≡ before.published) × (log.cause ≡ before.cause)
+
+  -- what is said of the log at home, and of a log that an end has, as it found it; it was once what each turn of the end that reads found
   pub record Agrees (log : LogRec Run) (w : WritingIn Run) (r : ReadingIn Run) : Type 0 where
     pub writes : Writes (write_end_of w) log
     pub reads : ReadsFrom r log
+    pub turns : AllByRecursion (WasOnce log) r.turns
 
   abbrev pub home_at : Turn → LogRec Run → maybe.Option (LogRec Run)
   home_at free log = some log
