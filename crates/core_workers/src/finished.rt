@@ -27,7 +27,7 @@ pub struct Finished {
     stepped: Stepped,
 }
 
-// How many slots each node has stepped: all of them, or so many by position.
+// How many slots of each node count as stepped: all of them, or so many by position.
 #[derive(Drop)]
 enum Stepped {
     EachSlot,
@@ -99,8 +99,8 @@ impl Finished {
         self.run.limit()
     }
 
-    /// How many slots the node at a position has stepped, which is to run them one by one: by workers those that are busy, and in a
-    /// serial machine all of them.
+    /// How many slots of the node at a position count as stepped: by workers those that are busy, which were run one by one; of a serial
+    /// machine all of them, though it goes over slots in which nothing happens at any node at once.
     pub fn stepped(&self, node: u8) -> u32
         requires node { node < length self.now.plan.nodes }
         ensures workers { self.now.way ≡ Way.Workers → result ≡ busy_count self.now.plan node self.now.limit }
