@@ -11,7 +11,7 @@ use Rattle.link_logs.specs.Entries.{between}
 use Rattle.link_logs.specs.Logs.{LogRec, WriteRec, ReadRec, Writes}
 use Rattle.log_cells.specs.declared.view.View.TheVariants.{Writer, Reader}
 use Rattle.log_cells.specs.Ends.{CellRec, CellWriteRec, CellReadRec, WritesTo, ReadsOf}
-use Rattle.log_cells.specs.Rule.{WritingIn, ReadingIn, ViewIn, Turn, free, writers, readers, home_at, writer_has, reader_has, Agrees, ReadsFrom, WasOnce, Fits, IsCell, write_end_of, writing_of, reading_of}
+use Rattle.log_cells.specs.Rule.{WritingIn, ReadingIn, ViewIn, Turn, free, writers, readers, home_at, writer_has, reader_has, Agrees, ReadsFrom, Continues, Fits, IsCell, write_end_of, writing_of, reading_of}
 use Rattle.log_cells.specs.Plays.{SeatIn, claims_as_writer, claims_as_reader, gives_written, gives_taken, gives_shut, WriterHas, ReaderHas, HasTaken}
 use Rattle.log_cells.specs.Keeps.{CellState, IsMoment, IsWith, HasSeat, IsRead, CellKeeps, WritesOn, ReadsOn, GoesOn, GoesOnBy, StepsGoOn}
 use Rattle.log_cells.proofs.Seats.{writer_seat, reader_seat, is_writers, is_readers}
@@ -35,7 +35,7 @@ module _ {Run : Type 0} where
     read_by end of seat =
         let here = reader_seat c.stage c.w c.r seat.0 _ (ap (λ (l : List (ViewIn Run)). get_elem? l seat.0) (sym c.views) ∙ seat.1) in
         let reads = subst (λ (r : ReadingIn Run). ReadsFrom r c.fits.log) here.2 c.fits.agrees.reads in
-        let turns = subst (λ (r : ReadingIn Run). AllByRecursion (WasOnce c.fits.log) r.turns) here.2 c.fits.agrees.turns in
+        let turns = subst (λ (r : ReadingIn Run). AllByRecursion (Continues c.fits.log) r.turns) here.2 c.fits.agrees.turns in
         record { reads = record { run = reads.run; number = reads.number; base = reads.base; published = reads.published }; shut = reads.shut; turns = turns }
 
   kept_by : (at : Run → LinkNumber → Slot → List Entry) (cell : CellRec Run) (s : CellState Run) (c : IsCell cell.run cell.number s) → c.fits.log.entries ≡ between (at c.fits.log.run c.fits.log.number) c.fits.log.base c.fits.log.published

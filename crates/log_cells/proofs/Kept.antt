@@ -10,7 +10,7 @@ use Rattle.atomic_table.proofs.Lists.{set_again, exchanged}
 use Rattle.xs_base.specs.Numbers.{LinkNumber}
 use Rattle.link_logs.specs.Logs.{LogRec, WriteRec, ReadRec, Writes}
 use Rattle.log_cells.specs.declared.view.View.TheVariants.{Whole, Writer, Reader, Joined, Spent}
-use Rattle.log_cells.specs.Rule.{WritingIn, ReadingIn, ViewIn, free, writers, readers, made, parted, joined, ReadsFrom, WasOnce, Agrees, Fits, IsCell, seats_at, new_view}
+use Rattle.log_cells.specs.Rule.{WritingIn, ReadingIn, ViewIn, free, writers, readers, made, parted, joined, ReadsFrom, Continues, Agrees, Fits, IsCell, seats_at, new_view}
 use Rattle.log_cells.specs.Plays.{SeatIn, WriterClaims, ReaderClaims, claims_as_writer, claims_as_reader, gives_written, gives_taken, gives_shut, raises, writer_part, reader_part, joined_view, Follows, SameToWriter, WriterHas, HasTaken, IsJoined, AgreesWith}
 use Rattle.log_cells.proofs.Seats.{writing_or, reading_or, writer_seat, reader_seat, whole_seat, joined_seat, is_free, is_left, is_writers, is_readers}
 
@@ -29,12 +29,12 @@ abbrev pub log_or : {Run : Type 0} → LogRec Run → List (ℕ × LogRec Run) �
 log_or d [] = d
 log_or d (x ∷ xs) = x.1
 
--- what a log was before it went on
+-- what a log goes on from
 module _ {Run : Type 0} where
-  was_itself : (log : LogRec Run) → WasOnce log log
+  was_itself : (log : LogRec Run) → Continues log log
   was_itself log = record { run = refl; number = refl; published = omega arith; closed = λ h. (refl, refl) }
 
-  followed : (log log' : LogRec Run) → Follows log log' → (before : LogRec Run) → WasOnce log before → WasOnce log' before
+  followed : (log log' : LogRec Run) → Follows log log' → (before : LogRec Run) → Continues log before → Continues log' before
   followed log log' went before was = record {
     run = went.run ∙ was.run;
     number = went.number ∙ was.number;
@@ -45,7 +45,7 @@ module _ {Run : Type 0} where
         ((went.closed closed).published ∙ then.0, went.cause closed ∙ then.1);
   }
 
-  stayed : (log log' : LogRec Run) → SameToWriter log log' → (before : LogRec Run) → WasOnce log before → WasOnce log' before
+  stayed : (log log' : LogRec Run) → SameToWriter log log' → (before : LogRec Run) → Continues log before → Continues log' before
   stayed log log' same before was = record {
     run = same.run ∙ was.run;
     number = same.number ∙ was.number;
@@ -53,8 +53,8 @@ module _ {Run : Type 0} where
     closed = λ h. let then = was.closed h in (same.published ∙ then.0, same.cause ∙ then.1);
   }
 
-  all_went_on : (log log' : LogRec Run) (turns : List (LogRec Run)) → ((before : LogRec Run) → WasOnce log before → WasOnce log' before)
-      → AllByRecursion (WasOnce log) turns → AllByRecursion (WasOnce log') turns
+  all_went_on : (log log' : LogRec Run) (turns : List (LogRec Run)) → ((before : LogRec Run) → Continues log before → Continues log' before)
+      → AllByRecursion (Continues log) turns → AllByRecursion (Continues log') turns
   all_went_on log log' [] on all = tt
   all_went_on log log' (before ∷ turns) on all = (on before all.0, all_went_on log log' turns on all.1)
 
@@ -298,7 +298,7 @@ module _ {Run : Type 0} {its_run : Run} {its_link : LinkNumber} where
         agrees = record {
           writes = record { run = writes.run ∙ sym same.run; number = writes.number ∙ sym same.number; published = writes.published ∙ sym same.published; cause = writes.cause ∙ sym same.cause };
           reads = reads;
-          turns = subst (λ (t : List (LogRec Run)). AllByRecursion (WasOnce log) t) (sym kept) (all_went_on found log v.turns (stayed found log same) out.2.turns);
+          turns = subst (λ (t : List (LogRec Run)). AllByRecursion (Continues log) t) (sym kept) (all_went_on found log v.turns (stayed found log same) out.2.turns);
         };
       }
 

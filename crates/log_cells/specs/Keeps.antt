@@ -10,7 +10,7 @@ use Rattle.link_logs.specs.Entries.{between}
 use Rattle.link_logs.specs.Logs.{LogRec, WriteRec, ReadRec, Writes, Reads}
 use Rattle.log_cells.specs.declared.view.View.TheVariants.{Writer, Reader}
 use Rattle.log_cells.specs.Ends.{CellRec, CellWriteRec, CellReadRec, WritesTo, ReadsOf, EndsAt}
-use Rattle.log_cells.specs.Rule.{WritingIn, ReadingIn, ViewIn, Turn, free, writers, readers, turn_word, Stage, seats_at, IsCell, writing_of, reading_of, refused_of, turns_of, WasOnce}
+use Rattle.log_cells.specs.Rule.{WritingIn, ReadingIn, ViewIn, Turn, free, writers, readers, turn_word, Stage, seats_at, IsCell, writing_of, reading_of, refused_of, turns_of, Continues}
 use Rattle.log_cells.specs.Plays.{SeatIn, logs_in, claims_as_writer, claims_as_reader, gives_written, gives_taken, gives_shut, raises, WriterHas, HasTaken}
 
 -- a cell's words, its log where that is in its place, and what its seats know
@@ -48,7 +48,7 @@ module _ {Run : Type 0} where
   pub record IsRead (log : LogRec Run) (end : CellReadRec Run) : Type 0 where
     pub reads : Reads end.end log
     pub shut : end.end.shut ≡ true → EndsAt end.end.got log
-    pub turns : AllByRecursion (WasOnce log) end.turns
+    pub turns : AllByRecursion (Continues log) end.turns
 
   -- what a cell keeps, where a link carries these entries in each slot
   pub record CellKeeps (at : Run → LinkNumber → Slot → List Entry) (cell : CellRec Run) (s : CellState Run) (log : LogRec Run) : Type 0 where
@@ -70,8 +70,8 @@ module _ {Run : Type 0} where
     -- whether it is closed, and for which cause, its writer knows; its reader has found it so where all is read alone
     pub cause : writer.cause ≡ log.cause
     pub shut : reader.shut ≡ true → EndsAt reader.got log
-    -- it was once what the end that reads found at each of its turns
-    pub turns : AllByRecursion (WasOnce log) reader.turns
+    -- it goes on from what the end that reads found at each turn that it had
+    pub turns : AllByRecursion (Continues log) reader.turns
     -- the turn word says who has it
     pub turn : Turn
     pub word : slice_index s.words 0 ≡ turn_word turn

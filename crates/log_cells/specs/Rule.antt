@@ -59,18 +59,18 @@ module _ {Run : Type 0} where
     pub published : r.got ≤ log.published
     pub shut : r.shut ≡ true → EndsAt r.got log
 
-  -- what a log was before: since then no less is published, and where it was closed, no more, and for the same cause
-  pub record WasOnce (log before : LogRec Run) : Type 0 where
+  -- a log goes on from another: no less is published, and where that was closed, no more, and for the same cause
+  pub record Continues (log before : LogRec Run) : Type 0 where
     pub run : log.run ≡ before.run
     pub number : log.number ≡ before.number
     pub published : before.published ≤ log.published
     pub closed : IsSome before.cause → (log.published ≡ before.published) × (log.cause ≡ before.cause)
 
-  -- what is said of the log at home, and of a log that an end has, as it found it; it was once what each turn of the end that reads found
+  -- what is said of the log at home, and of a log that an end has, as it found it; it goes on from what the end that reads found at each turn
   pub record Agrees (log : LogRec Run) (w : WritingIn Run) (r : ReadingIn Run) : Type 0 where
     pub writes : Writes (write_end_of w) log
     pub reads : ReadsFrom r log
-    pub turns : AllByRecursion (WasOnce log) r.turns
+    pub turns : AllByRecursion (Continues log) r.turns
 
   abbrev pub home_at : Turn → LogRec Run → maybe.Option (LogRec Run)
   home_at free log = some log
