@@ -59,7 +59,7 @@ pub record Tells (cells : CellsRec) (runner : RunnerRec) (ends : List Outgoing) 
   pub told : All (IsTold runner.published) ends
   pub all_ends : length runner.published ≡ ENDS
 
--- a node has stepped the busy slots below its clock, and no others
+-- a node has stepped as many slots as are busy below its clock
 abbrev pub HasSteppedBusy : RunnerRec → Type 0
 HasSteppedBusy runner = runner.stepped ≡ busy_count runner.plan runner.node runner.clock
 

@@ -5,7 +5,7 @@
 pub enum Way {
     /// Each node on a worker of its own, as far ahead as what it has seen of its links lets it.
     Workers,
-    /// All nodes together, slot by slot.
+    /// All nodes together, over slots in which nothing happens at any of them at once.
     Serial,
     /// The nodes in turn, round by round, each as far ahead as what it has seen of its links lets it.
     Rounds,

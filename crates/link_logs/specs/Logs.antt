@@ -16,7 +16,8 @@ pub record LogRec (Run : Type 0) : Type 0 where
   pub entries : List Entry
   pub cause : Option Cause
 
--- what a log has of a link: its entries from one slot on and before another, and how many tokens and credits it carried before that, from slot 0 on
+-- what a log has of a link: its entries from its base on and before the published slot, and how many tokens and credits the link carried before
+-- the published slot, from slot 0 on
 pub record IsWhole (at : Slot → List Entry) (base published : Slot) (entries : List Entry) (tokens credits : ℕ) : Type 0 where
   pub on : base ≤ published
   pub own : entries ≡ between at base published

@@ -127,7 +127,7 @@ module _ {Run : Type 0} where
   abbrev pub CountsNothing : (SeatIn Run → ℕ → SeatIn Run → Type 0) → SeatIn Run → Type 0
   CountsNothing kind me = (me' : SeatIn Run) (word : ℕ) → kind me word me' → Counts 0 [] me me'
 
--- each kind of step of an end, from where its calls make it
+-- each claim and each giving back by an end, from where its calls make it
 pub record StepsGoOn (Run : Type 0) : Type 0 where
   pub claim_to_write : (step : Step (LogRec Run)) (view : WritingIn Run) → GoesOnBy (claims_as_writer step) (λ me. me ≡ (Writer view, []))
   pub claim_to_read : (step : Step (LogRec Run)) (view : ReadingIn Run) → GoesOnBy (claims_as_reader step) (λ me. me ≡ (Reader view, []))
@@ -136,7 +136,7 @@ pub record StepsGoOn (Run : Type 0) : Type 0 where
   pub give_shut : (step : Step (LogRec Run)) (end : ReadRec Run) (refused : ℕ) (turns : List (LogRec Run)) → GoesOnBy (gives_shut step) (HasTaken end refused turns)
 
 -- a claim that finds the turn word held is counted as a refusal; one by the end that reads that finds it free, as a turn in which it found the
--- log that it takes; no other step counts anything
+-- log that it takes; no other step of an end at work counts anything
 pub record StepsCount (Run : Type 0) : Type 0 where
   pub claim_to_write : (step : Step (LogRec Run)) (view : WritingIn Run) → CountsClaim (claims_as_writer step) (λ me. []) (Writer view, [])
   pub claim_to_read : (step : Step (LogRec Run)) (view : ReadingIn Run) → CountsClaim (claims_as_reader step) (λ me. logs_in me.1) (Reader view, [])

@@ -1,4 +1,4 @@
-//! The serial machine: all nodes of a system, stepped together slot by slot. See docs/MACHINE.md.
+//! The serial machine: all nodes of a system, stepped together, over slots in which nothing happens anywhere at once. See docs/MACHINE.md.
 #![tactic(auto)]
 
 mod inbound;

@@ -20,7 +20,7 @@ use sys_plan::Plan;
 use trace_lines::NodeEvents;
 use xs_base::Entry;
 
-/// All nodes of a system, stepped together slot by slot from slot 0 on. Contracts see the plan and how many slots
+/// All nodes of a system, stepped together from slot 0 on. Contracts see the plan and how many slots
 /// have passed; what the machine has become is `serial` of `Rattle.serial_model.specs.Serial`. See docs/MACHINE.md.
 #[derive(Drop)]
 pub struct SerialMachine {

@@ -56,8 +56,8 @@ impl Station {
         self.due = false;
     }
 
-    /// Goes over the slots from one on and before another at once: nothing arrives in them, and the node is quiet. It is looked then how
-    /// long it is quiet on.
+    /// Goes over the slots from one on and before another at once: nothing arrives in them, and the node is quiet. What is known of later
+    /// quiet slots is known still.
     pub(crate) fn skip(&mut self, from: u32, to: u32)
         requires some { from < to }
         requires quiet { MaySkip from to self.old }
@@ -65,6 +65,5 @@ impl Station {
     {
         self.pins.look(to - 1);
         self.seat.skip(from, to, self.pins.view());
-        self.seat.find_rest(to);
     }
 }

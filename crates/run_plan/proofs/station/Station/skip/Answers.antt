@@ -1,4 +1,4 @@
-use Rattle.std.proofs.Common.{◌≡◌, ◌+◌, ◌-◌, refl, sym, ap, subst, ◌∙◌, arith}
+use Rattle.std.proofs.Common.{◌≡◌, ◌+◌, ◌-◌, refl, ap, subst, ◌∙◌, arith}
 use Rattle.xs_model.specs.declared.outside.PinView.{PinView}
 use Rattle.core_step.specs.PinLevels.{from_outside}
 use Rattle.node_seats.specs.Seats.{SkipsOn}
@@ -12,8 +12,7 @@ returns c =
     let before = c.args.self.now in
     let look = c.look.ensures in
     let there : to - 1 + 1 ≡ to = omega (arith, c.requires.some) in
-    let skips =
-    subst (SkipsOn from to c.view.result.now before.seat) (sym c.find_rest.ensures.unchanged) c.skip.ensures.skips in
+    let skips = c.skip.ensures.skips in
     record {
       skips = record {
         incoming = refl;
@@ -21,6 +20,6 @@ returns c =
         number = look.number;
         shown = subst (λ t. IsShown t c.look.new.self) there look.shown;
         noted = λ _. skips.noted ∙ ap from_outside c.view.ensures;
-        skips = subst (λ (v : PinView). SkipsOn from to v before.seat c.find_rest.new.self) (c.view.ensures ∙ look.view) skips;
+        skips = subst (λ (v : PinView). SkipsOn from to v before.seat c.skip.new.self) (c.view.ensures ∙ look.view) skips;
       };
     }
