@@ -76,14 +76,19 @@ pub struct ReadEnd<S: Story> {
     got: u32,
     looks: u64,
     shut: bool,
+    // No entries, and the buffer that lies in the log next, if one was given back.
+    spare: Batch,
 }
 
 impl<S: Story> Model for ReadEnd<S> {
+    ghost use Rattle.std.specs.Prelude.{◌≡◌, []};
     ghost use Rattle.link_logs.specs.Logs.{ReadRec};
 
     ghost Value = { ReadRec S.Run };
 
     ghost view = { λ r. record { run = S.run r.story.value; number = S.number r.story.value; got = r.got; looks = r.looks; shut = r.shut } };
+
+    ghost invariant = { λ r. r.spare.entries ≡ [] };
 }
 
 impl<S: Story> ReadEnd<S> {
@@ -106,6 +111,15 @@ impl<S: Story> ReadEnd<S> {
         ensures value { result ≡ self.now.shut }
     {
         self.shut
+    }
+
+    /// Keeps the buffer of a batch of which all was taken. The next look that moves entries out of the log leaves it there in their place.
+    /// It takes no memory.
+    pub fn give_back(&mut self, batch: Batch)
+        requires empty { batch.entries ≡ [] }
+        ensures same { self.new ≡ self.old }
+    {
+        self.spare = batch;
     }
 }
 
@@ -203,7 +217,7 @@ impl<S: Story> Log<S> {
         ensures end { r.new ≡ looked self.old result r.old }
         ensures more { r.old.looks ≤ r.new.looks }
     {
-        let got = self.found();
+        let got = self.found(r);
         r.looks = r.looks.saturating_add(1);
         r.shut = r.shut || matches!(got, Got::Closed);
         r.got = self.published;
@@ -211,15 +225,16 @@ impl<S: Story> Log<S> {
     }
 
     // What was not read.
-    fn found(&mut self) -> Got
+    fn found(&mut self, r: &mut ReadEnd<S>) -> Got
         ensures log { self.new ≡ emptied self.old }
+        ensures end { r.new ≡ r.old }
         ensures found { Finds (S.entries_at self.old.run self.old.number) self.old self.old.base result }
     {
         if self.base < self.published {
             return Got::Entries {
                 from: self.base,
                 to: self.published,
-                batch: self.move_out(),
+                batch: self.move_out(r),
             };
         }
         if self.cause.is_some() {
@@ -231,13 +246,18 @@ impl<S: Story> Log<S> {
         }
     }
 
-    // Moves the entries out.
-    fn move_out(&mut self) -> Batch
+    // Moves the entries out, and the end's spare buffer into their place. Where there are none the two buffers stay where they are.
+    fn move_out(&mut self, r: &mut ReadEnd<S>) -> Batch
         ensures log { self.new ≡ emptied self.old }
+        ensures end { r.new ≡ r.old }
         ensures own { result.entries ≡ between (S.entries_at self.old.run self.old.number) self.old.base self.old.published }
     {
         self.base = self.published;
-        mem::replace(&mut self.entries, Batch::new(self.alloc))
+        if self.entries.entries().is_empty() {
+            return Batch::new(self.alloc);
+        }
+        let spare = mem::replace(&mut r.spare, Batch::new(self.alloc));
+        mem::replace(&mut self.entries, spare)
     }
 
     /// Closes the log, with the cause. The end has to be this log's, and the log not closed. It takes no memory.
@@ -253,7 +273,7 @@ impl<S: Story> Log<S> {
 }
 
 // Puts the entries of a batch after those that are held, and empties it. Where none are held the two are exchanged, and nothing is
-// copied. The error is want of memory, and changes nothing.
+// copied. Where the batch has none both stay as they are: a buffer goes only with entries. The error is want of memory, and changes nothing.
 fn put_after(held: &mut Batch, batch: &mut Batch) -> Result<(), AllocError>
     ensures held { OnOk result (held.new.entries ≡ held.old.entries ++ batch.old.entries) }
     ensures batch { OnOk result (batch.new.entries ≡ []) }
@@ -261,6 +281,9 @@ fn put_after(held: &mut Batch, batch: &mut Batch) -> Result<(), AllocError>
     ensures err { OnErr result (held.new ≡ held.old) }
     ensures err_batch { OnErr result (batch.new ≡ batch.old) }
 {
+    if batch.entries().is_empty() {
+        return Ok(());
+    }
     if held.entries().is_empty() {
         mem::swap(held, batch);
         return Ok(());
@@ -308,6 +331,7 @@ pub fn make_log<S: Story>(
         got: 0,
         looks: 0,
         shut: false,
+        spare: Batch::new(alloc),
     };
     let log = Log {
         story,
