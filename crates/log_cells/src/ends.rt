@@ -1,9 +1,10 @@
 //! The two ends of a cell. See docs/LOOKAHEAD.md.
-ghost use Rattle.std.specs.Prelude.{◌≡◌};
+ghost use Rattle.std.specs.Prelude.{◌≡◌, []};
 
 use crate::view::Place;
 use link_logs::{Cause, Story};
 use std::marker::Model;
+use xs_base::Batch;
 
 /// The end of a cell that writes. There is one for each cell. Contracts see a `CellWriteRec` of `Rattle.log_cells.specs.Ends`.
 #[derive(Drop)]
@@ -85,5 +86,14 @@ impl<S: Story> ReadEnd<S> {
         ensures value { result ≡ self.now.end.shut }
     {
         self.end.is_shut()
+    }
+
+    /// Keeps the buffer of a batch of which all was taken: the next look that moves entries out of the log leaves it there in their place.
+    /// It takes no memory, and no turn.
+    pub fn give_back(&mut self, batch: Batch)
+        requires empty { batch.entries ≡ [] }
+        ensures same { self.new ≡ self.old }
+    {
+        self.end.give_back(batch);
     }
 }
