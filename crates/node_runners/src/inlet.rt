@@ -20,6 +20,8 @@ pub(crate) struct Inlet {
     delay: u32,
     queue: VecDeque<Entry>,
     // No entries, and the buffer of the batch that came last, unless that was given away.
+    taken: Batch,
+    // No entries, and a buffer for what is sent by the link end, if one was kept.
     spare: Batch,
 }
 
@@ -32,7 +34,7 @@ impl Model for Inlet {
 
     ghost view = { λ i. record { delay = i.delay; queue = i.queue.items } };
 
-    ghost invariant = { λ i. i.spare.entries ≡ [] };
+    ghost invariant = { λ i. (i.taken.entries ≡ []) × (i.spare.entries ≡ []) };
 }
 
 impl Inlet {
@@ -43,12 +45,13 @@ impl Inlet {
         Inlet {
             delay,
             queue: VecDeque::new(alloc),
+            taken: Batch::new(alloc),
             spare: Batch::new(alloc),
         }
     }
 
-    /// Puts what was seen after what waits, and keeps the buffer of the batch as a spare one. The error is want of memory: it changes
-    /// nothing, and has the batch.
+    /// Puts what was seen after what waits, and keeps the buffer of the batch. The error is want of memory: it changes nothing, and has the
+    /// batch.
     pub(crate) fn append(&mut self, mut batch: Batch) -> Result<(), Batch>
         ensures ok { OnOk result (self.new ≡ longer self.old batch.entries) }
         ensures err { OnErr result (self.new ≡ self.old) }
@@ -59,8 +62,16 @@ impl Inlet {
         }
         put_all(&mut self.queue, batch.entries());
         batch.clear();
-        self.spare = batch;
+        self.taken = batch;
         Ok(())
+    }
+
+    /// A batch with no entries, and the buffer of the one that came last, unless that was given away. It takes no memory.
+    pub(crate) fn taken(&mut self, alloc: Global) -> Batch
+        ensures empty { result.entries ≡ [] }
+        ensures same { self.new ≡ self.old }
+    {
+        mem::replace(&mut self.taken, Batch::new(alloc))
     }
 
     /// The buffer of a batch with no entries is the spare one from now on.
@@ -71,7 +82,7 @@ impl Inlet {
         self.spare = batch;
     }
 
-    /// A batch with no entries, and the spare buffer if there is one. It takes no memory.
+    /// A batch with no entries, and the spare buffer if one was kept. It takes no memory.
     pub(crate) fn spare(&mut self, alloc: Global) -> Batch
         ensures empty { result.entries ≡ [] }
         ensures same { self.new ≡ self.old }

@@ -60,15 +60,15 @@ impl Inlets {
         }
     }
 
-    /// Puts what was seen of the link that comes to a link end after what waits there. The error is want of memory: it changes nothing, and
-    /// has the batch.
+    /// Puts what was seen of the link that comes to a link end after what waits there, and keeps the buffer. The error is want of memory: it
+    /// changes nothing, and has the batch.
     pub(crate) fn append(&mut self, end: u8, batch: Batch) -> Result<(), Batch>
         requires end { end < length self.old.ends }
         ensures ok { OnOk result (self.new ≡ record self.old { ends = slice_set self.old.ends end (longer (inlet_at self.old.ends end) batch.entries) }) }
         ensures err { OnErr result (self.new ≡ self.old) }
         ensures batch { IfErr result (λ b. b.entries ≡ batch.entries) }
     {
-        // Where nothing came no buffer did, and the spare one stays.
+        // Where nothing came no buffer did, and the one before it stays.
         if batch.entries().is_empty() {
             return Ok(());
         }
@@ -91,6 +91,20 @@ impl Inlets {
     }
 
     /// A batch with no entries, and the buffer of the one that came last to a link end, unless that was given away. It takes no memory.
+    pub(crate) fn taken(&mut self, alloc: Global, end: u8) -> Batch
+        ensures empty { result.entries ≡ [] }
+        ensures same { self.new ≡ self.old }
+    {
+        let end = end as usize;
+        if end < self.ends.len() {
+            let inlet = &mut self.ends[end];
+            inlet.taken(alloc)
+        } else {
+            Batch::new(alloc)
+        }
+    }
+
+    /// A batch with no entries, and the spare buffer of a link end if one was kept. It takes no memory.
     pub(crate) fn spare(&mut self, alloc: Global, end: u8) -> Batch
         ensures empty { result.entries ≡ [] }
         ensures same { self.new ≡ self.old }

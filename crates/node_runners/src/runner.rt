@@ -100,8 +100,8 @@ impl NodeRunner {
     }
 
     /// The link that comes to a link end, 0 to 7, was seen up to a slot, `to`, which is not before the one up to which it was seen: `batch` has
-    /// its entries from there on. Its buffer is used again for what is sent by this link end. The error is want of memory: it changes
-    /// nothing, and has the batch.
+    /// its entries from there on. Its buffer is kept, for `spare` to give away. The error is want of memory: it changes nothing, and has
+    /// the batch.
     pub fn take(&mut self, end: u8, batch: Batch, to: u32) -> Result<(), Batch>
         requires there { IsSome (incoming self.old.plan self.old.node end) }
         requires on { seen_at self.old.horizon end ≤ to }
@@ -113,6 +113,14 @@ impl NodeRunner {
         self.inlets.append(end, batch)?;
         self.horizon.see(end, to);
         Ok(())
+    }
+
+    /// A batch with no entries, and the buffer of the one that was taken last at a link end, unless that was given away. It takes no memory.
+    pub fn spare(&mut self, end: u8) -> Batch
+        ensures empty { result.entries ≡ [] }
+        ensures same { self.new ≡ self.old }
+    {
+        self.inlets.taken(self.alloc, end)
     }
 
     /// Runs the slot of its clock, where its horizon lets it: exactly then the answer is `Slot`. It is `AtLimit` exactly at the limit, and else

@@ -5,5 +5,6 @@ abbrev pub invariant-loop : goal.invariant-loop
 invariant-loop l = record {
   delay : l.self-inside.delay ≡ l.initial.self-inside.delay;
   queue : l.self-inside.queue.items ≡ drop l.counter l.initial.self-inside.queue.items;
+  taken : l.self-inside.taken.entries ≡ [];
   spare : l.self-inside.spare.entries ≡ [];
 }
