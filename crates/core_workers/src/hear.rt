@@ -25,12 +25,28 @@ fn hand_over(reader: &mut Incoming, runner: &mut NodeRunner) -> Result<(), Alloc
         return Ok(());
     };
     let Hand { batch, to } = hand;
+    let carries = !batch.entries().is_empty();
     match runner.take(reader.end, batch, to) {
-        Ok(()) => Ok(()),
+        Ok(()) => {
+            give_back(reader, runner, carries);
+            Ok(())
+        }
         Err(batch) => {
             reader.hand = Some(Hand { batch, to });
             Err(AllocError)
         }
+    }
+}
+
+// Gives the buffer of a batch that the node took to the end that reads. One that carried nothing had none, and would take the place of a
+// better one.
+fn give_back(reader: &mut Incoming, runner: &mut NodeRunner, carried: bool)
+    ensures reader { reader.new ≡ reader.old }
+    ensures runner { runner.new ≡ runner.old }
+{
+    if carried {
+        let batch = runner.spare(reader.end);
+        reader.r.give_back(batch);
     }
 }
 
