@@ -35,7 +35,7 @@ pub(crate) fn pass_quiet(stations: &mut [Station], tracks: &[Track], from: u32, 
 }
 
 // The same, where all nodes have to be looked at. That takes no more than to come to one that may do something.
-#[inline(never)]
+#[inline]
 fn pass_all(stations: &mut [Station], tracks: &[Track], from: u32, limit: u32) -> u32
     requires before { from ≤ limit }
     requires stations { AllByRecursion (IsStation from (length tracks.now)) stations.old }
