@@ -2,12 +2,11 @@
 use Rattle.std.proofs.Common.{◌≡◌, ℕ, ◌≤◌, Option, Some, None, List, [], ◌∷◌, slice_get, refl, sym, ap, ◌∙◌, subst, arith}
 use Rattle.std.specs.List.{All, AllZip, AllByRecursion}
 use Rattle.std.proofs.lemmas.List.Elements.{All-from_recursion}
-use Rattle.std.proofs.lemmas.Option.{same_Some, slice_get_within, get_or_from_slice_get}
+use Rattle.std.proofs.lemmas.Option.{same_Some}
 use Rattle.xs_base.specs.Numbers.{Slot, EndNumber, LinkNumber}
 use Rattle.sys_plan.specs.Plan.{PlanRec, IsPlan, delay_of}
 use Rattle.ahead_limits.specs.declared.horizon.Seen.{Seen}
 use Rattle.ahead_limits.specs.Horizon.{HorizonRec, Sees, StopsAt, horizon_at}
-use Rattle.link_logs.specs.Logs.{WriteRec}
 use Rattle.node_runners.specs.declared.runner.Ran.{Ran}
 use Rattle.node_runners.specs.declared.runner.Ran.TheVariants.{Slot as one_slot, Blocked, AtLimit}
 use Rattle.node_runners.specs.Runner.{RunnerRec, Stops}
@@ -16,8 +15,7 @@ use Rattle.plan_cells.specs.declared.ends.Outgoing.{Outgoing}
 use Rattle.plan_cells.specs.declared.ends.Incoming.{Incoming}
 use Rattle.plan_cells.specs.declared.ends.Ends.{Ends}
 use Rattle.plan_cells.specs.Ends.{CellsRec}
-use Rattle.core_workers.specs.declared.turn.Turn.TheVariants as turn
-use Rattle.core_workers.specs.Worker.{WorkerRec, IsInHand, IsHeard, Listens, Tells, RunsOn, IsWorker, StaysIncoming, StaysOutgoing, Looked, Published, reach, Stays, Exchanged, IsReadTo, Answers, shut_links}
+use Rattle.core_workers.specs.Worker.{WorkerRec, IsInHand, IsHeard, Listens, Tells, RunsOn, IsWorker, StaysIncoming, StaysOutgoing, Tried, Told as Published, reach, Stays, Exchanged}
 use Rattle.core_workers.proofs.Counting.{busy_by}
 use Rattle.core_workers.proofs.Hearing.{fits_at}
 use Rattle.core_workers.proofs.Passes.{all_zip_refl}
@@ -64,31 +62,20 @@ module _ (cells : CellsRec) (is : IsPlan cells.plan) (runner : RunnerRec) (ends 
       heard.there ∙ ap (λ (s : Seen). Some (Some s)) all
 
   -- the end that reads the link that comes to a link end, of which this much was seen
-  record ReadsThere (end : EndNumber) (s : Seen) : Type 0 where
-    place : ℕ
-    reader : Incoming
-    at : slice_get ends place ≡ Some reader
-    end_is : reader.end ≡ end
-    same : s ≡ record { delay = delay_of cells.plan reader.link; seen = reader.r.end.got }
+  pub record ReadsThere (end : EndNumber) (s : Seen) : Type 0 where
+    pub place : ℕ
+    pub reader : Incoming
+    pub at : slice_get ends place ≡ Some reader
+    pub end_is : reader.end ≡ end
+    pub same : s ≡ record { delay = delay_of cells.plan reader.link; seen = reader.r.end.got }
 
-  reads_there : (end : EndNumber) (s : Seen) → Sees runner.horizon end s → ReadsThere end s
+  pub reads_there : (end : EndNumber) (s : Seen) → Sees runner.horizon end s → ReadsThere end s
   reads_there end s sees =
       let other = listens.no_others end s sees in
       let comes = comes_there cells.plan is runner.node ends listens.places end other.0 other.1 in
       let is_read : Seen = record { delay = delay_of cells.plan comes.reader.link; seen = comes.reader.r.end.got } in
       let there : Sees runner.horizon end is_read = subst (λ e. Sees runner.horizon e is_read) comes.end_is (seen_is_read comes.place comes.reader comes.at) in
       record { place = comes.place; reader = comes.reader; at = comes.at; end_is = comes.end_is; same = same_Some _ _ (same_Some _ _ (sym sees ∙ there)) }
-
-  -- what was seen of the link that stops the node is what was read of it
-  pub read_at_stop : (end seen : ℕ) → StopsAt runner.horizon runner.clock end seen → IsReadTo seen end ends
-  read_at_stop end seen stop =
-      let reads = reads_there end stop.link stop.there in
-      record {
-        reader = reads.reader;
-        there = (reads.place, slice_get_within ends reads.place reads.reader reads.at, get_or_from_slice_get ends reads.place reads.reader reads.reader reads.at);
-        at_end = reads.end_is;
-        got = sym (ap (λ (x : Seen). x.seen) reads.same) ∙ stop.seen_there;
-      }
 
   module _ (within : runner.clock ≤ runner.horizon.limit) (ahead : (end : ℕ) (s : Seen) → Sees runner.horizon end s → runner.clock ≤ horizon_at s) where
     clock_above : runner.clock ≤ reach cells.plan runner.horizon.limit ends
@@ -128,7 +115,7 @@ pub record Told (before : WorkerRec) (runner : RunnerRec) (ends : Ends) : Type 0
 pub record Turned (before : WorkerRec) (r1 : RunnerRec) (e1 : Ends) (stop : Ran) (r2 r3 : RunnerRec) (e2 : Ends) : Type 0 where
   pub start : IsWorker before
   pub heard : Heard before r1 e1
-  pub looked : AllZip Looked before.ends.incoming.items e1.incoming.items
+  pub tried : AllZip Tried before.ends.incoming.items e1.incoming.items
   pub ran : RunsOn r1 r2
   pub stops : Stops r2.horizon r2.clock stop
   pub within : r2.clock ≤ r2.horizon.limit
@@ -211,20 +198,11 @@ told_worker {w} {runner} {ends} is told =
 
 -- ---- A whole turn
 
-same_clock : (clock slot : Slot) (old new : List Outgoing) → clock ≡ slot → AllZip (Published slot) old new → AllZip (Published clock) old new
-same_clock clock slot old new is all = subst (λ t. AllZip (Published t) old new) (sym is) all
-
-all_handed : (old new : List Incoming) → AllZip Looked old new → AllByRecursion (λ (i : Incoming). i.hand ≡ None) new
+all_handed : (old new : List Incoming) → AllZip Tried old new → AllByRecursion (λ (i : Incoming). i.hand ≡ None) new
 all_handed [] [] all = tt
 all_handed [] (y ∷ new) all = absurd all
 all_handed (x ∷ old) [] all = tt
 all_handed (x ∷ old) (y ∷ new) all = (all.0.none_in_hand, all_handed old new all.1)
-
-all_told : (slot limit : Slot) (old new : List Outgoing) → slot ≡ limit → AllZip (Published slot) old new → AllByRecursion (λ (o : Outgoing). o.w.end.published ≡ limit) new
-all_told slot limit [] [] is all = tt
-all_told slot limit [] (y ∷ new) is all = absurd all
-all_told slot limit (x ∷ old) [] is all = tt
-all_told slot limit (x ∷ old) (y ∷ new) is all = (ap (λ (w : WriteRec PlanRec). w.published) all.0 ∙ is, all_told slot limit old new is all.1)
 
 module _ {w : WorkerRec} {r1 : RunnerRec} {e1 : Ends} {stop : Ran} {r2 r3 : RunnerRec} {e2 : Ends} (t : Turned w r1 e1 stop r2 r3 e2) where
   worker_2 : IsWorker (worker w.cells r2 e1)
@@ -243,7 +221,17 @@ module _ {w : WorkerRec} {r1 : RunnerRec} {e1 : Ends} {stop : Ran} {r2 r3 : Runn
   clock_3 = ap (λ (r : RunnerRec). r.clock) t.told.rest
 
   handed : All (λ (i : Incoming). i.hand ≡ None) e1.incoming.items
-  handed = All-from_recursion (λ (i : Incoming). i.hand ≡ None) e1.incoming.items (all_handed w.ends.incoming.items e1.incoming.items t.looked)
+  handed = All-from_recursion (λ (i : Incoming). i.hand ≡ None) e1.incoming.items (all_handed w.ends.incoming.items e1.incoming.items t.tried)
+
+  -- what was read is handed to the node still, and the same stops it
+  pub turned_handed : All (λ (i : Incoming). i.hand ≡ None) e2.incoming.items
+  turned_handed = subst (λ (v : List Incoming). All (λ (i : Incoming). i.hand ≡ None) v) (sym incoming_items) handed
+
+  pub turned_on : w.runner.clock ≤ r3.clock
+  turned_on = omega (arith, clock_3, ap (λ (r : RunnerRec). r.clock) t.heard.rest, t.ran.on)
+
+  pub turned_stops : Stops r3.horizon r3.clock stop
+  turned_stops = subst (λ (h : HorizonRec). Stops h r3.clock stop) (sym horizon_3) (subst (λ s. Stops r2.horizon s stop) (sym clock_3) t.stops)
 
   -- whatever stops the node, it has run as far as it may
   far : (ran : Ran) → Stops r2.horizon r2.clock ran → r2.clock ≡ reach w.cells.plan r2.horizon.limit e1.incoming.items
@@ -251,42 +239,14 @@ module _ {w : WorkerRec} {r1 : RunnerRec} {e1 : Ends} {stop : Ran} {r2 r3 : Runn
   far (Blocked end seen) stops = at_stop w.cells t.start.plan_is r2 e1.incoming.items worker_2.listens handed t.within t.ahead end seen stops.1
   far AtLimit stops = at_limit w.cells t.start.plan_is r2 e1.incoming.items worker_2.listens handed t.within t.ahead stops
 
-  stops_by : (ran : Ran) → stop ≡ ran → Stops r2.horizon r2.clock ran
-  stops_by ran is = subst (λ (r : Ran). Stops r2.horizon r2.clock r) is t.stops
-
-  -- the node stands at a link end, and no log was found closed
-  pub blocked : {end seen : ℕ} → stop ≡ Blocked end seen → r2.clock ≤ w.runner.clock → shut_links e2.incoming.items ≡ []
-      → Answers w (turn.Blocked end seen) (worker w.cells r3 e2)
-  blocked {end} {seen} is stands none =
-      let stops = stops_by (Blocked end seen) is in
-      let heard_clock : r1.clock ≡ w.runner.clock = ap (λ (r : RunnerRec). r.clock) t.heard.rest in (
-        record {
-          clock = omega (arith, clock_3, heard_clock, t.ran.on, stands);
-          below = omega (arith, clock_3, ap (λ (h : HorizonRec). h.limit) horizon_3, stops.0);
-        },
-        none,
-        subst (λ (h : HorizonRec). StopsAt h r3.clock end seen) (sym horizon_3) (subst (λ s. StopsAt r2.horizon s end seen) (sym clock_3) stops.1),
-        subst (λ (v : List Incoming). IsReadTo seen end v) (sym incoming_items) (read_at_stop w.cells t.start.plan_is r2 e1.incoming.items worker_2.listens handed end seen stops.1),
-      )
-
-  module _ (published : AllZip (Published r2.clock) e1.outgoing.items e2.outgoing.items) where
-    pub exchanged : Exchanged w (worker w.cells r3 e2)
-    exchanged = record {
-      looked = subst (λ (v : List Incoming). AllZip Looked w.ends.incoming.items v) (sym incoming_items) t.looked;
-      ran =
-          clock_3 ∙ far stop t.stops
-          ∙ ap (λ (h : HorizonRec). reach w.cells.plan h.limit e1.incoming.items) (sym horizon_3)
-          ∙ ap (λ (v : List Incoming). reach w.cells.plan r3.horizon.limit v) (sym incoming_items);
-      published =
-          same_clock r3.clock r2.clock w.ends.outgoing.items e2.outgoing.items clock_3
-          (subst (λ (v : List Outgoing). AllZip (Published r2.clock) v e2.outgoing.items) (same_writers t.heard) published);
-    }
-
-    -- the node is at the limit
-    pub finished : stop ≡ AtLimit → Answers w turn.Finished (worker w.cells r3 e2)
-    finished is =
-        let at = stops_by AtLimit is ∙ ap (λ (h : HorizonRec). h.limit) (sym horizon_3) in (
-          clock_3 ∙ at,
-          All-from_recursion (λ (o : Outgoing). o.w.end.published ≡ r3.horizon.limit) e2.outgoing.items
-              (all_told r2.clock r3.horizon.limit e1.outgoing.items e2.outgoing.items at published),
-        )
+  pub exchanged : AllZip (Published r2.clock) e1.outgoing.items e2.outgoing.items → Exchanged w (worker w.cells r3 e2)
+  exchanged told = record {
+    tried = subst (λ (v : List Incoming). AllZip Tried w.ends.incoming.items v) (sym incoming_items) t.tried;
+    ran =
+        clock_3 ∙ far stop t.stops
+        ∙ ap (λ (h : HorizonRec). reach w.cells.plan h.limit e1.incoming.items) (sym horizon_3)
+        ∙ ap (λ (v : List Incoming). reach w.cells.plan r3.horizon.limit v) (sym incoming_items);
+    told =
+        subst (λ s. AllZip (Published s) w.ends.outgoing.items e2.outgoing.items) (sym clock_3)
+        (subst (λ (v : List Outgoing). AllZip (Published r2.clock) v e2.outgoing.items) (same_writers t.heard) told);
+  }

@@ -3,7 +3,8 @@ pub mod Routes
 pub mod Hearing
 pub mod Telling
 pub mod Reaching
-pub mod Shut
+pub mod Leasts
+pub mod Answering
 pub mod Closing
 pub mod Handing
 pub mod Starting

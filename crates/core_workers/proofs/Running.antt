@@ -1,5 +1,5 @@
 -- A worker's whole run: what turns and a stop leave, one after the other.
-use Rattle.std.proofs.Common.{◌≡◌, List, [], ◌∷◌, refl, sym, ap, ◌∙◌, subst, arith}
+use Rattle.std.proofs.Common.{◌≡◌, ◌<◌, List, [], ◌∷◌, refl, sym, ap, ◌∙◌, subst, arith}
 use Rattle.std.specs.List.{All, AllByRecursion, AllZip}
 use Rattle.std.proofs.lemmas.List.Elements.{All-from_recursion, recursion_from_All}
 use Rattle.xs_base.specs.Numbers.{LinkNumber}
@@ -10,7 +10,7 @@ use Rattle.link_logs.specs.Logs.{WriteRec}
 use Rattle.node_runners.specs.Runner.{RunnerRec}
 use Rattle.plan_cells.specs.declared.ends.Outgoing.{Outgoing}
 use Rattle.plan_cells.specs.declared.ends.Incoming.{Incoming}
-use Rattle.core_workers.specs.Worker.{WorkerRec, IsOpen, StaysIncoming, StaysOutgoing, Stays, HasNotRun, IsLeast, Closes, KeepsAllElse, shut_links, closed_with}
+use Rattle.core_workers.specs.Worker.{WorkerRec, IsOpen, StaysIncoming, StaysOutgoing, Stays, IsLeast, Closes, KeepsAllElse, shut_links, closed_with}
 use Rattle.core_workers.specs.Run.{KeepsOutgoing, Keeps, IsClosedFor, IsStopped}
 use Rattle.core_workers.proofs.Passes.{all_zip_refl, all_zip_then, all_zip_weaker}
 use Rattle.core_workers.proofs.Handing.{stays_unread}
@@ -129,15 +129,15 @@ module _ (cause : Cause) where
   pub all_closed : (old new : List Outgoing) → AllZip (Closes cause) old new → All IsOpen old → All (IsClosedFor cause) new
   all_closed old new all are = All-from_recursion (IsClosedFor cause) new (each_closed old new all (recursion_from_All IsOpen old are))
 
-pub stopped_by : (before now after : WorkerRec) (link : LinkNumber) → HasNotRun before now → IsLeast link (shut_links now.ends.incoming.items) → All IsOpen now.ends.outgoing.items
+pub stopped_by : (now after : WorkerRec) (link : LinkNumber) → now.runner.clock < now.runner.horizon.limit → IsLeast link (shut_links now.ends.incoming.items) → All IsOpen now.ends.outgoing.items
     → AllZip (Closes (cause.Neighbour link)) now.ends.outgoing.items after.ends.outgoing.items → KeepsAllElse now after → IsStopped after
-stopped_by before now after link stands least are closed rest =
+stopped_by now after link below least are closed rest =
     let clock : after.runner.clock ≡ now.runner.clock = ap (λ (r : RunnerRec). r.clock) rest.runner in
     let limit : after.runner.horizon.limit ≡ now.runner.horizon.limit = ap (λ (r : RunnerRec). r.horizon.limit) rest.runner in
     let readers : after.ends.incoming.items ≡ now.ends.incoming.items = λ i. (rest.incoming i).items in
     record {
       link = link;
-      below = omega (arith, stands.below, clock, limit);
+      below = omega (arith, below, clock, limit);
       least = subst (λ (is : List Incoming). IsLeast link (shut_links is)) (sym readers) least;
       closed = all_closed (cause.Neighbour link) now.ends.outgoing.items after.ends.outgoing.items closed are;
     }

@@ -2,7 +2,6 @@
 use Rattle.xs_base.specs.Numbers.{Slot}
 use Rattle.sys_plan.specs.Plan.{PlanRec}
 use Rattle.core_workers.specs.declared.way.Way.{Way}
-use Rattle.core_workers.specs.declared.way.Way.TheVariants as Way
 use Rattle.core_workers.specs.declared.finished.Stepped.{Stepped}
 use Rattle.core_workers.specs.declared.finished.Stepped.TheVariants.{EachSlot, BusySlots}
 use Rattle.core_workers.specs.Finished.{AreBusyCounts}

@@ -1,8 +1,13 @@
 -- The parts of a worker's turn, link by link.
-use Rattle.std.specs.Prelude.{◌≡◌, ◌≢◌, min, Option, Some, None, List, [], length, slice_get, slice_index}
-use Rattle.xs_base.specs.Numbers.{EndNumber, LinkNumber}
+use Rattle.std.specs.Prelude.{ℕ, ◌≡◌, ◌≢◌, ◌<◌, min, nat_lt, if◌then◌else◌, Option, Some, None, List, [], length, slice_get, slice_index}
+use Rattle.std.specs.List.{AllByRecursion}
+use Rattle.xs_base.specs.Numbers.{Slot, EndNumber, LinkNumber}
+use Rattle.sys_plan.specs.Plan.{PlanRec, arc_count}
+use Rattle.plan_cells.specs.declared.ends.Incoming.{Incoming}
 use Rattle.node_runners.specs.Runner.{RunnerRec}
-use Rattle.core_workers.specs.Worker.{IsLeast}
+use Rattle.core_workers.specs.declared.turn.Turn.{Turn}
+use Rattle.core_workers.specs.declared.turn.Turn.TheVariants.{Ran, Blocked, Busy, Finished, Stopped, Memory}
+use Rattle.core_workers.specs.Worker.{IsLeast, IsReadTo, shut_links, stopping_ends}
 
 -- what a node has heard at one link end changes, and nothing else of it
 pub record HearsAt (end : EndNumber) (before after : RunnerRec) : Type 0 where
@@ -20,6 +25,41 @@ abbrev pub IsLeastOf : Option LinkNumber → List LinkNumber → Type 0
 IsLeastOf None links = links ≡ []
 IsLeastOf (Some link) links = IsLeast link links
 
-abbrev pub lesser_of : Option LinkNumber → LinkNumber → LinkNumber
-lesser_of None link = link
-lesser_of (Some other) link = min other link
+-- the lesser of two numbers, where there are two
+abbrev pub least_of : Option ℕ → Option ℕ → Option ℕ
+least_of None b = b
+least_of (Some a) None = Some a
+least_of (Some a) (Some b) = Some (min a b)
+
+-- the lesser of two link ends, where there are two, and up to which slot its link was read
+abbrev pub first_of : Option (EndNumber × Slot) → EndNumber → Slot → EndNumber × Slot
+first_of None end slot = (end, slot)
+first_of (Some stop) end slot = if nat_lt end stop.0 then (end, slot) else stop
+
+-- the least of the link ends that stop the node, and up to which slot its link was read; none where no link end does
+abbrev pub IsLeastStop : PlanRec → Slot → List Incoming → Option (EndNumber × Slot) → Type 0
+IsLeastStop plan clock ends None = stopping_ends plan clock ends ≡ []
+IsLeastStop plan clock ends (Some stop) = IsLeast stop.0 (stopping_ends plan clock ends) × IsReadTo stop.1 stop.0 ends
+
+-- why a node runs no slot, by what was looked at, if that tells
+abbrev pub Explains : PlanRec → Slot → List Incoming → Option Turn → Type 0
+Explains plan clock ends None = (shut_links ends ≡ []) × (stopping_ends plan clock ends ≡ [])
+Explains plan clock ends (Some (Stopped link)) = IsLeast link (shut_links ends)
+Explains plan clock ends (Some (Blocked end seen)) = (shut_links ends ≡ []) × IsLeast end (stopping_ends plan clock ends) × IsReadTo seen end ends
+Explains plan clock ends (Some (Ran from to)) = ⊥
+Explains plan clock ends (Some (Busy end)) = ⊥
+Explains plan clock ends (Some Finished) = ⊥
+Explains plan clock ends (Some Memory) = ⊥
+
+-- the links of these ends are of the plan
+abbrev pub AreOfPlan : PlanRec → List Incoming → Type 0
+AreOfPlan plan ends = AllByRecursion (λ (i : Incoming). i.link < arc_count plan) ends
+
+-- a turn waits for a cell, the one of the least of these link ends
+abbrev pub WaitsForLeast : List EndNumber → Turn → Type 0
+WaitsForLeast ends (Busy end) = IsLeast end ends
+WaitsForLeast ends (Ran from to) = ⊥
+WaitsForLeast ends (Blocked end seen) = ⊥
+WaitsForLeast ends Finished = ⊥
+WaitsForLeast ends (Stopped link) = ⊥
+WaitsForLeast ends Memory = ⊥

@@ -7,7 +7,7 @@ use Rattle.link_logs.specs.declared.answers.Cause.TheVariants as cause
 use Rattle.core_workers.specs.declared.ended.Ended.{Ended}
 use Rattle.core_workers.specs.declared.ended.Ended.TheVariants as ended
 use Rattle.core_workers.specs.declared.turn.Turn.{Turn}
-use Rattle.core_workers.specs.declared.turn.Turn.TheVariants.{Ran, Blocked, Finished, Stopped, Memory}
+use Rattle.core_workers.specs.declared.turn.Turn.TheVariants.{Ran, Blocked, Busy, Finished, Stopped, Memory}
 use Rattle.core_workers.specs.Worker.{WorkerRec, IsWorker, IsOpen, Stays, Exchanged, Answers, Closes, KeepsAllElse}
 
 -- a turn of a worker, with this answer; what it leaves is a worker
@@ -22,6 +22,7 @@ pub record Takes (before : WorkerRec) (turn : Turn) (after : WorkerRec) : Type 0
 abbrev pub IsOneOfMore : Turn → Type 0
 IsOneOfMore (Ran from to) = Unit {0}
 IsOneOfMore (Blocked end seen) = Unit {0}
+IsOneOfMore (Busy end) = Unit {0}
 IsOneOfMore Finished = ⊥
 IsOneOfMore (Stopped link) = ⊥
 IsOneOfMore Memory = ⊥

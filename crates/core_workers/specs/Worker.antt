@@ -1,5 +1,5 @@
 -- A worker: one node that runs ahead of the others, with its ends of the cells of the plan's links.
-use Rattle.std.specs.Prelude.{◌≡◌, ◌+◌, ◌<◌, ◌≤◌, min, true, Option, Some, None, List, [], ◌∷◌, All, Contains, length, map, filter, slice_index}
+use Rattle.std.specs.Prelude.{◌≡◌, ◌≢◌, ◌+◌, ◌<◌, ◌≤◌, min, Bool, true, false, ◌==◌, ◌&&◌, not, Option, Some, None, List, [], ◌∷◌, ◌++◌, All, Contains, length, map, filter, slice_index}
 use Rattle.std.specs.List.{AllByRecursion, AllZip}
 use Rattle.xs_base.specs.Numbers.{Slot, LinkNumber, EndNumber}
 use Rattle.sys_plan.specs.Plan.{PlanRec, IsPlan, incoming, delay_of}
@@ -9,6 +9,7 @@ use Rattle.plan_stories.specs.Stories.{carried_at}
 use Rattle.link_logs.specs.declared.answers.Cause.{Cause}
 use Rattle.link_logs.specs.declared.answers.Got.{Got}
 use Rattle.log_cells.specs.Ends.{LooksAt, one_more}
+use Rattle.log_cells.specs.Tries.{reader_refused, writer_refused}
 use Rattle.plan_cells.specs.declared.ends.Hand.{Hand}
 use Rattle.plan_cells.specs.declared.ends.Outgoing.{Outgoing}
 use Rattle.plan_cells.specs.declared.ends.Incoming.{Incoming}
@@ -16,10 +17,10 @@ use Rattle.plan_cells.specs.declared.ends.Ends.{Ends}
 use Rattle.plan_cells.specs.Ends.{CellsRec, leaving, coming, leaves_at, comes_at, IsOutgoing, IsIncoming}
 use Rattle.sys_plan.specs.declared.system_plan.TheConstants.{ENDS}
 use Rattle.ahead_limits.specs.declared.horizon.Seen.{Seen}
-use Rattle.ahead_limits.specs.Horizon.{HorizonRec, Sees, StopsAt}
+use Rattle.ahead_limits.specs.Horizon.{HorizonRec, Sees}
 use Rattle.node_runners.specs.Runner.{RunnerRec}
 use Rattle.core_workers.specs.declared.turn.Turn.{Turn}
-use Rattle.core_workers.specs.declared.turn.Turn.TheVariants.{Ran, Blocked, Finished, Stopped, Memory}
+use Rattle.core_workers.specs.declared.turn.Turn.TheVariants.{Ran, Blocked, Busy, Finished, Stopped, Memory}
 
 -- what contracts see of a `Worker`, and of the `Part` that is left of it: the cells, the node, and its ends
 pub record WorkerRec : Type 0 where
@@ -112,27 +113,34 @@ pub record Stays (before after : WorkerRec) : Type 0 where
 
 -- ---- A turn that had the memory
 
--- the log was looked at once, and all that was read of it was handed to the node
+-- the log was looked at once
 pub record Looked (before after : Incoming) : Type 0 where
   pub got : Got
   pub look : LooksAt (carried_at before.r.end.run before.r.end.number) before.r.end got after.r.end
   pub looks : after.r.end.looks ≡ one_more before.r.end.looks
+  pub not_refused : after.r.refused ≡ before.r.refused
+
+-- the log was tried once: it was looked at, or the turn of its cell was held; and all that was read of it was handed to the node
+pub record Tried (before after : Incoming) : Type 0 where
+  pub looked : after.held ≡ false → Looked before after
+  pub refused : after.held ≡ true → after.r ≡ reader_refused before.r
   pub none_in_hand : after.hand ≡ None
 
--- the link was published up to a slot
-abbrev pub Published : Slot → Outgoing → Outgoing → Type 0
-Published slot before after = after.w.end ≡ record before.w.end { published = slot }
+-- the link was published up to a slot, or else the turn of its cell was held
+pub record Told (slot : Slot) (before after : Outgoing) : Type 0 where
+  pub published : after.w.end.published ≡ slot → after.w.end ≡ record before.w.end { published = slot }
+  pub refused : after.w.end.published ≢ slot → after.w ≡ writer_refused before.w
 
 -- how far a node may run: to the limit, and of each link that comes to it to the slot up to which it was read, and the link's delay
 abbrev pub reach : PlanRec → Slot → List Incoming → Slot
 reach plan limit [] = limit
 reach plan limit (i ∷ ends) = min (i.r.end.got + delay_of plan i.link) (reach plan limit ends)
 
--- each log was looked at, the node has run as far as it may, and all that it has sent is published
+-- each log was tried, the node has run as far as it may, and each link was to be published up to there
 pub record Exchanged (before after : WorkerRec) : Type 0 where
-  pub looked : AllZip Looked before.ends.incoming.items after.ends.incoming.items
+  pub tried : AllZip Tried before.ends.incoming.items after.ends.incoming.items
   pub ran : after.runner.clock ≡ reach after.cells.plan after.runner.horizon.limit after.ends.incoming.items
-  pub published : AllZip (Published after.runner.clock) before.ends.outgoing.items after.ends.outgoing.items
+  pub told : AllZip (Told after.runner.clock) before.ends.outgoing.items after.ends.outgoing.items
 
 -- ---- The answers, of which at most one fits
 
@@ -140,13 +148,27 @@ pub record Exchanged (before after : WorkerRec) : Type 0 where
 abbrev pub shut_links : List Incoming → List LinkNumber
 shut_links ends = map (λ (i : Incoming). i.link) (filter (λ (i : Incoming). i.r.end.shut) ends)
 
+-- a link was looked at in the turn, and lets the node run no further
+abbrev pub stops_here : PlanRec → Slot → Incoming → Bool
+stops_here plan clock i = not i.held && (i.r.end.got + delay_of plan i.link == clock)
+
+-- the link ends of such links
+abbrev pub stopping_ends : PlanRec → Slot → List Incoming → List EndNumber
+stopping_ends plan clock ends = map (λ (i : Incoming). i.end) (filter (stops_here plan clock) ends)
+
+-- a link is not published up to a slot
+abbrev pub is_behind : Slot → Outgoing → Bool
+is_behind slot o = not (o.w.end.published == slot)
+
+-- the link ends of links that were not looked at, or not published up to the clock, since the turns of their cells were held
+abbrev pub unheard_ends : List Incoming → List EndNumber
+unheard_ends ends = map (λ (i : Incoming). i.end) (filter (λ (i : Incoming). i.held) ends)
+
+abbrev pub untold_ends : Slot → List Outgoing → List EndNumber
+untold_ends clock ends = map (λ (o : Outgoing). o.end) (filter (is_behind clock) ends)
+
 abbrev pub IsLeast : LinkNumber → List LinkNumber → Type 0
 IsLeast link links = Contains links link × All (λ k. link ≤ k) links
-
--- no slot was run, and the clock is below the limit
-pub record HasNotRun (before after : WorkerRec) : Type 0 where
-  pub clock : after.runner.clock ≡ before.runner.clock
-  pub below : after.runner.clock < after.runner.horizon.limit
 
 -- the link that comes to a link end was read up to a slot
 pub record IsReadTo (slot : Slot) (end : EndNumber) (ends : List Incoming) : Type 0 where
@@ -155,14 +177,48 @@ pub record IsReadTo (slot : Slot) (end : EndNumber) (ends : List Incoming) : Typ
   pub at_end : reader.end ≡ end
   pub got : reader.r.end.got ≡ slot
 
+-- where a turn began, where it came to, and how it left the ends of the links
+pub record Outcome : Type 0 where
+  pub plan : PlanRec
+  pub from : Slot
+  pub clock : Slot
+  pub limit : Slot
+  pub incoming : List Incoming
+  pub outgoing : List Outgoing
+
+abbrev pub outcome_of : WorkerRec → WorkerRec → Outcome
+outcome_of before after = record {
+  plan = after.cells.plan;
+  from = before.runner.clock;
+  clock = after.runner.clock;
+  limit = after.runner.horizon.limit;
+  incoming = after.ends.incoming.items;
+  outgoing = after.ends.outgoing.items;
+}
+
+-- the node is at the limit, and each link that leaves it is published up to there
+abbrev pub IsAllDone : Outcome → Type 0
+IsAllDone o = (o.clock ≡ o.limit) × All (λ (w : Outgoing). w.w.end.published ≡ o.limit) o.outgoing
+
+-- no slot was run
+abbrev pub IsIdle : Outcome → Type 0
+IsIdle o = o.clock ≡ o.from
+
+-- below the limit no log was found closed, and no link that was looked at lets the node run no further
+abbrev pub IsUnexplained : Outcome → Type 0
+IsUnexplained o = o.clock < o.limit → (shut_links o.incoming ≡ []) × (stopping_ends o.plan o.clock o.incoming ≡ [])
+
+abbrev pub AnswersBy : Outcome → Turn → Type 0
+AnswersBy o Finished = IsAllDone o
+AnswersBy o (Ran from to) = (IsAllDone o → ⊥) × (from ≡ o.from) × (to ≡ o.clock) × (from < to)
+AnswersBy o (Stopped link) = IsIdle o × (o.clock < o.limit) × IsLeast link (shut_links o.incoming)
+AnswersBy o (Blocked end seen) =
+    IsIdle o × (o.clock < o.limit) × (shut_links o.incoming ≡ []) × IsLeast end (stopping_ends o.plan o.clock o.incoming) × IsReadTo seen end o.incoming
+AnswersBy o (Busy end) = (IsAllDone o → ⊥) × IsIdle o × IsUnexplained o × IsLeast end (unheard_ends o.incoming ++ untold_ends o.clock o.outgoing)
+AnswersBy o Memory = Unit {0}
+
 abbrev pub Answers : WorkerRec → Turn → WorkerRec → Type 0
-Answers before Finished after =
-    (after.runner.clock ≡ after.runner.horizon.limit) × All (λ (o : Outgoing). o.w.end.published ≡ after.runner.horizon.limit) after.ends.outgoing.items
-Answers before (Ran from to) after = (from ≡ before.runner.clock) × (to ≡ after.runner.clock) × (from < to) × (to < after.runner.horizon.limit)
-Answers before (Stopped link) after = HasNotRun before after × IsLeast link (shut_links after.ends.incoming.items)
-Answers before (Blocked end seen) after =
-    HasNotRun before after × (shut_links after.ends.incoming.items ≡ []) × StopsAt after.runner.horizon after.runner.clock end seen × IsReadTo seen end after.ends.incoming.items
-Answers before Memory after = Unit {0}
+Answers before turn after = AnswersBy (outcome_of before after) turn
 
 -- ---- Stopping
 

@@ -3,14 +3,14 @@ ghost use Rattle.std.specs.Prelude.{◌≡◌, Some, None, OnOk};
 ghost use Rattle.std.specs.List.{AllZip};
 ghost use Rattle.sys_plan.specs.Plan.{IsPlan, incoming};
 ghost use Rattle.plan_cells.specs.Ends.{IsIncoming};
-ghost use Rattle.core_workers.specs.Worker.{IsHeard, Listens, StaysIncoming, Looked};
+ghost use Rattle.core_workers.specs.Worker.{IsHeard, Listens, StaysIncoming, Tried};
 ghost use Rattle.core_workers.specs.Steps.{HearsAt};
 
 use link_logs::Got;
+use log_cells::TryGot;
 use node_runners::NodeRunner;
 use plan_cells::{Ends, Hand, Incoming, PlanCells};
 use std::alloc::AllocError;
-use std::sync::Wait;
 
 // Hands to the node what is in hand. The error is want of memory: it is in hand then.
 fn hand_over(reader: &mut Incoming, runner: &mut NodeRunner) -> Result<(), AllocError>
@@ -50,9 +50,8 @@ fn give_back(reader: &mut Incoming, runner: &mut NodeRunner, carried: bool)
     }
 }
 
-// Looks at the log of a link that comes to the node, and hands to the node all that was read of it. The error is want of memory.
-fn hear<R: Wait>(
-    rt: &R,
+// Tries the log of a link that comes to the node, and hands to the node all that was read of it. The error is want of memory.
+fn hear(
     cells: &PlanCells,
     reader: &mut Incoming,
     runner: &mut NodeRunner,
@@ -64,23 +63,31 @@ fn hear<R: Wait>(
     ensures heard { IsHeard runner.old.plan runner.new.horizon reader.new }
     ensures hears { HearsAt reader.old.end runner.old runner.new }
     ensures stays { StaysIncoming reader.old reader.new }
-    ensures looked { OnOk result (Looked reader.old reader.new) }
+    ensures tried { OnOk result (Tried reader.old reader.new) }
 {
     hand_over(reader, runner)?;
     let cell = cells.cell(reader.link);
-    match cell.poll(rt, &mut reader.r) {
-        Got::Entries { to, batch, .. } => {
-            let hand = Hand { batch, to };
-            reader.hand = Some(hand);
-            hand_over(reader, runner)
+    match cell.try_take(&mut reader.r) {
+        TryGot::Busy => {
+            reader.held = true;
+            Ok(())
         }
-        Got::Nothing { .. } | Got::Closed => Ok(()),
+        TryGot::Got(got) => {
+            reader.held = false;
+            match got {
+                Got::Entries { to, batch, .. } => {
+                    let hand = Hand { batch, to };
+                    reader.hand = Some(hand);
+                    hand_over(reader, runner)
+                }
+                Got::Nothing { .. } | Got::Closed => Ok(()),
+            }
+        }
     }
 }
 
-/// Looks at the log of each link that comes to the node, and hands to the node all that was read of it. The error is want of memory.
-pub(crate) fn hear_all<R: Wait>(
-    rt: &R,
+/// Tries the log of each link that comes to the node, and hands to the node all that was read of it. The error is want of memory.
+pub(crate) fn hear_all(
     cells: &PlanCells,
     ends: &mut Ends,
     runner: &mut NodeRunner,
@@ -92,10 +99,10 @@ pub(crate) fn hear_all<R: Wait>(
     ensures rest { runner.new ≡ record runner.old { horizon = record runner.old.horizon { ends = runner.new.horizon.ends } } }
     ensures outgoing { ends.new.outgoing ≡ ends.old.outgoing }
     ensures stays { AllZip StaysIncoming ends.old.incoming.items ends.new.incoming.items }
-    ensures looked { OnOk result (AllZip Looked ends.old.incoming.items ends.new.incoming.items) }
+    ensures tried { OnOk result (AllZip Tried ends.old.incoming.items ends.new.incoming.items) }
 {
     for reader in ends.incoming.iter_mut() {
-        hear(rt, cells, reader, runner)?;
+        hear(cells, reader, runner)?;
     }
     Ok(())
 }

@@ -3,12 +3,14 @@
 #![tactic(auto)]
 
 mod advance;
+mod answer;
 mod ended;
 mod exchange;
 mod finished;
 mod gather;
 mod hear;
 mod lanes;
+mod least;
 mod tell;
 mod turn;
 mod way;

@@ -3,20 +3,20 @@ ghost use Rattle.std.specs.Prelude.{◌≡◌, ◌<◌, Some, All, OnOk, [], len
 ghost use Rattle.std.specs.List.{AllByRecursion, AllZip};
 ghost use Rattle.sys_plan.specs.Plan.{IsPlan, outgoing};
 ghost use Rattle.plan_cells.specs.Ends.{IsOutgoing};
-ghost use Rattle.core_workers.specs.Worker.{IsTold, IsOpen, Tells, StaysOutgoing, Published, Closes};
+ghost use Rattle.core_workers.specs.Worker.{IsTold, IsOpen, Tells, StaysOutgoing, Told, Closes};
 ghost use Rattle.core_workers.specs.Steps.{PublishesAt};
 
 use link_logs::Cause;
+use log_cells::Sent;
 use node_runners::NodeRunner;
 use plan_cells::{Ends, Outgoing, PlanCells};
 use std::alloc::AllocError;
 use std::sync::Wait;
 use xs_base::Batch;
 
-// Publishes up to the node's clock a link that leaves it. The error is want of memory, and publishes nothing. Where all is published it
-// does nothing, so that no one is woken for nothing.
-fn tell<R: Wait>(
-    rt: &R,
+// Publishes up to the node's clock a link that leaves it, unless the turn of its cell is held. The error is want of memory, and publishes
+// nothing. Where all is published it does nothing, so that no one is woken for nothing.
+fn tell(
     cells: &PlanCells,
     writer: &mut Outgoing,
     runner: &mut NodeRunner,
@@ -25,12 +25,12 @@ fn tell<R: Wait>(
     requires fit { IsOutgoing cells.now writer.old }
     requires route { outgoing runner.old.plan runner.old.node writer.old.end ≡ Some writer.old.link }
     requires end { writer.old.end < length runner.old.published }
-    requires told { IsTold runner.old.published writer.old }
+    requires is_told { IsTold runner.old.published writer.old }
     requires open { IsOpen writer.old }
-    ensures told { IsTold runner.new.published writer.new }
+    ensures is_told { IsTold runner.new.published writer.new }
     ensures publishes { PublishesAt writer.old.end runner.old runner.new }
     ensures stays { StaysOutgoing writer.old writer.new }
-    ensures published { OnOk result (Published runner.old.clock writer.old writer.new) }
+    ensures told { OnOk result (Told runner.old.clock writer.old writer.new) }
 {
     let clock = runner.clock();
     let from = writer.w.published();
@@ -40,14 +40,18 @@ fn tell<R: Wait>(
     let mut batch = runner.send(writer.end);
     let carries = !batch.entries().is_empty();
     let cell = cells.cell(writer.link);
-    match cell.publish(rt, &mut writer.w, clock, &mut batch) {
-        Ok(()) => {
+    match cell.try_publish(&mut writer.w, clock, &mut batch) {
+        Sent::Done => {
             keep(runner, writer.end, carries, batch);
             Ok(())
         }
-        Err(error) => {
+        Sent::Busy => {
             runner.unsend(writer.end, batch, from);
-            Err(error)
+            Ok(())
+        }
+        Sent::Memory => {
+            runner.unsend(writer.end, batch, from);
+            Err(AllocError)
         }
     }
 }
@@ -62,9 +66,8 @@ fn keep(runner: &mut NodeRunner, end: u8, carried: bool, batch: Batch)
     }
 }
 
-/// Publishes up to the node's clock each link that leaves it. The error is want of memory.
-pub(crate) fn tell_all<R: Wait>(
-    rt: &R,
+/// Publishes up to the node's clock each link that leaves it, unless the turn of its cell is held. The error is want of memory.
+pub(crate) fn tell_all(
     cells: &PlanCells,
     ends: &mut Ends,
     runner: &mut NodeRunner,
@@ -77,10 +80,10 @@ pub(crate) fn tell_all<R: Wait>(
     ensures rest { runner.new ≡ record runner.old { published = runner.new.published } }
     ensures incoming { ends.new.incoming ≡ ends.old.incoming }
     ensures stays { AllZip StaysOutgoing ends.old.outgoing.items ends.new.outgoing.items }
-    ensures published { OnOk result (AllZip (Published runner.old.clock) ends.old.outgoing.items ends.new.outgoing.items) }
+    ensures told { OnOk result (AllZip (Told runner.old.clock) ends.old.outgoing.items ends.new.outgoing.items) }
 {
     for writer in ends.outgoing.iter_mut() {
-        tell(rt, cells, writer, runner)?;
+        tell(cells, writer, runner)?;
     }
     Ok(())
 }

@@ -1,5 +1,5 @@
 //! `Worker`, a node that runs ahead of the others on a thread of its own, and `Part`, what is left of it.
-ghost use Rattle.std.specs.Prelude.{◌≡◌, ◌≢◌, All};
+ghost use Rattle.std.specs.Prelude.{◌≡◌, ◌≢◌, [], All};
 ghost use Rattle.std.specs.List.{AllZip};
 ghost use Rattle.plan_cells.specs.Ends.{AreNewEnds};
 ghost use Rattle.node_runners.specs.Runner.{new_runner};
@@ -7,6 +7,7 @@ ghost use Rattle.node_runners.specs.Runner.{new_runner};
 use crate::ended::Ended;
 use crate::exchange::take_turn;
 use crate::lanes::Lanes;
+use crate::least::least_untold;
 use crate::tell::close_all;
 use crate::turn::Turn;
 use known_value::Known;
@@ -15,6 +16,7 @@ use node_runners::NodeRunner;
 use plan_cells::{Ends, PlanCells};
 use std::marker::Model;
 use std::sync::Wait;
+use std::thread::yield_now;
 use xs_edge::Gate;
 
 /// A node that runs ahead of the others, and the ends by which it reads and writes the cells of its links. Contracts see a `WorkerRec` of
@@ -60,7 +62,7 @@ impl Model for Part {
 }
 
 impl<'a> Worker<'a> {
-    ghost use Rattle.core_workers.specs.Worker.{IsWorker, IsOpen, Stays, Exchanged, Answers, Closes, KeepsAllElse};
+    ghost use Rattle.core_workers.specs.Worker.{IsWorker, IsOpen, Stays, Exchanged, Answers, Closes, KeepsAllElse, untold_ends};
     ghost use Rattle.core_workers.specs.Run.{Keeps, EndsWith};
     ghost use Rattle.core_workers.specs.Turns.{Shuts, RunsBy};
     ghost use Rattle.link_logs.specs.declared.answers.Cause.TheVariants as cause;
@@ -84,10 +86,10 @@ impl<'a> Worker<'a> {
         }
     }
 
-    /// Passes the gate; then looks once at the log of each link that comes to the node, runs the node as far as it may, and publishes
-    /// all that it has sent. No log of a link that leaves the node may be closed, and none is closed by it. It may wait for those that
-    /// look at the same logs.
-    pub fn turn<R: Wait, G: Gate>(&mut self, rt: &R, gate: &G) -> Turn
+    /// Passes the gate; then tries once the log of each link that comes to the node, runs the node as far as it may, and tries once to
+    /// publish each link that leaves it. It waits for nobody: where another has the turn of a cell, what was to be done there is left for
+    /// a later turn. No log of a link that leaves the node may be closed, and none is closed by it.
+    pub fn turn<G: Gate>(&mut self, gate: &G) -> Turn
         requires open { All IsOpen self.old.ends.outgoing.items }
         ensures keeps { IsWorker self.new }
         ensures stays { Stays self.old self.new }
@@ -97,12 +99,12 @@ impl<'a> Worker<'a> {
     {
         gate.pass(u32::from(self.runner.node()));
         let lanes = self.lanes;
-        take_turn(rt, &lanes.cells, &mut self.runner, &mut self.ends)
+        take_turn(&lanes.cells, &mut self.runner, &mut self.ends)
     }
 
     /// Takes turns until the node has run all slots, or the log of a link that comes to it was found closed and stops it, or memory is
     /// wanting: in the last two cases it closes the logs of the links that leave the node. While the node is blocked it waits for news of
-    /// the link that blocks it. No log of a link that leaves the node may be closed.
+    /// the link that blocks it, once all that it has sent is published. No log of a link that leaves the node may be closed.
     pub fn run<R: Wait, G: Gate>(&mut self, rt: &R, gate: &G) -> Ended
         requires open { All IsOpen self.old.ends.outgoing.items }
         ensures is_worker { IsWorker self.new }
@@ -111,9 +113,10 @@ impl<'a> Worker<'a> {
         ensures turns { RunsBy self.old result self.new }
     {
         for _ in rt.forever() {
-            match self.turn(rt, gate) {
+            match self.turn(gate) {
                 Turn::Ran { .. } => {}
                 Turn::Blocked { end, .. } => self.wait(rt, end),
+                Turn::Busy { .. } => yield_now(),
                 Turn::Finished => return Ended::Finished,
                 Turn::Stopped { link } => {
                     self.stop(rt, Cause::Neighbour { link });
@@ -125,8 +128,19 @@ impl<'a> Worker<'a> {
         unreachable!()
     }
 
-    // Waits for news of the link that comes to a link end.
+    // Lets others go on before the next turn: where all that the node has sent is published, until there are news of the link that comes to
+    // a link end. What is not published may be what these news wait for.
     fn wait<R: Wait>(&self, rt: &R, end: u8) {
+        match least_untold(&self.ends.outgoing, self.runner.clock()) {
+            None => self.await_news(rt, end),
+            Some(_) => yield_now(),
+        }
+    }
+
+    // Waits for news of the link that comes to a link end.
+    fn await_news<R: Wait>(&self, rt: &R, end: u8)
+        requires told { untold_ends self.now.runner.clock self.now.ends.outgoing.items ≡ [] }
+    {
         let lanes = self.lanes;
         for reader in &self.ends.incoming {
             if reader.end == end {

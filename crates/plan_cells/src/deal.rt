@@ -73,6 +73,7 @@ fn deal(
         link,
         r,
         hand: None,
+        held: false,
     };
     give_incoming(all, ends.to, incoming)?;
     Ok(cell)

@@ -42,8 +42,8 @@ impl<'a> Here<'a> {
         if self.ended.is_some() {
             return false;
         }
-        let ended = match self.worker.turn(rt, gate) {
-            Turn::Ran { .. } | Turn::Blocked { .. } => return true,
+        let ended = match self.worker.turn(gate) {
+            Turn::Ran { .. } | Turn::Blocked { .. } | Turn::Busy { .. } => return true,
             Turn::Finished => Ended::Finished,
             Turn::Stopped { link } => {
                 self.worker.stop(rt, Cause::Neighbour { link });

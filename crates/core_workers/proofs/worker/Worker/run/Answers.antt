@@ -21,12 +21,21 @@ loop-preserved-in-Ran g c = record {
       (record { still_open = c.loop.invariant.still_open; stays = c.turn.ensures.stays; exchanged = c.turn.ensures.exchanged; answer = c.turn.ensures.answer; keeps = c.turn.ensures.keeps });
 }
 
+pub loop-preserved-in-Blocked : goal.loop-preserved-in-Blocked
+loop-preserved-in-Blocked g c = record {
+  keeps = keeps_then c.args.self.now c.loop.self c.turn.new.self c.loop.invariant.keeps (turn_keeps c.loop.self c.turn.new.self c.turn.ensures.stays);
+  still_open = c.turn.ensures.open;
+  taken =
+      one_turn_more c.args.self.now c.loop.self c.turn.result c.turn.new.self c.loop.invariant.taken (subst IsOneOfMore (sym c.in-Blocked.is) tt)
+      (record { still_open = c.loop.invariant.still_open; stays = c.turn.ensures.stays; exchanged = c.turn.ensures.exchanged; answer = c.turn.ensures.answer; keeps = c.turn.ensures.keeps });
+}
+
 pub loop-preserved : goal.loop-preserved
 loop-preserved g c = record {
   keeps = keeps_then c.args.self.now c.loop.self c.turn.new.self c.loop.invariant.keeps (turn_keeps c.loop.self c.turn.new.self c.turn.ensures.stays);
   still_open = c.turn.ensures.open;
   taken =
-      one_turn_more c.args.self.now c.loop.self c.turn.result c.turn.new.self c.loop.invariant.taken (subst IsOneOfMore (sym c.in-Blocked.is) tt)
+      one_turn_more c.args.self.now c.loop.self c.turn.result c.turn.new.self c.loop.invariant.taken (subst IsOneOfMore (sym c.in-Busy.is) tt)
       (record { still_open = c.loop.invariant.still_open; stays = c.turn.ensures.stays; exchanged = c.turn.ensures.exchanged; answer = c.turn.ensures.answer; keeps = c.turn.ensures.keeps });
 }
 
@@ -42,7 +51,7 @@ returns-in-Stopped-clause-keeps g c =
 pub returns-in-Stopped-clause-ended : goal.returns-in-Stopped-clause-ended
 returns-in-Stopped-clause-ended g c =
     let answer = subst (λ (t : Turn). Answers c.loop.self t c.turn.new.self) c.in-Stopped.is c.turn.ensures.answer in
-    stopped_by c.loop.self c.turn.new.self c.stop.new.self c.in-Stopped.link answer.0 answer.1 c.turn.ensures.open c.stop.ensures.closed c.stop.ensures.rest
+    stopped_by c.turn.new.self c.stop.new.self c.in-Stopped.link answer.1 answer.2 c.turn.ensures.open c.stop.ensures.closed c.stop.ensures.rest
 
 pub returns-in-Memory-clause-keeps : goal.returns-in-Memory-clause-keeps
 returns-in-Memory-clause-keeps g c =
