@@ -1,5 +1,5 @@
 //! `Cell`, a log that two threads use by turns. See docs/LOOKAHEAD.md.
-ghost use Rattle.std.specs.Prelude.{◌≡◌, ◌≤◌, [], Some, None, true, IfOk, OnOk, OnErr};
+ghost use Rattle.std.specs.Prelude.{◌≡◌, ◌≤◌, ◌+◌, [], Some, None, true, IfOk, OnOk, OnErr};
 ghost use Rattle.link_logs.specs.Entries.{between};
 ghost use Rattle.link_logs.specs.declared.answers.Got.TheVariants.{Closed};
 ghost use Rattle.link_logs.specs.Logs.{new_write_end, new_read_end};
@@ -50,7 +50,7 @@ pub fn make_cell<S: Story + Drop>(
     story: S,
 ) -> Result<(Cell<S>, WriteEnd<S>, ReadEnd<S>), AllocError>
     ensures cell { IfOk result (λ made. (made.0.run ≡ S.run story) × (made.0.number ≡ S.number story)) }
-    ensures write_end { IfOk result (λ made. made.1 ≡ record { table = made.0.table; end = new_write_end (S.run story) (S.number story); refused = 0 }) }
+    ensures write_end { IfOk result (λ made. made.1 ≡ record { table = made.0.table; end = new_write_end (S.run story) (S.number story); refused = 0; raised = 0 }) }
     ensures read_end { IfOk result (λ made. made.2 ≡ record { table = made.0.table; end = new_read_end (S.run story) (S.number story); refused = 0; turns = [] }) }
 {
     let (log, write_end, read_end) = link_logs::make_log(alloc, story)?;
@@ -76,7 +76,8 @@ pub fn make_cell<S: Story + Drop>(
 impl<S: Story> Cell<S> {
     /// Waits for its turn, and publishes the link's entries up to a slot, `upto`, which is not before the published one: those of
     /// `batch`, which are the link's from the published slot on and before `upto`. The batch is empty then. The end has to be this
-    /// cell's, and the log not closed. Who waits for news is woken. The error is want of memory, and changes nothing.
+    /// cell's, and the log not closed. The news are raised once, and who waits for them is woken. The error is want of memory, and changes
+    /// nothing else.
     pub fn publish<R: Wait>(
         &self,
         rt: &R,
@@ -93,6 +94,7 @@ impl<S: Story> Cell<S> {
         ensures batch { OnOk result (batch.new.entries ≡ []) }
         ensures err_end { OnErr result (w.new.end ≡ w.old.end) }
         ensures err_batch { OnErr result (batch.new ≡ batch.old) }
+        ensures raised { w.new.raised ≡ w.old.raised + 1 }
     {
         for _ in rt.forever() {
             match self.try_publish(w, upto, batch) {
@@ -105,7 +107,8 @@ impl<S: Story> Cell<S> {
     }
 
     /// As `publish`, but it waits for nobody: it claims the turn once. `Busy` comes exactly where the turn was held, and changes nothing, but that
-    /// the end was refused once more. Where it had the turn, who waits for news is woken.
+    /// the end was refused once more. Where it had the turn, the news are raised once, and who waits for them
+    /// is woken.
     pub fn try_publish(&self, w: &mut WriteEnd<S>, upto: u32, batch: &mut Batch) -> Sent
         requires cell { WritesTo w.old self.now }
         requires open { w.old.end.cause ≡ None }
@@ -166,13 +169,14 @@ impl<S: Story> Cell<S> {
         TryGot::Got(found)
     }
 
-    /// Waits for its turn, and closes the log, with the cause. The end has to be this cell's, and the log not closed. Who waits for news
-    /// is woken. It takes no memory.
+    /// Waits for its turn, and closes the log, with the cause. The end has to be this cell's, and the log not closed. The news are
+    /// raised once, and who waits for them is woken. It takes no memory.
     pub fn end<R: Wait>(&self, rt: &R, w: &mut WriteEnd<S>, cause: Cause)
         requires cell { WritesTo w.old self.now }
         requires open { w.old.end.cause ≡ None }
         ensures stays { StaysWriter w.old w.new }
         ensures end { w.new.end ≡ record w.old.end { cause = Some cause } }
+        ensures raised { w.new.raised ≡ w.old.raised + 1 }
     {
         for _ in rt.forever() {
             if self.try_end(w, cause) {
