@@ -10,7 +10,7 @@ ghost use Rattle.log_cells.specs.Tries.{Publishes, Takes, Closes};
 use crate::answers::{Sent, TryGot};
 use crate::ends::{ReadEnd, WriteEnd};
 use crate::plays::TwoEnds;
-use crate::steps;
+use crate::steps::{self, Raised};
 use crate::view::{Board, Place};
 use link_logs::{Cause, Got, Log, Story};
 use std::alloc::{AllocError, Global};
@@ -122,8 +122,8 @@ impl<S: Story> Cell<S> {
         }
         let answer = steps::append(top, &mut w.seat, &mut w.end, upto, batch);
         steps::give_written(top, &mut w.seat, &w.end);
-        steps::raise(top, &mut w.seat, &w.end);
-        self.wake();
+        let news = steps::raise(top, &mut w.seat, &w.end);
+        self.wake(news);
         match answer {
             Ok(()) => Sent::Done,
             Err(AllocError) => Sent::Memory,
@@ -158,8 +158,15 @@ impl<S: Story> Cell<S> {
         requires cell { ReadsOf r.old self.now }
         ensures takes { Takes (S.entries_at r.old.end.run r.old.end.number) r.old result r.new }
     {
+        self.take_after(r, steps::news(&self.table.shared))
+    }
+
+    // `try_take`, before which the news had been raised so often: those after it are not heard of yet.
+    pub(crate) fn take_after(&self, r: &mut ReadEnd<S>, news: u32) -> TryGot
+        requires cell { ReadsOf r.old self.now }
+        ensures takes { Takes (S.entries_at r.old.end.run r.old.end.number) r.old result r.new }
+    {
         let top = &self.table.shared;
-        let news = steps::news(top);
         if !steps::claim_to_read(top, &mut r.seat, &r.end) {
             return TryGot::Busy;
         }
@@ -199,8 +206,8 @@ impl<S: Story> Cell<S> {
         }
         steps::close(top, &mut w.seat, &mut w.end, cause);
         steps::give_written(top, &mut w.seat, &w.end);
-        steps::raise(top, &mut w.seat, &w.end);
-        self.wake();
+        let news = steps::raise(top, &mut w.seat, &w.end);
+        self.wake(news);
         true
     }
 
@@ -237,22 +244,21 @@ impl<S: Story> Cell<S> {
             }
             yield_now();
         }
-        self.sleep(rt, r.heard);
+        self.sleep(rt, r);
     }
 
-    // Sleeps until the news are raised, unless they were raised since so many were heard.
-    pub(crate) fn sleep<R: Wait>(&self, rt: &R, heard: u32) {
+    // Sleeps until the news are raised, unless they were raised since the end last found nothing.
+    pub(crate) fn sleep<R: Wait>(&self, rt: &R, r: &ReadEnd<S>) {
         // Who raises the news and does not see this has raised them before the sleep begins, which then ends at once.
         self.asleep.store(true, Ordering::SeqCst);
-        steps::sleep(rt, &self.table.shared, heard);
+        steps::sleep(rt, &self.table.shared, r.heard);
         self.asleep.store(false, Ordering::SeqCst);
     }
 
     // Wakes the end that reads, where it may be asleep.
-    fn wake(&self) {
-        if self.asleep.load(Ordering::SeqCst) {
-            steps::wake(&self.table.shared);
-        }
+    pub(crate) fn wake(&self, news: Raised) {
+        let asleep = self.asleep.load(Ordering::SeqCst);
+        steps::wake(&self.table.shared, news, asleep);
     }
 }
 

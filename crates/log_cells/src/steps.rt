@@ -10,6 +10,7 @@ use crate::plays::{ClaimToRead, ClaimToWrite, GiveShut, GiveTaken, GiveWritten, 
 use crate::view::{Place, Top};
 use link_logs::{Cause, Got, ReadEnd, Story, WriteEnd};
 use std::alloc::AllocError;
+use std::marker::PhantomData;
 use std::sync::Wait;
 use xs_base::Batch;
 
@@ -151,19 +152,29 @@ pub fn sleep<S: Story, R: Wait>(rt: &R, top: &Top<S>, seen: u32)
     top.park(rt, NEWS, seen);
 }
 
+// News that were raised, while who sleeps on them is not woken yet. Nothing can let go of it but `wake`, so no call can leave that out, or make it
+// before the news are raised.
+pub struct Raised {
+    seal: PhantomData<()>,
+}
+
 // Raises the news once.
-pub fn raise<S: Story>(top: &Top<S>, seat: &mut Place<S>, end: &WriteEnd<S>)
+pub fn raise<S: Story>(top: &Top<S>, seat: &mut Place<S>, end: &WriteEnd<S>) -> Raised
     requires table { (seat.old.table_id ≡ top.now.table_id) × IsSized top.now.table_id }
     requires writer { seat.old.me ≡ writer_at end.now (refused_of seat.old.me.0) (raised_of seat.old.me.0) }
     ensures table { seat.new.table_id ≡ seat.old.table_id }
     ensures raised { seat.new.me ≡ writer_at end.now (refused_of seat.old.me.0) (raised_of seat.old.me.0 + 1) }
 {
     top.fetch_add::<Raise>(seat, NEWS, 1);
+    Raised { seal: PhantomData }
 }
 
-// Wakes who sleeps on the news.
-pub fn wake<S: Story>(top: &Top<S>)
+// Wakes who sleeps on the news, where somebody may.
+pub fn wake<S: Story>(top: &Top<S>, news: Raised, asleep: bool)
     requires table { IsSized top.now.table_id }
 {
-    top.wake_one(NEWS);
+    let Raised { seal: _ } = news;
+    if asleep {
+        top.wake_one(NEWS);
+    }
 }
