@@ -12,7 +12,7 @@ use Rattle.link_logs.specs.Logs.{LogRec, WriteRec, ReadRec, Writes}
 use Rattle.log_cells.specs.declared.view.View.TheVariants.{Writer, Reader}
 use Rattle.log_cells.specs.Ends.{CellRec, CellWriteRec, CellReadRec, WritesTo, ReadsOf}
 use Rattle.log_cells.specs.Rule.{WritingIn, ReadingIn, ViewIn, Turn, free, writers, readers, home_at, writer_has, reader_has, Agrees, ReadsFrom, Continues, Fits, IsCell, write_end_of, writing_of, reading_of}
-use Rattle.log_cells.specs.Plays.{SeatIn, claims_as_writer, claims_as_reader, gives_written, gives_taken, gives_shut, WriterHas, ReaderHas, HasTaken}
+use Rattle.log_cells.specs.Plays.{SeatIn, claims_as_writer, claims_as_reader, gives_written, gives_taken, gives_shut, raises, WriterHas, ReaderHas, HasTaken}
 use Rattle.log_cells.specs.Keeps.{CellState, IsMoment, IsWith, HasSeat, IsRead, CellKeeps, WritesOn, ReadsOn, GoesOn, GoesOnBy, StepsGoOn}
 use Rattle.log_cells.proofs.Seats.{writer_seat, reader_seat, is_writers, is_readers}
 use Rattle.log_cells.proofs.Kept.{by_word}
@@ -25,7 +25,7 @@ module _ {Run : Type 0} where
   with_by readers s w r home log a b c d = (a ∙ ap (λ (h : maybe.Option (LogRec Run)). h ∷ []) b, c, d)
 
   module _ (cell : CellRec Run) (s : CellState Run) (c : IsCell cell.run cell.number s) where
-    written_by : (end : CellWriteRec Run) → WritesTo end cell → HasSeat s (Writer (writing_of end.end end.refused)) → Writes end.end c.fits.log
+    written_by : (end : CellWriteRec Run) → WritesTo end cell → HasSeat s (Writer (writing_of end.end end.refused end.raised)) → Writes end.end c.fits.log
     written_by end of seat =
         let here = writer_seat c.stage c.w c.r seat.0 _ (ap (λ (l : List (ViewIn Run)). get_elem? l seat.0) (sym c.views) ∙ seat.1) in
         let writes = subst (λ (w : WritingIn Run). Writes (write_end_of w) c.fits.log) here.2 c.fits.agrees.writes in
@@ -58,6 +58,7 @@ module _ {Run : Type 0} where
     turn = f.turn;
     word = ap (λ (l : List ℕ). get_or l 0 0) c.words ∙ f.word_is;
     with = with_by f.turn s c.w c.r c.home f.log c.homes f.home_is f.writer_has f.reader_has;
+    news = ap (λ (l : List ℕ). get_or l 1 0) c.words ∙ c.raised;
     written = written_by cell s c;
     read = read_by cell s c;
   }
@@ -69,25 +70,28 @@ module _ {Run : Type 0} where
   moves : (me me' : SeatIn Run) (before after : ViewIn Run) (x y : List (ℕ × LogRec Run)) → me ≡ (before, x) → me' ≡ (after, y) → GoesOn before after → GoesOn me.0 me'.0
   moves me me' before after x y e f h = subst (λ (p : ViewIn Run × ViewIn Run). GoesOn p.0 p.1) (λ i. ((sym e i).0, (sym f i).0)) h
 
-  stays_writing : (v : WritingIn Run) (held : Option (LogRec Run)) (refused : ℕ) → WritesOn v (record v { held = held; refused = refused })
-  stays_writing v held refused = record { run = refl; number = refl; published = omega arith; closed = λ h. (refl, refl) }
+  stays_writing : (v : WritingIn Run) (held : Option (LogRec Run)) (refused raised : ℕ) → WritesOn v (record v { held = held; refused = refused; raised = raised })
+  stays_writing v held refused raised = record { run = refl; number = refl; published = omega arith; closed = λ h. (refl, refl) }
 
   stays_reading : (v : ReadingIn Run) (held : Option (LogRec Run)) (refused : ℕ) (turns : List (LogRec Run)) → ReadsOn v (record v { held = held; refused = refused; turns = turns })
   stays_reading v held refused turns = record { run = refl; number = refl; got = omega arith; shut = λ h. (refl, h) }
 
   claims_writing : (step : Step (LogRec Run)) (v : WritingIn Run) → GoesOnBy (claims_as_writer step) (λ me. me ≡ (Writer v, []))
   claims_writing step v cell s rule me me' found seat is kind = by_word found
-      (λ z. let won = (kind v is).0 z in moves me me' (Writer v) (Writer (record v { held = Some won.0 })) [] ((0, won.0) ∷ []) is won.2 (stays_writing v (Some won.0) v.refused))
-      (λ n. moves me me' (Writer v) (Writer (record v { refused = v.refused + 1 })) [] [] is ((kind v is).1 n) (stays_writing v v.held (v.refused + 1)))
+      (λ z. let won = (kind v is).0 z in moves me me' (Writer v) (Writer (record v { held = Some won.0 })) [] ((0, won.0) ∷ []) is won.2 (stays_writing v (Some won.0) v.refused v.raised))
+      (λ n. moves me me' (Writer v) (Writer (record v { refused = v.refused + 1 })) [] [] is ((kind v is).1 n) (stays_writing v v.held (v.refused + 1) v.raised))
 
   claims_reading : (step : Step (LogRec Run)) (v : ReadingIn Run) → GoesOnBy (claims_as_reader step) (λ me. me ≡ (Reader v, []))
   claims_reading step v cell s rule me me' found seat is kind = by_word found
       (λ z. let won = (kind v is).0 z in moves me me' (Reader v) (Reader (record v { held = Some won.0; turns = won.0 ∷ v.turns })) [] ((0, won.0) ∷ []) is won.2 (stays_reading v (Some won.0) v.refused (won.0 ∷ v.turns)))
       (λ n. moves me me' (Reader v) (Reader (record v { refused = v.refused + 1 })) [] [] is ((kind v is).1 n) (stays_reading v v.held (v.refused + 1) v.turns))
 
+  raising : (step : Step (LogRec Run)) (v : WritingIn Run) → GoesOnBy (raises step) (λ me. me ≡ (Writer v, []))
+  raising step v cell s rule me me' found seat is kind = moves me me' (Writer v) (Writer (record v { raised = v.raised + 1 })) [] [] is (kind v is) (stays_writing v v.held v.refused (v.raised + 1))
+
   -- where an end has the log, that agreed with both ends as it was found
-  found_by_writer : (cell : CellRec Run) (s : CellState Run) (c : IsCell cell.run cell.number s) (me : SeatIn Run) (end : WriteRec Run) (refused : ℕ) → HasSeat s me.0 → (has : WriterHas end refused me) → Agrees has.found has.view c.r
-  found_by_writer cell s c me end refused seat has =
+  found_by_writer : (cell : CellRec Run) (s : CellState Run) (c : IsCell cell.run cell.number s) (me : SeatIn Run) (end : WriteRec Run) (refused raised : ℕ) → HasSeat s me.0 → (has : WriterHas end refused raised me) → Agrees has.found has.view c.r
+  found_by_writer cell s c me end refused raised seat has =
       let at = ap (λ (l : List (ViewIn Run)). get_elem? l seat.0) (sym c.views) ∙ seat.1 ∙ ap (λ (m : SeatIn Run). some m.0) has.me_is in
       let here = writer_seat c.stage c.w c.r seat.0 has.view at in
       (is_writers c.word c.home has.view c.r has.found (subst (λ (w : WritingIn Run). Fits c.word c.home w c.r) here.2 c.fits) has.held).2
@@ -98,11 +102,11 @@ module _ {Run : Type 0} where
       let here = reader_seat c.stage c.w c.r seat.0 has.view at in
       (is_readers c.word c.home c.w has.view has.found (subst (λ (r : ReadingIn Run). Fits c.word c.home c.w r) here.2 c.fits) has.held).2
 
-  writing : (step : Step (LogRec Run)) (end : WriteRec Run) (refused : ℕ) → GoesOnBy (gives_written step) (WriterHas end refused)
-  writing step end refused cell s rule me me' found seat has kind =
+  writing : (step : Step (LogRec Run)) (end : WriteRec Run) (refused raised : ℕ) → GoesOnBy (gives_written step) (WriterHas end refused raised)
+  writing step end refused raised cell s rule me me' found seat has kind =
       let v = has.view in
       let log = has.log in
-      let before = (found_by_writer cell s rule me end refused seat has).writes in
+      let before = (found_by_writer cell s rule me end refused raised seat has).writes in
       moves me me' (Writer v) (Writer (record v { published = log.published; cause = log.cause; held = None })) ((0, log) ∷ []) [] has.me_is (kind v log has.me_is) record {
         run = refl;
         number = refl;
@@ -145,4 +149,5 @@ steps_go_on Run = record {
   give_written = writing;
   give_taken = taking;
   give_shut = shutting;
+  raise = raising;
 }

@@ -1,12 +1,13 @@
 -- The kinds of step on a cell's words, each of which keeps the rule.
-use Rattle.std.proofs.Common.{◌≡◌, ◌≢◌, ℕ, zero, suc, ◌+◌, eqb, List, [], ◌∷◌, ◌++◌, map, set, get_or, sym, refl, ap, ◌∙◌, subst, arith, true, false, true≢false, is_some, IsSome, Some, None}
+use Rattle.std.proofs.Common.{◌≡◌, ◌≢◌, ℕ, zero, suc, ◌+◌, ◌%◌, ◌^◌, eqb, List, [], ◌∷◌, ◌++◌, map, set, get_or, sym, refl, ap, ◌∙◌, subst, arith, true, false, true≢false, is_some, IsSome, Some, None}
 use Rattle.std.specs.List.{AllByRecursion}
+use Rattle.std.proofs.Math.Nat.{mod-add-mod}
 use mathlib.Core.Option.{some, none, some-injective, some-ne-none}
 use mathlib.Core.Option as maybe
 use lib.ListN.{get_elem?}
 use prog.Atomic.{either}
 use Rattle.atomic_table.specs.Table.{State, Step, step, Act, keeps, takes, gives, stepped, carried_after, Valid, Allows, Splits, Joins, opening, Final, Seen}
-use Rattle.atomic_table.proofs.Lists.{set_again, exchanged}
+use Rattle.atomic_table.proofs.Lists.{exchanged}
 use Rattle.xs_base.specs.Numbers.{LinkNumber}
 use Rattle.link_logs.specs.Logs.{LogRec, WriteRec, ReadRec, Writes}
 use Rattle.log_cells.specs.declared.view.View.TheVariants.{Whole, Writer, Reader, Joined, Spent}
@@ -28,6 +29,13 @@ by_word (suc n) a b = b (λ h. omega (arith, h))
 abbrev pub log_or : {Run : Type 0} → LogRec Run → List (ℕ × LogRec Run) → LogRec Run
 log_or d [] = d
 log_or d (x ∷ xs) = x.1
+
+-- a count in a word
+abbrev in_word : ℕ → ℕ
+in_word n = n % 2 ^ 64
+
+raised_by : {Run : Type 0} {w v : WritingIn Run} → w ≡ v → in_word w.raised ≡ in_word v.raised
+raised_by same = ap (λ x. in_word x.raised) same
 
 -- what a log goes on from
 module _ {Run : Type 0} where
@@ -66,7 +74,7 @@ module _ {Run : Type 0} where
     news = 0;
     home = some log;
     stage = made;
-    w = record { run = end.run; number = end.number; published = end.published; cause = end.cause; held = None; refused = 0 };
+    w = record { run = end.run; number = end.number; published = end.published; cause = end.cause; held = None; refused = 0; raised = 0 };
     r = record { run = end.run; number = end.number; got = 0; shut = false; held = None; refused = 0; turns = [] };
     words = are;
     homes = ap (map some) is;
@@ -86,6 +94,7 @@ module _ {Run : Type 0} where
     };
     of_run = refl;
     of_number = refl;
+    raised = refl;
   }
 
   -- the reader's seat, where the writer's has become another
@@ -97,8 +106,8 @@ module _ {Run : Type 0} where
 -- of a cell of this run and this link
 module _ {Run : Type 0} {its_run : Run} {its_link : LinkNumber} where
   -- a seat that is another may do what that may
-  moved : (slots id : ℕ) (me m : SeatIn Run) (f : ℕ → ℕ) (then : SeatIn Run → ℕ → SeatIn Run → Type 0) → me ≡ m → Allows (IsCell its_run its_link) slots id m 0 f (then m) → Allows (IsCell its_run its_link) slots id me 0 f (then me)
-  moved slots id me m f then e h = subst (λ (x : SeatIn Run). Allows (IsCell its_run its_link) slots id x 0 f (then x)) (sym e) h
+  moved : (slots id word : ℕ) (me m : SeatIn Run) (f : ℕ → ℕ) (then : SeatIn Run → ℕ → SeatIn Run → Type 0) → me ≡ m → Allows (IsCell its_run its_link) slots id m word f (then m) → Allows (IsCell its_run its_link) slots id me word f (then me)
+  moved slots id word me m f then e h = subst (λ (x : SeatIn Run). Allows (IsCell its_run its_link) slots id x word f (then x)) (sym e) h
 
   module _ (s : StateIn Run) (c : IsCell its_run its_link s) (id : ℕ) where
     word_is : get_or s.words 0 0 ≡ c.word
@@ -108,9 +117,10 @@ module _ {Run : Type 0} {its_run : Run} {its_link : LinkNumber} where
     seat_is x at = ap (λ (l : List (ViewIn Run)). get_elem? l id) (sym c.views) ∙ at
 
     -- the writer's view becomes w', and the reader's stays
-    writer_steps : (v w' : WritingIn Run) (word' : ℕ) (homes' : List (maybe.Option (LogRec Run))) (home' : maybe.Option (LogRec Run)) → get_elem? s.views id ≡ some (Writer v) → homes' ≡ home' ∷ [] → Fits word' home' w' c.r
+    writer_steps : (v w' : WritingIn Run) (word' : ℕ) (homes' : List (maybe.Option (LogRec Run))) (home' : maybe.Option (LogRec Run)) → get_elem? s.views id ≡ some (Writer v) → homes' ≡ home' ∷ [] → w'.raised ≡ v.raised
+        → Fits word' home' w' c.r
         → IsCell its_run its_link record { words = set s.words 0 word'; homes = homes'; views = set s.views id (Writer w') }
-    writer_steps v w' word' homes' home' at homes fits = let here = writer_seat c.stage c.w c.r id v (seat_is (Writer v) at) in record {
+    writer_steps v w' word' homes' home' at homes same fits = let here = writer_seat c.stage c.w c.r id v (seat_is (Writer v) at) in record {
       word = word';
       news = c.news;
       home = home';
@@ -123,6 +133,7 @@ module _ {Run : Type 0} {its_run : Run} {its_link : LinkNumber} where
       fits = fits;
       of_run = c.of_run;
       of_number = c.of_number;
+      raised = c.raised ∙ raised_by here.2 ∙ ap in_word (sym same);
     }
 
     reader_steps : (v r' : ReadingIn Run) (word' : ℕ) (homes' : List (maybe.Option (LogRec Run))) (home' : maybe.Option (LogRec Run)) → get_elem? s.views id ≡ some (Reader v) → homes' ≡ home' ∷ [] → Fits word' home' c.w r'
@@ -140,6 +151,7 @@ module _ {Run : Type 0} {its_run : Run} {its_link : LinkNumber} where
       fits = fits;
       of_run = fits.agrees.reads.run ∙ sym fits.agrees.writes.run ∙ c.fits.agrees.writes.run ∙ sym c.fits.agrees.reads.run ∙ c.of_run;
       of_number = fits.agrees.reads.number ∙ sym fits.agrees.writes.number ∙ c.fits.agrees.writes.number ∙ sym c.fits.agrees.reads.number ∙ c.of_number;
+      raised = c.raised;
     }
 
     fits_writer : (v : WritingIn Run) → get_elem? s.views id ≡ some (Writer v) → Fits c.word c.home v c.r
@@ -157,7 +169,7 @@ module _ {Run : Type 0} {its_run : Run} {its_link : LinkNumber} where
         Writer w',
         takes 0 home.log,
         ap (λ (l : List (maybe.Option (LogRec Run))). get_elem? l 0) c.homes ∙ ap some home.home_is,
-        writer_steps s c id v w' 1 (set s.homes 0 none) none at (ap (λ (l : List (maybe.Option (LogRec Run))). set l 0 none) c.homes) record {
+        writer_steps s c id v w' 1 (set s.homes 0 none) none at (ap (λ (l : List (maybe.Option (LogRec Run))). set l 0 none) c.homes) refl record {
           turn = writers;
           log = home.log;
           word_is = refl;
@@ -178,7 +190,7 @@ module _ {Run : Type 0} {its_run : Run} {its_link : LinkNumber} where
         Writer w',
         keeps,
         tt,
-        writer_steps s c id v w' (get_or s.words 0 0) s.homes c.home at c.homes record {
+        writer_steps s c id v w' (get_or s.words 0 0) s.homes c.home at c.homes refl record {
           turn = f.turn;
           log = f.log;
           word_is = word_is s c id ∙ f.word_is;
@@ -254,7 +266,7 @@ module _ {Run : Type 0} {its_run : Run} {its_link : LinkNumber} where
         Writer w',
         gives,
         tt,
-        writer_steps s c id v w' 0 (set s.homes 0 (some log)) (some log) at (ap (λ (l : List (maybe.Option (LogRec Run))). set l 0 (some log)) c.homes) record {
+        writer_steps s c id v w' 0 (set s.homes 0 (some log)) (some log) at (ap (λ (l : List (maybe.Option (LogRec Run))). set l 0 (some log)) c.homes) refl record {
           turn = free;
           log = log;
           word_is = refl;
@@ -331,45 +343,61 @@ module _ {Run : Type 0} {its_run : Run} {its_link : LinkNumber} where
       )
 
   pub writer_claims : (slots id : ℕ) (me : SeatIn Run) (v : WritingIn Run) → me ≡ (Writer v, []) → Allows (IsCell its_run its_link) slots id me 0 (λ n. either (eqb n 0) 1 n) (claims_as_writer a_step me)
-  writer_claims slots id me v e = moved slots id me (Writer v, []) (λ n. either (eqb n 0) 1 n) (claims_as_writer a_step) e (writer_claims_there slots id v)
+  writer_claims slots id me v e = moved slots id 0 me (Writer v, []) (λ n. either (eqb n 0) 1 n) (claims_as_writer a_step) e (writer_claims_there slots id v)
 
   pub reader_claims : (slots id : ℕ) (me : SeatIn Run) (v : ReadingIn Run) → me ≡ (Reader v, []) → Allows (IsCell its_run its_link) slots id me 0 (λ n. either (eqb n 0) 2 n) (claims_as_reader a_step me)
-  reader_claims slots id me v e = moved slots id me (Reader v, []) (λ n. either (eqb n 0) 2 n) (claims_as_reader a_step) e (reader_claims_there slots id v)
+  reader_claims slots id me v e = moved slots id 0 me (Reader v, []) (λ n. either (eqb n 0) 2 n) (claims_as_reader a_step) e (reader_claims_there slots id v)
 
-  pub writer_gives : (slots id : ℕ) (me : SeatIn Run) (end : WriteRec Run) (refused : ℕ) → WriterHas end refused me → Allows (IsCell its_run its_link) slots id me 0 (λ _. 0) (λ _. gives_written a_step me 0)
-  writer_gives slots id me end refused has = moved slots id me (Writer has.view, (0, has.log) ∷ []) (λ _. 0) (λ m _. gives_written a_step m 0) has.me_is
+  pub writer_gives : (slots id : ℕ) (me : SeatIn Run) (end : WriteRec Run) (refused raised : ℕ) → WriterHas end refused raised me → Allows (IsCell its_run its_link) slots id me 0 (λ _. 0) (λ _. gives_written a_step me 0)
+  writer_gives slots id me end refused raised has = moved slots id 0 me (Writer has.view, (0, has.log) ∷ []) (λ _. 0) (λ m _. gives_written a_step m 0) has.me_is
       (writer_gives_there slots id has.view has.found has.log has.held has.follows)
 
   pub reader_gives_taken : (slots id : ℕ) (me : SeatIn Run) (end : ReadRec Run) (refused : ℕ) (turns : List (LogRec Run)) → HasTaken end refused turns me → end.shut ≡ false → Allows (IsCell its_run its_link) slots id me 0 (λ _. 0) (λ _. gives_taken a_step me 0)
-  reader_gives_taken slots id me end refused turns took is_open = let has = took.0 in moved slots id me (Reader has.view, (0, has.log) ∷ []) (λ _. 0) (λ m _. gives_taken a_step m 0) has.me_is
+  reader_gives_taken slots id me end refused turns took is_open = let has = took.0 in moved slots id 0 me (Reader has.view, (0, has.log) ∷ []) (λ _. 0) (λ m _. gives_taken a_step m 0) has.me_is
       (reader_gives_taken_there slots id has.view has.found has.log has.held has.same (has.run ∙ has.reads.run) (has.number ∙ has.reads.number) (has.reads.base ∙ took.1) (took.2 is_open))
 
   pub reader_gives_shut : (slots id : ℕ) (me : SeatIn Run) (end : ReadRec Run) (refused : ℕ) (turns : List (LogRec Run)) → HasTaken end refused turns me → end.shut ≡ true → Allows (IsCell its_run its_link) slots id me 0 (λ _. 0) (λ _. gives_shut a_step me 0)
-  reader_gives_shut slots id me end refused turns took shut = let has = took.0 in moved slots id me (Reader has.view, (0, has.log) ∷ []) (λ _. 0) (λ m _. gives_shut a_step m 0) has.me_is
+  reader_gives_shut slots id me end refused turns took shut = let has = took.0 in moved slots id 0 me (Reader has.view, (0, has.log) ∷ []) (λ _. 0) (λ m _. gives_shut a_step m 0) has.me_is
       (reader_gives_shut_there slots id has.view has.found has.log has.held has.same (has.run ∙ has.reads.run) (has.number ∙ has.reads.number) (has.reads.base ∙ took.1) (has.shut shut).closed)
 
   -- the news are raised
-  pub news_rise : (slots id : ℕ) (m : SeatIn Run) (f : ℕ → ℕ) → Allows (IsCell its_run its_link) slots id m 1 f (raises a_step m)
-  news_rise slots id m f s c len at small = (
-    m.0,
-    keeps,
-    tt,
-    record {
-      word = c.word;
-      news = f (get_or s.words 1 0);
-      home = c.home;
-      stage = c.stage;
-      w = c.w;
-      r = c.r;
-      words = ap (λ (l : List ℕ). set l 1 (f (get_or s.words 1 0))) c.words;
-      homes = c.homes;
-      views = set_again s.views id m.0 at ∙ c.views;
-      fits = c.fits;
-      of_run = c.of_run;
-      of_number = c.of_number;
-    },
-    refl,
-  )
+  news_rise_there : (slots id : ℕ) (v : WritingIn Run) → Allows (IsCell its_run its_link) slots id (Writer v, []) 1 (λ n. (n + 1) % 2 ^ 64) (raises a_step (Writer v, []))
+  news_rise_there slots id v s c len at small =
+      let here = writer_seat c.stage c.w c.r id v (seat_is s c id (Writer v) at) in
+      let f = fits_writer s c id v at in
+      let w' : WritingIn Run = record v { raised = v.raised + 1 } in
+      let found : get_or s.words 1 0 ≡ in_word v.raised = ap (λ (l : List ℕ). get_or l 1 0) c.words ∙ c.raised ∙ raised_by here.2 in (
+        Writer w',
+        keeps,
+        tt,
+        record {
+          word = c.word;
+          news = (get_or s.words 1 0 + 1) % 2 ^ 64;
+          home = c.home;
+          stage = parted;
+          w = w';
+          r = c.r;
+          words = ap (λ (l : List ℕ). set l 1 ((get_or s.words 1 0 + 1) % 2 ^ 64)) c.words;
+          homes = c.homes;
+          views = (λ i. set (c.views i) (here.1 i) (Writer w')) ∙ (λ i. set (seats_at (here.0 i) c.w c.r) 0 (Writer w'));
+          fits = record {
+            turn = f.turn;
+            log = f.log;
+            word_is = f.word_is;
+            home_is = f.home_is;
+            writer_has = f.writer_has;
+            reader_has = f.reader_has;
+            agrees = record { writes = f.agrees.writes; reads = f.agrees.reads; turns = f.agrees.turns };
+          };
+          of_run = c.of_run;
+          of_number = c.of_number;
+          raised = ap (λ n. (n + 1) % 2 ^ 64) found ∙ mod-add-mod v.raised (2 ^ 64) 1;
+        },
+        (λ v' e. let is_view : v ≡ v' = ap (λ (m : SeatIn Run). writing_or v m.0) e in λ i. (Writer (record (is_view i) { raised = (is_view i).raised + 1 }), [])),
+      )
+
+  pub news_rise : (slots id : ℕ) (me : SeatIn Run) (v : WritingIn Run) → me ≡ (Writer v, []) → Allows (IsCell its_run its_link) slots id me 1 (λ n. (n + 1) % 2 ^ 64) (raises a_step me)
+  news_rise slots id me v e = moved slots id 1 me (Writer v, []) (λ n. (n + 1) % 2 ^ 64) (raises a_step) e (news_rise_there slots id v)
 
   -- one seat becomes two
   parts_there : (id : ℕ) (w : WritingIn Run) (r : ReadingIn Run) → Splits (IsCell its_run its_link) id (Whole w r) (Writer w) (Reader r)
@@ -386,6 +414,7 @@ module _ {Run : Type 0} {its_run : Run} {its_link : LinkNumber} where
     fits = subst (λ (x : WritingIn Run × ReadingIn Run). Fits c.word c.home x.0 x.1) (λ i. (here.2 i, here.3 i)) c.fits;
     of_run = ap (λ (x : ReadingIn Run). x.run) (sym here.3) ∙ c.of_run;
     of_number = ap (λ (x : ReadingIn Run). x.number) (sym here.3) ∙ c.of_number;
+    raised = c.raised ∙ raised_by here.2;
   }
 
   pub parts : (id : ℕ) (v : ViewIn Run) (w : WritingIn Run) (r : ReadingIn Run) → v ≡ Whole w r → Splits (IsCell its_run its_link) id v (writer_part v) (reader_part v)
@@ -410,6 +439,7 @@ module _ {Run : Type 0} {its_run : Run} {its_link : LinkNumber} where
         fits = subst (λ (x : WritingIn Run × ReadingIn Run). Fits c.word c.home x.0 x.1) (λ i. (here.2 i, there.1 i)) c.fits;
         of_run = ap (λ (x : ReadingIn Run). x.run) (sym there.1) ∙ c.of_run;
         of_number = ap (λ (x : ReadingIn Run). x.number) (sym there.1) ∙ c.of_number;
+        raised = c.raised ∙ raised_by here.2;
       }
 
   pub joins : (id other : ℕ) (v u : ViewIn Run) (w : WritingIn Run) (r : ReadingIn Run) → v ≡ Writer w → u ≡ Reader r → Joins (IsCell its_run its_link) id v other u (joined_view v u) Spent

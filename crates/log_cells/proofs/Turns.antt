@@ -8,20 +8,21 @@ use Rattle.link_logs.specs.declared.answers.Got.{Got}
 use Rattle.link_logs.specs.declared.answers.Got.TheVariants.{Entries, Nothing, Closed}
 use Rattle.link_logs.specs.Logs.{LogRec, WriteRec, ReadRec, is_closed, Writes, Reads, Finds, emptied, looked}
 use Rattle.log_cells.specs.declared.view.View.TheVariants.{Writer, Reader}
-use Rattle.log_cells.specs.Rule.{writing_of, reading_of, refused_of, turns_of}
+use Rattle.log_cells.specs.Rule.{writing_of, reading_of, refused_of, raised_of, turns_of}
 use Rattle.log_cells.specs.Ends.{EndsAt, LooksAt}
 use Rattle.log_cells.specs.Plays.{SeatIn, writer_at, reader_at, logs_in, WriterClaims, ReaderClaims, gives_written, gives_taken, gives_shut, Follows, SameToWriter, WriterHas, ReaderHas, HasClaimed, HasTaken}
 use Rattle.log_cells.proofs.Kept.{by_word, a_step, log_or}
 
-module _ {Run : Type 0} (refused found : ℕ) (m : SeatIn Run) (end : WriteRec Run) (k : WriterClaims (writing_of end refused) found m) where
-  pub writer_won : found ≡ 0 → WriterHas end (refused_of m.0) m
+module _ {Run : Type 0} (refused raised found : ℕ) (m : SeatIn Run) (end : WriteRec Run) (k : WriterClaims (writing_of end refused raised) found m) where
+  pub writer_won : found ≡ 0 → WriterHas end (refused_of m.0) (raised_of m.0) m
   writer_won z = let t = k.0 z in record {
-    view = record (writing_of end refused) { held = Some t.0 };
+    view = record (writing_of end refused raised) { held = Some t.0 };
     found = t.0;
     log = t.0;
     me_is = t.2;
     held = refl;
     refused_is = sym (ap (λ (x : SeatIn Run). refused_of x.0) t.2);
+    raised_is = sym (ap (λ (x : SeatIn Run). raised_of x.0) t.2);
     run = refl;
     number = refl;
     writes = t.1;
@@ -34,8 +35,12 @@ module _ {Run : Type 0} (refused found : ℕ) (m : SeatIn Run) (end : WriteRec R
   pub writer_lost_once : found ≢ 0 → refused_of m.0 ≡ refused + 1
   writer_lost_once n = ap (λ (x : SeatIn Run). refused_of x.0) (k.1 n)
 
-  pub writer_lost : found ≢ 0 → m ≡ writer_at end (refused_of m.0)
-  writer_lost n = k.1 n ∙ (λ i. writer_at end (sym (writer_lost_once n) i))
+  -- a claim raises no news
+  pub raised_before : raised_of m.0 ≡ raised
+  raised_before = by_word found (λ z. ap (λ (x : SeatIn Run). raised_of x.0) (k.0 z).2) (λ n. ap (λ (x : SeatIn Run). raised_of x.0) (k.1 n))
+
+  pub writer_lost : found ≢ 0 → m ≡ writer_at end (refused_of m.0) (raised_of m.0)
+  writer_lost n = k.1 n ∙ (λ i. writer_at end (sym (writer_lost_once n) i) (sym raised_before i))
 
 module _ {Run : Type 0} (refused : ℕ) (turns : List (LogRec Run)) (found : ℕ) (m : SeatIn Run) (end : ReadRec Run) (k : ReaderClaims (reading_of end refused turns) found m) where
   pub reader_won : found ≡ 0 → HasClaimed end (refused_of m.0) (turns_of m.0) m
@@ -76,9 +81,9 @@ module _ {Run : Type 0} (refused : ℕ) (turns : List (LogRec Run)) (found : ℕ
       (λ n. no_turn n ∙ sym (ap (λ (x : SeatIn Run). logs_in x.1 ++ turns) (k.1 n)))
 
 module _ {Run : Type 0} (refused : ℕ) (m m' : SeatIn Run) where
-  pub gave_written : (end : WriteRec Run) → WriterHas end refused m → gives_written a_step m 0 m' → m' ≡ writer_at end refused
-  gave_written end has gave = gave has.view has.log has.me_is
-      ∙ (λ i. (Writer (record { run = has.run i; number = has.number i; published = sym has.writes.published i; cause = sym has.writes.cause i; held = None; refused = has.refused_is i }), []))
+  pub gave_written : (raised : ℕ) (end : WriteRec Run) → WriterHas end refused raised m → gives_written a_step m 0 m' → m' ≡ writer_at end refused raised
+  gave_written raised end has gave = gave has.view has.log has.me_is
+      ∙ (λ i. (Writer (record { run = has.run i; number = has.number i; published = sym has.writes.published i; cause = sym has.writes.cause i; held = None; refused = has.refused_is i; raised = has.raised_is i }), []))
 
   pub gave_taken : (end : ReadRec Run) (turns : List (LogRec Run)) → HasTaken end refused turns m → end.shut ≡ false → gives_taken a_step m 0 m' → m' ≡ reader_at end refused turns
   gave_taken end turns took is_open gave = let has = took.0 in gave has.view has.log has.me_is
@@ -91,16 +96,16 @@ module _ {Run : Type 0} (refused : ℕ) (m m' : SeatIn Run) where
 slot_of : {Run : Type 0} (carried : List (ℕ × LogRec Run)) (log : LogRec Run) → carried ≡ (0, log) ∷ [] → carried ≡ (0, log) ∷ rest carried
 slot_of carried log e = e ∙ (λ i. (0, log) ∷ rest (sym e i))
 
-module _ {Run : Type 0} {refused : ℕ} {m : SeatIn Run} where
-  pub writer_slot : {end : WriteRec Run} → WriterHas end refused m → (log : LogRec Run) × (m.1 ≡ (0, log) ∷ rest m.1)
+module _ {Run : Type 0} {refused raised : ℕ} {m : SeatIn Run} where
+  pub writer_slot : {end : WriteRec Run} → WriterHas end refused raised m → (log : LogRec Run) × (m.1 ≡ (0, log) ∷ rest m.1)
   writer_slot has = (has.log, slot_of m.1 has.log (ap (λ (x : SeatIn Run). x.1) has.me_is))
 
-  pub writer_log : {end : WriteRec Run} (has : WriterHas end refused m) (log : LogRec Run) → m.1 ≡ (0, log) ∷ rest m.1 → has.log ≡ log
+  pub writer_log : {end : WriteRec Run} (has : WriterHas end refused raised m) (log : LogRec Run) → m.1 ≡ (0, log) ∷ rest m.1 → has.log ≡ log
   writer_log has log e = ap (log_or has.log) (sym (ap (λ (x : SeatIn Run). x.1) has.me_is) ∙ e)
 
   -- the log was written, by an end that knows what it has now
-  pub wrote : {end : WriteRec Run} (has : WriterHas end refused m) (log log' : LogRec Run) (end' : WriteRec Run) → m.1 ≡ (0, log) ∷ rest m.1
-      → end'.run ≡ end.run → end'.number ≡ end.number → Writes end' log' → Follows log log' → WriterHas end' refused (m.0, (0, log') ∷ rest m.1)
+  pub wrote : {end : WriteRec Run} (has : WriterHas end refused raised m) (log log' : LogRec Run) (end' : WriteRec Run) → m.1 ≡ (0, log) ∷ rest m.1
+      → end'.run ≡ end.run → end'.number ≡ end.number → Writes end' log' → Follows log log' → WriterHas end' refused raised (m.0, (0, log') ∷ rest m.1)
   wrote has log log' end' at run number writes went =
       let here = writer_log has log at in
       let before : Follows has.found log = subst (λ (l : LogRec Run). Follows has.found l) here has.follows in
@@ -111,6 +116,7 @@ module _ {Run : Type 0} {refused : ℕ} {m : SeatIn Run} where
         me_is = λ i. ((has.me_is i).0, (0, log') ∷ rest (has.me_is i).1);
         held = has.held;
         refused_is = has.refused_is;
+        raised_is = has.raised_is;
         run = has.run ∙ sym run;
         number = has.number ∙ sym number;
         writes = writes;

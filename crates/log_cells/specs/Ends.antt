@@ -14,12 +14,13 @@ pub record CellRec (Run : Type 0) : Type 0 where
   pub run : Run
   pub number : LinkNumber
 
--- an end of a cell: which table it is of, the end of the log, and how often it was refused the turn; of the end that reads, also the log as
--- it found it at each turn that it had, the last first
+-- an end of a cell: which table it is of, the end of the log, and how often it was refused the turn; of the end that writes, also how often it
+-- raised the news, and of the end that reads the log as it found it at each turn that it had, the last first
 pub record CellWriteRec (Run : Type 0) : Type 0 where
   pub table : TableId
   pub end : WriteRec Run
   pub refused : ℕ
+  pub raised : ℕ
 
 pub record CellReadRec (Run : Type 0) : Type 0 where
   pub table : TableId

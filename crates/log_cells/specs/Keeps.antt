@@ -1,5 +1,5 @@
 -- What every cell keeps between any two steps of any two threads, and what a step of an end leaves of what that end knows.
-use Rattle.std.specs.Prelude.{◌≡◌, ℕ, zero, suc, ◌≤◌, ◌+◌, true, IsSome, slice_index, List, [], ◌∷◌, ◌++◌, Some, None}
+use Rattle.std.specs.Prelude.{◌≡◌, ℕ, zero, suc, ◌≤◌, ◌+◌, ◌%◌, ◌^◌, true, IsSome, slice_index, List, [], ◌∷◌, ◌++◌, Some, None}
 use Rattle.std.specs.List.{AllByRecursion}
 use mathlib.Core.Option.{some, none}
 use lib.ListN.{get_elem?}
@@ -10,7 +10,7 @@ use Rattle.link_logs.specs.Entries.{between}
 use Rattle.link_logs.specs.Logs.{LogRec, WriteRec, ReadRec, Writes, Reads}
 use Rattle.log_cells.specs.declared.view.View.TheVariants.{Writer, Reader}
 use Rattle.log_cells.specs.Ends.{CellRec, CellWriteRec, CellReadRec, WritesTo, ReadsOf, EndsAt}
-use Rattle.log_cells.specs.Rule.{WritingIn, ReadingIn, ViewIn, Turn, free, writers, readers, turn_word, Stage, seats_at, IsCell, writing_of, reading_of, refused_of, turns_of, Continues}
+use Rattle.log_cells.specs.Rule.{WritingIn, ReadingIn, ViewIn, Turn, free, writers, readers, turn_word, Stage, seats_at, IsCell, writing_of, reading_of, refused_of, raised_of, turns_of, Continues}
 use Rattle.log_cells.specs.Plays.{SeatIn, logs_in, claims_as_writer, claims_as_reader, gives_written, gives_taken, gives_shut, raises, WriterHas, HasTaken}
 
 -- a cell's words, its log where that is in its place, and what its seats know
@@ -76,8 +76,10 @@ module _ {Run : Type 0} where
     pub turn : Turn
     pub word : slice_index s.words 0 ≡ turn_word turn
     pub with : IsWith turn s writer reader log
+    -- the news word says how often the writer has raised it
+    pub news : slice_index s.words 1 ≡ writer.raised % 2 ^ 64
     -- of an end of this cell that is not at work
-    pub written : (end : CellWriteRec Run) → WritesTo end cell → HasSeat s (Writer (writing_of end.end end.refused)) → Writes end.end log
+    pub written : (end : CellWriteRec Run) → WritesTo end cell → HasSeat s (Writer (writing_of end.end end.refused end.raised)) → Writes end.end log
     pub read : (end : CellReadRec Run) → ReadsOf end cell → HasSeat s (Reader (reading_of end.end end.refused end.turns)) → IsRead log end
 
   -- ---- From one step to the next
@@ -115,32 +117,37 @@ module _ {Run : Type 0} where
 
   -- ---- What is counted
 
-  -- a seat was refused the turn so many times more, and has had the turns besides in which it found these logs
-  pub record Counts (more : ℕ) (found : List (LogRec Run)) (before after : SeatIn Run) : Type 0 where
+  -- a seat was refused the turn so many times more, has had the turns besides in which it found these logs, and raised the news so many times more
+  pub record Counts (more : ℕ) (found : List (LogRec Run)) (news : ℕ) (before after : SeatIn Run) : Type 0 where
     pub refused : refused_of after.0 ≡ refused_of before.0 + more
     pub turns : turns_of after.0 ≡ found ++ turns_of before.0
+    pub raised : raised_of after.0 ≡ raised_of before.0 + news
 
-  -- a claim is counted by the word that it finds and the logs that the seat takes, and another step is not
+  -- a claim is counted by the word that it finds and the logs that the seat takes, a raise is counted once, and another step is not
   abbrev pub CountsClaim : (SeatIn Run → ℕ → SeatIn Run → Type 0) → (SeatIn Run → List (LogRec Run)) → SeatIn Run → Type 0
-  CountsClaim kind found me = (me' : SeatIn Run) (word : ℕ) → kind me word me' → Counts (refusals word) (found me') me me'
+  CountsClaim kind found me = (me' : SeatIn Run) (word : ℕ) → kind me word me' → Counts (refusals word) (found me') 0 me me'
+
+  abbrev pub CountsRaise : (SeatIn Run → ℕ → SeatIn Run → Type 0) → SeatIn Run → Type 0
+  CountsRaise kind me = (me' : SeatIn Run) (word : ℕ) → kind me word me' → Counts 0 [] 1 me me'
 
   abbrev pub CountsNothing : (SeatIn Run → ℕ → SeatIn Run → Type 0) → SeatIn Run → Type 0
-  CountsNothing kind me = (me' : SeatIn Run) (word : ℕ) → kind me word me' → Counts 0 [] me me'
+  CountsNothing kind me = (me' : SeatIn Run) (word : ℕ) → kind me word me' → Counts 0 [] 0 me me'
 
--- each claim and each giving back by an end, from where its calls make it
+-- each claim, each giving back and each raise by an end, from where its calls make it
 pub record StepsGoOn (Run : Type 0) : Type 0 where
   pub claim_to_write : (step : Step (LogRec Run)) (view : WritingIn Run) → GoesOnBy (claims_as_writer step) (λ me. me ≡ (Writer view, []))
   pub claim_to_read : (step : Step (LogRec Run)) (view : ReadingIn Run) → GoesOnBy (claims_as_reader step) (λ me. me ≡ (Reader view, []))
-  pub give_written : (step : Step (LogRec Run)) (end : WriteRec Run) (refused : ℕ) → GoesOnBy (gives_written step) (WriterHas end refused)
+  pub give_written : (step : Step (LogRec Run)) (end : WriteRec Run) (refused raised : ℕ) → GoesOnBy (gives_written step) (WriterHas end refused raised)
   pub give_taken : (step : Step (LogRec Run)) (end : ReadRec Run) (refused : ℕ) (turns : List (LogRec Run)) → GoesOnBy (gives_taken step) (HasTaken end refused turns)
   pub give_shut : (step : Step (LogRec Run)) (end : ReadRec Run) (refused : ℕ) (turns : List (LogRec Run)) → GoesOnBy (gives_shut step) (HasTaken end refused turns)
+  pub raise : (step : Step (LogRec Run)) (view : WritingIn Run) → GoesOnBy (raises step) (λ me. me ≡ (Writer view, []))
 
 -- a claim that finds the turn word held is counted as a refusal; one by the end that reads that finds it free, as a turn in which it found the
--- log that it takes; no other step of an end at work counts anything
+-- log that it takes; raising the news is counted as that; no other step of an end at work counts anything
 pub record StepsCount (Run : Type 0) : Type 0 where
   pub claim_to_write : (step : Step (LogRec Run)) (view : WritingIn Run) → CountsClaim (claims_as_writer step) (λ me. []) (Writer view, [])
   pub claim_to_read : (step : Step (LogRec Run)) (view : ReadingIn Run) → CountsClaim (claims_as_reader step) (λ me. logs_in me.1) (Reader view, [])
   pub give_written : (step : Step (LogRec Run)) (view : WritingIn Run) (log : LogRec Run) → CountsNothing (gives_written step) (Writer view, (0, log) ∷ [])
   pub give_taken : (step : Step (LogRec Run)) (view : ReadingIn Run) (log : LogRec Run) → CountsNothing (gives_taken step) (Reader view, (0, log) ∷ [])
   pub give_shut : (step : Step (LogRec Run)) (view : ReadingIn Run) (log : LogRec Run) → CountsNothing (gives_shut step) (Reader view, (0, log) ∷ [])
-  pub raise : (step : Step (LogRec Run)) (me : SeatIn Run) → CountsNothing (raises step) me
+  pub raise : (step : Step (LogRec Run)) (view : WritingIn Run) → CountsRaise (raises step) (Writer view, [])

@@ -17,8 +17,8 @@ SeatIn Run = Me (LogRec Run) (ViewIn Run)
 
 module _ {Run : Type 0} where
   -- a seat whose turn it is not
-  abbrev pub writer_at : WriteRec Run → ℕ → SeatIn Run
-  writer_at end refused = (Writer (writing_of end refused), [])
+  abbrev pub writer_at : WriteRec Run → ℕ → ℕ → SeatIn Run
+  writer_at end refused raised = (Writer (writing_of end refused raised), [])
 
   abbrev pub reader_at : ReadRec Run → ℕ → List (LogRec Run) → SeatIn Run
   reader_at end refused turns = (Reader (reading_of end refused turns), [])
@@ -58,8 +58,9 @@ module _ {Run : Type 0} where
   abbrev pub gives_shut : Step (LogRec Run) → SeatIn Run → ℕ → SeatIn Run → Type 0
   gives_shut st m found m' = (v : ReadingIn Run) (log : LogRec Run) → m ≡ (Reader v, (0, log) ∷ []) → m' ≡ (Reader (record v { got = log.published; shut = true; held = None }), [])
 
+  -- the news are raised, by the end that writes where it does not have the log
   abbrev pub raises : Step (LogRec Run) → SeatIn Run → ℕ → SeatIn Run → Type 0
-  raises st m found m' = m' ≡ m
+  raises st m found m' = (v : WritingIn Run) → m ≡ (Writer v, []) → m' ≡ (Writer (record v { raised = v.raised + 1 }), [])
 
   -- one seat is parted, and two are joined
   abbrev pub writer_part : ViewIn Run → ViewIn Run
@@ -100,14 +101,15 @@ module _ {Run : Type 0} where
     pub published : new.published ≡ old.published
     pub cause : new.cause ≡ old.cause
 
-  -- the seat of the end that writes has the log, and was refused the turn so often
-  pub record WriterHas (end : WriteRec Run) (refused : ℕ) (m : SeatIn Run) : Type 0 where
+  -- the seat of the end that writes has the log, was refused the turn so often, and has raised the news so often
+  pub record WriterHas (end : WriteRec Run) (refused raised : ℕ) (m : SeatIn Run) : Type 0 where
     pub view : WritingIn Run
     pub found : LogRec Run
     pub log : LogRec Run
     pub me_is : m ≡ (Writer view, (0, log) ∷ [])
     pub held : view.held ≡ Some found
     pub refused_is : view.refused ≡ refused
+    pub raised_is : view.raised ≡ raised
     pub run : view.run ≡ end.run
     pub number : view.number ≡ end.number
     pub writes : Writes end log

@@ -1,6 +1,7 @@
 -- The rule of a cell: one log, whose turn it is, and what its two ends know.
--- The turn word is 0 where it is nobody's turn, 1 where it is the writer's and 2 where it is the reader's. Of the news word nothing is said.
-use Rattle.std.specs.Prelude.{◌≡◌, ℕ, ◌≤◌, true, false, IsSome, List, [], ◌∷◌, Option, Some, None}
+-- The turn word is 0 where it is nobody's turn, 1 where it is the writer's and 2 where it is the reader's. The news word is how often the end that
+-- writes has raised the news, modulo 2^64.
+use Rattle.std.specs.Prelude.{◌≡◌, ℕ, ◌≤◌, ◌%◌, ◌^◌, true, false, IsSome, List, [], ◌∷◌, Option, Some, None}
 use Rattle.std.specs.List.{AllByRecursion}
 use mathlib.Core.Option.{some, none}
 use mathlib.Core.Option as maybe
@@ -41,8 +42,8 @@ pub data Stage : Type 0 where
 
 module _ {Run : Type 0} where
   -- what an end of a log knows, as its seat knows it where it has no turn
-  abbrev pub writing_of : WriteRec Run → ℕ → WritingIn Run
-  writing_of end refused = record { run = end.run; number = end.number; published = end.published; cause = end.cause; held = None; refused = refused }
+  abbrev pub writing_of : WriteRec Run → ℕ → ℕ → WritingIn Run
+  writing_of end refused raised = record { run = end.run; number = end.number; published = end.published; cause = end.cause; held = None; refused = refused; raised = raised }
 
   abbrev pub reading_of : ReadRec Run → ℕ → List (LogRec Run) → ReadingIn Run
   reading_of end refused turns = record { run = end.run; number = end.number; got = end.got; shut = end.shut; held = None; refused = refused; turns = turns }
@@ -116,10 +117,11 @@ module _ {Run : Type 0} where
     pub fits : Fits word home w r
     pub of_run : r.run ≡ run
     pub of_number : r.number ≡ number
+    pub raised : news ≡ w.raised % 2 ^ 64
 
   -- of a new log
   abbrev pub new_view : WriteRec Run → ViewIn Run
-  new_view end = Whole (writing_of end 0) (record { run = end.run; number = end.number; got = 0; shut = false; held = None; refused = 0; turns = [] })
+  new_view end = Whole (writing_of end 0 0) (record { run = end.run; number = end.number; got = 0; shut = false; held = None; refused = 0; turns = [] })
 
   -- how often a seat was refused the turn
   abbrev pub refused_of : ViewIn Run → ℕ
@@ -128,6 +130,14 @@ module _ {Run : Type 0} where
   refused_of (Reader r) = r.refused
   refused_of (Joined w r) = 0
   refused_of Spent = 0
+
+  -- how often a seat raised the news
+  abbrev pub raised_of : ViewIn Run → ℕ
+  raised_of (Whole w r) = 0
+  raised_of (Writer w) = w.raised
+  raised_of (Reader r) = 0
+  raised_of (Joined w r) = 0
+  raised_of Spent = 0
 
   -- the log as the seat of an end that reads found it at each turn that it had, the last first
   abbrev pub turns_of : ViewIn Run → List (LogRec Run)

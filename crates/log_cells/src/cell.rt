@@ -1,5 +1,5 @@
 //! `Cell`, a log that two threads use by turns. See docs/LOOKAHEAD.md.
-ghost use Rattle.std.specs.Prelude.{◌≡◌, ◌≤◌, [], Some, None, true, IfOk, OnOk, OnErr};
+ghost use Rattle.std.specs.Prelude.{◌≡◌, ◌≤◌, ◌+◌, [], Some, None, true, IfOk, OnOk, OnErr};
 ghost use Rattle.link_logs.specs.Entries.{between};
 ghost use Rattle.link_logs.specs.declared.answers.Got.TheVariants.{Closed};
 ghost use Rattle.link_logs.specs.Logs.{new_write_end, new_read_end};
@@ -10,7 +10,7 @@ ghost use Rattle.log_cells.specs.Tries.{Publishes, Takes, Closes};
 use crate::answers::{Sent, TryGot};
 use crate::ends::{ReadEnd, WriteEnd};
 use crate::plays::TwoEnds;
-use crate::steps;
+use crate::steps::{self, Raised};
 use crate::view::{Board, Place};
 use link_logs::{Cause, Got, Log, Story};
 use std::alloc::{AllocError, Global};
@@ -50,7 +50,7 @@ pub fn make_cell<S: Story + Drop>(
     story: S,
 ) -> Result<(Cell<S>, WriteEnd<S>, ReadEnd<S>), AllocError>
     ensures cell { IfOk result (λ made. (made.0.run ≡ S.run story) × (made.0.number ≡ S.number story)) }
-    ensures write_end { IfOk result (λ made. made.1 ≡ record { table = made.0.table; end = new_write_end (S.run story) (S.number story); refused = 0 }) }
+    ensures write_end { IfOk result (λ made. made.1 ≡ record { table = made.0.table; end = new_write_end (S.run story) (S.number story); refused = 0; raised = 0 }) }
     ensures read_end { IfOk result (λ made. made.2 ≡ record { table = made.0.table; end = new_read_end (S.run story) (S.number story); refused = 0; turns = [] }) }
 {
     let (log, write_end, read_end) = link_logs::make_log(alloc, story)?;
@@ -76,7 +76,8 @@ pub fn make_cell<S: Story + Drop>(
 impl<S: Story> Cell<S> {
     /// Waits for its turn, and publishes the link's entries up to a slot, `upto`, which is not before the published one: those of
     /// `batch`, which are the link's from the published slot on and before `upto`. The batch is empty then. The end has to be this
-    /// cell's, and the log not closed. Who waits for news is woken. The error is want of memory, and changes nothing.
+    /// cell's, and the log not closed. The news are raised once, and who waits for them is woken. The error is want of memory, and changes
+    /// nothing else.
     pub fn publish<R: Wait>(
         &self,
         rt: &R,
@@ -93,6 +94,7 @@ impl<S: Story> Cell<S> {
         ensures batch { OnOk result (batch.new.entries ≡ []) }
         ensures err_end { OnErr result (w.new.end ≡ w.old.end) }
         ensures err_batch { OnErr result (batch.new ≡ batch.old) }
+        ensures raised { w.new.raised ≡ w.old.raised + 1 }
     {
         for _ in rt.forever() {
             match self.try_publish(w, upto, batch) {
@@ -105,7 +107,8 @@ impl<S: Story> Cell<S> {
     }
 
     /// As `publish`, but it waits for nobody: it claims the turn once. `Busy` comes exactly where the turn was held, and changes nothing, but that
-    /// the end was refused once more. Where it had the turn, who waits for news is woken.
+    /// the end was refused once more. Where it had the turn, the news are raised once, and who waits for them
+    /// is woken.
     pub fn try_publish(&self, w: &mut WriteEnd<S>, upto: u32, batch: &mut Batch) -> Sent
         requires cell { WritesTo w.old self.now }
         requires open { w.old.end.cause ≡ None }
@@ -119,8 +122,8 @@ impl<S: Story> Cell<S> {
         }
         let answer = steps::append(top, &mut w.seat, &mut w.end, upto, batch);
         steps::give_written(top, &mut w.seat, &w.end);
-        steps::raise(top, &mut w.seat, &w.end);
-        self.wake();
+        let news = steps::raise(top, &mut w.seat, &w.end);
+        self.wake(news);
         match answer {
             Ok(()) => Sent::Done,
             Err(AllocError) => Sent::Memory,
@@ -155,8 +158,15 @@ impl<S: Story> Cell<S> {
         requires cell { ReadsOf r.old self.now }
         ensures takes { Takes (S.entries_at r.old.end.run r.old.end.number) r.old result r.new }
     {
+        self.take_after(r, steps::news(&self.table.shared))
+    }
+
+    // `try_take`, before which the news had been raised so often: those after it are not heard of yet.
+    pub(crate) fn take_after(&self, r: &mut ReadEnd<S>, news: u32) -> TryGot
+        requires cell { ReadsOf r.old self.now }
+        ensures takes { Takes (S.entries_at r.old.end.run r.old.end.number) r.old result r.new }
+    {
         let top = &self.table.shared;
-        let news = steps::news(top);
         if !steps::claim_to_read(top, &mut r.seat, &r.end) {
             return TryGot::Busy;
         }
@@ -166,13 +176,14 @@ impl<S: Story> Cell<S> {
         TryGot::Got(found)
     }
 
-    /// Waits for its turn, and closes the log, with the cause. The end has to be this cell's, and the log not closed. Who waits for news
-    /// is woken. It takes no memory.
+    /// Waits for its turn, and closes the log, with the cause. The end has to be this cell's, and the log not closed. The news are
+    /// raised once, and who waits for them is woken. It takes no memory.
     pub fn end<R: Wait>(&self, rt: &R, w: &mut WriteEnd<S>, cause: Cause)
         requires cell { WritesTo w.old self.now }
         requires open { w.old.end.cause ≡ None }
         ensures stays { StaysWriter w.old w.new }
         ensures end { w.new.end ≡ record w.old.end { cause = Some cause } }
+        ensures raised { w.new.raised ≡ w.old.raised + 1 }
     {
         for _ in rt.forever() {
             if self.try_end(w, cause) {
@@ -195,8 +206,8 @@ impl<S: Story> Cell<S> {
         }
         steps::close(top, &mut w.seat, &mut w.end, cause);
         steps::give_written(top, &mut w.seat, &w.end);
-        steps::raise(top, &mut w.seat, &w.end);
-        self.wake();
+        let news = steps::raise(top, &mut w.seat, &w.end);
+        self.wake(news);
         true
     }
 
@@ -233,22 +244,21 @@ impl<S: Story> Cell<S> {
             }
             yield_now();
         }
-        self.sleep(rt, r.heard);
+        self.sleep(rt, r);
     }
 
-    // Sleeps until the news are raised, unless they were raised since so many were heard.
-    pub(crate) fn sleep<R: Wait>(&self, rt: &R, heard: u32) {
+    // Sleeps until the news are raised, unless they were raised since the end last found nothing.
+    pub(crate) fn sleep<R: Wait>(&self, rt: &R, r: &ReadEnd<S>) {
         // Who raises the news and does not see this has raised them before the sleep begins, which then ends at once.
         self.asleep.store(true, Ordering::SeqCst);
-        steps::sleep(rt, &self.table.shared, heard);
+        steps::sleep(rt, &self.table.shared, r.heard);
         self.asleep.store(false, Ordering::SeqCst);
     }
 
     // Wakes the end that reads, where it may be asleep.
-    fn wake(&self) {
-        if self.asleep.load(Ordering::SeqCst) {
-            steps::wake(&self.table.shared);
-        }
+    pub(crate) fn wake(&self, news: Raised) {
+        let asleep = self.asleep.load(Ordering::SeqCst);
+        steps::wake(&self.table.shared, news, asleep);
     }
 }
 

@@ -19,12 +19,12 @@ impl<S: Story> Model for WriteEnd<S> {
 
     ghost Value = { CellWriteRec S.Run };
 
-    ghost use Rattle.log_cells.specs.Rule.{refused_of};
+    ghost use Rattle.log_cells.specs.Rule.{refused_of, raised_of};
     ghost use Rattle.log_cells.specs.Plays.{writer_at};
 
-    ghost view = { λ w. record { table = w.seat.table_id; end = w.end; refused = refused_of w.seat.me.0 } };
+    ghost view = { λ w. record { table = w.seat.table_id; end = w.end; refused = refused_of w.seat.me.0; raised = raised_of w.seat.me.0 } };
 
-    ghost invariant = { λ w. w.seat.me ≡ writer_at w.end (refused_of w.seat.me.0) };
+    ghost invariant = { λ w. w.seat.me ≡ writer_at w.end (refused_of w.seat.me.0) (raised_of w.seat.me.0) };
 }
 
 impl<S: Story> WriteEnd<S> {

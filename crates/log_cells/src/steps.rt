@@ -2,7 +2,7 @@
 ghost use Rattle.std.specs.Prelude.{◌≡◌, ◌≤◌, ◌+◌, [], ◌∷◌, ◌++◌, Some, None, true, false, OnOk, OnErr};
 ghost use Rattle.link_logs.specs.Entries.{between};
 ghost use Rattle.link_logs.specs.declared.answers.Got.TheVariants.{Closed};
-ghost use Rattle.log_cells.specs.Rule.{refused_of, turns_of};
+ghost use Rattle.log_cells.specs.Rule.{refused_of, raised_of, turns_of};
 ghost use Rattle.log_cells.specs.Ends.{LooksAt};
 ghost use Rattle.log_cells.specs.Plays.{IsSized, writer_at, reader_at, logs_in, WriterHas, HasClaimed, HasTaken};
 
@@ -10,6 +10,7 @@ use crate::plays::{ClaimToRead, ClaimToWrite, GiveShut, GiveTaken, GiveWritten, 
 use crate::view::{Place, Top};
 use link_logs::{Cause, Got, ReadEnd, Story, WriteEnd};
 use std::alloc::AllocError;
+use std::marker::PhantomData;
 use std::sync::Wait;
 use xs_base::Batch;
 
@@ -31,12 +32,13 @@ const LOG: usize = 0;
 // Claims the turn once for the end that writes, and tells whether it has it: it is refused where the turn is held.
 pub fn claim_to_write<S: Story>(top: &Top<S>, seat: &mut Place<S>, end: &WriteEnd<S>) -> bool
     requires table { (seat.old.table_id ≡ top.now.table_id) × IsSized top.now.table_id }
-    requires writer { seat.old.me ≡ writer_at end.now (refused_of seat.old.me.0) }
+    requires writer { seat.old.me ≡ writer_at end.now (refused_of seat.old.me.0) (raised_of seat.old.me.0) }
     ensures table { seat.new.table_id ≡ seat.old.table_id }
-    ensures has { result ≡ true → WriterHas end.now (refused_of seat.new.me.0) seat.new.me }
+    ensures has { result ≡ true → WriterHas end.now (refused_of seat.new.me.0) (raised_of seat.new.me.0) seat.new.me }
     ensures same { result ≡ true → refused_of seat.new.me.0 ≡ refused_of seat.old.me.0 }
-    ensures writer { result ≡ false → seat.new.me ≡ writer_at end.now (refused_of seat.new.me.0) }
+    ensures writer { result ≡ false → seat.new.me ≡ writer_at end.now (refused_of seat.new.me.0) (raised_of seat.new.me.0) }
     ensures refused { result ≡ false → refused_of seat.new.me.0 ≡ refused_of seat.old.me.0 + 1 }
+    ensures raised { raised_of seat.new.me.0 ≡ raised_of seat.old.me.0 }
 {
     top.compare_exchange::<ClaimToWrite>(seat, TURN, FREE, WRITERS) == FREE
 }
@@ -64,13 +66,14 @@ pub fn append<S: Story>(
     batch: &mut Batch,
 ) -> Result<(), AllocError>
     requires table { seat.old.table_id ≡ top.now.table_id }
-    requires has { WriterHas end.old (refused_of seat.old.me.0) seat.old.me }
+    requires has { WriterHas end.old (refused_of seat.old.me.0) (raised_of seat.old.me.0) seat.old.me }
     requires open { end.old.cause ≡ None }
     requires on { end.old.published ≤ upto }
     requires own { batch.old.entries ≡ between (S.entries_at end.old.run end.old.number) end.old.published upto }
     ensures table { seat.new.table_id ≡ seat.old.table_id }
-    ensures has { WriterHas end.new (refused_of seat.new.me.0) seat.new.me }
+    ensures has { WriterHas end.new (refused_of seat.new.me.0) (raised_of seat.new.me.0) seat.new.me }
     ensures refused { refused_of seat.new.me.0 ≡ refused_of seat.old.me.0 }
+    ensures raised { raised_of seat.new.me.0 ≡ raised_of seat.old.me.0 }
     ensures end { OnOk result (end.new ≡ record end.old { published = upto }) }
     ensures batch { OnOk result (batch.new.entries ≡ []) }
     ensures err_end { OnErr result (end.new ≡ end.old) }
@@ -83,11 +86,12 @@ pub fn append<S: Story>(
 // `Log::close`, where the seat has the log.
 pub fn close<S: Story>(top: &Top<S>, seat: &mut Place<S>, end: &mut WriteEnd<S>, cause: Cause)
     requires table { seat.old.table_id ≡ top.now.table_id }
-    requires has { WriterHas end.old (refused_of seat.old.me.0) seat.old.me }
+    requires has { WriterHas end.old (refused_of seat.old.me.0) (raised_of seat.old.me.0) seat.old.me }
     requires open { end.old.cause ≡ None }
     ensures table { seat.new.table_id ≡ seat.old.table_id }
-    ensures has { WriterHas end.new (refused_of seat.new.me.0) seat.new.me }
+    ensures has { WriterHas end.new (refused_of seat.new.me.0) (raised_of seat.new.me.0) seat.new.me }
     ensures refused { refused_of seat.new.me.0 ≡ refused_of seat.old.me.0 }
+    ensures raised { raised_of seat.new.me.0 ≡ raised_of seat.old.me.0 }
     ensures end { end.new ≡ record end.old { cause = Some cause } }
 {
     let log = seat.slot_mut(top, LOG);
@@ -113,9 +117,9 @@ pub fn take<S: Story>(top: &Top<S>, seat: &mut Place<S>, end: &mut ReadEnd<S>) -
 // Gives the turn back after the end has written.
 pub fn give_written<S: Story>(top: &Top<S>, seat: &mut Place<S>, end: &WriteEnd<S>)
     requires table { (seat.old.table_id ≡ top.now.table_id) × IsSized top.now.table_id }
-    requires has { WriterHas end.now (refused_of seat.old.me.0) seat.old.me }
+    requires has { WriterHas end.now (refused_of seat.old.me.0) (raised_of seat.old.me.0) seat.old.me }
     ensures table { seat.new.table_id ≡ seat.old.table_id }
-    ensures writer { seat.new.me ≡ writer_at end.now (refused_of seat.old.me.0) }
+    ensures writer { seat.new.me ≡ writer_at end.now (refused_of seat.old.me.0) (raised_of seat.old.me.0) }
 {
     top.store::<GiveWritten>(seat, TURN, FREE);
 }
@@ -148,19 +152,29 @@ pub fn sleep<S: Story, R: Wait>(rt: &R, top: &Top<S>, seen: u32)
     top.park(rt, NEWS, seen);
 }
 
-// Raises the news.
-pub fn raise<S: Story>(top: &Top<S>, seat: &mut Place<S>, end: &WriteEnd<S>)
-    requires table { (seat.old.table_id ≡ top.now.table_id) × IsSized top.now.table_id }
-    requires writer { seat.old.me ≡ writer_at end.now (refused_of seat.old.me.0) }
-    ensures table { seat.new.table_id ≡ seat.old.table_id }
-    ensures same { seat.new.me ≡ seat.old.me }
-{
-    top.fetch_add::<Raise>(seat, NEWS, 1);
+// News that were raised, while who sleeps on them is not woken yet. Nothing can let go of it but `wake`, so no call can leave that out, or make it
+// before the news are raised.
+pub struct Raised {
+    seal: PhantomData<()>,
 }
 
-// Wakes who sleeps on the news.
-pub fn wake<S: Story>(top: &Top<S>)
+// Raises the news once.
+pub fn raise<S: Story>(top: &Top<S>, seat: &mut Place<S>, end: &WriteEnd<S>) -> Raised
+    requires table { (seat.old.table_id ≡ top.now.table_id) × IsSized top.now.table_id }
+    requires writer { seat.old.me ≡ writer_at end.now (refused_of seat.old.me.0) (raised_of seat.old.me.0) }
+    ensures table { seat.new.table_id ≡ seat.old.table_id }
+    ensures raised { seat.new.me ≡ writer_at end.now (refused_of seat.old.me.0) (raised_of seat.old.me.0 + 1) }
+{
+    top.fetch_add::<Raise>(seat, NEWS, 1);
+    Raised { seal: PhantomData }
+}
+
+// Wakes who sleeps on the news, where somebody may.
+pub fn wake<S: Story>(top: &Top<S>, news: Raised, asleep: bool)
     requires table { IsSized top.now.table_id }
 {
-    top.wake_one(NEWS);
+    let Raised { seal: _ } = news;
+    if asleep {
+        top.wake_one(NEWS);
+    }
 }

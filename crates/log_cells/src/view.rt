@@ -6,7 +6,8 @@ use std::collections::LinkedList;
 use std::marker::PhantomData;
 
 /// What the seat of the end that writes knows: the log's run and link, up to which slot the log is published, where it is closed the
-/// cause, where this seat has the turn the log as it found it, and how often it was refused the turn. No value of it is made.
+/// cause, where this seat has the turn the log as it found it, how often it was refused the turn, and how often it raised the news. No value
+/// of it is made.
 pub struct Writing<L, N> {
     pub run: N,
     pub number: u32,
@@ -14,6 +15,7 @@ pub struct Writing<L, N> {
     pub cause: Option<Cause>,
     pub held: Option<L>,
     pub refused: u64,
+    pub raised: u64,
 }
 
 /// What the seat of the end that reads knows: the log's run and link, up to which slot it has read, whether it has found the log closed,

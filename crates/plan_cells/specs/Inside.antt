@@ -91,7 +91,7 @@ IncomingLie Fit ds lists = AllLie comes_at to_of to_end_of Fit ds lists
 
 -- the ends of a cell as they are made
 abbrev pub outgoing_end : Arc → LinkNumber → PlanRec → TableId → Outgoing
-outgoing_end d link plan table = record { end = d.from_end; link = link; w = record { table = table; end = new_write_end plan link; refused = 0 } }
+outgoing_end d link plan table = record { end = d.from_end; link = link; w = record { table = table; end = new_write_end plan link; refused = 0; raised = 0 } }
 
 abbrev pub incoming_end : Arc → LinkNumber → PlanRec → TableId → Incoming
 incoming_end d link plan table = record { end = d.to_end; link = link; r = record { table = table; end = new_read_end plan link; refused = 0; turns = [] }; hand = None; held = false }

@@ -3,7 +3,7 @@ use Rattle.log_cells.specs.Rule.{refused_of, turns_of}
 use Rattle.log_cells.specs.Ends.{CellReadRec}
 use Rattle.log_cells.specs.Tries.{LooksInTurn}
 use Rattle.log_cells.proofs.Looks.{looks_in_turn}
-use Rattle.log_cells.proofs.cell.Cell.try_take.Goals as goal
+use Rattle.log_cells.proofs.cell.Cell.take_after.Goals as goal
 
 pub take-found-requires-clause-has : goal.take-found-requires-clause-has
 take-found-requires-clause-has g c = c.claim_to_read.ensures.has c.if-not-claim_to_read.false
