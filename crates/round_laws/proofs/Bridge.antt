@@ -1,5 +1,6 @@
 -- What a node sees of the round before lets it run to its next clock.
-use Rattle.std.proofs.Common.{◌≡◌, ◌⊎◌, ℕ, zero, suc, ◌+◌, ◌<◌, ◌≤◌, eqb, Option, Some, None, List, [], ◌∷◌, length, map, slice_get, slice_index, option_map, refl, sym, ap, ◌∙◌, subst, arith, add-one, inl, inr}
+use Rattle.std.proofs.Common.{◌≡◌, ◌⊎◌, ℕ, zero, suc, ◌+◌, ◌<◌, ◌≤◌, eqb, Option, Some, None, List, [], ◌∷◌}
+use Rattle.std.proofs.Common.{length, map, slice_get, slice_index, option_map, refl, sym, ap, ◌∙◌, subst, arith, add-one, inl, inr}
 use Rattle.std.proofs.lemmas.Bool.{eqb-true, eq-eqb, cases_lt}
 use Rattle.std.proofs.lemmas.Option.{none-some, same_Some, slice_get_past, slice_get-map, get_or_from_slice_get}
 use Rattle.xs_base.specs.Numbers.{Slot, Position, EndNumber, LinkNumber}
@@ -98,7 +99,9 @@ module _ (plan : PlanRec) (limit : Slot) (n : Position) (k : ℕ) (is : IsPlan p
 
   seen_of : (link : LinkNumber) (d : Arc) → slice_get (arcs plan) link ≡ Some d → seen_of_link plan seen link ≡ by_arc plan limit n k d
   seen_of link d at =
-      let sent : slice_index seen link ≡ round_clock plan limit d.from k = get_or_from_slice_get seen link (round_clock plan limit d.from k) 0 (slice_get-map (λ (a : Arc). round_clock plan limit a.from k) (arcs plan) link ∙ ap (option_map (λ (a : Arc). round_clock plan limit a.from k)) at) in
+      let sender : Arc → Slot = λ a. round_clock plan limit a.from k in
+      let there : slice_get seen link ≡ Some (sender d) = slice_get-map sender (arcs plan) link ∙ ap (option_map sender) at in
+      let sent : slice_index seen link ≡ sender d = get_or_from_slice_get seen link (sender d) 0 there in
       λ i. record { delay = delay-is plan is link d at i; seen = sent i }
 
   sees_it : (link : LinkNumber) (d : Arc) → slice_get (arcs plan) link ≡ Some d → d.to ≡ n → Sees h d.to_end (by_arc plan limit n k d)
