@@ -1,6 +1,7 @@
 -- How clocks rise from round to round.
-use Rattle.std.proofs.Common.{◌≡◌, ℕ, zero, suc, ◌+◌, ◌*◌, ◌<◌, ◌≤◌, min, eqb, Option, Some, None, List, [], ◌∷◌, length, map, slice_get, refl, sym, ap, ◌∙◌, subst, arith, add-one}
+use Rattle.std.proofs.Common.{◌≡◌, ◌⊎◌, ℕ, zero, suc, ◌+◌, ◌*◌, ◌<◌, ◌≤◌, min, eqb, Option, Some, None, List, [], ◌∷◌, length, map, slice_get, refl, sym, ap, ◌∙◌, subst, arith, add-one, inl, inr}
 use Rattle.std.specs.List.{AllByRecursion}
+use Rattle.std.proofs.lemmas.Bool.{cases_lt}
 use Rattle.std.proofs.lemmas.List.{length-replicate}
 use Rattle.std.proofs.lemmas.Option.{none-some, same_Some}
 use Rattle.xs_base.specs.Numbers.{Slot, Position}
@@ -8,7 +9,7 @@ use Rattle.sys_plan.specs.declared.LinkPlan.{LinkPlan}
 use Rattle.sys_plan.specs.Plan.{PlanRec, IsPlan, IsLink, Arc, arcs, link_arcs, forth, back}
 use Rattle.sys_plan.proofs.Routes.{directed}
 use Rattle.round_laws.specs.Rounds.{least, reach, arcs_to, next_clock, positions_from, round_clocks, round_clock, lesser, least_delay}
-use Rattle.round_laws.specs.Laws.{AllHaveRun, ClocksStartAtZero, ClocksGoByRounds, NoRoundFalls, ClocksStayWithin, RoundGoesOn, RoundsGoOn}
+use Rattle.round_laws.specs.Laws.{AllHaveRun, ClocksStartAtZero, ClocksGoByRounds, NoRoundFalls, ClocksStayWithin, RoundGoesOn, RoundsGoOn, IsLeastOf, IsLeastDelay, LeastDelayIsLeast}
 use Rattle.round_laws.proofs.Leasts.{least_within, least_rises, from_each}
 use Rattle.round_laws.proofs.Positions.{at_position, of_each_node, each_within, each_rises, zeros}
 
@@ -72,21 +73,26 @@ module _ (delay : Slot) where
   less_too most less [] all = tt
   less_too most less (link ∷ links) all = (omega (arith, less, all.0), less_too most less links all.1)
 
--- the least delay is below none
-abbrev IsBelowNone : Option Slot → List LinkPlan → Type 0
-IsBelowNone None links = links ≡ []
-IsBelowNone (Some delay) links = NoneBelow delay links
+least_of_more : (o : Option Slot) (link : LinkPlan) (links : List LinkPlan) → IsLeastDelay links o → IsLeastOf (link ∷ links) (lesser link.delay o)
+least_of_more None link links none = record { none_below = (omega arith, subst (NoneBelow link.delay) (sym none) tt); place = 0; link = link; there = refl; is_it = refl }
+least_of_more (Some delay) link links is = by_case (cases_lt delay link.delay)
+  where
+    both : NoneBelow (min link.delay delay) (link ∷ links)
+    both = (omega arith, less_too (min link.delay delay) delay (omega arith) links is.none_below)
 
-none_of : (o : Option Slot) (link : LinkPlan) (links : List LinkPlan) → IsBelowNone o links → NoneBelow (lesser link.delay o) (link ∷ links)
-none_of None link links all = (omega arith, subst (NoneBelow link.delay) (sym all) tt)
-none_of (Some delay) link links all = (omega arith, less_too (min link.delay delay) delay (omega arith) links all)
+    by_case : (delay < link.delay) ⊎ (link.delay ≤ delay) → IsLeastOf (link ∷ links) (min link.delay delay)
+    by_case (inl less) = record { none_below = both; place = suc is.place; link = is.link; there = is.there; is_it = omega (arith, is.is_it, less) }
+    by_case (inr more) = record { none_below = both; place = 0; link = link; there = refl; is_it = omega (arith, more) }
 
-least_is : (links : List LinkPlan) → IsBelowNone (least_delay links) links
-least_is [] = refl
-least_is (link ∷ links) = none_of (least_delay links) link links (least_is links)
+pub least_delay_is_least : LeastDelayIsLeast
+least_delay_is_least [] = refl
+least_delay_is_least (link ∷ links) = least_of_more (least_delay links) link links (least_delay_is_least links)
+
+pub least_of : (links : List LinkPlan) (delay : Slot) → least_delay links ≡ Some delay → IsLeastOf links delay
+least_of links delay is = subst (IsLeastDelay links) is (least_delay_is_least links)
 
 pub below_none : (links : List LinkPlan) (delay : Slot) → least_delay links ≡ Some delay → NoneBelow delay links
-below_none links delay is = subst (λ (o : Option Slot). IsBelowNone o links) is (least_is links)
+below_none links delay is = (least_of links delay is).none_below
 
 -- a slot at least
 pub one_below_none : (nodes : ℕ) (links : List LinkPlan) → AllByRecursion (IsLink nodes) links → NoneBelow 1 links

@@ -1,17 +1,19 @@
 -- How many rounds a run takes.
-use Rattle.std.proofs.Common.{◌≡◌, ◌⊎◌, ℕ, zero, suc, ◌+◌, ◌-◌, ◌*◌, ◌/◌, ◌<◌, ◌≤◌, Bool, true, false, eqb, Option, Some, None, List, [], ◌∷◌}
+use Rattle.std.proofs.Common.{◌≡◌, ◌⊎◌, ℕ, zero, suc, ◌+◌, ◌-◌, ◌*◌, ◌/◌, ◌<◌, ◌≤◌, Bool, true, false, eqb, Some, List, [], ◌∷◌}
 use Rattle.std.proofs.Common.{length, slice_get, refl, sym, ap, ◌∙◌, subst, arith, inl, inr, div-add-mod'}
+use Rattle.std.specs.List.{AllByRecursion}
 use Rattle.std.proofs.lemmas.Bool.{cases_lt, both_ways}
 use Rattle.std.proofs.lemmas.Nat.{mod_below}
-use Rattle.std.proofs.lemmas.Option.{none-some}
+use Rattle.std.proofs.lemmas.Option.{none-some, same_Some}
 use Rattle.xs_base.specs.Numbers.{Slot, Position}
 use Rattle.sys_plan.specs.declared.LinkPlan.{LinkPlan}
 use Rattle.sys_plan.specs.Plan.{PlanRec, IsPlan, arcs, link_arcs}
-use Rattle.round_laws.specs.Rounds.{reach, round_clocks, round_clock, all_at_limit, rounds_from, rounds, lesser, least_delay}
-use Rattle.round_laws.specs.Laws.{RoundsByDelay, RoundsWithoutLinks, NoRoundsForNoSlots, TestIsOfEach, AllFromThenOn, NotAllBefore, NoneIfAllAtStart, CountIfFirst}
+use Rattle.round_laws.specs.Rounds.{reach, round_clocks, round_clock, all_at_limit, rounds_from, rounds, least_delay}
+use Rattle.round_laws.specs.Laws.{RoundsByDelay, RoundsWithinSlots, RoundsWithoutLinks, NoRoundsForNoSlots, IsLeastOf}
+use Rattle.round_laws.specs.Laws.{TestIsOfEach, AllFromThenOn, NotAllBefore, MoreWhereNotAll, NoneIfAllAtStart, CountIfFirst}
 use Rattle.round_laws.proofs.Leasts.{from_each}
 use Rattle.round_laws.proofs.Positions.{test_of_each, each_to_test}
-use Rattle.round_laws.proofs.Clocks.{as_many_as_nodes, none_falls, stay_within, start_at_zero, after_one_more, NoneBelow, one_below_none, below_none, by_delays}
+use Rattle.round_laws.proofs.Clocks.{as_many_as_nodes, none_falls, stay_within, start_at_zero, after_one_more, one_below_none, least_of, below_none, by_delays}
 
 -- ---- The test
 
@@ -116,42 +118,43 @@ all_from_then_on plan limit k is less = all_from plan limit (rounds plan limit) 
 pub not_all_before : NotAllBefore
 not_all_before plan limit k less = none_before plan limit limit 0 (all_at_limit plan limit 0) refl k (omega arith) less
 
+pub more_where_not_all : MoreWhereNotAll
+more_where_not_all plan limit k is not_yet = by_case (cases_lt k (rounds plan limit))
+  where
+    by_case : (k < rounds plan limit) ⊎ (rounds plan limit ≤ k) → k < rounds plan limit
+    by_case (inl above) = above
+    by_case (inr within) = absurd (both_ways (all_at_limit plan limit k) not_yet (all_from_then_on plan limit k is within))
+
 pub none_if_all_at_start : NoneIfAllAtStart
 none_if_all_at_start plan limit all = omega (arith, at_most plan limit 0 all)
 
 pub count_if_first : CountIfFirst
-count_if_first plan limit k is not_yet all = by_case (cases_lt k (rounds plan limit))
-  where
-    by_case : (k < rounds plan limit) ⊎ (rounds plan limit ≤ k) → rounds plan limit ≡ k + 1
-    by_case (inl above) = omega (arith, above, at_most plan limit (k + 1) all)
-    by_case (inr within) = absurd (both_ways (all_at_limit plan limit k) not_yet (all_from_then_on plan limit k is within))
+count_if_first plan limit k is not_yet all = omega (arith, more_where_not_all plan limit k is not_yet, at_most plan limit (k + 1) all)
 
 rounded_up : (limit delay : ℕ) → 1 ≤ delay → limit ≤ (limit + delay - 1) / delay * delay
 rounded_up limit delay least =
     let n : ℕ = limit + delay - 1 in
     omega (arith, least, div-add-mod' n delay, mod_below n delay (omega (arith, least)))
 
--- the least of delays that are this much at least is so too
-abbrev IsFrom : Slot → Option Slot → Type 0
-IsFrom m None = Unit {0}
-IsFrom m (Some delay) = m ≤ delay
-
-lesser_from : (m : Slot) (link : LinkPlan) (o : Option Slot) → m ≤ link.delay → IsFrom m o → IsFrom m (Some (lesser link.delay o))
-lesser_from m link None more from = more
-lesser_from m link (Some delay) more from = omega (arith, more, from)
-
-least_from : (m : Slot) (links : List LinkPlan) → NoneBelow m links → IsFrom m (least_delay links)
-least_from m [] all = tt
-least_from m (link ∷ links) all = lesser_from m link (least_delay links) all.0 (least_from m links all.1)
+-- what holds of each holds of the one at a place
+at_place : {X : Type 0} (P : X → Type 0) (xs : List X) (k : ℕ) (x : X) → AllByRecursion P xs → slice_get xs k ≡ Some x → P x
+at_place P [] k x all at = absurd (none-some x at)
+at_place P (y ∷ xs) zero x all at = subst P (same_Some y x at) all.0
+at_place P (y ∷ xs) (suc k) x all at = at_place P xs k x all.1 at
 
 least_is_one : (plan : PlanRec) (delay : Slot) → IsPlan plan → least_delay plan.links ≡ Some delay → 1 ≤ delay
-least_is_one plan delay is least = subst (IsFrom 1) least (least_from 1 plan.links (one_below_none (length plan.nodes) plan.links is.links))
+least_is_one plan delay is least =
+    let it : IsLeastOf plan.links delay = least_of plan.links delay least in
+    omega (arith, it.is_it, at_place (λ (link : LinkPlan). 1 ≤ link.delay) plan.links it.place it.link (one_below_none (length plan.nodes) plan.links is.links) it.there)
 
 pub rounds_by_delay : RoundsByDelay
 rounds_by_delay plan limit delay is least =
     let k : ℕ = (limit + delay - 1) / delay in
     let enough : limit ≤ k * delay = rounded_up limit delay (least_is_one plan delay is least) in
     at_most plan limit k (from_run plan limit k (λ n less. omega (arith, by_delays plan limit delay is (below_none plan.links delay least) k n less, enough)))
+
+pub rounds_within_slots : RoundsWithinSlots
+rounds_within_slots plan limit is = at_most plan limit limit (all_in_time plan limit is)
 
 pub rounds_without_links : RoundsWithoutLinks
 rounds_without_links plan limit none = at_most plan limit 1 (from_run plan limit 1 to_limit)

@@ -1,6 +1,8 @@
 -- What rounds keep to.
-use Rattle.std.specs.Prelude.{ℕ, ◌≡◌, ◌+◌, ◌-◌, ◌*◌, ◌/◌, ◌<◌, ◌≤◌, min, true, false, ◌↔◌, nat_lt, Some, List, [], length, map, slice_get}
+use Rattle.std.specs.Prelude.{ℕ, ◌≡◌, ◌+◌, ◌-◌, ◌*◌, ◌/◌, ◌<◌, ◌≤◌, min, true, false, ◌↔◌, nat_lt, Option, Some, None, List, [], length, map, slice_get}
+use Rattle.std.specs.List.{AllByRecursion}
 use Rattle.xs_base.specs.Numbers.{Slot, Position, EndNumber, LinkNumber}
+use Rattle.sys_plan.specs.declared.LinkPlan.{LinkPlan}
 use Rattle.sys_plan.specs.Plan.{PlanRec, IsPlan, Arc, arcs, incoming}
 use Rattle.ahead_limits.specs.declared.horizon.Seen.{Seen}
 use Rattle.ahead_limits.specs.Horizon.{HorizonRec, Sees, may_run}
@@ -44,6 +46,22 @@ RoundsGoOn = (plan : PlanRec) (limit delay : Slot) (k : ℕ) → IsPlan plan →
 
 -- ---- How many rounds
 
+-- no delay of these links is below this one, and one of them has it
+pub record IsLeastOf (links : List LinkPlan) (delay : Slot) : Type 0 where
+  pub none_below : AllByRecursion (λ (link : LinkPlan). delay ≤ link.delay) links
+  pub place : ℕ
+  pub link : LinkPlan
+  pub there : slice_get links place ≡ Some link
+  pub is_it : link.delay ≡ delay
+
+abbrev pub IsLeastDelay : List LinkPlan → Option Slot → Type 0
+IsLeastDelay links None = links ≡ []
+IsLeastDelay links (Some delay) = IsLeastOf links delay
+
+-- the least delay is one of the delays, and none is below it
+abbrev pub LeastDelayIsLeast : Type 0
+LeastDelayIsLeast = (links : List LinkPlan) → IsLeastDelay links (least_delay links)
+
 -- at most the limit over the least delay, rounded up
 abbrev pub RoundsByDelay : Type 0
 RoundsByDelay = (plan : PlanRec) (limit delay : Slot) → IsPlan plan → least_delay plan.links ≡ Some delay → rounds plan limit ≤ (limit + delay - 1) / delay
@@ -51,6 +69,10 @@ RoundsByDelay = (plan : PlanRec) (limit delay : Slot) → IsPlan plan → least_
 -- at most one where there is no link
 abbrev pub RoundsWithoutLinks : Type 0
 RoundsWithoutLinks = (plan : PlanRec) (limit : Slot) → plan.links ≡ [] → rounds plan limit ≤ 1
+
+-- never more than the run has slots, for a delay is a slot at least
+abbrev pub RoundsWithinSlots : Type 0
+RoundsWithinSlots = (plan : PlanRec) (limit : Slot) → IsPlan plan → rounds plan limit ≤ limit
 
 -- none in a run of no slots
 abbrev pub NoRoundsForNoSlots : Type 0
@@ -68,6 +90,10 @@ AllFromThenOn = (plan : PlanRec) (limit : Slot) (k : ℕ) → IsPlan plan → ro
 
 abbrev pub NotAllBefore : Type 0
 NotAllBefore = (plan : PlanRec) (limit : Slot) (k : ℕ) → k < rounds plan limit → all_at_limit plan limit k ≡ false
+
+-- so where they are not all there, more rounds are to come
+abbrev pub MoreWhereNotAll : Type 0
+MoreWhereNotAll = (plan : PlanRec) (limit : Slot) (k : ℕ) → IsPlan plan → all_at_limit plan limit k ≡ false → k < rounds plan limit
 
 -- where all are at the limit before the first round, it is 0
 abbrev pub NoneIfAllAtStart : Type 0

@@ -3,8 +3,8 @@
 #![tactic(auto)]
 
 ghost use Rattle.round_laws.specs.Laws.{ClocksStartAtZero, ClocksGoByRounds, NoRoundFalls, ClocksStayWithin, RoundGoesOn, RoundsGoOn};
-ghost use Rattle.round_laws.specs.Laws.{RoundsByDelay, RoundsWithoutLinks, NoRoundsForNoSlots};
-ghost use Rattle.round_laws.specs.Laws.{TestIsOfEach, AllFromThenOn, NotAllBefore, NoneIfAllAtStart, CountIfFirst};
+ghost use Rattle.round_laws.specs.Laws.{RoundsByDelay, RoundsWithoutLinks, NoRoundsForNoSlots, RoundsWithinSlots, LeastDelayIsLeast};
+ghost use Rattle.round_laws.specs.Laws.{TestIsOfEach, AllFromThenOn, NotAllBefore, MoreWhereNotAll, NoneIfAllAtStart, CountIfFirst};
 ghost use Rattle.round_laws.specs.Laws.{RoundRunsBelow, RoundMayRun, RoundRunsTo, HorizonSeesRound};
 
 /// The clock of a node after some rounds is 0 before the first, and after a round more the least of the limit and, over the arcs that
@@ -20,12 +20,15 @@ pub fn round_clocks_rise()
     ensures go_on { RoundsGoOn }
 {}
 
-/// A run takes at most as many rounds as the least delay goes into its slots, rounded up; without a link at most one, and none where it
-/// has no slots. It does nothing. See docs/LOOKAHEAD.md.
+/// A run takes at most as many rounds as its slots over the least delay, rounded up; without a link at most one, and none where it
+/// has no slots. It never takes more than it has slots. The least delay is
+/// one of the delays, and none is below it. It does nothing. See docs/LOOKAHEAD.md.
 pub fn rounds_are_few()
     ensures by_delay { RoundsByDelay }
     ensures without_links { RoundsWithoutLinks }
     ensures no_slots { NoRoundsForNoSlots }
+    ensures within { RoundsWithinSlots }
+    ensures least { LeastDelayIsLeast }
 {}
 
 /// The number of rounds is the first after which all nodes are at the limit: before it not all are, and from it on all are. So who
@@ -34,6 +37,7 @@ pub fn rounds_by_first()
     ensures each { TestIsOfEach }
     ensures from_then_on { AllFromThenOn }
     ensures not_before { NotAllBefore }
+    ensures more { MoreWhereNotAll }
     ensures at_start { NoneIfAllAtStart }
     ensures first { CountIfFirst }
 {}

@@ -1,8 +1,11 @@
 -- Rounds worked out by hand.
-use Rattle.std.specs.Prelude.{◌≡◌, Some, None, List, [], ◌∷◌}
+use Rattle.std.specs.Prelude.{◌≡◌, Some, None, List, [], ◌∷◌, ◌++◌}
 use Rattle.sys_plan.specs.declared.NodePlan.{NodePlan}
 use Rattle.sys_plan.specs.declared.LinkPlan.{LinkPlan}
+use Rattle.sys_plan.specs.declared.Step.{Step}
+use Rattle.sys_plan.specs.declared.Step.TheVariants.{Take, Run, Send}
 use Rattle.sys_plan.specs.Plan.{PlanRec}
+use Rattle.ahead_limits.specs.Schedule.{numbers}
 use Rattle.round_laws.specs.Rounds.{round_clocks, rounds, least_delay}
 use Rattle.worked_runs.specs.Schedules.{idle_node, pair}
 
@@ -35,6 +38,17 @@ pub record PairRounds : Type 0 where
   pub to_5 : rounds (pair []) 5 ≡ 1
   pub to_6 : rounds (pair []) 6 ≡ 2
   pub to_0 : rounds (pair []) 0 ≡ 0
+
+-- both run as far as they may, then both publish, then both take
+abbrev pub in_step : List Step
+in_step = Run 0 1000 ∷ Run 1 1000 ∷ Send 0 0 ∷ Send 1 0 ∷ Take 0 0 ∷ Take 1 0 ∷ []
+
+-- a schedule that does so goes by rounds
+pub record StepRounds : Type 0 where
+  pub first : (numbers (pair in_step) 23).clocks ≡ round_clocks (pair []) 23 1
+  pub third : (numbers (pair (in_step ++ (in_step ++ in_step))) 23).clocks ≡ round_clocks (pair []) 23 3
+  pub fifth : (numbers (pair (in_step ++ (in_step ++ (in_step ++ (in_step ++ in_step))))) 23).clocks ≡ round_clocks (pair []) 23 5
+  pub five : rounds (pair []) 23 ≡ 5
 
 -- three nodes in a ring: delay 3 between 0 and 1, 7 between 1 and 2 and between 2 and 0
 abbrev pub slow_third : PlanRec

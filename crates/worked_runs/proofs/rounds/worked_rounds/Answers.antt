@@ -24,6 +24,10 @@ returns-clause-pair c = record {
   to_0 = refl;
 }
 
+pub returns-clause-in_step : goal.returns-clause-in_step
+unfolding computes
+returns-clause-in_step c = record { first = refl; third = refl; fifth = refl; five = refl }
+
 pub returns-clause-ring : goal.returns-clause-ring
 unfolding computes
 returns-clause-ring c = record { first = refl; second = refl; fifth = refl; sixth = refl; seventh = refl; to_20 = refl; to_21 = refl; to_22 = refl; least = refl }
