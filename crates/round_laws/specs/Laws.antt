@@ -35,12 +35,12 @@ ClocksStayWithin = (plan : PlanRec) (limit : Slot) (n : Position) (k : ℕ) → 
 abbrev pub AllHaveRun : PlanRec → Slot → ℕ → Slot → Type 0
 AllHaveRun plan limit k least = (n : Position) → n < length plan.nodes → least ≤ round_clock plan limit n k
 
--- a round takes the least clock further by the least delay, or to the limit
+-- a round takes the least clock further by the least delay at least, or to the limit
 abbrev pub RoundGoesOn : Type 0
 RoundGoesOn = (plan : PlanRec) (limit delay least : Slot) (k : ℕ) → IsPlan plan → least_delay plan.links ≡ Some delay
     → AllHaveRun plan limit k least → AllHaveRun plan limit (k + 1) (min limit (least + delay))
 
--- so after any rounds every clock is that many least delays, or the limit
+-- so after any rounds every clock is at least that many least delays, or the limit
 abbrev pub RoundsGoOn : Type 0
 RoundsGoOn = (plan : PlanRec) (limit delay : Slot) (k : ℕ) → IsPlan plan → least_delay plan.links ≡ Some delay → AllHaveRun plan limit k (min limit (k * delay))
 
@@ -62,7 +62,7 @@ IsLeastDelay links (Some delay) = IsLeastOf links delay
 abbrev pub LeastDelayIsLeast : Type 0
 LeastDelayIsLeast = (links : List LinkPlan) → IsLeastDelay links (least_delay links)
 
--- at most the limit over the least delay, rounded up
+-- they are at most the limit over the least delay, rounded up
 abbrev pub RoundsByDelay : Type 0
 RoundsByDelay = (plan : PlanRec) (limit delay : Slot) → IsPlan plan → least_delay plan.links ≡ Some delay → rounds plan limit ≤ (limit + delay - 1) / delay
 

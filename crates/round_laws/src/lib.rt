@@ -9,8 +9,8 @@ ghost use Rattle.round_laws.specs.Laws.{RoundRunsBelow, RoundMayRun, RoundRunsTo
 
 /// The clock of a node after some rounds is 0 before the first, and after a round more the least of the limit and, over the arcs that
 /// come to the node, the sender's clock and the delay. A round lets no clock fall, and none passes the limit. It takes the least
-/// clock further by the least delay, or to the limit; so after any rounds every clock is that many least delays, or the limit. It does
-/// nothing. See docs/LOOKAHEAD.md.
+/// clock further by the least delay at least, or to the limit; so after any rounds every clock is at least that many least delays, or
+/// the limit. It does nothing. See docs/LOOKAHEAD.md.
 pub fn round_clocks_rise()
     ensures start { ClocksStartAtZero }
     ensures round { ClocksGoByRounds }
@@ -21,8 +21,8 @@ pub fn round_clocks_rise()
 {}
 
 /// A run takes at most as many rounds as its slots over the least delay, rounded up; without a link at most one, and none where it
-/// has no slots. It never takes more than it has slots. The least delay is
-/// one of the delays, and none is below it. It does nothing. See docs/LOOKAHEAD.md.
+/// has no slots. It never takes more than it has slots. The least delay is one of the delays, and none is below it. It does nothing. See
+/// docs/LOOKAHEAD.md.
 pub fn rounds_are_few()
     ensures by_delay { RoundsByDelay }
     ensures without_links { RoundsWithoutLinks }
