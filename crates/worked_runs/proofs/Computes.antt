@@ -11,6 +11,7 @@ use Rattle.step_model.specs.Step.{node_step}
 use Rattle.serial_model.specs.Serial.{serial}
 use Rattle.locality_laws.specs.Alone.{alone}
 use Rattle.ahead_limits.specs.Schedule.{clock_after, after_steps}
+use Rattle.round_laws.specs.Rounds.{round_clocks, rounds_from}
 use Rattle.trace_model.specs.EventLines.{hex_word}
 use Rattle.trace_model.specs.EventOrder.{by_slot}
 use Rattle.trace_model.specs.Trace.{halted_lines, memory_lines, by_position, trace_text}
@@ -21,5 +22,5 @@ use Rattle.busy_slots.specs.Busy.{busy_count}
 
 -- names them all on its own line, so that they unfold where it does
 unfoldable pub computes : Type 0
-unfolding digits words_of best_from edges_from lowest_free first_difference links_after_arrivals moves_from free_end node_step serial alone clock_after after_steps hex_word by_slot halted_lines memory_lines by_position trace_text played_from play_text load_text busy_count
+unfolding digits words_of best_from edges_from lowest_free first_difference links_after_arrivals moves_from free_end node_step serial alone clock_after after_steps round_clocks rounds_from hex_word by_slot halted_lines memory_lines by_position trace_text played_from play_text load_text busy_count
 computes = Unit {0}

@@ -3,6 +3,7 @@ pub mod Directions
 pub mod Systems
 pub mod Receiver
 pub mod Schedules
+pub mod Rounds
 pub mod EventLines
 pub mod Traces
 pub mod LinkLines

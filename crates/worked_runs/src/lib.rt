@@ -1,5 +1,5 @@
 //! Facts of whole systems that were worked out by hand, which the definitions give: directed links, runs of two and three nodes, a
-//! node that is stepped alone, schedules, and the texts that are written of runs. Nothing stands on this crate.
+//! node that is stepped alone, schedules, rounds, and the texts that are written of runs. Nothing stands on this crate.
 #![tactic(auto)]
 
 mod busy;
@@ -9,6 +9,7 @@ mod link_lines;
 mod loads;
 mod plays;
 mod receiver;
+mod rounds;
 mod schedules;
 mod systems;
 mod traces;
@@ -20,6 +21,7 @@ pub use link_lines::worked_link_lines;
 pub use loads::worked_loads;
 pub use plays::worked_plays;
 pub use receiver::worked_receiver;
+pub use rounds::worked_rounds;
 pub use schedules::worked_schedules;
 pub use systems::worked_systems;
 pub use traces::worked_traces;

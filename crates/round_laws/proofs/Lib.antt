@@ -1,0 +1,5 @@
+pub mod Bridge
+pub mod Clocks
+pub mod Counts
+pub mod Leasts
+pub mod Positions
