@@ -16,7 +16,7 @@ use Rattle.plan_cells.specs.Ends.{CellsRec}
 use Rattle.core_workers.specs.declared.turn.Turn.{Turn}
 use Rattle.core_workers.specs.declared.turn.Turn.TheVariants.{Ran, Blocked, Busy, Finished, Stopped, Memory}
 use Rattle.core_workers.specs.Worker.{Listens, stops_here, stopping_ends, is_behind, unheard_ends, untold_ends, IsLeast, Outcome, IsAllDone, IsIdle, IsUnexplained, AnswersBy}
-use Rattle.core_workers.specs.Steps.{AreOfPlan, Explains, WaitsForLeast}
+use Rattle.core_workers.specs.Steps.{AreOfPlan, Explains, NamesLeast}
 use Rattle.core_workers.proofs.Exchanges.{ReadsThere, reads_there}
 use Rattle.core_workers.proofs.Routes.{comes_by}
 
@@ -86,19 +86,19 @@ module _ (cells : CellsRec) (is : IsPlan cells.plan) (runner : RunnerRec) (ends 
     reads : ReadsThere cells is runner ends listens none_in_hand end stop.link
     reads = reads_there cells is runner ends listens none_in_hand end stop.link stop.there
 
-    is_stop : reads.reader.held ≡ false → stops_here cells.plan runner.clock reads.reader ≡ true
+    is_stop : reads.reader.busy ≡ false → stops_here cells.plan runner.clock reads.reader ≡ true
     is_stop looked =
         let far : reads.reader.r.end.got + delay_of cells.plan reads.reader.link ≡ runner.clock = sym (stop.is_horizon ∙ ap horizon_at reads.same) in
         ap (λ b. not b && eqb (reads.reader.r.end.got + delay_of cells.plan reads.reader.link) runner.clock) looked
         ∙ eq-eqb (reads.reader.r.end.got + delay_of cells.plan reads.reader.link) runner.clock far
 
-    by_held : (b : Bool) → reads.reader.held ≡ b → stopping_ends cells.plan runner.clock ends ≡ [] → unheard_ends ends ≡ [] → ⊥
-    by_held true held none_stops none_held = some_passes (λ (i : Incoming). i.held) (λ (i : Incoming). i.end) ends reads.place reads.reader reads.at held none_held
+    by_held : (b : Bool) → reads.reader.busy ≡ b → stopping_ends cells.plan runner.clock ends ≡ [] → unheard_ends ends ≡ [] → ⊥
+    by_held true held none_stops none_held = some_passes (λ (i : Incoming). i.busy) (λ (i : Incoming). i.end) ends reads.place reads.reader reads.at held none_held
     by_held false looked none_stops none_held =
         some_passes (stops_here cells.plan runner.clock) (λ (i : Incoming). i.end) ends reads.place reads.reader reads.at (is_stop looked) none_stops
 
     pub some_unheard : stopping_ends cells.plan runner.clock ends ≡ [] → unheard_ends ends ≡ [] → ⊥
-    some_unheard none_stops none_held = by_held reads.reader.held refl none_stops none_held
+    some_unheard none_stops none_held = by_held reads.reader.busy refl none_stops none_held
 
 -- ---- Where no slot was run
 
@@ -110,7 +110,7 @@ explained_answer o Finished idle below why = absurd why
 explained_answer o (Stopped link) idle below why = (idle, below, why)
 explained_answer o Memory idle below why = absurd why
 
-pub busy_answer : (o : Outcome) (turn : Turn) → (IsAllDone o → ⊥) → IsIdle o → IsUnexplained o → WaitsForLeast (unheard_ends o.incoming ++ untold_ends o.clock o.outgoing) turn → AnswersBy o turn
+pub busy_answer : (o : Outcome) (turn : Turn) → (IsAllDone o → ⊥) → IsIdle o → IsUnexplained o → NamesLeast (unheard_ends o.incoming ++ untold_ends o.clock o.outgoing) turn → AnswersBy o turn
 busy_answer o (Ran from to) not_done idle none waits = absurd waits
 busy_answer o (Blocked end seen) not_done idle none waits = absurd waits
 busy_answer o (Busy end) not_done idle none waits = (not_done, idle, none, waits)

@@ -9,7 +9,7 @@ use Rattle.xs_base.specs.Numbers.{Slot, EndNumber}
 use Rattle.sys_plan.specs.Plan.{PlanRec}
 use Rattle.plan_cells.specs.declared.ends.Incoming.{Incoming}
 use Rattle.core_workers.specs.Worker.{IsLeast, IsReadTo, stopping_ends}
-use Rattle.core_workers.specs.Steps.{IsLeastOf, IsLeastStop, least_of, first_of}
+use Rattle.core_workers.specs.Steps.{IsLeastOf, IsLeastStop, least_of, lesser_stop}
 
 module _ {X : Type 0} (test : X → Bool) (number : X → ℕ) (xs : List X) (i : ℕ) (x : X) (within : i < length xs) (is : x ≡ get_or xs i x) where
   more : (b : Bool) → test x ≡ b → map number (filter test (take (i + 1) xs)) ≡ map number (filter test (take i xs)) ++ map number (cond b (x ∷ []) [])
@@ -67,7 +67,7 @@ module _ (plan : PlanRec) (clock : Slot) (xs : List Incoming) (x : Incoming) whe
     is_stop end slot least read = (subst (λ (es : List EndNumber). IsLeast end es) (sym more) least, read)
 
     of_two : (end : EndNumber) (slot : Slot) → IsLeast end (stopping_ends plan clock xs) → IsReadTo slot end xs → (x.end < end) ⊎ (end ≤ x.end)
-        → IsLeastStop plan clock now (Some (first_of (Some (end, slot)) x.end x.r.end.got))
+        → IsLeastStop plan clock now (Some (lesser_stop (Some (end, slot)) x.end x.r.end.got))
     of_two end slot least read (inl less) =
         let both = least_both end x.end (stopping_ends plan clock xs) (x.end ∷ []) least (alone x.end) (inr (omega (arith, less))) in
         let is : min end x.end ≡ x.end = omega (arith, less) in
@@ -79,7 +79,7 @@ module _ (plan : PlanRec) (clock : Slot) (xs : List Incoming) (x : Incoming) whe
         subst (λ b. IsLeastStop plan clock now (Some (cond b (x.end, x.r.end.got) (end, slot)))) (sym (le-ltb x.end end less))
         (is_stop end slot old (read_before slot end read))
 
-    pub stop_more : (stop : Option (EndNumber × Slot)) → IsLeastStop plan clock xs stop → IsLeastStop plan clock now (Some (first_of stop x.end x.r.end.got))
+    pub stop_more : (stop : Option (EndNumber × Slot)) → IsLeastStop plan clock xs stop → IsLeastStop plan clock now (Some (lesser_stop stop x.end x.r.end.got))
     stop_more None none = is_stop x.end x.r.end.got (subst (λ (es : List EndNumber). IsLeast x.end (es ++ x.end ∷ [])) (sym none) (alone x.end)) read_here
     stop_more (Some stop) least = of_two stop.0 stop.1 least.0 least.1 (cases_lt x.end stop.0)
 

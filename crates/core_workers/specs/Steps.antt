@@ -32,9 +32,9 @@ least_of (Some a) None = Some a
 least_of (Some a) (Some b) = Some (min a b)
 
 -- the lesser of two link ends, where there are two, and up to which slot its link was read
-abbrev pub first_of : Option (EndNumber × Slot) → EndNumber → Slot → EndNumber × Slot
-first_of None end slot = (end, slot)
-first_of (Some stop) end slot = if nat_lt end stop.0 then (end, slot) else stop
+abbrev pub lesser_stop : Option (EndNumber × Slot) → EndNumber → Slot → EndNumber × Slot
+lesser_stop None end slot = (end, slot)
+lesser_stop (Some stop) end slot = if nat_lt end stop.0 then (end, slot) else stop
 
 -- the least of the link ends that stop the node, and up to which slot its link was read; none where no link end does
 abbrev pub IsLeastStop : PlanRec → Slot → List Incoming → Option (EndNumber × Slot) → Type 0
@@ -55,11 +55,11 @@ Explains plan clock ends (Some Memory) = ⊥
 abbrev pub AreOfPlan : PlanRec → List Incoming → Type 0
 AreOfPlan plan ends = AllByRecursion (λ (i : Incoming). i.link < arc_count plan) ends
 
--- a turn waits for a cell, the one of the least of these link ends
-abbrev pub WaitsForLeast : List EndNumber → Turn → Type 0
-WaitsForLeast ends (Busy end) = IsLeast end ends
-WaitsForLeast ends (Ran from to) = ⊥
-WaitsForLeast ends (Blocked end seen) = ⊥
-WaitsForLeast ends Finished = ⊥
-WaitsForLeast ends (Stopped link) = ⊥
-WaitsForLeast ends Memory = ⊥
+-- a turn found cells in use, and names the least of these link ends
+abbrev pub NamesLeast : List EndNumber → Turn → Type 0
+NamesLeast ends (Busy end) = IsLeast end ends
+NamesLeast ends (Ran from to) = ⊥
+NamesLeast ends (Blocked end seen) = ⊥
+NamesLeast ends Finished = ⊥
+NamesLeast ends (Stopped link) = ⊥
+NamesLeast ends Memory = ⊥

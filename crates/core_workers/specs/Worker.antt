@@ -8,8 +8,8 @@ use Rattle.busy_slots.specs.Busy.{busy_count}
 use Rattle.plan_stories.specs.Stories.{carried_at}
 use Rattle.link_logs.specs.declared.answers.Cause.{Cause}
 use Rattle.link_logs.specs.declared.answers.Got.{Got}
-use Rattle.log_cells.specs.Ends.{LooksAt, one_more}
-use Rattle.log_cells.specs.Tries.{reader_refused, writer_refused}
+use Rattle.log_cells.specs.Ends.{one_more}
+use Rattle.log_cells.specs.Tries.{LooksInTurn, reader_refused, writer_had, writer_refused}
 use Rattle.plan_cells.specs.declared.ends.Hand.{Hand}
 use Rattle.plan_cells.specs.declared.ends.Outgoing.{Outgoing}
 use Rattle.plan_cells.specs.declared.ends.Incoming.{Incoming}
@@ -116,19 +116,19 @@ pub record Stays (before after : WorkerRec) : Type 0 where
 -- the log was looked at once
 pub record Looked (before after : Incoming) : Type 0 where
   pub got : Got
-  pub look : LooksAt (carried_at before.r.end.run before.r.end.number) before.r.end got after.r.end
+  pub in_turn : LooksInTurn (carried_at before.r.end.run before.r.end.number) before.r got after.r
   pub looks : after.r.end.looks ≡ one_more before.r.end.looks
-  pub not_refused : after.r.refused ≡ before.r.refused
 
--- the log was tried once: it was looked at, or the turn of its cell was held; and all that was read of it was handed to the node
+-- the log was to be looked at once: it was, or the cell was in use by its other end; and all that was read of it was handed to the node
 pub record Tried (before after : Incoming) : Type 0 where
-  pub looked : after.held ≡ false → Looked before after
-  pub refused : after.held ≡ true → after.r ≡ reader_refused before.r
+  pub looked : after.busy ≡ false → Looked before after
+  pub refused : after.busy ≡ true → after.r ≡ reader_refused before.r
   pub none_in_hand : after.hand ≡ None
 
--- the link was published up to a slot, or else the turn of its cell was held
+-- the link was to be published up to a slot: it is already, and nobody is told; or it was, once; or the cell was in use by its other end
 pub record Told (slot : Slot) (before after : Outgoing) : Type 0 where
-  pub published : after.w.end.published ≡ slot → after.w.end ≡ record before.w.end { published = slot }
+  pub already : before.w.end.published ≡ slot → after.w ≡ before.w
+  pub published : before.w.end.published ≢ slot → after.w.end.published ≡ slot → after.w ≡ writer_had before.w (record before.w.end { published = slot })
   pub refused : after.w.end.published ≢ slot → after.w ≡ writer_refused before.w
 
 -- how far a node may run: to the limit, and of each link that comes to it to the slot up to which it was read, and the link's delay
@@ -136,13 +136,13 @@ abbrev pub reach : PlanRec → Slot → List Incoming → Slot
 reach plan limit [] = limit
 reach plan limit (i ∷ ends) = min (i.r.end.got + delay_of plan i.link) (reach plan limit ends)
 
--- each log was tried, the node has run as far as it may, and each link was to be published up to there
+-- each log was looked at or in use, the node has run as far as it may, and each link was published up to there or its cell in use
 pub record Exchanged (before after : WorkerRec) : Type 0 where
   pub tried : AllZip Tried before.ends.incoming.items after.ends.incoming.items
   pub ran : after.runner.clock ≡ reach after.cells.plan after.runner.horizon.limit after.ends.incoming.items
   pub told : AllZip (Told after.runner.clock) before.ends.outgoing.items after.ends.outgoing.items
 
--- ---- The answers, of which at most one fits
+-- ---- The answers. Beside `Memory`, exactly one fits where the logs were tried and what was sent was told
 
 -- the arcs of which the logs were found closed
 abbrev pub shut_links : List Incoming → List LinkNumber
@@ -150,7 +150,7 @@ shut_links ends = map (λ (i : Incoming). i.link) (filter (λ (i : Incoming). i.
 
 -- a link was looked at in the turn, and lets the node run no further
 abbrev pub stops_here : PlanRec → Slot → Incoming → Bool
-stops_here plan clock i = not i.held && (i.r.end.got + delay_of plan i.link == clock)
+stops_here plan clock i = not i.busy && (i.r.end.got + delay_of plan i.link == clock)
 
 -- the link ends of such links
 abbrev pub stopping_ends : PlanRec → Slot → List Incoming → List EndNumber
@@ -160,10 +160,11 @@ stopping_ends plan clock ends = map (λ (i : Incoming). i.end) (filter (stops_he
 abbrev pub is_behind : Slot → Outgoing → Bool
 is_behind slot o = not (o.w.end.published == slot)
 
--- the link ends of links that were not looked at, or not published up to the clock, since the turns of their cells were held
+-- the link ends of links that were not looked at, since their cells were in use
 abbrev pub unheard_ends : List Incoming → List EndNumber
-unheard_ends ends = map (λ (i : Incoming). i.end) (filter (λ (i : Incoming). i.held) ends)
+unheard_ends ends = map (λ (i : Incoming). i.end) (filter (λ (i : Incoming). i.busy) ends)
 
+-- the link ends of links that are not published up to a slot
 abbrev pub untold_ends : Slot → List Outgoing → List EndNumber
 untold_ends clock ends = map (λ (o : Outgoing). o.end) (filter (is_behind clock) ends)
 
@@ -204,7 +205,7 @@ IsAllDone o = (o.clock ≡ o.limit) × All (λ (w : Outgoing). w.w.end.published
 abbrev pub IsIdle : Outcome → Type 0
 IsIdle o = o.clock ≡ o.from
 
--- below the limit no log was found closed, and no link that was looked at lets the node run no further
+-- at the limit, or no log was found closed and each link that stops the node was not looked at
 abbrev pub IsUnexplained : Outcome → Type 0
 IsUnexplained o = o.clock < o.limit → (shut_links o.incoming ≡ []) × (stopping_ends o.plan o.clock o.incoming ≡ [])
 

@@ -4,7 +4,7 @@ ghost use Rattle.xs_base.specs.Numbers.{EndNumber};
 ghost use Rattle.plan_cells.specs.declared.ends.Incoming as incoming_end;
 ghost use Rattle.node_runners.specs.Runner.{Stops};
 ghost use Rattle.core_workers.specs.Worker.{WorkerRec, IsWorker, Outcome, AnswersBy, unheard_ends};
-ghost use Rattle.core_workers.specs.Steps.{IsLeastOf, Explains, AreOfPlan, WaitsForLeast};
+ghost use Rattle.core_workers.specs.Steps.{IsLeastOf, Explains, AreOfPlan, NamesLeast};
 
 use crate::least::{least_end, least_shut, least_stop, least_unheard, least_untold};
 use crate::turn::Turn;
@@ -59,10 +59,10 @@ fn explained(plan: &Plan, readers: &[Incoming], clock: u32) -> Option<Turn>
     }
 }
 
-// The answer where neither tells why: the turn of a cell was held. `untold` is the least link end of what is not published.
+// The answer where neither tells why: a cell was in use. `untold` is the least link end of what is not published.
 fn busy(readers: &[Incoming], untold: Option<u8>) -> Turn
     requires some { unheard_ends readers.now ≡ [] → IsSome untold }
-    ensures { (ends : List EndNumber) → IsLeastOf untold ends → WaitsForLeast (unheard_ends readers.now ++ ends) result }
+    ensures { (ends : List EndNumber) → IsLeastOf untold ends → NamesLeast (unheard_ends readers.now ++ ends) result }
 {
     match least_end(least_unheard(readers), untold) {
         Some(end) => Turn::Busy { end },

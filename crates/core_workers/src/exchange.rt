@@ -12,7 +12,8 @@ use node_runners::NodeRunner;
 use plan_cells::{Ends, PlanCells};
 use std::alloc::AllocError;
 
-// Tries each log, runs the node as far as it may, publishes all that it has sent, and tells what came of it. The error is want of memory.
+// Looks once at each log, runs the node as far as it may, and publishes once what it has sent, but where a cell is in use; and tells what came
+// of it. The error is want of memory.
 fn exchange(
     cells: &PlanCells,
     runner: &mut NodeRunner,

@@ -50,7 +50,8 @@ fn give_back(reader: &mut Incoming, runner: &mut NodeRunner, carried: bool)
     }
 }
 
-// Tries the log of a link that comes to the node, and hands to the node all that was read of it. The error is want of memory.
+// Looks once at the log of a link that comes to the node, unless its cell is in use, and hands to the node all that was read of it. The error
+// is want of memory.
 fn hear(
     cells: &PlanCells,
     reader: &mut Incoming,
@@ -69,11 +70,11 @@ fn hear(
     let cell = cells.cell(reader.link);
     match cell.try_take(&mut reader.r) {
         TryGot::Busy => {
-            reader.held = true;
+            reader.busy = true;
             Ok(())
         }
         TryGot::Got(got) => {
-            reader.held = false;
+            reader.busy = false;
             match got {
                 Got::Entries { to, batch, .. } => {
                     let hand = Hand { batch, to };
@@ -86,7 +87,8 @@ fn hear(
     }
 }
 
-/// Tries the log of each link that comes to the node, and hands to the node all that was read of it. The error is want of memory.
+/// Looks once at the log of each link that comes to the node, but where its cell is in use, and hands to the node all that was read of it. The
+/// error is want of memory.
 pub(crate) fn hear_all(
     cells: &PlanCells,
     ends: &mut Ends,

@@ -2,7 +2,7 @@
 ghost use Rattle.std.specs.Prelude.{◌≡◌, ◌<◌};
 ghost use Rattle.sys_plan.specs.Plan.{arc_count};
 ghost use Rattle.core_workers.specs.Worker.{shut_links, stops_here, unheard_ends, untold_ends};
-ghost use Rattle.core_workers.specs.Steps.{IsLeastOf, IsLeastStop, AreOfPlan, least_of, first_of};
+ghost use Rattle.core_workers.specs.Steps.{IsLeastOf, IsLeastStop, AreOfPlan, least_of, lesser_stop};
 
 use plan_cells::{Incoming, Outgoing};
 use sys_plan::Plan;
@@ -42,14 +42,13 @@ pub(crate) fn least_shut(readers: &[Incoming]) -> Option<u32>
     least
 }
 
-/// The least of the link ends of links that were not looked at, since the turns of their cells were held. None comes exactly where all
-/// were looked at.
+/// The least of the link ends of links that were not looked at, since their cells were in use. None comes exactly where all were looked at.
 pub(crate) fn least_unheard(readers: &[Incoming]) -> Option<u8>
     ensures { IsLeastOf result (unheard_ends readers.now) }
 {
     let mut least = None;
     for reader in readers {
-        if reader.held {
+        if reader.busy {
             least = least_end(least, Some(reader.end));
         }
     }
@@ -78,7 +77,7 @@ pub(crate) fn least_stop(plan: &Plan, readers: &[Incoming], clock: u32) -> Optio
     let mut least: Option<(u8, u32)> = None;
     for reader in readers {
         if stops(plan, reader, clock) {
-            least = Some(first_stop(least, reader.end, reader.r.got()));
+            least = Some(lesser_of_two(least, reader.end, reader.r.got()));
         }
     }
     least
@@ -89,13 +88,13 @@ fn stops(plan: &Plan, reader: &Incoming, clock: u32) -> bool
     requires of_plan { reader.now.link < arc_count plan.now }
     ensures { result ≡ stops_here plan.now clock reader.now }
 {
-    !reader.held
+    !reader.busy
         && u64::from(reader.r.got()) + u64::from(plan.delay(reader.link)) == u64::from(clock)
 }
 
 // The lesser of two link ends, where there are two, and up to which slot its link was read.
-fn first_stop(stop: Option<(u8, u32)>, end: u8, got: u32) -> (u8, u32)
-    ensures { result ≡ first_of stop end got }
+fn lesser_of_two(stop: Option<(u8, u32)>, end: u8, got: u32) -> (u8, u32)
+    ensures { result ≡ lesser_stop stop end got }
 {
     match stop {
         None => (end, got),

@@ -14,8 +14,8 @@ use std::alloc::AllocError;
 use std::sync::Wait;
 use xs_base::Batch;
 
-// Publishes up to the node's clock a link that leaves it, unless the turn of its cell is held. The error is want of memory, and publishes
-// nothing. Where all is published it does nothing, so that no one is woken for nothing.
+// Publishes up to the node's clock a link that leaves it, unless its cell is in use by its other end. The error is want of memory, and
+// publishes nothing. Where all is published it does nothing, so that no one is woken for nothing.
 fn tell(
     cells: &PlanCells,
     writer: &mut Outgoing,
@@ -66,7 +66,7 @@ fn keep(runner: &mut NodeRunner, end: u8, carried: bool, batch: Batch)
     }
 }
 
-/// Publishes up to the node's clock each link that leaves it, unless the turn of its cell is held. The error is want of memory.
+/// Publishes up to the node's clock each link that leaves it, but where its cell is in use by its other end. The error is want of memory.
 pub(crate) fn tell_all(
     cells: &PlanCells,
     ends: &mut Ends,

@@ -86,9 +86,9 @@ impl<'a> Worker<'a> {
         }
     }
 
-    /// Passes the gate; then tries once the log of each link that comes to the node, runs the node as far as it may, and tries once to
-    /// publish each link that leaves it. It waits for nobody: where another has the turn of a cell, what was to be done there is left for
-    /// a later turn. No log of a link that leaves the node may be closed, and none is closed by it.
+    /// Passes the gate; then looks once at the log of each link that comes to the node, runs the node as far as it may, and publishes once
+    /// each link that leaves it. It waits for nobody: where a cell is in use by its other end, what was to be done there is left for a later
+    /// turn. No log of a link that leaves the node may be closed, and none is closed by it.
     pub fn turn<G: Gate>(&mut self, gate: &G) -> Turn
         requires open { All IsOpen self.old.ends.outgoing.items }
         ensures keeps { IsWorker self.new }
@@ -102,9 +102,9 @@ impl<'a> Worker<'a> {
         take_turn(&lanes.cells, &mut self.runner, &mut self.ends)
     }
 
-    /// Takes turns until the node has run all slots, or the log of a link that comes to it was found closed and stops it, or memory is
-    /// wanting: in the last two cases it closes the logs of the links that leave the node. While the node is blocked it waits for news of
-    /// the link that blocks it, once all that it has sent is published. No log of a link that leaves the node may be closed.
+    /// Takes turns until the node has run all slots, or has run none in a turn and the log of a link that comes to it was found closed, or
+    /// memory is wanting: in the last two cases it closes the logs of the links that leave the node. While the node is blocked it waits for
+    /// news of the link that blocks it, once all that it has sent is published. No log of a link that leaves the node may be closed.
     pub fn run<R: Wait, G: Gate>(&mut self, rt: &R, gate: &G) -> Ended
         requires open { All IsOpen self.old.ends.outgoing.items }
         ensures is_worker { IsWorker self.new }

@@ -94,7 +94,7 @@ abbrev pub outgoing_end : Arc → LinkNumber → PlanRec → TableId → Outgoin
 outgoing_end d link plan table = record { end = d.from_end; link = link; w = record { table = table; end = new_write_end plan link; refused = 0; raised = 0 } }
 
 abbrev pub incoming_end : Arc → LinkNumber → PlanRec → TableId → Incoming
-incoming_end d link plan table = record { end = d.to_end; link = link; r = record { table = table; end = new_read_end plan link; refused = 0; turns = [] }; hand = None; held = false }
+incoming_end d link plan table = record { end = d.to_end; link = link; r = record { table = table; end = new_read_end plan link; refused = 0; turns = [] }; hand = None; busy = false }
 
 -- the ends of one more cell go to its two nodes
 pub record Deals (plan : PlanRec) (link : LinkNumber) (cell : CellRec PlanRec) (before after : List Ends) : Type 0 where

@@ -73,7 +73,7 @@ fn deal(
         link,
         r,
         hand: None,
-        held: false,
+        busy: false,
     };
     give_incoming(all, ends.to, incoming)?;
     Ok(cell)

@@ -21,14 +21,14 @@ pub struct Outgoing {
 }
 
 /// The end by which a node reads the cell of an arc that comes to it: the link end, 0 to 7, to which the link comes, the
-/// number of the arc, what was read and is still in hand, and whether the turn of the cell was held when it was last tried.
+/// number of the arc, what was read and is still in hand, and whether the cell was in use by its other end when it was last to be looked at.
 #[derive(Drop)]
 pub struct Incoming {
     pub end: u8,
     pub link: u32,
     pub r: ReadEnd<PlanStory>,
     pub hand: Option<Hand>,
-    pub held: bool,
+    pub busy: bool,
 }
 
 /// The ends that a node holds, one for each arc that leaves it and one for each that comes to it, by number.

@@ -8,7 +8,7 @@ use Rattle.plan_cells.specs.declared.ends.Incoming.{Incoming}
 use Rattle.plan_cells.specs.declared.ends.Outgoing.{Outgoing}
 use Rattle.core_workers.specs.declared.turn.Turn.{Turn}
 use Rattle.core_workers.specs.Worker.{Outcome, unheard_ends, untold_ends, stopping_ends}
-use Rattle.core_workers.specs.Steps.{IsLeastOf, Explains, AreOfPlan, WaitsForLeast}
+use Rattle.core_workers.specs.Steps.{IsLeastOf, Explains, AreOfPlan, NamesLeast}
 use Rattle.core_workers.proofs.Answering.{all_told, not_all_done, of_plan, some_unheard, busy_answer}
 use Rattle.core_workers.proofs.answer.answer_of.Goals as goal
 
@@ -55,8 +55,8 @@ returns-in-Some-2 c =
           (λ done. not_all_done c.args.to limit c.args.ends.now.outgoing.items writers c.in-Some.field-0 c.deref.ensures.value some done)
           (omega (arith, c.requires.from, c.if-from-to.false))
           (λ below. absurd (omega (arith, below, at)))
-          (subst (λ (v : List Outgoing). WaitsForLeast (unheard_ends c.args.ends.now.incoming.items ++ untold_ends c.args.to v) c.busy.result) c.deref.ensures.value
-          (subst (λ (v : List Incoming). WaitsForLeast (unheard_ends v ++ untold_ends c.args.to writers) c.busy.result) c.deref-in-Some-2.ensures.value waits));
+          (subst (λ (v : List Outgoing). NamesLeast (unheard_ends c.args.ends.now.incoming.items ++ untold_ends c.args.to v) c.busy.result) c.deref.ensures.value
+          (subst (λ (v : List Incoming). NamesLeast (unheard_ends v ++ untold_ends c.args.to writers) c.busy.result) c.deref-in-Some-2.ensures.value waits));
     }
 
 -- ---- Below it

@@ -34,6 +34,6 @@ hand_over-requires-in-Entries-clause-heard c =
     let on : c.in-Entries.from ≤ c.in-Entries.to = omega (arith, gives.1) in
     let entries = found_is runner.plan reader.r.end.run reader.link reader.r.end.number heard.seen.seen c.in-Entries.from c.in-Entries.to c.in-Entries.batch.entries run number from on gives.2 in
     heard_by runner.plan runner.horizon runner.horizon reader
-    (record { end = reader.end; link = reader.link; r = c.try_take.new.r; hand = Some (record { batch = c.in-Entries.batch; to = c.in-Entries.to }); held = false })
+    (record { end = reader.end; link = reader.link; r = c.try_take.new.r; hand = Some (record { batch = c.in-Entries.batch; to = c.in-Entries.to }); busy = false })
     refl heard refl refl
     (omega (arith, gives.1, from, got), sym got, entries ∙ ap (λ t. history runner.plan reader.link heard.seen.seen t) (sym got))

@@ -3,7 +3,7 @@ use Rattle.std.proofs.lemmas.List.{take_more}
 use Rattle.xs_base.specs.Numbers.{Slot, EndNumber}
 use Rattle.plan_cells.specs.declared.ends.Incoming.{Incoming}
 use Rattle.core_workers.specs.Worker.{stops_here, stopping_ends}
-use Rattle.core_workers.specs.Steps.{IsLeastStop, first_of}
+use Rattle.core_workers.specs.Steps.{IsLeastStop, lesser_stop}
 use Rattle.core_workers.proofs.Leasts.{one_more, none_more, stop_more, stop_stays}
 use Rattle.core_workers.proofs.least.least_stop.Goals as goal
 use Rattle.core_workers.proofs.least.least_stop.Goals.{then-stops, else-stops}
@@ -24,9 +24,9 @@ loop-reader-preserved c =
     elim c.if-stops.branch [
       | then-stops w ↦
           let more = ends_on ∙ one_more (stops_here plan clock) (λ (i : Incoming). i.end) all k x within c.reader-item.is (sym c.stops.ensures ∙ w.if-stops.true) in
-          let at : w.first_stop.result ≡ first_of c.loop-reader.least x.end x.r.end.got = w.first_stop.ensures ∙ ap (first_of c.loop-reader.least x.end) w.got.ensures.value in
+          let at : w.lesser_of_two.result ≡ lesser_stop c.loop-reader.least x.end x.r.end.got = w.lesser_of_two.ensures ∙ ap (lesser_stop c.loop-reader.least x.end) w.got.ensures.value in
           subst is (sym (w.least-is ∙ ap (λ (stop : EndNumber × Slot). Some stop) at))
-          (on (Some (first_of c.loop-reader.least x.end x.r.end.got)) (stop_more plan clock (take k all) x more c.loop-reader.least c.loop-reader.invariant))
+          (on (Some (lesser_stop c.loop-reader.least x.end x.r.end.got)) (stop_more plan clock (take k all) x more c.loop-reader.least c.loop-reader.invariant))
       | else-stops w ↦
           let same = ends_on ∙ none_more (stops_here plan clock) (λ (i : Incoming). i.end) all k x within c.reader-item.is (sym c.stops.ensures ∙ w.if-stops.false) in
           subst is (sym w.least-is) (on c.loop-reader.least (stop_stays plan clock (take k all) x same c.loop-reader.least c.loop-reader.invariant))

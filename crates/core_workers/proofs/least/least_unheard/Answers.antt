@@ -16,9 +16,9 @@ loop-reader-preserved c =
     let is : Option ℕ → Type 0 = λ o. IsLeastOf o (unheard_ends (take (k + 1) all)) in
     elim c.if-reader.branch [
       | then-reader w ↦
-          let more = one_more (λ (i : Incoming). i.held) (λ (i : Incoming). i.end) all k x within c.reader-item.is w.if-reader.true in
+          let more = one_more (λ (i : Incoming). i.busy) (λ (i : Incoming). i.end) all k x within c.reader-item.is w.if-reader.true in
           subst is (sym w.least-is) (subst is (sym w.least_end-least.ensures) (subst (λ (ns : List ℕ). IsLeastOf (least_of c.loop-reader.least (Some x.end)) ns) (sym more) (least_push c.loop-reader.least before x.end c.loop-reader.invariant)))
       | else-reader w ↦
-          let same = none_more (λ (i : Incoming). i.held) (λ (i : Incoming). i.end) all k x within c.reader-item.is w.if-reader.false in
+          let same = none_more (λ (i : Incoming). i.busy) (λ (i : Incoming). i.end) all k x within c.reader-item.is w.if-reader.false in
           subst is (sym w.least-is) (subst (λ (ns : List ℕ). IsLeastOf c.loop-reader.least ns) (sym same) c.loop-reader.invariant)
     ]
