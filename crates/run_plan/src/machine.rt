@@ -80,14 +80,17 @@ impl SerialMachine {
         ensures on { self.old.now ≤ self.new.now }
         ensures err { OnErr result (self.new.now < limit) }
     {
-        // By the clock alone: with a range beside it, another number would be counted up in every slot.
-        while self.clock < limit {
-            self.pass_quiet_slots(limit);
-            if self.clock < limit {
-                self.slot()?;
-            }
+        if limit <= self.clock {
+            return Ok(());
         }
-        Ok(())
+        // By the clock alone, which is looked at once a round: with a range beside it, another number would be counted up in every slot.
+        loop {
+            self.pass_quiet_slots(limit);
+            if limit <= self.clock {
+                return Ok(());
+            }
+            self.slot()?;
+        }
     }
 
     // Goes over the slots before a limit in which nothing happens anywhere, as far as that is known: there may be none.

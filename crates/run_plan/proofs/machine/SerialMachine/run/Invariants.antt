@@ -1,12 +1,11 @@
 use Rattle.std.proofs.Common.{◌≡◌, ◌≤◌, ◌-◌}
-use Rattle.std.specs.Prelude.{max}
 use Rattle.run_plan.proofs.machine.SerialMachine.run.Given as goal
 
 abbrev pub invariant-loop-self : goal.invariant-loop-self
 invariant-loop-self l = record {
   plan : l.self.plan ≡ l.initial.self.plan;
   begun : l.initial.self.now ≤ l.self.now;
-  bound : l.self.now ≤ max l.initial.self.now l.limit;
+  bound : l.self.now ≤ l.limit;
 }
 
 abbrev pub decreases-loop-self : goal.decreases-loop-self
