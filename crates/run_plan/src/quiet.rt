@@ -15,28 +15,10 @@ use busy_slots::nodes_are_whole;
 use quiet_laws::{first_stirring_slot, quiet_slots_only_count};
 
 /// Goes over the slots from one on and before a limit in which nothing happens anywhere, as far as that is known. The answer is the
-/// slot before which all then stand, which may be the first.
-// In most busy slots the first node does something, which takes little to see.
+/// slot before which all then stand, which may be the first. It takes no more than to come to a node that may do something in that slot,
+/// which in most busy slots is the first node.
 #[inline]
 pub(crate) fn pass_quiet(stations: &mut [Station], tracks: &[Track], from: u32, limit: u32) -> u32
-    requires before { from ≤ limit }
-    requires stations { AllByRecursion (IsStation from (length tracks.now)) stations.old }
-    requires tracks { AllByRecursion (IsReadyTrack from (length stations.old)) tracks.now }
-    ensures on { from ≤ result }
-    ensures within { result ≤ limit }
-    ensures ready { (plan : PlanRec) → AreReady plan from (serial plan from) stations.old tracks.now → AreReady plan result (serial plan result) stations.new tracks.now }
-{
-    if let Some(first) = stations.first()
-        && first.seat.rests_to(from) <= from
-    {
-        return from;
-    }
-    pass_all(stations, tracks, from, limit)
-}
-
-// The same, where all nodes have to be looked at. That takes no more than to come to one that may do something.
-#[inline]
-fn pass_all(stations: &mut [Station], tracks: &[Track], from: u32, limit: u32) -> u32
     requires before { from ≤ limit }
     requires stations { AllByRecursion (IsStation from (length tracks.now)) stations.old }
     requires tracks { AllByRecursion (IsReadyTrack from (length stations.old)) tracks.now }

@@ -1,6 +1,6 @@
 use Rattle.std.proofs.Common.{◌<◌, length, arith}
 use Rattle.run_plan.proofs.Skipped.{may_skip, tracks_here, ready_later}
-use Rattle.run_plan.proofs.quiet.pass_all.Goals as goal
+use Rattle.run_plan.proofs.quiet.pass_quiet.Goals as goal
 
 pub quiet_to-to-requires : goal.quiet_to-to-requires
 quiet_to-to-requires c = record { tracks = tracks_here c.args.from (length c.args.stations.now) c.args.tracks.now c.requires.tracks }
