@@ -32,7 +32,7 @@ pub fn holds_of_pair<R: Wait>(rt: &R, alloc: Global, case: Case) -> Result<bool,
     let second = last_worker(alloc, &plan, &lanes, &mut ends, 1, limit_of_second(case))?;
     let first = last_worker(alloc, &plan, &lanes, &mut ends, 0, LIMIT)?;
     Ok(match case {
-        Case::Ahead => run_ahead(rt, first, second),
+        Case::Ahead => run_ahead(first, second),
         Case::Stop => stops(rt, first, second),
         Case::Gate => passes(rt, first, second),
         Case::LastSlot => ends_with_last_slot(rt, first, second),
@@ -48,7 +48,7 @@ fn limit_of_second(case: Case) -> u32 {
 }
 
 // Each runs as far ahead as what it has seen of the other lets it.
-fn run_ahead<R: Wait>(rt: &R, mut first: Worker<'_>, mut second: Worker<'_>) -> bool
+fn run_ahead(mut first: Worker<'_>, mut second: Worker<'_>) -> bool
     requires first { All IsOpen first.ends.outgoing.items }
     requires second { All IsOpen second.ends.outgoing.items }
 {
@@ -56,14 +56,14 @@ fn run_ahead<R: Wait>(rt: &R, mut first: Worker<'_>, mut second: Worker<'_>) -> 
         Turn::Ran { from: 0, to: 5 },
         Turn::Blocked { end: 7, seen: 0 },
     ];
-    let begins = takes(rt, &mut first, &turns);
+    let begins = takes(&mut first, &turns);
     let turns = [
         Turn::Ran { from: 0, to: 10 },
         Turn::Blocked { end: 0, seen: 5 },
     ];
-    let follows = takes(rt, &mut second, &turns);
-    let ends = takes(rt, &mut first, &[Turn::Finished]);
-    let both_end = takes(rt, &mut second, &[Turn::Finished; 2]) && ends;
+    let follows = takes(&mut second, &turns);
+    let ends = takes(&mut first, &[Turn::Finished]);
+    let both_end = takes(&mut second, &[Turn::Finished; 2]) && ends;
     let _ = (first.parts(), second.parts());
     begins && follows && both_end
 }
@@ -73,10 +73,10 @@ fn stops<R: Wait>(rt: &R, mut first: Worker<'_>, mut second: Worker<'_>) -> bool
     requires first { All IsOpen first.ends.outgoing.items }
     requires second { All IsOpen second.ends.outgoing.items }
 {
-    let begins = takes(rt, &mut second, &[Turn::Ran { from: 0, to: 5 }]);
+    let begins = takes(&mut second, &[Turn::Ran { from: 0, to: 5 }]);
     second.stop(rt, Cause::Memory);
     let turns = [Turn::Ran { from: 0, to: 10 }, Turn::Stopped { link: 1 }];
-    let hears = takes(rt, &mut first, &turns);
+    let hears = takes(&mut first, &turns);
     first.stop(rt, Cause::Neighbour { link: 1 });
     begins && hears
 }
@@ -87,8 +87,8 @@ fn passes<R: Wait>(rt: &R, mut first: Worker<'_>, mut second: Worker<'_>) -> boo
     requires second { All IsOpen second.ends.outgoing.items }
 {
     let gate = Passed::new();
-    let _ = first.turn(rt, &gate);
-    let _ = second.turn(rt, &gate);
+    let _ = first.turn(&gate);
+    let _ = second.turn(&gate);
     let first_ended = first.run(rt, &gate);
     let second_ended = second.run(rt, &OpenGate);
     first_ended == Ended::Finished && second_ended == Ended::Finished && gate.digits() == 10_11_10
@@ -99,13 +99,13 @@ fn ends_with_last_slot<R: Wait>(rt: &R, mut first: Worker<'_>, mut second: Worke
     requires first { All IsOpen first.ends.outgoing.items }
     requires second { All IsOpen second.ends.outgoing.items }
 {
-    let begins = takes(rt, &mut first, &[Turn::Ran { from: 0, to: 5 }]);
-    let follows = takes(rt, &mut second, &[Turn::Ran { from: 0, to: 10 }]);
+    let begins = takes(&mut first, &[Turn::Ran { from: 0, to: 5 }]);
+    let follows = takes(&mut second, &[Turn::Ran { from: 0, to: 10 }]);
     let ended = first.run(rt, &OpenGate);
     let turns = [
         Turn::Ran { from: 10, to: 17 },
         Turn::Blocked { end: 0, seen: 12 },
     ];
-    let goes_on = takes(rt, &mut second, &turns);
+    let goes_on = takes(&mut second, &turns);
     begins && follows && ended == Ended::Finished && goes_on
 }

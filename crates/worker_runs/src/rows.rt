@@ -32,11 +32,11 @@ fn stop<R: Wait>(
     requires second { All IsOpen second.ends.outgoing.items }
     requires third { All IsOpen third.ends.outgoing.items }
 {
-    let begins = takes(rt, &mut first, &[Turn::Ran { from: 0, to: 5 }]);
-    let waits = takes(rt, &mut third, &[Turn::Ran { from: 0, to: 5 }]);
+    let begins = takes(&mut first, &[Turn::Ran { from: 0, to: 5 }]);
+    let waits = takes(&mut third, &[Turn::Ran { from: 0, to: 5 }]);
     first.stop(rt, Cause::Memory);
     let ended = second.run(rt, &OpenGate);
     let turns = [Turn::Ran { from: 5, to: 15 }, Turn::Stopped { link: 2 }];
-    let hears = takes(rt, &mut third, &turns);
+    let hears = takes(&mut third, &turns);
     begins && waits && ended == Ended::Stopped && hears
 }

@@ -3,17 +3,16 @@ ghost use Rattle.std.specs.Prelude.{All};
 ghost use Rattle.core_workers.specs.Worker.{IsOpen};
 
 use core_workers::{Turn, Worker};
-use std::sync::Wait;
 use xs_edge::OpenGate;
 
 /// Whether the turns that the worker takes now, one after another, come to these.
-pub fn takes<R: Wait>(rt: &R, worker: &mut Worker<'_>, wanted: &[Turn]) -> bool
+pub fn takes(worker: &mut Worker<'_>, wanted: &[Turn]) -> bool
     requires open { All IsOpen worker.old.ends.outgoing.items }
     ensures open { All IsOpen worker.new.ends.outgoing.items }
 {
     let mut agree = true;
     for want in wanted {
-        let turn = worker.turn(rt, &OpenGate);
+        let turn = worker.turn(&OpenGate);
         agree = agree && turn == *want;
     }
     agree

@@ -1,10 +1,11 @@
 -- What holds of all nodes, by position, and how a loop over them keeps it.
-use Rattle.std.proofs.Common.{◌≡◌, ℕ, zero, suc, ◌+◌, List, [], ◌∷◌, ◌++◌, length, set, Some, slice_get, refl, sym, ap, ◌∙◌, subst, arith}
+use Rattle.std.proofs.Common.{◌≡◌, ℕ, zero, suc, ◌+◌, ◌<◌, Bool, true, false, true≢false, ◌||◌, take, List, [], ◌∷◌, ◌++◌, length, set, Some, slice_get, refl, sym, ap, ◌∙◌, subst, arith}
 use Rattle.std.specs.List.{AllByRecursion}
 use Rattle.std.proofs.lemmas.List.{length_push}
 use Rattle.std.proofs.lemmas.Option.{none-some, same_Some}
 use Rattle.xs_base.specs.Numbers.{Position}
-use Rattle.worker_threads.specs.Team.{AllFrom}
+use Rattle.worker_threads.specs.declared.place.Place.{Place}
+use Rattle.worker_threads.specs.Team.{AllFrom, has_turns, some_have_turns, HasNoTurns}
 
 module _ {X : Type 0} (P : Position → X → Type 0) where
   -- from what stands at each position, and back
@@ -74,3 +75,37 @@ module _ {X : Type 0} (P : X → Type 0) where
 
   pub one_more : (xs now : List X) (x : X) → now ≡ xs ++ x ∷ [] → AllByRecursion P xs → P x → AllByRecursion P now
   one_more xs now x is all here = subst (AllByRecursion P) (sym is) (push_all xs x all here)
+
+-- ---- Which places have turns for the caller to take
+
+-- one more was turned
+or_swap : (a b c : Bool) → (a || (b || c)) ≡ (b || (a || c))
+or_swap true true c = refl
+or_swap true false c = refl
+or_swap false true c = refl
+or_swap false false c = refl
+
+one_turned : (places : List Place) (n : ℕ) (place : Place) → n < length places
+    → some_have_turns (take (suc n) (set places n place)) ≡ (has_turns place || some_have_turns (take n places))
+one_turned [] n place inside = absurd (omega (arith, inside))
+one_turned (p ∷ places) zero place inside = refl
+one_turned (p ∷ places) (suc n) place inside =
+    ap (λ b. has_turns p || b) (one_turned places n place (omega (arith, inside))) ∙ or_swap (has_turns p) (has_turns place) (some_have_turns (take n places))
+
+-- what a turn and those before it tell is what holds of all so far
+pub turned : (some said before : Bool) (places : List Place) (n : ℕ) (place : Place) → n < length places
+    → before ≡ some_have_turns (take n places) → said ≡ has_turns place → some ≡ (said || before) → some ≡ some_have_turns (take (n + 1) (set places n place))
+turned some said before places n place inside was is tells =
+    let more : suc n ≡ n + 1 = omega arith in
+    tells ∙ ap (λ b. b || before) is ∙ ap (λ b. has_turns place || b) was
+    ∙ sym (subst (λ k. some_have_turns (take k (set places n place)) ≡ (has_turns place || some_have_turns (take n places))) more (one_turned places n place inside))
+
+none_of : (a b : Bool) → (a || b) ≡ false → (a ≡ false) × (b ≡ false)
+none_of true b is = absurd (true≢false is)
+none_of false b is = (refl, is)
+
+pub none_have_turns : (places : List Place) → some_have_turns places ≡ false → AllByRecursion HasNoTurns places
+none_have_turns [] none = tt
+none_have_turns (p ∷ places) none =
+    let both = none_of (has_turns p) (some_have_turns places) none in
+    (both.0, none_have_turns places both.1)

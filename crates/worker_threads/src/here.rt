@@ -1,14 +1,15 @@
 //! `Here`, a worker whose turns the caller takes.
-ghost use Rattle.std.specs.Prelude.{◌≡◌};
+ghost use Rattle.std.specs.Prelude.{◌≡◌, false};
 ghost use Rattle.xs_base.specs.Numbers.{Slot, Position};
 ghost use Rattle.plan_cells.specs.Ends.{CellsRec};
-ghost use Rattle.worker_threads.specs.Team.{IsFresh, IsLeft, MayGoOn};
+ghost use Rattle.worker_threads.specs.Team.{IsFresh, IsLeft, MayGoOn, is_going};
 
 use crate::fresh::Fresh;
 use crate::node::Left;
 use core_workers::{Ended, Lanes, Turn, Worker};
 use link_logs::Cause;
 use std::sync::Wait;
+use std::thread::yield_now;
 use xs_edge::Gate;
 
 /// A worker for which no thread could be started, and what has come of its run, once it is over.
@@ -33,10 +34,12 @@ impl<'a> Here<'a> {
         }
     }
 
-    /// Takes one turn, unless the run is over, and tells whether it goes on. It looks for news, and does not wait for them.
+    /// Takes one turn, unless the run is over, and tells whether it goes on. It looks for news, and does not wait for them. Where the
+    /// run is over before the limit, the logs of the links that leave the node are closed.
     pub(crate) fn turn<R: Wait, G: Gate>(&mut self, rt: &R, gate: &G) -> bool
         requires ready { MayGoOn self.old.worker self.old.ended }
         ensures ready { MayGoOn self.new.worker self.new.ended }
+        ensures goes_on { result ≡ is_going self.new.ended }
         ensures stays { (cells : CellsRec) (limit : Slot) (n : Position) → IsHere cells limit n self.old → IsHere cells limit n self.new }
     {
         if self.ended.is_some() {
@@ -68,22 +71,21 @@ impl<'a> Here<'a> {
             if !here.turn(rt, gate) {
                 return here.left();
             }
+            yield_now();
         }
         unreachable!()
     }
 
-    // What is left of the worker, as if memory was wanting where its run goes on.
-    fn left(self) -> Left
+    /// What is left of the worker, whose run is over.
+    pub(crate) fn left(self) -> Left
+        requires over { is_going self.ended ≡ false }
         ensures left { (cells : CellsRec) (limit : Slot) (n : Position) → IsHere cells limit n self.entry → IsLeft cells limit n result }
     {
         let Here { worker, ended } = self;
         let part = worker.parts();
         match ended {
             Some(ended) => Left { part, ended },
-            None => Left {
-                part,
-                ended: Ended::Memory,
-            },
+            None => unreachable!(),
         }
     }
 }

@@ -5,6 +5,8 @@ mod fresh;
 mod here;
 mod node;
 mod place;
+mod starts;
 mod team;
 
-pub use team::run_workers;
+pub use starts::{EachNode, Starts};
+pub use team::{run_workers, run_workers_where};

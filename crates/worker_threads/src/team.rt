@@ -5,12 +5,13 @@ ghost use Rattle.xs_base.specs.Numbers.{Slot, Position};
 ghost use Rattle.plan_cells.specs.declared.ends.Ends as node_ends;
 ghost use Rattle.plan_cells.specs.Ends.{CellsRec, AreNewEnds};
 ghost use Rattle.core_workers.specs.Worker.{WorkerRec};
-ghost use Rattle.core_workers.specs.Run.{IsLeftAt};
-ghost use Rattle.worker_threads.specs.Team.{AreFresh, ArePlaces, AreLeft, AreParts, IsReady};
+ghost use Rattle.core_workers.specs.Run.{IsLeftAt, IsOver};
+ghost use Rattle.worker_threads.specs.Team.{AreFresh, ArePlaces, AreLeft, AreParts, IsReady, HasNoTurns, some_have_turns};
 
 use crate::fresh::{Fresh, fresh_nodes};
 use crate::node::Left;
 use crate::place::{Place, place_of};
+use crate::starts::{EachNode, Starts};
 use core_workers::{Ended, Lanes, Part};
 use plan_cells::Ends;
 use std::alloc::{AllocError, Global};
@@ -39,6 +40,28 @@ pub fn run_workers<R: Threads + Wait + Sync, G: Gate>(
     requires new_ends { (n : Position) (e : node_ends.Ends) → slice_get ends.items n ≡ Some e → AreNewEnds lanes.now n e }
     ensures nodes { IfOk result (λ parts. length parts.items ≡ length plan.now.nodes) }
     ensures at_limit { IfOk result (λ parts. (n : Position) (part : WorkerRec) → slice_get parts.items n ≡ Some part → IsLeftAt lanes.now limit n part) }
+    ensures over { IfOk result (λ parts. (n : Position) (part : WorkerRec) → slice_get parts.items n ≡ Some part → IsOver part) }
+{
+    run_workers_where(rt, alloc, plan, lanes, ends, limit, gate, &EachNode)
+}
+
+/// `run_workers`, where the start of a thread is tried only for these nodes.
+pub fn run_workers_where<R: Threads + Wait + Sync, G: Gate, S: Starts>(
+    rt: &R,
+    alloc: Global,
+    plan: &Plan,
+    lanes: &Lanes,
+    ends: Vec<Ends>,
+    limit: u32,
+    gate: &G,
+    starts: &S,
+) -> Result<Vec<Part>, AllocError>
+    requires plan { lanes.now.plan ≡ plan.now }
+    requires nodes { length ends.items ≡ length plan.now.nodes }
+    requires new_ends { (n : Position) (e : node_ends.Ends) → slice_get ends.items n ≡ Some e → AreNewEnds lanes.now n e }
+    ensures nodes { IfOk result (λ parts. length parts.items ≡ length plan.now.nodes) }
+    ensures at_limit { IfOk result (λ parts. (n : Position) (part : WorkerRec) → slice_get parts.items n ≡ Some part → IsLeftAt lanes.now limit n part) }
+    ensures over { IfOk result (λ parts. (n : Position) (part : WorkerRec) → slice_get parts.items n ≡ Some part → IsOver part) }
 {
     let nodes = fresh_nodes(alloc, plan, lanes, ends, limit)?;
     let refused = &no_flags(alloc, nodes.len())?;
@@ -49,7 +72,9 @@ pub fn run_workers<R: Threads + Wait + Sync, G: Gate>(
             requires { AreFresh lanes.now limit nodes.items × (length refused.now.items ≡ length lanes.now.plan.nodes) }
             ensures { IfOk result (λ all. AreLeft lanes.entry.now limit all.items) }
         {
-            let mut places = places_of(scope, rt, alloc, lanes, refused, gate, nodes, limit)?;
+            let mut places = places_of(
+                scope, starts, rt, alloc, lanes, refused, gate, nodes, limit,
+            )?;
             take_turns(rt, gate, &mut places);
             all_left(rt, alloc, lanes, gate, places)
         },
@@ -70,8 +95,9 @@ fn no_flags(alloc: Global, nodes: usize) -> Result<Vec<AtomicBool>, AllocError>
 
 // The places of all nodes, by position. The memory for them is there before the first thread is started: none of them waits for a node
 // that has no place.
-fn places_of<'s, E, R: Wait + Sync, G: Gate>(
+fn places_of<'s, E, S: Starts, R: Wait + Sync, G: Gate>(
     scope: &Scope<'s, E>,
+    starts: &S,
     rt: &'s R,
     alloc: Global,
     lanes: &'s Lanes,
@@ -87,7 +113,7 @@ fn places_of<'s, E, R: Wait + Sync, G: Gate>(
 {
     let mut places = Vec::with_capacity(alloc, nodes.len())?;
     for node in nodes {
-        places.push(place_of(scope, rt, lanes, refused, gate, node, limit))?;
+        places.push(place_of(scope, starts, rt, lanes, refused, gate, node, limit))?;
     }
     Ok(places)
 }
@@ -95,7 +121,7 @@ fn places_of<'s, E, R: Wait + Sync, G: Gate>(
 // Takes the turns of the nodes that this thread runs, one after the other, until all their runs are over.
 fn take_turns<'s, R: Wait, G: Gate>(rt: &R, gate: &G, places: &mut Vec<Place<'s>>)
     requires ready { AllByRecursion IsReady places.old.items }
-    ensures ready { AllByRecursion IsReady places.new.items }
+    ensures over { AllByRecursion HasNoTurns places.new.items }
     ensures places { (cells : CellsRec) (limit : Slot) → ArePlaces cells limit places.old.items → ArePlaces cells limit places.new.items }
 {
     for _ in rt.forever() {
@@ -106,10 +132,11 @@ fn take_turns<'s, R: Wait, G: Gate>(rt: &R, gate: &G, places: &mut Vec<Place<'s>
     }
 }
 
-// One turn of each of them. It tells whether any of their runs goes on.
+// One turn of each of them. It tells whether more are left of any.
 fn take_one_turn_each<'s, R: Wait, G: Gate>(rt: &R, gate: &G, places: &mut Vec<Place<'s>>) -> bool
     requires ready { AllByRecursion IsReady places.old.items }
     ensures ready { AllByRecursion IsReady places.new.items }
+    ensures goes_on { result ≡ some_have_turns places.new.items }
     ensures places { (cells : CellsRec) (limit : Slot) → ArePlaces cells limit places.old.items → ArePlaces cells limit places.new.items }
 {
     let mut some = false;
@@ -119,7 +146,7 @@ fn take_one_turn_each<'s, R: Wait, G: Gate>(rt: &R, gate: &G, places: &mut Vec<P
     some
 }
 
-// Waits for the ends of all runs.
+// Waits for the ends of all runs in threads, and gives what is left of all nodes. The runs in this thread are over.
 fn all_left<'s, R: Threads + Wait, G: Gate>(
     rt: &R,
     alloc: Global,
@@ -127,7 +154,7 @@ fn all_left<'s, R: Threads + Wait, G: Gate>(
     gate: &G,
     places: Vec<Place<'s>>,
 ) -> Result<Vec<Left>, AllocError>
-    requires ready { AllByRecursion IsReady places.items }
+    requires over { AllByRecursion HasNoTurns places.items }
     requires places { (limit : Slot) × ArePlaces lanes.now limit places.items }
     ensures all { (limit : Slot) → ArePlaces lanes.now limit places.entry.items → IfOk result (λ all. AreLeft lanes.now limit all.items) }
 {

@@ -3,4 +3,4 @@ use Rattle.core_workers.specs.Worker.{IsOpen}
 use Rattle.worker_runs.proofs.turns.takes.Given as goal
 
 abbrev pub invariant-loop-want : goal.invariant-loop-want
-invariant-loop-want g l = All IsOpen l.worker.ends.outgoing.items
+invariant-loop-want l = All IsOpen l.worker.ends.outgoing.items

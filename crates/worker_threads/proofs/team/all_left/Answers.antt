@@ -4,7 +4,7 @@ use Rattle.std.proofs.lemmas.List.{length_push}
 use Rattle.std.specs.Vec.Iter.{into_iter_items}
 use Rattle.worker_threads.specs.declared.node.Left.{Left}
 use Rattle.worker_threads.specs.declared.place.Place.{Place}
-use Rattle.worker_threads.specs.Team.{IsLeft, IsReady, IsPlace}
+use Rattle.worker_threads.specs.Team.{IsLeft, HasNoTurns, IsPlace}
 use Rattle.worker_threads.proofs.Teams.{none_done, all_left, first_left, one_done, fewer_left}
 use Rattle.worker_threads.proofs.team.all_left.Goals as goal
 
@@ -14,7 +14,7 @@ loop-place-init g c =
     let none = c.in_ok-all.ensures.items in
     record {
       count = omega (arith, gives.1, c.args.places.ok.0, ap (length {A = Left}) none);
-      ready = subst (λ (xs : _). AllByRecursion IsReady xs) (sym gives.0) c.requires.ready;
+      over = subst (λ (xs : _). AllByRecursion HasNoTurns xs) (sym gives.0) c.requires.over;
       rest = λ limit are. all_left (IsPlace c.args.lanes.now limit) c.in_ok-all.all.items (into_iter_items c.into_iter-place-iterator.result) c.args.places.items none gives.0 are.each;
       all = λ limit are. none_done (IsLeft c.args.lanes.now limit) c.in_ok-all.all.items none;
     }
@@ -26,10 +26,10 @@ loop-place-preserved g c =
     let done = c.loop-place.all.items in
     let place = c.in-Some.place in
     let pushed = c.in_ok-push.ensures.items in
-    let ready = subst (λ (xs : _). AllByRecursion IsReady xs) step.0 was.ready in
+    let none = subst (λ (xs : _). AllByRecursion HasNoTurns xs) step.0 was.over in
     record {
       count = omega (arith, was.count, step.1, ap (length {A = Left}) pushed, length_push done c.left.result);
-      ready = ready.1;
+      over = none.1;
       rest = λ limit are.
           fewer_left (IsPlace c.args.lanes.now limit) done c.push.new.self.items c.left.result (into_iter_items c.next.new.self) pushed
           (first_left (IsPlace c.args.lanes.now limit) (length done) (into_iter_items c.loop-place.place-iterator) (into_iter_items c.next.new.self) place step.0 (was.rest limit are)).1;
@@ -39,8 +39,8 @@ loop-place-preserved g c =
           (first_left (IsPlace c.args.lanes.now limit) (length done) (into_iter_items c.loop-place.place-iterator) (into_iter_items c.next.new.self) place step.0 (was.rest limit are)).0);
     }
 
-pub left-requires-clause-ready : goal.left-requires-clause-ready
-left-requires-clause-ready g c κs within = (subst (λ (xs : _). AllByRecursion IsReady xs) c.in-Some.ensures.steps.0 c.loop-place.invariant.ready).0
+pub left-requires-clause-over : goal.left-requires-clause-over
+left-requires-clause-over g c κs within = (subst (λ (xs : _). AllByRecursion HasNoTurns xs) c.in-Some.ensures.steps.0 c.loop-place.invariant.over).0
 
 pub left-requires-clause-place : goal.left-requires-clause-place
 left-requires-clause-place g c κs within =

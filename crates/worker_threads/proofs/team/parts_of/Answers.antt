@@ -3,8 +3,7 @@ use Rattle.std.proofs.lemmas.List.{length_push}
 use Rattle.std.specs.Vec.Iter.{into_iter_items}
 use Rattle.core_workers.specs.declared.ended.Ended.{Ended}
 use Rattle.core_workers.specs.Worker.{WorkerRec}
-use Rattle.core_workers.specs.Run.{IsLeftAt}
-use Rattle.worker_threads.specs.Team.{IsLeft, HasEnded}
+use Rattle.worker_threads.specs.Team.{IsLeft, HasEnded, HasFinished}
 use Rattle.worker_threads.proofs.Teams.{none_done, all_left, first_left, one_done, fewer_left}
 use Rattle.worker_threads.proofs.team.parts_of.Goals as goal
 
@@ -15,7 +14,7 @@ loop-left-init c =
     record {
       count = omega (arith, gives.1, c.args.all.ok.0, ap (length {A = WorkerRec}) none);
       rest = λ cells limit are. all_left (IsLeft cells limit) c.in_ok-parts.parts.items (into_iter_items c.into_iter-left-iterator.result) c.args.all.items none gives.0 are.each;
-      parts = λ cells limit are. none_done (IsLeftAt cells limit) c.in_ok-parts.parts.items none;
+      parts = λ cells limit are. none_done (HasFinished cells limit) c.in_ok-parts.parts.items none;
     }
 
 pub loop-left-preserved : goal.loop-left-preserved
@@ -31,7 +30,7 @@ loop-left-preserved c =
           fewer_left (IsLeft cells limit) done c.push.new.self.items left.part (into_iter_items c.next.new.self) pushed
           (first_left (IsLeft cells limit) (length done) (into_iter_items c.loop-left.left-iterator) (into_iter_items c.next.new.self) left step.0 (was.rest cells limit are)).1;
       parts = λ cells limit are.
-          one_done (IsLeftAt cells limit) done c.push.new.self.items left.part pushed (was.parts cells limit are)
+          one_done (HasFinished cells limit) done c.push.new.self.items left.part pushed (was.parts cells limit are)
           (subst (λ (e : Ended). HasEnded cells limit (length done) left.part e) c.in-Finished.is
           (first_left (IsLeft cells limit) (length done) (into_iter_items c.loop-left.left-iterator) (into_iter_items c.next.new.self) left step.0 (was.rest cells limit are)).0);
     }

@@ -1,6 +1,6 @@
 use Rattle.std.proofs.Common.{◌∙◌, subst}
 use Rattle.plan_cells.specs.Ends.{CellsRec}
-use Rattle.worker_threads.specs.Team.{IsFresh, IsHere, IsPlace}
+use Rattle.worker_threads.specs.Team.{IsFresh, IsHere, IsPlace, HasNoTurns}
 use Rattle.worker_threads.proofs.place.Place.left.Goals as goal
 
 pub new-requires : goal.new-requires
@@ -20,5 +20,8 @@ returns-in-Unstarted g c = record {
       (subst (λ m. IsHere c.args.lanes.now node.runner.horizon.limit m c.new.result) (fresh.node_is ∙ there.2) c.new.ensures.here));
 }
 
+pub left-requires : goal.left-requires
+left-requires g c = record { over = subst HasNoTurns c.in-Here.is c.requires.over }
+
 pub returns-in-Here : goal.returns-in-Here
-returns-in-Here g c = record { left = λ limit n is. c.finish-in-Here.ensures.left c.args.lanes.now limit n (subst (IsPlace c.args.lanes.now limit n) c.in-Here.is is) }
+returns-in-Here g c = record { left = λ limit n is. c.left.ensures.left c.args.lanes.now limit n (subst (IsPlace c.args.lanes.now limit n) c.in-Here.is is) }
