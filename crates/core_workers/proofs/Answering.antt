@@ -78,9 +78,9 @@ module _ (cells : CellsRec) (is : IsPlan cells.plan) (runner : RunnerRec) (ends 
   of_plan =
       recursion_from_All (λ (i : Incoming). i.link < arc_count cells.plan) ends
       (λ k d below.
-      let i = get_or ends k d in
-      let leads = leads-to cells.plan runner.node i.end i.link (comes_by cells.plan is runner.node ends listens.places k i (slice_get-get_or ends k d below)) in
-      slice_get_within (arcs cells.plan) i.link leads.arc leads.here)
+          let i = get_or ends k d in
+          let leads = leads-to cells.plan runner.node i.end i.link (comes_by cells.plan is runner.node ends listens.places k i (slice_get-get_or ends k d below)) in
+          slice_get_within (arcs cells.plan) i.link leads.arc leads.here)
 
   module _ (none_in_hand : All (λ (i : Incoming). i.hand ≡ None) ends) (end seen : ℕ) (stop : StopsAt runner.horizon runner.clock end seen) where
     reads : ReadsThere cells is runner ends listens none_in_hand end stop.link

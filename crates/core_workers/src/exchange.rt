@@ -14,7 +14,11 @@ use std::alloc::AllocError;
 
 // Looks once at each log, runs the node as far as it may, and publishes once what it has sent, but where a cell is in use; and tells what came
 // of it. The error is want of memory.
-fn exchange(cells: &PlanCells, runner: &mut NodeRunner, ends: &mut Ends) -> Result<Turn, AllocError>
+fn exchange(
+    cells: &PlanCells,
+    runner: &mut NodeRunner,
+    ends: &mut Ends,
+) -> Result<Turn, AllocError>
     requires worker { IsWorker (record { cells = cells.now; runner = runner.old; ends = ends.old }) }
     requires open { All IsOpen ends.old.outgoing.items }
     ensures worker { IsWorker (record { cells = cells.now; runner = runner.new; ends = ends.new }) }

@@ -52,7 +52,11 @@ fn give_back(reader: &mut Incoming, runner: &mut NodeRunner, carried: bool)
 
 // Looks once at the log of a link that comes to the node, unless its cell is in use, and hands to the node all that was read of it. The error
 // is want of memory.
-fn hear(cells: &PlanCells, reader: &mut Incoming, runner: &mut NodeRunner) -> Result<(), AllocError>
+fn hear(
+    cells: &PlanCells,
+    reader: &mut Incoming,
+    runner: &mut NodeRunner,
+) -> Result<(), AllocError>
     requires of_plan { runner.old.plan ≡ cells.now.plan }
     requires fit { IsIncoming cells.now reader.old }
     requires route { incoming runner.old.plan runner.old.node reader.old.end ≡ Some reader.old.link }

@@ -16,7 +16,11 @@ use xs_base::Batch;
 
 // Publishes up to the node's clock a link that leaves it, unless its cell is in use by its other end. The error is want of memory, and
 // publishes nothing. Where all is published it does nothing, so that no one is woken for nothing.
-fn tell(cells: &PlanCells, writer: &mut Outgoing, runner: &mut NodeRunner) -> Result<(), AllocError>
+fn tell(
+    cells: &PlanCells,
+    writer: &mut Outgoing,
+    runner: &mut NodeRunner,
+) -> Result<(), AllocError>
     requires of_plan { runner.old.plan ≡ cells.now.plan }
     requires fit { IsOutgoing cells.now writer.old }
     requires route { outgoing runner.old.plan runner.old.node writer.old.end ≡ Some writer.old.link }

@@ -66,8 +66,8 @@ explained-requires c =
     let ends = c.args.ends.now.incoming.items in
     record {
       of_plan = subst (λ (p : PlanRec). AreOfPlan p c.deref-in-Blocked-2.result.now) (sym c.plan.ensures.value)
-          (subst (λ (xs : List Incoming). AreOfPlan c.args.cells.now.plan xs) (sym c.deref-in-Blocked-2.ensures.value)
-          (of_plan c.args.cells.now c.requires.worker.plan_is c.args.runner.now ends c.requires.worker.listens));
+      (subst (λ (xs : List Incoming). AreOfPlan c.args.cells.now.plan xs) (sym c.deref-in-Blocked-2.ensures.value)
+      (of_plan c.args.cells.now c.requires.worker.plan_is c.args.runner.now ends c.requires.worker.listens));
     }
 
 pub busy-requires-in-None-explained : goal.busy-requires-in-None-explained
@@ -81,5 +81,5 @@ busy-requires-in-None-explained c =
     sym (λ i. stopping_ends (c.plan.ensures.value i) (c.requires.to i) (c.deref-in-Blocked-2.ensures.value i)) ∙ none.1 in
     record {
       some = λ none_held. absurd (some_unheard cells c.requires.worker.plan_is runner ends c.requires.worker.listens c.requires.none_in_hand c.in-Blocked-2.end c.in-Blocked-2.seen stops.1 none_stops
-          (sym (λ i. unheard_ends (c.deref-in-None-explained.ensures.value i)) ∙ none_held));
+      (sym (λ i. unheard_ends (c.deref-in-None-explained.ensures.value i)) ∙ none_held));
     }

@@ -20,8 +20,8 @@ loop-n-preserved g c =
     let inside : c.loop-n.n < length places = omega (arith, c.loop-n-test.true, c.len-n-end.ensures, c.args.places.now.ok.0, was.count) in
     let at : slice_get places c.loop-n.n ≡ Some c.index_mut.result.now = slice_get_read places (length places) c.loop-n.n c.index_mut.result.now refl inside c.index_mut.ensures.value in
     let told : c.if-turn.some ≡ (c.turn.result || c.loop-n.some) = elim c.if-turn.branch [
-      | then-turn w ↦ w.some-is ∙ w.if-turn.true ∙ sym (ap (λ b. b || c.loop-n.some) w.if-turn.true)
-      | else-turn w ↦ w.some-is ∙ sym (ap (λ b. b || c.loop-n.some) w.if-turn.false)
+      then-turn w ↦ w.some-is ∙ w.if-turn.true ∙ sym (ap (λ b. b || c.loop-n.some) w.if-turn.true)
+    | else-turn w ↦ w.some-is ∙ sym (ap (λ b. b || c.loop-n.some) w.if-turn.false)
     ] in
     record {
       count = length-set places c.loop-n.n c.turn.new.self ∙ was.count;

@@ -26,14 +26,14 @@ returns-clause-stays g c = λ cells limit n is.
     let was : GoesOn cells limit n before = goes_on cells limit n before c.args.self.now.ended (sym c.is_some.ensures ∙ c.if-is_some.false) is in
     let answer : (t : Turn) → c.turn.result ≡ t → Answers before t after = λ t same. subst (λ (t : Turn). Answers before t after) same c.turn.ensures.answer in
     elim c.match-turn.branch [
-      | in-Finished w ↦
+      in-Finished w ↦
           has_ended cells limit n after c.match-turn.self.worker _ c.match-turn.ended (ap (λ (h : Here). h.worker) w.self-is) w.ended-is
           (turn_over cells limit n before after was c.turn.ensures.stays c.turn.ensures.open (answer _ w.in-Finished.is))
-      | in-Stopped w ↦
+    | in-Stopped w ↦
           has_ended cells limit n w.stop.new.self c.match-turn.self.worker _ c.match-turn.ended (ap (λ (h : Here). h.worker) w.self-is) w.ended-is
           (turn_stopped cells limit n before after was c.turn.ensures.stays c.turn.ensures.open w.stop.new.self w.stop.ensures.rest w.in-Stopped.link
           (answer _ w.in-Stopped.is) w.stop.ensures.closed)
-      | in-Memory w ↦
+    | in-Memory w ↦
           has_ended cells limit n w.stop-in-Memory.new.self c.match-turn.self.worker _ c.match-turn.ended (ap (λ (h : Here). h.worker) w.self-is) w.ended-is
           (turn_in_want cells limit n before after was c.turn.ensures.stays c.turn.ensures.open w.stop-in-Memory.new.self w.stop-in-Memory.ensures.rest
           w.stop-in-Memory.ensures.closed)
