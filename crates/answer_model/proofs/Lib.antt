@@ -1,2 +1,3 @@
+mod Modes
 mod Statuses
 pub mod Numbers

@@ -7,7 +7,7 @@ use Rattle.std.specs.Char.{is_ascii_digit}
 use Rattle.xs_text.specs.Numbers.{at_most, value_in}
 use Rattle.word_numbers.specs.Decimal.{decimal_up_to}
 use Rattle.answer_model.specs.declared.Form.{Form}
-use Rattle.answer_model.specs.declared.Form.TheVariants.{Free, Serial, Play, Make, Check}
+use Rattle.answer_model.specs.declared.Form.TheVariants.{Free, Serial, Rounds, Play, Make, Check}
 use Rattle.answer_model.specs.Forms.{most_slots, greatest_number, form_of_two, form_of_mode, form_of_words}
 use Rattle.answer_model.specs.Top.{answer, answer_of_form}
 use Rattle.answer_model.specs.MakeForm.{made_answer}
@@ -46,6 +46,10 @@ serial_few : (o : Option ℕ) → SaysFew (option_and_then (λ slots. Some (Seri
 serial_few None n e = cc
 serial_few (Some slots) n e = cc
 
+rounds_few : (o : Option ℕ) → SaysFew (option_and_then (λ slots. Some (Rounds slots)) o)
+rounds_few None n e = cc
+rounds_few (Some slots) n e = cc
+
 play_few : (o : Option ℕ) → SaysFew (option_and_then (λ slots. Some (Play slots)) o)
 play_few None n e = cc
 play_few (Some slots) n e = cc
@@ -68,7 +72,8 @@ two_few command word =
 
 mode_few : (slots mode : List ℕ) → SaysFew (form_of_mode slots mode)
 mode_few slots mode =
-    choice_few _ _ _ (free_few (decimal_up_to most_slots slots)) (choice_few _ _ _ (serial_few (decimal_up_to most_slots slots)) none_few)
+    choice_few _ _ _ (free_few (decimal_up_to most_slots slots))
+    (choice_few _ _ _ (serial_few (decimal_up_to most_slots slots)) (choice_few _ _ _ (rounds_few (decimal_up_to most_slots slots)) none_few))
 
 pub number_is_small : (words : List (List ℕ)) (n : ℕ) → form_of_words words ≡ Some (Make n) → n < 4294967296
 unfolding form_of_words

@@ -3,7 +3,7 @@ use Rattle.std.proofs.Common.{◌≡◌, ℕ, ◌↔◌, List, Option, Some, Non
 use Rattle.sys_plan.specs.Plan.{PlanRec}
 use Rattle.system_model.specs.System.{System, Plan, Frame, Source, Pins, system_of}
 use Rattle.answer_model.specs.declared.Form.{Form}
-use Rattle.answer_model.specs.declared.Form.TheVariants.{Free, Serial, Play, Make, Check}
+use Rattle.answer_model.specs.declared.Form.TheVariants.{Free, Serial, Rounds, Play, Make, Check}
 use Rattle.answer_model.specs.declared.Status.{Status}
 use Rattle.answer_model.specs.declared.Status.TheVariants as status
 use Rattle.answer_model.specs.Forms.{form_of_words}
@@ -22,6 +22,7 @@ of_form : (wanted : Status) (IsOfKind : System → Type 0) → Tells wanted IsOf
 of_form wanted IsOfKind tells None input h = absurd h
 of_form wanted IsOfKind tells (Some (Free slots)) input h = tells (run_text slots) (system_of input)
 of_form wanted IsOfKind tells (Some (Serial slots)) input h = tells (run_text slots) (system_of input)
+of_form wanted IsOfKind tells (Some (Rounds slots)) input h = tells (run_text slots) (system_of input)
 of_form wanted IsOfKind tells (Some (Play slots)) input h = tells (played_text slots) (system_of input)
 of_form wanted IsOfKind tells (Some (Make number)) input h = absurd h
 of_form wanted IsOfKind tells (Some Check) input h = tells check_text (system_of input)

@@ -3,17 +3,20 @@ use Rattle.std.specs.Prelude.{ℕ, Bool, true, false, if◌then◌else◌, Optio
 use Rattle.xs_instructions.specs.Image.{same_name}
 use Rattle.word_numbers.specs.Decimal.{decimal_up_to}
 use Rattle.answer_model.specs.declared.Form.{Form}
-use Rattle.answer_model.specs.declared.Form.TheVariants.{Free, Serial, Play, Make, Check}
+use Rattle.answer_model.specs.declared.Form.TheVariants.{Free, Serial, Rounds, Play, Make, Check}
 
 abbrev pub most_slots : ℕ
 most_slots = 1000000
 
--- the run of so many slots as the word says, by workers in threads or all nodes together, and the play in such a run
+-- the run of so many slots as the word says, by workers in threads, all nodes together or round by round, and the play in such a run
 abbrev pub free_of : List ℕ → Option Form
 free_of word = option_and_then (λ slots. Some (Free slots)) (decimal_up_to most_slots word)
 
 abbrev pub serial_of : List ℕ → Option Form
 serial_of word = option_and_then (λ slots. Some (Serial slots)) (decimal_up_to most_slots word)
+
+abbrev pub rounds_of : List ℕ → Option Form
+rounds_of word = option_and_then (λ slots. Some (Rounds slots)) (decimal_up_to most_slots word)
 
 abbrev pub play_of : List ℕ → Option Form
 play_of word = option_and_then (λ slots. Some (Play slots)) (decimal_up_to most_slots word)
@@ -35,9 +38,10 @@ form_of_two command word =
 abbrev pub form_of_mode : List ℕ → List ℕ → Option Form
 form_of_mode slots mode =
     if same_name (codes "free") mode then free_of slots
-    else (if same_name (codes "serial") mode then serial_of slots else None)
+    else (if same_name (codes "serial") mode then serial_of slots else (if same_name (codes "rounds") mode then rounds_of slots else None))
 
--- the form of the words, if they have one: `check`, `play SLOTS`, `make NUMBER`, `run SLOTS` and `run SLOTS free`, which are the same, or `run SLOTS serial`
+-- the form of the words, if they have one: `check`, `play SLOTS`, `make NUMBER`, `run SLOTS` and `run SLOTS free`, which are the same,
+-- `run SLOTS serial`, or `run SLOTS rounds`
 unfoldable pub form_of_words : List (List ℕ) → Option Form
 form_of_words (a ∷ []) = if same_name (codes "check") a then Some Check else None
 form_of_words (a ∷ n ∷ []) = form_of_two a n
@@ -51,6 +55,7 @@ usage_text = codes "usage: xs1 run SLOTS [serial|free|rounds] | play SLOTS | mak
 abbrev pub reads_input : Form → Bool
 reads_input (Free slots) = true
 reads_input (Serial slots) = true
+reads_input (Rounds slots) = true
 reads_input (Play slots) = true
 reads_input (Make number) = false
 reads_input Check = true
@@ -60,10 +65,11 @@ abbrev pub asks_for_input : Option Form → Bool
 asks_for_input None = false
 asks_for_input (Some form) = reads_input form
 
--- whether a form may wait for others: workers in threads do, for each other
+-- whether a form may wait for others: workers in threads do, for each other. Nodes that run round by round wait for nobody.
 abbrev pub may_wait : Form → Bool
 may_wait (Free slots) = true
 may_wait (Serial slots) = false
+may_wait (Rounds slots) = false
 may_wait (Play slots) = false
 may_wait (Make number) = false
 may_wait Check = false

@@ -2,6 +2,7 @@ pub mod CheckForm
 pub mod Forms
 pub mod MakeForm
 pub mod Loads
+pub mod Modes
 pub mod OnSystem
 pub mod PlayForm
 pub mod Refusals

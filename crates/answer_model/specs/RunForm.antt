@@ -1,5 +1,5 @@
--- The forms `run SLOTS`, `run SLOTS free` and `run SLOTS serial`: the system runs for so many slots, and its trace is written. How the nodes
--- are run makes no difference to it.
+-- The forms `run SLOTS`, `run SLOTS free`, `run SLOTS serial` and `run SLOTS rounds`: the system runs for so many slots, and its trace is
+-- written. How the nodes are run makes no difference to it.
 use Rattle.std.specs.Prelude.{ℕ, List}
 use Rattle.sys_plan.specs.Plan.{PlanRec}
 use Rattle.trace_model.specs.Trace.{trace_text}

@@ -2,7 +2,7 @@
 use Rattle.std.specs.Prelude.{ℕ, ◌≡◌, ◌↔◌, Option, Some, None, List}
 use Rattle.system_model.specs.System.{System, Plan, Frame, Source, Pins, system_of}
 use Rattle.answer_model.specs.declared.Form.{Form}
-use Rattle.answer_model.specs.declared.Form.TheVariants.{Free, Serial, Play, Make, Check}
+use Rattle.answer_model.specs.declared.Form.TheVariants.{Free, Serial, Rounds, Play, Make, Check}
 use Rattle.answer_model.specs.declared.Status.{Status}
 use Rattle.answer_model.specs.declared.Status.TheVariants.{Done, Usage, SystemFault, SourceFault, ScriptFault}
 use Rattle.answer_model.specs.Forms.{form_of_words}
@@ -41,6 +41,7 @@ abbrev pub ReadsSystem : Option Form → Type 0
 ReadsSystem None = ⊥
 ReadsSystem (Some (Free slots)) = Unit {0}
 ReadsSystem (Some (Serial slots)) = Unit {0}
+ReadsSystem (Some (Rounds slots)) = Unit {0}
 ReadsSystem (Some (Play slots)) = Unit {0}
 ReadsSystem (Some (Make number)) = ⊥
 ReadsSystem (Some Check) = Unit {0}

@@ -2,7 +2,7 @@
 use Rattle.std.specs.Prelude.{ℕ, ◌+◌, min, if◌then◌else◌, Option, Some, None, List, length}
 use Rattle.system_model.specs.System.{longest_input}
 use Rattle.answer_model.specs.declared.Form.{Form}
-use Rattle.answer_model.specs.declared.Form.TheVariants.{Free, Serial, Play, Make, Check}
+use Rattle.answer_model.specs.declared.Form.TheVariants.{Free, Serial, Rounds, Play, Make, Check}
 use Rattle.answer_model.specs.declared.Answer.{Answer}
 use Rattle.answer_model.specs.declared.Status.TheVariants as status
 use Rattle.answer_model.specs.Forms.{form_of_words, usage_text, asks_for_input}
@@ -15,6 +15,7 @@ use Rattle.answer_model.specs.CheckForm.{check_answer}
 abbrev pub answer_by : Form → List ℕ → Answer
 answer_by (Free slots) input = run_answer slots input
 answer_by (Serial slots) input = run_answer slots input
+answer_by (Rounds slots) input = run_answer slots input
 answer_by (Play slots) input = play_answer slots input
 answer_by (Make number) input = made_answer number
 answer_by Check input = check_answer input

@@ -4,6 +4,7 @@
 
 ghost use Rattle.std.specs.Prelude.{◌≡◌};
 ghost use Rattle.answer_model.specs.Loads.{LoadsAreMade};
+ghost use Rattle.answer_model.specs.Modes.{ModesAreAlike};
 ghost use Rattle.answer_model.specs.StatusNumber.{number_of_status};
 ghost use Rattle.answer_model.specs.SystemStatuses.{SystemStatuses};
 
@@ -17,6 +18,8 @@ pub enum Form {
     Free(u32),
     /// `run SLOTS serial`: a run of so many slots, all nodes together.
     Serial(u32),
+    /// `run SLOTS rounds`: a run of so many slots, round by round: in each round every node runs as far as it may.
+    Rounds(u32),
     /// `play SLOTS`: the steps of the system's schedule one by one, in a run of so many slots.
     Play(u32),
     /// `make NUMBER`: what the load of the number comes to.
@@ -65,6 +68,12 @@ pub struct Answer {
 /// By which statuses the forms answer that read a system text: exactly by what that text stands for.
 pub fn statuses_of_systems()
     ensures { SystemStatuses }
+{}
+
+/// A run answers alike in all modes, whatever its slots and its input are: the same text, the same status, and as many bytes of the input
+/// are taken. With `serial` and with `rounds` it waits for nobody. See docs/OUTPUT.md.
+pub fn modes_are_alike()
+    ensures { ModesAreAlike }
 {}
 
 /// To `make NUMBER` the line of the number's load is answered, whatever the number: no load is refused. See docs/LOADS.md.

@@ -1,5 +1,5 @@
 //! Calls with faults of the source and of the sink, with the longest input, with workers that run at the same time, and with
-//! long runs by both drives.
+//! long runs by all drives.
 use load_maker::make_system;
 use std::alloc::{AllocError, Global};
 use std::sync::Wait;
@@ -87,10 +87,15 @@ fn call<R: Threads + Wait + Sync, S: Source, K: Sink>(
     Ok(top(rt, alloc, &words, source, sink, &OpenGate))
 }
 
-// Whether a free run of the pair writes what it should while this worker is held back, and meets the other.
-fn meets<R: Threads + Wait + Sync>(rt: &R, alloc: Global, held: u32) -> Result<bool, AllocError> {
+// Whether a run of the pair in this mode writes what it should while this worker is held back, and meets the other.
+fn meets<R: Threads + Wait + Sync>(
+    rt: &R,
+    alloc: Global,
+    mode: &str,
+    held: u32,
+) -> Result<bool, AllocError> {
     let gate = Meeting::of(held);
-    let words = owned(alloc, &["run", "40", "free"])?;
+    let words = owned(alloc, &["run", "40", mode])?;
     let mut source = ListSource::new(PAIR.to_vec(alloc)?);
     let mut sink = ListSink::with_room(alloc, 256)?;
     let ended = top(rt, alloc, &words, &mut source, &mut sink, &gate);
@@ -107,23 +112,33 @@ fn owned(alloc: Global, words: &[&str]) -> Result<Vec<String>, AllocError> {
 }
 
 #[test]
-fn writes_the_trace_of_a_serial_run(rt: HostRuntime) -> Result<(), Fail> {
-    let mut source = ListSource::new(PAIR.to_vec(rt.alloc())?);
-    let mut sink = ListSink::with_room(rt.alloc(), 256)?;
-    let ended = call(
-        &rt,
-        rt.alloc(),
-        &["run", "40", "serial"],
-        &mut source,
-        &mut sink,
-    )?;
-    assert!(rt; ended == Status::Done && sink.bytes() == PAIR_FOR_40);
+fn writes_the_trace_of_a_run_that_waits_for_nobody(rt: HostRuntime) -> Result<(), Fail> {
+    for mode in ["serial", "rounds"] {
+        let mut source = ListSource::new(PAIR.to_vec(rt.alloc())?);
+        let mut sink = ListSink::with_room(rt.alloc(), 256)?;
+        let ended = call(
+            &rt,
+            rt.alloc(),
+            &["run", "40", mode],
+            &mut source,
+            &mut sink,
+        )?;
+        assert!(rt; ended == Status::Done && sink.bytes() == PAIR_FOR_40);
+    }
     Ok(())
 }
 
 #[test]
 fn a_worker_comes_to_the_gate_while_the_other_is_held_back(rt: HostRuntime) -> Result<(), Fail> {
-    assert!(rt; meets(&rt, rt.alloc(), 0)? && meets(&rt, rt.alloc(), 1)?);
+    assert!(rt; meets(&rt, rt.alloc(), "free", 0)? && meets(&rt, rt.alloc(), "free", 1)?);
+    Ok(())
+}
+
+#[test]
+fn a_node_comes_to_the_gate_while_the_other_is_held_back_in_a_round(
+    rt: HostRuntime,
+) -> Result<(), Fail> {
+    assert!(rt; meets(&rt, rt.alloc(), "rounds", 0)? && meets(&rt, rt.alloc(), "rounds", 1)?);
     Ok(())
 }
 
@@ -233,9 +248,13 @@ fn run_of_load<R: Threads + Wait + Sync>(
 }
 
 #[test]
-fn a_load_writes_the_same_by_either_drive(rt: HostRuntime) -> Result<(), Fail> {
+fn a_load_writes_the_same_by_each_drive(rt: HostRuntime) -> Result<(), Fail> {
     let free = run_of_load(&rt, rt.alloc(), &["run", "60000"])?;
     let serial = run_of_load(&rt, rt.alloc(), &["run", "60000", "serial"])?;
     assert!(rt; serial.bytes().ends_with(b"end 60000\n") && free.bytes() == serial.bytes());
+    // The least delay is 1, so there are as many rounds as slots.
+    let rounds = run_of_load(&rt, rt.alloc(), &["run", "3000", "rounds"])?;
+    let serial = run_of_load(&rt, rt.alloc(), &["run", "3000", "serial"])?;
+    assert!(rt; serial.bytes().ends_with(b"end 3000\n") && rounds.bytes() == serial.bytes());
     Ok(())
 }

@@ -1,5 +1,5 @@
 //! Gives each case of the files in data/ to the program's call, and says which of them it answers otherwise than the case
-//! says and how many it answers so. A case of `run SLOTS` is tried with `run SLOTS serial` too. The texts that the cases
+//! says and how many it answers so. A case of `run SLOTS` is tried with `serial` and with `rounds` too. The texts that the cases
 //! expect were written by hand, from docs/ASSEMBLY.md, docs/SYSTEM_TEXT.md, docs/INSTRUCTIONS.md and docs/OUTPUT.md. Sources
 //! and systems that reach the limits of a memory or of the whole input are too long for a file: text_tests and call_tests try
 //! those.
@@ -72,16 +72,18 @@ impl Tried {
     }
 }
 
-// Whether the program answers the case as it says: a case that runs its system in threads is tried by the serial machine too.
+// Whether the program answers the case as it says: a case that runs its system in threads is tried by the serial machine and by rounds too.
 fn agrees<R: Threads + Wait + Sync + AllocGlobal>(rt: &R, case: &Case) -> Result<bool> {
     let mut all = answers_to(rt, case, &case.words)?;
     if let [command, slots] = case.words.as_slice() {
         if command.as_str() == "run" {
-            let mut words = Vec::new(rt.alloc());
-            words.push(command.clone()?)?;
-            words.push(slots.clone()?)?;
-            words.push("serial".to_string(rt.alloc())?)?;
-            all = answers_to(rt, case, &words)? && all;
+            for mode in ["serial", "rounds"] {
+                let mut words = Vec::new(rt.alloc());
+                words.push(command.clone()?)?;
+                words.push(slots.clone()?)?;
+                words.push(mode.to_string(rt.alloc())?)?;
+                all = answers_to(rt, case, &words)? && all;
+            }
         }
     }
     Ok(all)

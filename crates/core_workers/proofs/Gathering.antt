@@ -1,7 +1,7 @@
 -- What is left of all workers is at the limit: each node, and the log of each arc.
-use Rattle.std.proofs.Common.{◌≡◌, ℕ, zero, suc, ◌<◌, Some, List, [], ◌∷◌, length, map, slice_get, slice_index, refl, sym, ap, ◌∙◌, subst, arith}
+use Rattle.std.proofs.Common.{◌≡◌, ◌<◌, Some, List, [], ◌∷◌, length, map, slice_get, sym, ap, ◌∙◌, subst, arith}
 use Rattle.std.specs.List.{AllByRecursion}
-use Rattle.std.proofs.lemmas.Option.{none-some, same_Some, slice_get_within}
+use Rattle.std.proofs.lemmas.Option.{slice_get_within}
 use Rattle.std.proofs.lemmas.List.{length-map}
 use Rattle.std.proofs.lemmas.List.Elements.{recursion_from_All}
 use Rattle.xs_base.specs.Numbers.{Slot, LinkNumber, Position}
@@ -14,12 +14,10 @@ use Rattle.plan_cells.specs.declared.ends.Ends.{Ends}
 use Rattle.plan_cells.specs.Ends.{CellsRec, leaving, coming, IsOutgoing, IsIncoming, AreEnds, IsLogOf, HasLeft}
 use Rattle.plan_cells.proofs.Lists.{all_at, from_map}
 use Rattle.plan_cells.proofs.AtEnds.{left_by}
-use Rattle.busy_slots.specs.Busy.{busy_count}
 use Rattle.node_runners.specs.Runner.{RunnerRec}
-use Rattle.core_workers.specs.Worker.{WorkerRec, IsWorker}
+use Rattle.core_workers.specs.Worker.{WorkerRec, IsWorker, HasSteppedBusy}
 use Rattle.core_workers.specs.Run.{IsLeftAt, IsToldTo}
 use Rattle.finished_runs.specs.Limit.{Totals, HasRun, HasSent}
-use Rattle.core_workers.specs.Finished.{AreBusyCounts}
 use Rattle.core_workers.specs.Gathered.{IsFull, sent_in}
 
 abbrev pub runner_of : WorkerRec → RunnerRec
@@ -28,8 +26,10 @@ runner_of part = part.runner
 abbrev pub ends_of : WorkerRec → Ends
 ends_of part = part.ends
 
-abbrev pub stepped_by : RunnerRec → ℕ
-stepped_by runner = runner.stepped
+-- each has stepped the busy slots
+pub all_busy : (parts : List WorkerRec) → AllByRecursion IsWorker parts → AllByRecursion HasSteppedBusy (map runner_of parts)
+all_busy [] workers = tt
+all_busy (part ∷ parts) workers = (workers.0.busy, all_busy parts workers.1)
 
 module _ (cells : CellsRec) (limit : Slot) (parts : List WorkerRec)
     (nodes : length parts ≡ length cells.plan.nodes)
@@ -45,29 +45,6 @@ module _ (cells : CellsRec) (limit : Slot) (parts : List WorkerRec)
         node = ap (λ (r : RunnerRec). r.node) (sym part.2) ∙ l.node;
         clock = ap (λ (r : RunnerRec). r.clock) (sym part.2) ∙ l.clock;
       }
-
-  -- and it has stepped the busy slots
-  pub busy_counts : AreBusyCounts cells.plan limit (map stepped_by (map runner_of parts))
-  busy_counts = record {
-    nodes = length-map (map runner_of parts) stepped_by ∙ length-map parts runner_of ∙ nodes;
-    each_node = λ n within.
-        let there : n < length parts = omega (arith, within, nodes) in
-        let part = part_there parts n there in
-        let w = all_at IsWorker parts n part.0 workers part.1 in
-        let l = left n part.0 part.1 in
-        stepped_there parts n part.0 part.1 ∙ w.busy
-        ∙ (λ i. busy_count ((w.of_plan ∙ ap (λ (c : CellsRec). c.plan) l.cells_are) i) (l.node i) (l.clock i));
-  }
-    where
-      part_there : (ps : List WorkerRec) (n : ℕ) → n < length ps → (part : WorkerRec) × (slice_get ps n ≡ Some part)
-      part_there [] n h = absurd (omega (arith, h))
-      part_there (p ∷ ps) zero h = (p, refl)
-      part_there (p ∷ ps) (suc n) h = part_there ps n (omega (arith, h))
-
-      stepped_there : (ps : List WorkerRec) (n : ℕ) (part : WorkerRec) → slice_get ps n ≡ Some part → slice_index (map stepped_by (map runner_of ps)) n ≡ part.runner.stepped
-      stepped_there [] n part is = absurd (none-some part is)
-      stepped_there (p ∷ ps) zero part is = ap (λ (q : WorkerRec). q.runner.stepped) (same_Some p part is)
-      stepped_there (p ∷ ps) (suc n) part is = stepped_there ps n part is
 
   own_ends : (n : Position) (part : WorkerRec) → slice_get parts n ≡ Some part → AreEnds cells n part.ends
   own_ends n part here =

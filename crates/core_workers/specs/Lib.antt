@@ -4,4 +4,3 @@ pub mod Run
 pub mod Turns
 pub mod Steps
 pub mod Gathered
-pub mod Counted

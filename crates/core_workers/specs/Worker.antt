@@ -4,7 +4,6 @@ use Rattle.std.specs.List.{AllByRecursion, AllZip}
 use Rattle.xs_base.specs.Numbers.{Slot, LinkNumber, EndNumber}
 use Rattle.sys_plan.specs.Plan.{PlanRec, IsPlan, incoming, delay_of}
 use Rattle.serial_model.specs.Serial.{history}
-use Rattle.busy_slots.specs.Busy.{busy_count}
 use Rattle.plan_stories.specs.Stories.{carried_at}
 use Rattle.link_logs.specs.declared.answers.Cause.{Cause}
 use Rattle.link_logs.specs.declared.answers.Got.{Got}
@@ -19,6 +18,7 @@ use Rattle.sys_plan.specs.declared.system_plan.TheConstants.{ENDS}
 use Rattle.ahead_limits.specs.declared.horizon.Seen.{Seen}
 use Rattle.ahead_limits.specs.Horizon.{HorizonRec, Sees}
 use Rattle.node_runners.specs.Runner.{RunnerRec}
+pub use Rattle.node_runners.specs.Busy.{HasSteppedBusy, RunsOn}
 use Rattle.core_workers.specs.declared.turn.Turn.{Turn}
 use Rattle.core_workers.specs.declared.turn.Turn.TheVariants.{Ran, Blocked, Busy, Finished, Stopped, Memory}
 
@@ -59,16 +59,6 @@ pub record Tells (cells : CellsRec) (runner : RunnerRec) (ends : List Outgoing) 
   pub fit : AllByRecursion (IsOutgoing cells) ends
   pub told : All (IsTold runner.published) ends
   pub all_ends : length runner.published ≡ ENDS
-
--- a node has stepped as many slots as are busy below its clock
-abbrev pub HasSteppedBusy : RunnerRec → Type 0
-HasSteppedBusy runner = runner.stepped ≡ busy_count runner.plan runner.node runner.clock
-
--- it has run on: nothing else of it changed
-pub record RunsOn (before now : RunnerRec) : Type 0 where
-  pub rest : now ≡ record before { clock = now.clock; stepped = now.stepped }
-  pub on : before.clock ≤ now.clock
-  pub busy : HasSteppedBusy now
 
 pub record IsWorker (w : WorkerRec) : Type 0 where
   pub plan_is : IsPlan w.cells.plan

@@ -1,16 +1,12 @@
 //! A node that runs as far as it may, over quiet slots at once.
-ghost use Rattle.std.specs.Prelude.{◌≡◌, ◌≤◌, true, IfOk};
-ghost use Rattle.ahead_limits.specs.Horizon.{may_run};
-ghost use Rattle.busy_slots.specs.Busy.{is_busy};
+ghost use Rattle.std.specs.Prelude.{◌≡◌, ◌≤◌, IfOk};
 ghost use Rattle.node_runners.specs.Runner.{Stops};
-ghost use Rattle.core_workers.specs.Worker.{HasSteppedBusy, RunsOn};
+ghost use Rattle.core_workers.specs.Worker.{HasSteppedBusy};
 
-use busy_slots::{busy_slots_are_counted, idle_where_not_busy};
 use node_runners::{NodeRunner, Ran};
 use std::alloc::AllocError;
 
-/// Runs slots of a node until a link end stops it or it is at the limit, and tells which: it goes over quiet slots at once and steps the
-/// busy ones. The error is want of memory.
+/// Runs slots of a node until a link end stops it or it is at the limit, and tells which. The error is want of memory.
 pub(crate) fn run_all(runner: &mut NodeRunner) -> Result<Ran, AllocError>
     requires busy { HasSteppedBusy runner.old }
     ensures rest { runner.new ≡ record runner.old { clock = runner.new.clock; stepped = runner.new.stepped } }
@@ -18,25 +14,5 @@ pub(crate) fn run_all(runner: &mut NodeRunner) -> Result<Ran, AllocError>
     ensures stops { IfOk result (λ ran. Stops runner.new.horizon runner.new.clock ran) }
     ensures busy { HasSteppedBusy runner.new }
 {
-    busy_slots_are_counted();
-    loop {
-        pass_quiet_slots(runner);
-        match runner.run_slot()? {
-            Ran::Slot => {}
-            Ran::Blocked { end, seen } => return Ok(Ran::Blocked { end, seen }),
-            Ran::AtLimit => return Ok(Ran::AtLimit),
-        }
-    }
-}
-
-// Goes over the quiet slots from the clock of a node on: where the node may run on, the slot that it comes to is busy.
-#[inline]
-#[tactic(auto, using(crate::proofs::Counting::quiet_passed))]
-fn pass_quiet_slots(runner: &mut NodeRunner)
-    requires busy { HasSteppedBusy runner.old }
-    ensures on { RunsOn runner.old runner.new }
-    ensures busy { may_run runner.new.horizon runner.new.clock ≡ true → is_busy runner.new.plan runner.new.node runner.new.clock ≡ true }
-{
-    idle_where_not_busy();
-    runner.skip();
+    runner.run_on()
 }

@@ -1,13 +1,11 @@
 //! How a run is gathered at its limit from what the workers of all nodes have left.
-ghost use Rattle.std.specs.Prelude.{◌≡◌, Some, IfOk, OnOk, length, map, slice_get};
+ghost use Rattle.std.specs.Prelude.{◌≡◌, true, Some, IfOk, OnOk, length, map, slice_get};
 ghost use Rattle.std.specs.List.{AllByRecursion};
 ghost use Rattle.xs_base.specs.Numbers.{Position};
 ghost use Rattle.sys_plan.specs.Plan.{IsPlan};
-ghost use Rattle.node_runners.specs.Runner.{RunnerRec};
 ghost use Rattle.core_workers.specs.Worker.{WorkerRec, IsWorker};
 ghost use Rattle.core_workers.specs.Run.{IsLeftAt};
 ghost use Rattle.core_workers.specs.Gathered.{sent_in};
-ghost use Rattle.core_workers.specs.Finished.{AreBusyCounts};
 
 use crate::worker::Part;
 use finished_runs::FinishedRun;
@@ -18,27 +16,24 @@ use plan_cells::{Ends, PlanCells};
 use plan_stories::{PlanStory, totals_in};
 use std::alloc::{AllocError, Global};
 
-/// The run of which the workers of all nodes of these cells have left these parts, by position, each at the limit; and how many slots each
-/// node has stepped. The totals are those that the logs of the cells have counted. The error is want of memory, and leaves nothing.
+/// The run of which the workers of all nodes of these cells have left these parts, by position, each at the limit. The totals are those that the logs of the cells have counted. The error is want of memory, and leaves nothing.
 pub(crate) fn gather(
     alloc: Global,
     cells: PlanCells,
     parts: Vec<Part>,
     limit: u32,
-) -> Result<(FinishedRun, Vec<u32>), AllocError>
+) -> Result<FinishedRun, AllocError>
     requires plan { IsPlan cells.plan }
     requires nodes { length parts.items ≡ length cells.plan.nodes }
     requires at_limit { (n : Position) (part : WorkerRec) → slice_get parts.items n ≡ Some part → IsLeftAt cells limit n part }
-    ensures run { IfOk result (λ gathered. gathered.0 ≡ record { plan = cells.plan; limit = limit }) }
-    ensures stepped { IfOk result (λ gathered. AreBusyCounts cells.plan limit gathered.1.items) }
+    ensures run { IfOk result (λ run. run ≡ record { plan = cells.plan; limit = limit; apart = true }) }
 {
     let plan = Known::of(cells.plan());
     let (runners, ends) = take_apart(alloc, parts)?;
-    let stepped = stepped_of(alloc, &runners)?;
     let logs = cells.logs(alloc, ends)?;
     let totals = totals_of(alloc, logs)?;
     let run = FinishedRun::of_runners(plan, limit, runners, totals);
-    Ok((run, stepped))
+    Ok(run)
 }
 
 // The nodes of parts and their ends, in order. The error is want of memory.
@@ -55,17 +50,6 @@ fn take_apart(alloc: Global, parts: Vec<Part>) -> Result<(Vec<NodeRunner>, Vec<E
         ends.push(own)?;
     }
     Ok((runners, ends))
-}
-
-// How many slots each of these nodes has stepped. The error is want of memory.
-fn stepped_of(alloc: Global, runners: &[NodeRunner]) -> Result<Vec<u32>, AllocError>
-    ensures { IfOk result (λ stepped. stepped.items ≡ map (λ (runner : RunnerRec). runner.stepped) runners.now) }
-{
-    let mut stepped = Vec::new(alloc);
-    for runner in runners {
-        stepped.push(runner.stepped())?;
-    }
-    Ok(stepped)
 }
 
 // How many tokens, and how many credits, the link of each of these logs has carried, read or not. The error is want of memory.

@@ -55,9 +55,9 @@ impl Lanes {
     pub fn finish(self, alloc: Global, parts: Vec<Part>, limit: u32) -> Result<Finished, AllocError>
         requires nodes { length parts.items ≡ length self.plan.nodes }
         requires at_limit { (n : Position) (part : WorkerRec) → slice_get parts.items n ≡ Some part → IsLeftAt self limit n part }
-        ensures finished { IfOk result (λ f. f ≡ record { plan = self.plan; limit = limit; way = Way.Workers }) }
+        ensures finished { IfOk result (λ f. f ≡ record { plan = self.plan; limit = limit; way = Way.Workers; rounds = 0 }) }
     {
-        let (run, stepped) = gather(alloc, self.cells, parts, limit)?;
-        Ok(Finished::of_workers(run, stepped))
+        let run = gather(alloc, self.cells, parts, limit)?;
+        Ok(Finished::of_workers(run))
     }
 }

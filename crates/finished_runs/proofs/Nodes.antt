@@ -7,7 +7,9 @@ use Rattle.serial_model.specs.Serial.{serial}
 use Rattle.locality_laws.specs.Locality.{node_in, events_in}
 use Rattle.core_step.specs.Core.{CoreValue, StandsAt}
 use Rattle.trace_lines.specs.Kept.{KeptEvents, Keeps}
+use Rattle.busy_slots.specs.Busy.{busy_count}
 use Rattle.node_runners.specs.Runner.{RunnerRec}
+use Rattle.node_runners.specs.Busy.{HasSteppedBusy}
 use Rattle.finished_runs.specs.Limit.{Totals, HasRun, HasSent, AreAtLimit}
 
 module _ {plan : PlanRec} {limit : Slot} {n : Position} {runner : RunnerRec} (has : HasRun plan limit n runner) where
@@ -19,6 +21,9 @@ module _ {plan : PlanRec} {limit : Slot} {n : Position} {runner : RunnerRec} (ha
 
   pub stands_there : {core : CoreValue} → StandsAt core (node_in (serial runner.plan runner.clock) runner.node) runner.clock → StandsAt core (node_in (serial plan limit) n) limit
   stands_there {core} stands = subst (λ (p : Place). StandsAt core (node_in (serial p.0 p.1) p.2) p.1) same_place stands
+
+  pub stepped_there : HasSteppedBusy runner → runner.stepped ≡ busy_count plan n limit
+  stepped_there busy = busy ∙ ap (λ (p : Place). busy_count p.0 p.2 p.1) same_place
 
   pub keeps_there : {kept : KeptEvents} → Keeps kept (events_in (serial runner.plan runner.clock) runner.node) → Keeps kept (events_in (serial plan limit) n)
   keeps_there {kept} keeps = subst (λ (p : Place). Keeps kept (events_in (serial p.0 p.1) p.2)) same_place keeps

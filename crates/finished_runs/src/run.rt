@@ -1,5 +1,5 @@
 //! `FinishedRun`, the run of a system at its limit.
-ghost use Rattle.std.specs.Prelude.{◌≡◌, ◌<◌, Some, IfOk, length, slice_get};
+ghost use Rattle.std.specs.Prelude.{◌≡◌, ◌<◌, true, false, Some, IfOk, All, length, slice_get};
 ghost use Rattle.std.specs.List.{AllZip};
 ghost use Rattle.xs_base.specs.Numbers.{Position, LinkNumber};
 ghost use Rattle.sys_plan.specs.Plan.{arc_count};
@@ -9,7 +9,8 @@ ghost use Rattle.trace_lines.specs.Kept.{Keeps};
 ghost use Rattle.trace_model.specs.Trace.{tokens_sent, credits_sent};
 ghost use Rattle.core_step.specs.Core.{StandsAt};
 ghost use Rattle.node_runners.specs.Runner.{RunnerRec};
-ghost use Rattle.finished_runs.specs.Limit.{Totals, HasRun, HasSent};
+ghost use Rattle.node_runners.specs.Busy.{HasSteppedBusy};
+ghost use Rattle.finished_runs.specs.Limit.{Totals, HasRun, HasSent, stepped_in};
 
 use crate::runners::Runners;
 use crate::together::Together;
@@ -22,7 +23,7 @@ use std::marker::Model;
 use sys_plan::Plan;
 use trace_lines::NodeEvents;
 
-/// The run of a system that has come to its limit. Contracts see the plan and the limit in slots, as a
+/// The run of a system that has come to its limit. Contracts see the plan, the limit in slots and whether each node was run apart, as a
 /// `FinishedRunRec` of `Rattle.finished_runs.specs.Limit`; what the system has become is `serial` of
 /// `Rattle.serial_model.specs.Serial`, whatever the way in which its nodes were run. See docs/LOOKAHEAD.md.
 #[derive(Drop)]
@@ -50,14 +51,14 @@ impl Model for FinishedRun {
 impl FinishedRun {
     /// The run that a serial machine made from slot 0 on. It takes no memory.
     pub fn of_serial(machine: SerialMachine) -> FinishedRun
-        ensures { result ≡ record { plan = machine.plan; limit = machine.now } }
+        ensures { result ≡ record { plan = machine.plan; limit = machine.now; apart = false } }
     {
         FinishedRun {
             nodes: Nodes::Together(Together::of(machine)),
         }
     }
 
-    /// The run of a plan of which each node, by position, has run so many slots by itself, `limit`; `totals` are how many tokens and how many
+    /// The run of a plan of which each node, by position, has run so many slots by itself, `limit`, and stepped the busy ones; `totals` are how many tokens and how many
     /// credits were sent on each arc below the limit, by number. It takes no memory.
     pub fn of_runners(
         plan: Known<Plan>,
@@ -69,7 +70,8 @@ impl FinishedRun {
         requires at_limit { (n : Position) (runner : RunnerRec) → slice_get runners.items n ≡ Some runner → HasRun plan.value limit n runner }
         requires links { length totals.items ≡ arc_count plan.value }
         requires sent { (link : LinkNumber) (sent : Totals) → slice_get totals.items link ≡ Some sent → HasSent plan.value limit link sent }
-        ensures { result ≡ record { plan = plan.value; limit = limit } }
+        requires busy { All HasSteppedBusy runners.items }
+        ensures { result ≡ record { plan = plan.value; limit = limit; apart = true } }
     {
         FinishedRun {
             nodes: Nodes::Runners(Runners::of(plan, limit, runners, totals)),
@@ -83,6 +85,17 @@ impl FinishedRun {
         match &self.nodes {
             Nodes::Together(run) => run.limit(),
             Nodes::Runners(runners) => runners.limit(),
+        }
+    }
+
+    /// How many slots the node at a position has stepped: those that are busy, where it was run apart, and else all.
+    pub fn stepped(&self, node: u8) -> u32
+        requires node { node < length self.now.plan.nodes }
+        ensures value { result ≡ stepped_in self.now node }
+    {
+        match &self.nodes {
+            Nodes::Together(run) => run.limit(),
+            Nodes::Runners(runners) => runners.stepped(node),
         }
     }
 

@@ -1,5 +1,5 @@
 //! `Runners`, the nodes of a plan that have run by themselves to the limit.
-ghost use Rattle.std.specs.Prelude.{◌≡◌, ◌<◌, Some, IfOk, length, slice_get};
+ghost use Rattle.std.specs.Prelude.{◌≡◌, ◌<◌, Some, IfOk, All, length, slice_get};
 ghost use Rattle.std.specs.List.{AllZip};
 ghost use Rattle.xs_base.specs.Numbers.{Position, LinkNumber};
 ghost use Rattle.sys_plan.specs.Plan.{arc_count};
@@ -8,7 +8,9 @@ ghost use Rattle.locality_laws.specs.Locality.{node_in, events_in};
 ghost use Rattle.trace_lines.specs.Kept.{Keeps};
 ghost use Rattle.trace_model.specs.Trace.{tokens_sent, credits_sent};
 ghost use Rattle.core_step.specs.Core.{StandsAt};
+ghost use Rattle.busy_slots.specs.Busy.{busy_count};
 ghost use Rattle.node_runners.specs.Runner.{RunnerRec};
+ghost use Rattle.node_runners.specs.Busy.{HasSteppedBusy};
 ghost use Rattle.finished_runs.specs.Limit.{Totals, HasRun, HasSent};
 
 use core_step::Core;
@@ -20,7 +22,7 @@ use sys_plan::Plan;
 use trace_lines::NodeEvents;
 
 /// All nodes of a plan, by position, at the limit of a run in slots, and how many tokens and credits were sent on each arc, by
-/// number. Contracts see a `FinishedRunRec` of `Rattle.finished_runs.specs.Limit`.
+/// number. Contracts see an `AtLimitRec` of `Rattle.finished_runs.specs.Limit`.
 #[derive(Drop)]
 pub(crate) struct Runners {
     plan: Known<Plan>,
@@ -30,17 +32,17 @@ pub(crate) struct Runners {
 }
 
 impl Model for Runners {
-    ghost use Rattle.finished_runs.specs.Limit.{FinishedRunRec, AreAtLimit};
+    ghost use Rattle.finished_runs.specs.Limit.{AtLimitRec, WereRunApart};
 
-    ghost Value = { FinishedRunRec };
+    ghost Value = { AtLimitRec };
 
     ghost view = { λ r. record { plan = r.plan.value; limit = r.limit } };
 
-    ghost invariant = { λ r. AreAtLimit r.plan.value r.limit r.runners.items r.totals.items };
+    ghost invariant = { λ r. WereRunApart r.plan.value r.limit r.runners.items r.totals.items };
 }
 
 impl Runners {
-    /// The nodes of a plan, each of which has run so many slots, and what was sent on its arcs. It takes no memory.
+    /// The nodes of a plan, each of which has run so many slots and stepped the busy ones, and what was sent on its arcs. It takes no memory.
     pub(crate) fn of(
         plan: Known<Plan>,
         limit: u32,
@@ -51,6 +53,7 @@ impl Runners {
         requires at_limit { (n : Position) (runner : RunnerRec) → slice_get runners.items n ≡ Some runner → HasRun plan.value limit n runner }
         requires links { length totals.items ≡ arc_count plan.value }
         requires sent { (link : LinkNumber) (sent : Totals) → slice_get totals.items link ≡ Some sent → HasSent plan.value limit link sent }
+        requires busy { All HasSteppedBusy runners.items }
         ensures { result ≡ record { plan = plan.value; limit = limit } }
     {
         Runners {
@@ -72,8 +75,18 @@ impl Runners {
     fn runner(&self, node: u8) -> &NodeRunner
         requires node { node < length self.now.plan.nodes }
         ensures at_limit { HasRun self.now.plan self.now.limit node result.now }
+        ensures busy { HasSteppedBusy result.now }
     {
         &self.runners[node as usize]
+    }
+
+    /// How many slots the node at a position has stepped.
+    #[tactic(auto, using(crate::proofs::Nodes::stepped_there))]
+    pub(crate) fn stepped(&self, node: u8) -> u32
+        requires node { node < length self.now.plan.nodes }
+        ensures busy { result ≡ busy_count self.now.plan node self.now.limit }
+    {
+        self.runner(node).stepped()
     }
 
     /// The core of the node at a position.

@@ -17,7 +17,7 @@ use std::marker::Model;
 use trace_lines::NodeEvents;
 use xs_base::Entry;
 
-/// All nodes of a plan, stepped together from slot 0 to the limit of a run. Contracts see a `FinishedRunRec` of
+/// All nodes of a plan, stepped together from slot 0 to the limit of a run. Contracts see an `AtLimitRec` of
 /// `Rattle.finished_runs.specs.Limit`.
 #[derive(Drop)]
 pub(crate) struct Together {
@@ -25,9 +25,9 @@ pub(crate) struct Together {
 }
 
 impl Model for Together {
-    ghost use Rattle.finished_runs.specs.Limit.{FinishedRunRec};
+    ghost use Rattle.finished_runs.specs.Limit.{AtLimitRec};
 
-    ghost Value = { FinishedRunRec };
+    ghost Value = { AtLimitRec };
 
     ghost view = { λ t. record { plan = t.machine.plan; limit = t.machine.now } };
 }

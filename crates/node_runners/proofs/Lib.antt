@@ -10,3 +10,4 @@ pub mod Sends
 pub mod Nearest
 pub mod Ahead
 pub mod Skips
+pub mod Counting

@@ -3,3 +3,4 @@ pub mod Sent
 pub mod Runner
 pub mod Inside
 pub mod Starts
+pub mod Busy

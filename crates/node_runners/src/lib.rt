@@ -1,6 +1,7 @@
 //! Nodes that run ahead of one another, each as far as what it has seen of its links lets it. See docs/LOOKAHEAD.md.
 #![tactic(auto)]
 
+mod advance;
 mod inlet;
 mod inlets;
 mod outlet;

@@ -202,7 +202,13 @@ impl NodeRunner {
         requires own { (link : LinkNumber) → outgoing self.old.plan self.old.node end ≡ Some link → batch.entries ≡ history self.old.plan link from self.old.clock }
         ensures rest { self.new ≡ record self.old { published = slice_set self.old.published end from } }
     {
-        let _ = self.exchange(end, batch, from);
+        if batch.entries().is_empty() {
+            // What `send` gave had no buffer, and what is kept here stays.
+            self.published[end as usize] = from;
+        } else {
+            let spare = self.exchange(end, batch, from);
+            self.inlets.keep(end, spare);
+        }
     }
 
     /// Keeps the buffer of a batch that `send` gave for a link end and that has no entries any more, for what is sent by it later. It takes no

@@ -21,7 +21,7 @@ pub fn drive_free<R: Threads + Wait + Sync, G: Gate>(
     limit: u32,
     gate: &G,
 ) -> Result<Finished, DriveError>
-    ensures at_limit { IfOk result (λ f. f ≡ record { plan = plan.now.value; limit = limit; way = Way.Workers }) }
+    ensures at_limit { IfOk result (λ f. f ≡ record { plan = plan.now.value; limit = limit; way = Way.Workers; rounds = 0 }) }
 {
     let (lanes, ends) = Lanes::new(alloc, plan)?;
     let parts = run_workers(rt, alloc, plan, &lanes, ends, limit, gate)?;

@@ -3,9 +3,9 @@
 
 mod error;
 mod free;
-mod lane;
 mod play;
 mod played;
+mod rounds;
 mod serial;
 mod stage;
 
@@ -13,4 +13,5 @@ pub use error::DriveError;
 pub use free::drive_free;
 pub use play::drive_play;
 pub use played::{PlayLine, Played};
+pub use rounds::drive_rounds;
 pub use serial::drive_serial;

@@ -10,7 +10,7 @@ use sys_plan::Plan;
 
 /// Runs a plan for so many slots, all nodes together, over slots in which nothing happens at any node at once. The error is want of memory. See docs/MACHINE.md.
 pub fn drive_serial(alloc: Global, plan: &Arc<Plan>, limit: u32) -> Result<Finished, DriveError>
-    ensures at_limit { IfOk result (λ f. f ≡ record { plan = plan.now.value; limit = limit; way = Way.Serial }) }
+    ensures at_limit { IfOk result (λ f. f ≡ record { plan = plan.now.value; limit = limit; way = Way.Serial; rounds = 0 }) }
 {
     let mut machine = SerialMachine::new(alloc, plan)?;
     machine.run(limit)?;

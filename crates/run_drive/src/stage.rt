@@ -2,19 +2,18 @@
 ghost use Rattle.std.specs.Prelude.{◌≡◌, ◌≤◌, ◌+◌, if◌then◌else◌, Some, None, IsSome, IfOk, OnOk, [], length, slice_set, slice_index_or};
 ghost use Rattle.xs_base.specs.Numbers.{LinkNumber};
 ghost use Rattle.sys_plan.specs.declared.Step.TheVariants as step;
-ghost use Rattle.sys_plan.specs.Plan.{arc_count, incoming, NamesWhatIsThere};
+ghost use Rattle.sys_plan.specs.Plan.{incoming, NamesWhatIsThere};
 ghost use Rattle.serial_model.specs.Serial.{history};
 ghost use Rattle.ahead_limits.specs.Horizon.{may_run, seen_at, seen_to};
 ghost use Rattle.ahead_limits.specs.Schedule.{schedule_at_start, clock_after};
-ghost use Rattle.node_runners.specs.Runner.{new_runner};
 ghost use Rattle.run_drive.specs.Played.{line_of};
-ghost use Rattle.run_drive.specs.Stages.{AllAt, IsNewLane, IsAt, Plays, schedule_of};
+ghost use Rattle.run_drive.specs.Stages.{IsAt, Plays, schedule_of};
 
-use crate::lane::Lane;
 use crate::played::PlayLine;
 use core_workers::{NodeRunner, Ran};
 use known_value::Known;
 use link_logs::Got;
+use plan_lanes::{Lane, lanes_of, runners_of};
 use std::alloc::{AllocError, Global};
 use std::sync::Arc;
 use sys_plan::{Plan, Step};
@@ -146,32 +145,6 @@ fn quiet_line(alloc: Global, step: Step, number: u32) -> PlayLine
         number,
         batch: Batch::new(alloc),
     }
-}
-
-// The nodes of a plan by position, as they start.
-fn runners_of(alloc: Global, plan: &Plan, limit: u32) -> Result<Vec<NodeRunner>, AllocError>
-    ensures count { IfOk result (λ v. length v.items ≡ length plan.now.nodes) }
-    ensures start { IfOk result (λ v. AllAt (λ n r. r ≡ new_runner plan.now limit n) v.items) }
-{
-    let mut runners = Vec::new(alloc);
-    for n in 0..plan.nodes().len() {
-        let runner = NodeRunner::new(alloc, plan, n as u8, limit)?;
-        runners.push(runner)?;
-    }
-    Ok(runners)
-}
-
-// The arcs of a plan by number, as they start.
-fn lanes_of(alloc: Global, plan: &Arc<Plan>) -> Result<Vec<Lane>, AllocError>
-    ensures count { IfOk result (λ v. length v.items ≡ arc_count plan.now.value) }
-    ensures start { IfOk result (λ v. AllAt (IsNewLane plan.now.value) v.items) }
-{
-    let mut lanes = Vec::new(alloc);
-    for link in 0..2 * plan.links().len() {
-        let lane = Lane::new(alloc, plan, link as u32)?;
-        lanes.push(lane)?;
-    }
-    Ok(lanes)
 }
 
 // A node hears what its neighbour published of the link that comes to a link end.

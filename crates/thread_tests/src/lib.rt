@@ -10,6 +10,8 @@ mod link_logs_tests;
 #[cfg(test)]
 mod log_cells_tests;
 #[cfg(test)]
+mod node_rounds_tests;
+#[cfg(test)]
 mod node_runners_tests;
 #[cfg(test)]
 mod plan_cells_tests;

@@ -47,12 +47,12 @@ pub record WorkedAnswers : Type 0 where
   pub one_word_more : answer (codes "check" ∷ codes "x" ∷ []) (lone []) ≡ no_usage
   pub other_case : answer (codes "run" ∷ codes "5" ∷ codes "Serial" ∷ []) (lone []) ≡ no_usage
   pub free : answer (codes "run" ∷ codes "20" ∷ codes "free" ∷ []) (lone sum_source) ≡ done (codes "n0 mem 0x00010000 0x0000000c\nend 20\n")
+  pub rounds : answer (codes "run" ∷ codes "20" ∷ codes "rounds" ∷ []) (lone sum_source) ≡ done (codes "n0 mem 0x00010000 0x0000000c\nend 20\n")
   pub free_without_slots : answer (codes "run" ∷ codes "free" ∷ []) (lone []) ≡ no_usage
   pub no_number : answer (codes "make" ∷ []) (lone []) ≡ no_usage
   pub number_too_great : answer (codes "make" ∷ codes "4294967296" ∷ []) (lone []) ≡ no_usage
   pub number_of_eleven_digits : answer (codes "make" ∷ codes "00000000001" ∷ []) (lone []) ≡ no_usage
   pub greatest : form_of_words (codes "make" ∷ codes "4294967295" ∷ []) ≡ Some (Make 4294967295)
-  pub not_built_yet : answer (codes "run" ∷ codes "20" ∷ codes "rounds" ∷ []) (lone []) ≡ no_usage
   pub too_many_slots : answer (run_for (codes "1000001")) (lone []) ≡ no_usage
   pub eleven_digits : answer (run_for (codes "00000000020")) (lone []) ≡ no_usage
   pub leading_zeros : answer (run_for (codes "0000000000")) (lone []) ≡ done (codes "end 0\n")

@@ -3,6 +3,7 @@
 
 mod answers;
 mod edges;
+mod modes;
 mod pairs;
 mod pins;
 mod plays;
@@ -11,6 +12,7 @@ mod statuses;
 
 pub use answers::worked_answers;
 pub use edges::worked_edges;
+pub use modes::worked_modes;
 pub use pairs::worked_pairs;
 pub use pins::worked_pins;
 pub use plays::worked_plays;

@@ -5,7 +5,7 @@ use Rattle.std.proofs.Math.Seq.{drop-append_seam}
 use Rattle.std.specs.Io.KnownBytes.{Appends, Consumes}
 use Rattle.xs_edge.specs.Edge.{AppendsPart}
 use Rattle.answer_model.specs.declared.Form.{Form}
-use Rattle.answer_model.specs.declared.Form.TheVariants.{Free, Serial, Play, Make, Check}
+use Rattle.answer_model.specs.declared.Form.TheVariants.{Free, Serial, Rounds, Play, Make, Check}
 use Rattle.answer_model.specs.declared.Answer.{Answer}
 use Rattle.answer_model.specs.declared.Status.{Status}
 use Rattle.answer_model.specs.declared.Status.TheVariants as status
@@ -28,6 +28,7 @@ use Rattle.xs1_top.proofs.Systems.{system_of-taken}
 answer_by-taken : (form : Form) (input : List ℕ) → answer_by form (take (taken_by (Some form) input) input) ≡ answer_by form input
 answer_by-taken (Free slots) input = ap (answer_to (run_text slots)) (system_of-taken input)
 answer_by-taken (Serial slots) input = ap (answer_to (run_text slots)) (system_of-taken input)
+answer_by-taken (Rounds slots) input = ap (answer_to (run_text slots)) (system_of-taken input)
 answer_by-taken (Play slots) input = ap (answer_to (played_text slots)) (system_of-taken input)
 answer_by-taken (Make number) input = refl
 answer_by-taken Check input = ap (answer_to check_text) (system_of-taken input)
@@ -138,6 +139,7 @@ answer_to-status text_for (Pins line kind) = tt
 pub answer_by-status : (form : Form) (input : List ℕ) → IsFormStatus (answer_by form input).status
 answer_by-status (Free slots) input = answer_to-status (run_text slots) (system_of input)
 answer_by-status (Serial slots) input = answer_to-status (run_text slots) (system_of input)
+answer_by-status (Rounds slots) input = answer_to-status (run_text slots) (system_of input)
 answer_by-status (Play slots) input = answer_to-status (played_text slots) (system_of input)
 answer_by-status (Make number) input = answer_to-status (made_text number) (system_of (load_text number))
 answer_by-status Check input = answer_to-status check_text (system_of input)

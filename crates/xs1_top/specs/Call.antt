@@ -3,7 +3,7 @@ use Rattle.std.specs.Prelude.{ℕ, ◌≡◌, ◌≤◌, ◌⊎◌, Option, Some
 use Rattle.std.specs.Io.KnownBytes.{Appends}
 use Rattle.xs_edge.specs.Edge.{HasRisen, AppendsPart}
 use Rattle.answer_model.specs.declared.Form.{Form}
-use Rattle.answer_model.specs.declared.Form.TheVariants.{Free, Serial, Play, Make, Check}
+use Rattle.answer_model.specs.declared.Form.TheVariants.{Free, Serial, Rounds, Play, Make, Check}
 use Rattle.answer_model.specs.declared.Status.{Status}
 use Rattle.answer_model.specs.declared.Status.TheVariants.{Done, Memory, Usage, SystemFault, SourceFault, ScriptFault, ReadFault, WriteFault}
 use Rattle.answer_model.specs.Forms.{most_slots}
@@ -13,6 +13,7 @@ use Rattle.answer_model.specs.Top.{answer, taken}
 abbrev pub HasFewSlots : Form → Type 0
 HasFewSlots (Free slots) = slots ≤ most_slots
 HasFewSlots (Serial slots) = slots ≤ most_slots
+HasFewSlots (Rounds slots) = slots ≤ most_slots
 HasFewSlots (Play slots) = slots ≤ most_slots
 HasFewSlots (Make number) = Unit {0}
 HasFewSlots Check = Unit {0}

@@ -20,11 +20,12 @@ use xs_edge::{Gate, Sink, Source};
 
 /// The whole program: its words choose a form, the input is read to its end if the form asks for it, and what the form
 /// answers to it is written. `run SLOTS` and `run SLOTS free` run the system that the input stands for, each node on a worker of its
-/// own that passes `gate` before each of its turns, `run SLOTS serial` runs it all nodes together, and all three answer with the
-/// trace; `play SLOTS` takes the steps of its schedule one by one, in a run of so many slots, and answers with what each
-/// leaves and publishes; `make NUMBER` runs the load of the number for 60,000 slots, all nodes together, and answers with the line of
-/// what it came to; `check` runs nothing and answers with each node's source as its image gives it. `words` are the
-/// program's, without its name. Nothing is written before all is done, and writing takes no memory. See docs/OUTPUT.md.
+/// own that passes `gate` before each of its turns, `run SLOTS serial` runs it all nodes together, `run SLOTS rounds` runs it round by
+/// round, where each node passes `gate` in each round, and all four answer with the trace; `play SLOTS` takes the steps of its schedule
+/// one by one, in a run of so many slots, and answers with what each leaves and publishes; `make NUMBER` runs the load of the number for
+/// 60,000 slots, all nodes together, and answers with the line of what it came to; `check` runs nothing and answers with each node's
+/// source as its image gives it. `words` are the program's, without its name. Nothing is written before all is done, and writing takes
+/// no memory. See docs/OUTPUT.md.
 ///
 /// With words of no form, or of one that asks for no input, nothing is read. Of an input no more than 4,194,305 bytes are
 /// read, and one of more than 4,194,304 bytes is refused as a system text.
@@ -87,15 +88,17 @@ pub fn top<R: Threads + Wait + Sync, S: Source, K: Sink, G: Gate>(
             sink,
             |input| run::answer_freely(rt, alloc, slots, input, gate),
         ),
-        form => respond_plainly(alloc, words, form, source, sink),
+        form => respond_plainly(rt, alloc, words, form, source, sink, gate),
     }
 }
 
 /// What `top` does with words of a form that waits for nobody, and with words of no form: with all but `run SLOTS` and
-/// `run SLOTS free`. It returns. Nothing passes `gate`. See docs/OUTPUT.md.
+/// `run SLOTS free`. It returns. With `run SLOTS rounds` each node passes `gate` in each round, in a thread where one can be made; with
+/// the other words nothing passes it, and no thread is made. See docs/OUTPUT.md.
 ///
 /// The statuses are those of `top`, and each comes as it does there: the fields of `Calls` are the clauses of `top`.
-pub fn top_plain<S: Source, K: Sink, G: Gate>(
+pub fn top_plain<R: Threads + Sync, S: Source, K: Sink, G: Gate>(
+    rt: &R,
     alloc: Global,
     words: &[String],
     source: &mut S,
@@ -105,16 +108,18 @@ pub fn top_plain<S: Source, K: Sink, G: Gate>(
     requires plain { form_may_wait (form_of_words (map string_bytes words.now)) ≡ false }
     ensures { Calls S.left S.faults S.read_gives K.written K.faults (map string_bytes words.now) source.old source.new sink.old sink.new result }
 {
-    respond_plainly(alloc, words, form_of_words(words), source, sink)
+    respond_plainly(rt, alloc, words, form_of_words(words), source, sink, gate)
 }
 
 // What words do that have this form, which waits for nobody, or none.
-fn respond_plainly<S: Source, K: Sink>(
+fn respond_plainly<R: Threads + Sync, S: Source, K: Sink, G: Gate>(
+    rt: &R,
     alloc: Global,
     words: &[String],
     form: Option<Form>,
     source: &mut S,
     sink: &mut K,
+    gate: &G,
 ) -> Status
     requires of_words { form ≡ form_of_words (map string_bytes words.now) }
     requires plain { form_may_wait form ≡ false }
@@ -124,18 +129,25 @@ fn respond_plainly<S: Source, K: Sink>(
         return finish(sink, usage_line(), Status::Usage);
     };
     respond(alloc, words, form, source, sink, |input| {
-        answer_plainly(alloc, form, input)
+        answer_plainly(rt, alloc, form, input, gate)
     })
 }
 
 // What a form that waits for nobody answers to the bytes of the input: each has its module. The error is want of memory.
-fn answer_plainly(alloc: Global, form: Form, input: &[u8]) -> Result<Answer, AllocError>
+fn answer_plainly<R: Threads + Sync, G: Gate>(
+    rt: &R,
+    alloc: Global,
+    form: Form,
+    input: &[u8],
+    gate: &G,
+) -> Result<Answer, AllocError>
     requires { may_wait form ≡ false }
     ensures { IfOk result (λ answer. answer ≡ answer_by form input.now) }
 {
     match form {
         Form::Free(_) => unreachable!(),
         Form::Serial(slots) => run::answer_serially(alloc, slots, input),
+        Form::Rounds(slots) => run::answer_in_rounds(rt, alloc, slots, input, gate),
         Form::Play(slots) => play::answer(alloc, slots, input),
         Form::Make(number) => make::answer(alloc, number),
         Form::Check => check::answer(alloc, input),

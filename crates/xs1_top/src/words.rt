@@ -1,7 +1,7 @@
 //! The forms of the program's words: the table, the usage line beside it, and which forms read the input.
 ghost use Rattle.std.specs.Prelude.{◌≡◌, map, string_bytes, IfSome};
 ghost use Rattle.xs_instructions.specs.Image.{same_name};
-ghost use Rattle.answer_model.specs.Forms.{form_of_mode, form_of_words, free_of, make_of, play_of, reads_input, serial_of, usage_text};
+ghost use Rattle.answer_model.specs.Forms.{form_of_mode, form_of_words, free_of, make_of, play_of, reads_input, rounds_of, serial_of, usage_text};
 ghost use Rattle.xs1_top.specs.Call.{HasFewSlots};
 
 use answer_model::Form;
@@ -14,8 +14,8 @@ const MOST_SLOTS: u32 = 1_000_000;
 // The greatest number of a load.
 const GREATEST_NUMBER: u32 = u32::MAX;
 
-/// The form of the program's words, without the program's name: `run SLOTS`, `run SLOTS free`, `run SLOTS serial`, `play SLOTS`,
-/// `make NUMBER` or `check`. SLOTS is one to ten decimal digits with a value of at most 1,000,000, NUMBER the same of at most
+/// The form of the program's words, without the program's name: `run SLOTS`, `run SLOTS free`, `run SLOTS serial`, `run SLOTS rounds`,
+/// `play SLOTS`, `make NUMBER` or `check`. SLOTS is one to ten decimal digits with a value of at most 1,000,000, NUMBER the same of at most
 /// 4,294,967,295. None comes exactly where the words are of no form. See docs/OUTPUT.md.
 #[tactic(auto, unfolding(answer_model::specs::Forms::form_of_words))]
 pub fn form_of_words(words: &[String]) -> Option<Form>
@@ -44,7 +44,7 @@ pub fn reads_input(form: Form) -> bool
     ensures { result ≡ reads_input form }
 {
     match form {
-        Form::Free(_) | Form::Serial(_) | Form::Play(_) | Form::Check => true,
+        Form::Free(_) | Form::Serial(_) | Form::Rounds(_) | Form::Play(_) | Form::Check => true,
         Form::Make(_) => false,
     }
 }
@@ -67,6 +67,9 @@ fn form_of_mode(slots: &str, mode: &str) -> Option<Form>
     if is(mode, b"serial") {
         return serial_of(slots);
     }
+    if is(mode, b"rounds") {
+        return rounds_of(slots);
+    }
     None
 }
 
@@ -86,6 +89,15 @@ fn serial_of(word: &str) -> Option<Form>
 {
     let slots = decimal_up_to(MOST_SLOTS, word.as_bytes())?;
     Some(Form::Serial(slots))
+}
+
+// The run of so many slots as the word says, round by round.
+fn rounds_of(word: &str) -> Option<Form>
+    ensures value { result ≡ rounds_of word.now }
+    ensures few { IfSome result HasFewSlots }
+{
+    let slots = decimal_up_to(MOST_SLOTS, word.as_bytes())?;
+    Some(Form::Rounds(slots))
 }
 
 // The play in a run of so many slots as the word says.

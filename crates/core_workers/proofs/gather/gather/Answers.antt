@@ -1,12 +1,14 @@
-use Rattle.std.proofs.Common.{ℕ, List, length, map, slice_get, sym, ap, ◌∙◌, subst}
+use Rattle.std.proofs.Common.{List, length, map, slice_get, sym, ap, ◌∙◌, subst}
+use Rattle.std.specs.Prelude.{All}
 use Rattle.std.proofs.lemmas.List.{length-map}
+use Rattle.std.proofs.lemmas.List.Elements.{All-from_recursion}
 use Rattle.sys_plan.specs.Plan.{PlanRec, arc_count}
 use Rattle.plan_cells.specs.declared.ends.Ends.{Ends}
 use Rattle.node_runners.specs.Runner.{RunnerRec}
 use Rattle.finished_runs.specs.Limit.{Totals, HasRun, HasSent}
-use Rattle.core_workers.specs.Finished.{AreBusyCounts}
+use Rattle.core_workers.specs.Worker.{HasSteppedBusy}
 use Rattle.core_workers.specs.Gathered.{sent_in}
-use Rattle.core_workers.proofs.Gathering.{stepped_by, each_node, busy_counts, all_nodes, are_ends, each_total}
+use Rattle.core_workers.proofs.Gathering.{runner_of, all_busy, each_node, all_nodes, are_ends, each_total}
 use Rattle.core_workers.proofs.gather.gather.Goals as goal
 
 pub logs-requires-clause-ends : goal.logs-requires-clause-ends
@@ -50,9 +52,7 @@ of_runners-run-requires-clause-sent c link sent here =
     (λ n ends at. c.in_ok-logs.ensures.left n ends (ap (λ (e : List Ends). slice_get e n) apart.ends ∙ at))
     link sent (ap (λ (all : List Totals). slice_get all link) (sym c.in_ok-totals.ensures) ∙ here))
 
-pub returns-clause-stepped : goal.returns-clause-stepped
-returns-clause-stepped c =
+pub of_runners-run-requires-clause-busy : goal.of_runners-run-requires-clause-busy
+of_runners-run-requires-clause-busy c =
     let apart = c.in_ok-runners.ensures in
-    let counts = c.in_ok-stepped.ensures ∙ ap (map stepped_by) c.deref.ensures.value ∙ ap (map stepped_by) apart.runners in
-    subst (λ (ns : List ℕ). AreBusyCounts c.args.cells.plan c.args.limit ns) (sym counts)
-    (busy_counts c.args.cells c.args.limit c.args.parts.items c.requires.nodes apart.workers c.requires.at_limit)
+    subst (All HasSteppedBusy) (sym apart.runners) (All-from_recursion HasSteppedBusy (map runner_of c.args.parts.items) (all_busy c.args.parts.items apart.workers))

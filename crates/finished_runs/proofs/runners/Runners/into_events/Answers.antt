@@ -5,7 +5,7 @@ use Rattle.std.proofs.lemmas.Iterator.Consumers.{YieldsList-end}
 use Rattle.trace_lines.specs.Kept.{KeptEvents, Keeps}
 use Rattle.serial_model.specs.Serial.{serial}
 use Rattle.node_runners.specs.Runner.{RunnerRec}
-use Rattle.finished_runs.specs.Limit.{FinishedRunRec}
+use Rattle.finished_runs.specs.Limit.{AtLimitRec}
 use Rattle.finished_runs.proofs.AtLimit.{KeepsOf, zip_push, map-itself, kept_count, all_kept}
 use Rattle.finished_runs.proofs.runners.Runners.into_events.Goals as goal
 
@@ -27,9 +27,9 @@ returns c =
     subst (λ (rs : List RunnerRec). AllZip KeepsOf rs c.loop-runner.all.items) (sym (map-itself c.loop-runner.yielded) ∙ end.0) c.loop-runner.invariant in
     record {
       keeps =
-          subst (λ (v : FinishedRunRec). AllZip Keeps c.loop-runner.all.items (serial v.plan v.limit).events) c.self.view_is
-          (all_kept plan g.limit g.runners.items g.totals.items c.self.invariant c.loop-runner.all.items all);
+          subst (λ (v : AtLimitRec). AllZip Keeps c.loop-runner.all.items (serial v.plan v.limit).events) c.self.view_is
+          (all_kept plan g.limit g.runners.items g.totals.items c.self.invariant.at_limit c.loop-runner.all.items all);
       nodes =
-          kept_count plan g.limit g.runners.items g.totals.items c.self.invariant c.loop-runner.all.items all
-          ∙ ap (λ (v : FinishedRunRec). length v.plan.nodes) c.self.view_is;
+          kept_count plan g.limit g.runners.items g.totals.items c.self.invariant.at_limit c.loop-runner.all.items all
+          ∙ ap (λ (v : AtLimitRec). length v.plan.nodes) c.self.view_is;
     }

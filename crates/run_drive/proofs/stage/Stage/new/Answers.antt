@@ -2,8 +2,8 @@ use Rattle.std.proofs.Common.{◌≡◌, length, sym, ap, ◌∙◌, subst}
 use Rattle.xs_base.specs.Numbers.{Slot}
 use Rattle.sys_plan.specs.Plan.{PlanRec}
 use Rattle.node_runners.specs.Runner.{new_runner}
-use Rattle.run_drive.specs.Stages.{AllAt, AreAt}
-use Rattle.run_drive.proofs.Starts.{starts_at, starts_as}
+use Rattle.plan_lanes.specs.Lanes.{AllAt, AreAt}
+use Rattle.plan_lanes.proofs.Starts.{starts_at, starts_as}
 use Rattle.run_drive.proofs.stage.Stage.new.Goals as goal
 
 pub returns-clause-at : goal.returns-clause-at

@@ -1,7 +1,7 @@
 use Rattle.std.proofs.Common.{[], set, sym, ap, ◌∙◌, subst, refl}
 use Rattle.node_runners.specs.Runner.{RunnerRec}
 use Rattle.sys_plan.specs.declared.Step.TheVariants.{Run}
-use Rattle.run_drive.proofs.Steps.{Goes, run_goes}
+use Rattle.plan_lanes.proofs.Steps.{Goes, run_goes}
 use Rattle.run_drive.proofs.stage.Stage.run.Goals as goal
 
 pub returns : goal.returns

@@ -8,9 +8,9 @@ use Rattle.sys_plan.specs.Plan.{PlanRec, outgoing}
 use Rattle.serial_model.specs.Serial.{history}
 use Rattle.play_model.specs.Play.{PlayedStep}
 use Rattle.node_runners.specs.Runner.{RunnerRec}
-use Rattle.run_drive.specs.declared.lane.Lane.{Lane}
+use Rattle.plan_lanes.specs.declared.lane.Lane.{Lane}
 use Rattle.plan_stories.proofs.Stories.{between_is_history}
-use Rattle.run_drive.proofs.Steps.{Goes, own_runner, own_lane, sent_then, send_goes}
+use Rattle.plan_lanes.proofs.Steps.{Goes, own_runner, own_lane, sent_then, send_goes}
 use Rattle.run_drive.proofs.stage.Stage.send.Goals as goal
 
 -- a link end past the last has no link

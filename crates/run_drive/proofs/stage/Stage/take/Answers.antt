@@ -12,9 +12,9 @@ use Rattle.link_logs.specs.Logs.{Finds, emptied, looked}
 use Rattle.link_logs.specs.Entries.{between}
 use Rattle.ahead_limits.specs.Horizon.{seen_at}
 use Rattle.node_runners.specs.Runner.{RunnerRec}
-use Rattle.run_drive.specs.declared.lane.Lane.{Lane}
+use Rattle.plan_lanes.specs.declared.lane.Lane.{Lane}
 use Rattle.plan_stories.proofs.Stories.{between_is_history}
-use Rattle.run_drive.proofs.Steps.{Goes, own_runner, own_lane, read_is_seen, take_nothing, take_entries}
+use Rattle.plan_lanes.proofs.Steps.{Goes, own_runner, own_lane, read_is_seen, take_nothing, take_entries}
 use Rattle.run_drive.proofs.stage.Stage.take.Goals as goal
 
 -- a link end past the last has no link

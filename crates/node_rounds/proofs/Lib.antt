@@ -1,0 +1,10 @@
+mod Places
+mod Taking
+mod Running
+mod Routes
+mod Steps
+mod Handing
+mod Fresh
+mod Passing
+mod Clocks
+mod AtEnd

@@ -1,0 +1,6 @@
+pub mod Run
+pub mod Rounds
+pub mod Seats
+pub mod Sends
+pub mod Routes
+pub mod Parts

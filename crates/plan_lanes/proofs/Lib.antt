@@ -1,0 +1,4 @@
+pub mod Places
+pub mod Routes
+pub mod Steps
+pub mod Starts

@@ -1,9 +1,0 @@
-use Rattle.std.proofs.Common.{◌≡◌, length}
-use Rattle.run_drive.specs.Stages.{AllAt, IsNewLane}
-use Rattle.run_drive.proofs.stage.lanes_of.Given as goal
-
-abbrev pub invariant-loop-link : goal.invariant-loop-link
-invariant-loop-link l = record {
-  count : length l.lanes.items ≡ l.link;
-  start : AllAt (IsNewLane l.plan.value) l.lanes.items;
-}
