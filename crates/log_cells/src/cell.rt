@@ -14,13 +14,14 @@ use crate::steps::{self, Raised};
 use crate::view::{Board, Place};
 use link_logs::{Cause, Got, Log, Story};
 use std::alloc::{AllocError, Global};
+use std::hint::spin_loop;
 use std::marker::Model;
 use std::sync::Wait;
 use std::sync::atomic::{AtomicBool, Ordering};
 use std::thread::yield_now;
 use xs_base::Batch;
 
-// How often an end that waits for news looks for them before it sleeps.
+// How often an end that waits for news looks for them, and lets go of its processor after each look, before it sleeps.
 const MOST_LOOKS: u32 = 64;
 
 /// The log of a directed link, which its two ends use by turns, each from a thread of its own. Contracts see a `CellRec` of
@@ -222,7 +223,7 @@ impl<S: Story> Cell<S> {
         ensures more { r.old.end.looks ≤ r.new.end.looks }
     {
         for _ in rt.forever() {
-            self.await_news(rt, r);
+            self.await_news(rt, r, 0);
             match self.poll(rt, r) {
                 Got::Nothing { published: _ } => {}
                 got => return got,
@@ -231,20 +232,31 @@ impl<S: Story> Cell<S> {
         unreachable!()
     }
 
-    /// Waits until a poll may find something: it looks for news a number of times, without the turn, and then sleeps until there are. It
+    /// Waits until a poll may find something: it looks for news a number of times, without the turn, and then sleeps until there are. In the
+    /// first looks, as many as `eager` says, it keeps its processor. It
     /// returns at once where there were news since the end last found nothing, and where it has found its log closed. What there is, a
     /// poll tells. The end has to be this cell's.
-    pub fn await_news<R: Wait>(&self, rt: &R, r: &ReadEnd<S>)
+    pub fn await_news<R: Wait>(&self, rt: &R, r: &ReadEnd<S>, eager: u32)
         requires cell { ReadsOf r.now self.now }
     {
-        let top = &self.table.shared;
+        for _ in 0..eager {
+            if self.may_find(r) {
+                return;
+            }
+            spin_loop();
+        }
         for _ in 0..MOST_LOOKS {
-            if r.is_shut() || steps::news(top) != r.heard {
+            if self.may_find(r) {
                 return;
             }
             yield_now();
         }
         self.sleep(rt, r);
+    }
+
+    // Whether a poll may find something: there were news since the end last found nothing, or it has found its log closed.
+    fn may_find(&self, r: &ReadEnd<S>) -> bool {
+        r.is_shut() || steps::news(&self.table.shared) != r.heard
     }
 
     // Sleeps until the news are raised, unless they were raised since the end last found nothing.

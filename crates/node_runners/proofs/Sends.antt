@@ -97,3 +97,14 @@ module _ (plan : PlanRec) (n : Position) (clock : Slot) (horizon : HorizonRec) (
     publishes_nothing =
         subst (λ (bs : List BatchRec). IsRunner plan n clock horizon seat pins inlets bs (slice_set published end clock)) (set-get_or batches end no_batch)
         (publishes (batch_at batches end) clock (omega arith) (λ link at. none ∙ sym (none_carried plan link clock)))
+
+  -- where it is published up to the clock and a batch without entries is taken back, it stays as it is too
+  module _ (last : slice_index published end ≡ clock) where
+    pub nothing_after : (link : LinkNumber) → outgoing plan n end ≡ Some link → history plan link (slice_index published end) clock ≡ []
+    nothing_after link at = ap (λ s. history plan link s clock) last ∙ none_carried plan link clock
+
+    module _ (b : BatchRec) (slot : Slot) (behind : slot ≤ clock) (own : (link : LinkNumber) → outgoing plan n end ≡ Some link → b.entries ≡ history plan link slot clock) (none : b.entries ≡ []) where
+      pub takes_back_nothing : IsRunner plan n clock horizon seat pins inlets batches (slice_set published end slot)
+      takes_back_nothing =
+          subst (λ (bs : List BatchRec). IsRunner plan n clock horizon seat pins inlets bs (slice_set published end slot)) (set-get_or batches end no_batch)
+          (publishes (batch_at batches end) slot behind (λ link at. (is.links.tells end link at).batch ∙ nothing_after link at ∙ sym none ∙ own link at))

@@ -207,7 +207,7 @@ impl NodeRunner {
             self.published[end as usize] = from;
         } else {
             let spare = self.exchange(end, batch, from);
-            self.inlets.keep(end, spare);
+            self.keep(end, spare);
         }
     }
 

@@ -92,7 +92,7 @@ fn a_closed_log_is_read_to_its_end_and_comes_home(rt: HostRuntime) -> Result<(),
     let first = matches!(cell.wait_news(&rt, &mut r), Got::Closed);
     let second = matches!(cell.poll(&rt, &mut r), Got::Closed);
     // Nothing comes any more, and nobody waits for it.
-    cell.await_news(&rt, &r);
+    cell.await_news(&rt, &r, 3);
     let third = matches!(cell.wait_news(&rt, &mut r), Got::Closed);
     assert!(rt; first && second && third && r.got() == 3 && r.looks() == 4 && r.is_shut());
     let log = cell.done(w, r);
@@ -127,10 +127,10 @@ fn who_has_not_found_nothing_does_not_wait(rt: HostRuntime) -> Result<(), AllocE
     let mut batch = Batch::new(rt.alloc());
     cell.publish(&rt, &mut w, 5, &mut batch)?;
     cell.end(&rt, &mut w, Cause::Memory);
-    cell.await_news(&rt, &r);
+    cell.await_news(&rt, &r, 3);
     let is_read = matches!(cell.poll(&rt, &mut r), Got::Entries { .. });
     // The log was closed before this poll, which did not say so.
-    cell.await_news(&rt, &r);
+    cell.await_news(&rt, &r, 3);
     assert!(rt; is_read && matches!(cell.poll(&rt, &mut r), Got::Closed));
     Ok(())
 }

@@ -15,16 +15,19 @@ use sys_plan::Plan;
 pub(crate) struct Fresh {
     pub(crate) runner: NodeRunner,
     pub(crate) ends: Ends,
+    // How often its worker looks for news that it waits for without letting go of its processor.
+    pub(crate) eager: u32,
 }
 
-/// The nodes of a plan before their first slot, by position, in a run of so many slots, with the ends that these lanes have for them. The
-/// error is want of memory.
+/// The nodes of a plan before their first slot, by position, in a run of so many slots, with the ends that these lanes have for them, for
+/// workers that look so often for news without letting go of their processor. The error is want of memory.
 pub(crate) fn fresh_nodes(
     alloc: Global,
     plan: &Plan,
     lanes: &Lanes,
     all: Vec<Ends>,
     limit: u32,
+    eager: u32,
 ) -> Result<Vec<Fresh>, AllocError>
     requires plan { lanes.now.plan ≡ plan.now }
     requires nodes { length all.items ≡ length plan.now.nodes }
@@ -34,7 +37,11 @@ pub(crate) fn fresh_nodes(
     let mut nodes = Vec::with_capacity(alloc, plan.nodes().len())?;
     for ends in all {
         let runner = NodeRunner::new(alloc, plan, nodes.len() as u8, limit)?;
-        nodes.push(Fresh { runner, ends })?;
+        nodes.push(Fresh {
+            runner,
+            ends,
+            eager,
+        })?;
     }
     Ok(nodes)
 }

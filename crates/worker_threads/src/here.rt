@@ -27,7 +27,7 @@ impl<'a> Here<'a> {
         requires fresh { IsFresh lanes.now node }
         ensures here { IsHere lanes.now node.runner.horizon.limit node.runner.node result }
     {
-        let Fresh { runner, ends } = node;
+        let Fresh { runner, ends, .. } = node;
         Here {
             worker: Worker::new(runner, lanes, ends),
             ended: None,

@@ -38,8 +38,13 @@ pub(crate) fn run_node<R: Wait, G: Gate>(
     if refused.load(Ordering::SeqCst) {
         return Returned::Unstarted(node);
     }
-    let Fresh { runner, ends } = node;
+    let Fresh {
+        runner,
+        ends,
+        eager,
+    } = node;
     let mut worker = Worker::new(runner, lanes, ends);
+    worker.look_eagerly(eager);
     let ended = worker.run(rt, gate);
     let part = worker.parts();
     Returned::Ran(Left { part, ended })

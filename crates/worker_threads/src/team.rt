@@ -22,6 +22,10 @@ use std::thread::{Scope, Threads, yield_now};
 use sys_plan::Plan;
 use xs_edge::Gate;
 
+// How often a worker with a processor of its own looks for news before it lets go of it: some microseconds, in which a neighbour runs
+// hundreds of slots.
+const EAGER_LOOKS: u32 = 100;
+
 /// Runs the nodes of a plan for so many slots, each by a worker of its own over these lanes, and gives what is left of the workers, by
 /// position. `ends` are the ends that the lanes have for the nodes. Each worker runs in a thread of its own, where one can be started; the
 /// turns of the others are taken in this thread, one after the other. It returns when all workers have ended. The error is want of memory,
@@ -63,7 +67,8 @@ pub fn run_workers_where<R: Threads + Wait + Sync, G: Gate, S: Starts>(
     ensures at_limit { IfOk result (λ parts. (n : Position) (part : WorkerRec) → slice_get parts.items n ≡ Some part → IsLeftAt lanes.now limit n part) }
     ensures over { IfOk result (λ parts. (n : Position) (part : WorkerRec) → slice_get parts.items n ≡ Some part → IsOver part) }
 {
-    let nodes = fresh_nodes(alloc, plan, lanes, ends, limit)?;
+    let eager = looks_by_room(rt, ends.len());
+    let nodes = fresh_nodes(alloc, plan, lanes, ends, limit, eager)?;
     let refused = &no_flags(alloc, nodes.len())?;
     let all = thread::scope(
         thread::scope_env(),
@@ -80,6 +85,15 @@ pub fn run_workers_where<R: Threads + Wait + Sync, G: Gate, S: Starts>(
         },
     )?;
     parts_of(alloc, all)
+}
+
+// How often the workers of so many nodes look for news without letting go of their processors: never, where they are more than the
+// processors of this process, or these cannot be counted.
+fn looks_by_room<R: Threads>(rt: &R, nodes: usize) -> u32 {
+    match thread::available_parallelism(rt) {
+        Ok(processors) if nodes <= processors.get() => EAGER_LOOKS,
+        _ => 0,
+    }
 }
 
 // A flag for each node, which is not set.

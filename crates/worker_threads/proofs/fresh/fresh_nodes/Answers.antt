@@ -35,7 +35,7 @@ loop-ends-preserved c =
     let was = c.loop-ends.invariant in
     let step = c.in-Some.ensures.steps in
     let done = c.loop-ends.nodes.items in
-    let node : Fresh = record { runner = c.in_ok-runner.runner; ends = c.in-Some.ends } in
+    let node : Fresh = record { runner = c.in_ok-runner.runner; ends = c.in-Some.ends; eager = c.args.eager } in
     let pushed = c.in_ok-push.ensures.items in
     let first = first_left (AreNewEnds c.args.lanes.now) (length done) (into_iter_items c.loop-ends.ends-iterator) (into_iter_items c.next.new.self) c.in-Some.ends step.0 was.rest in
     let at : c.len.result ≡ length done = omega (arith, c.len.ensures, c.loop-ends.nodes.ok.0) in
