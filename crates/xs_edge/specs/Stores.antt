@@ -22,3 +22,17 @@ pub record Counting : Type 0 where
 pub record Stream (S : Type 0) : Type 0 where
   pub stream : S
   pub faults : ℕ
+
+-- a source of which one read fails: the bytes not yet read, the number of that read from 0 on, how often it was read, and how often a read has
+-- failed
+pub record FailsOnce : Type 0 where
+  pub left : List ℕ
+  pub at : ℕ
+  pub reads : ℕ
+  pub faults : ℕ
+
+-- a sink in memory of which one write fails: what is stored, the number of that write from 0 on, and how often it was written to
+pub record StoresButOnce : Type 0 where
+  pub store : Store
+  pub at : ℕ
+  pub puts : ℕ

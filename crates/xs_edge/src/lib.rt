@@ -10,14 +10,18 @@ ghost use Rattle.xs_edge.specs.Edge.{HasRisen, AppendsPart};
 
 mod counted;
 mod counting;
+mod dripping;
 mod failing;
 mod lists;
+mod once;
 mod streams;
 
 pub use counted::{Counted, read_makes_one_call};
 pub use counting::CountingSource;
+pub use dripping::{DripSink, DripSource};
 pub use failing::{FailingSink, FailingSource};
 pub use lists::{ListSink, ListSource};
+pub use once::{OnceSink, OnceSource};
 pub use streams::{
     FollowedRead, FollowedWrite, Plain, StdSink, StdSource, StreamSink, StreamSource,
 };
