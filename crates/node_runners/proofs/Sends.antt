@@ -1,11 +1,12 @@
 -- A node's links where the batch of a link end by which a link leaves is another, from another published slot on.
-use Rattle.std.proofs.Common.{◌≡◌, true, false, ◌<◌, ◌≤◌, Option, Some, None, IsSome, List, [], length, refl, sym, ap, ◌∙◌, subst, arith, inl, inr}
+use Rattle.std.proofs.Common.{◌≡◌, Bool, true, false, eqb, ◌<◌, ◌≤◌, Option, Some, None, IsSome, List, [], ◌∷◌, length, refl, sym, ap, ◌∙◌, subst, arith, inl, inr}
 use Rattle.std.specs.Prelude.{slice_set, slice_index}
-use Rattle.std.proofs.lemmas.Bool.{cases_eq}
+use Rattle.std.proofs.lemmas.Bool.{cases_eq, eqb-true}
 use Rattle.std.proofs.lemmas.List.{get_or-set_same, get_or-set_other, set-get_or}
 use Rattle.std.proofs.Math.ListN.{length-set}
 use Rattle.xs_base.specs.Numbers.{Slot, Position, LinkNumber, EndNumber}
 use Rattle.xs_base.specs.Batch.{BatchRec}
+use Rattle.xs_base.specs.declared.entry.Entry.{Entry}
 use Rattle.sys_plan.specs.Plan.{PlanRec, outgoing}
 use Rattle.serial_model.specs.Serial.{history}
 use Rattle.locality_laws.proofs.Links.{none_carried}
@@ -13,6 +14,7 @@ use Rattle.ahead_limits.specs.Horizon.{HorizonRec}
 use Rattle.node_seats.specs.declared.pins.Pins.{Pins}
 use Rattle.node_seats.specs.declared.seat.Seat.{Seat}
 use Rattle.node_runners.specs.Queue.{InletRec}
+use Rattle.node_runners.specs.Runner.{RunnerRec}
 use Rattle.node_runners.specs.Sent.{no_batch, batch_at}
 use Rattle.node_runners.specs.Inside.{IsRunner, Tells}
 use Rattle.node_runners.proofs.Batches.{here, there}
@@ -99,12 +101,20 @@ module _ (plan : PlanRec) (n : Position) (clock : Slot) (horizon : HorizonRec) (
         (publishes (batch_at batches end) clock (omega arith) (λ link at. none ∙ sym (none_carried plan link clock)))
 
   -- where it is published up to the clock and a batch without entries is taken back, it stays as it is too
-  module _ (last : slice_index published end ≡ clock) where
-    pub nothing_after : (link : LinkNumber) → outgoing plan n end ≡ Some link → history plan link (slice_index published end) clock ≡ []
-    nothing_after link at = ap (λ s. history plan link s clock) last ∙ none_carried plan link clock
+  module _ (last : slice_index published end ≡ clock) (b : BatchRec) (slot : Slot) (behind : slot ≤ clock) (own : (link : LinkNumber) → outgoing plan n end ≡ Some link → b.entries ≡ history plan link slot clock) (none : b.entries ≡ []) where
+    pub takes_back_nothing : IsRunner plan n clock horizon seat pins inlets batches (slice_set published end slot)
+    takes_back_nothing =
+        subst (λ (bs : List BatchRec). IsRunner plan n clock horizon seat pins inlets bs (slice_set published end slot)) (set-get_or batches end no_batch)
+        (publishes (batch_at batches end) slot behind
+        (λ link at. (is.links.tells end link at).batch ∙ ap (λ s. history plan link s clock) last ∙ none_carried plan link clock ∙ sym none ∙ own link at))
 
-    module _ (b : BatchRec) (slot : Slot) (behind : slot ≤ clock) (own : (link : LinkNumber) → outgoing plan n end ≡ Some link → b.entries ≡ history plan link slot clock) (none : b.entries ≡ []) where
-      pub takes_back_nothing : IsRunner plan n clock horizon seat pins inlets batches (slice_set published end slot)
-      takes_back_nothing =
-          subst (λ (bs : List BatchRec). IsRunner plan n clock horizon seat pins inlets bs (slice_set published end slot)) (set-get_or batches end no_batch)
-          (publishes (batch_at batches end) slot behind (λ link at. (is.links.tells end link at).batch ∙ nothing_after link at ∙ sym none ∙ own link at))
+-- what a link carried from where it is published up to the clock on is nothing
+pub nothing_after : (r : RunnerRec) (end : EndNumber) → IsSome (outgoing r.plan r.node end) → slice_index r.published end ≡ r.clock → (entries : List Entry)
+    → ((link : LinkNumber) → outgoing r.plan r.node end ≡ Some link → entries ≡ history r.plan link (slice_index r.published end) r.clock) → entries ≡ []
+nothing_after r end leaves last entries own =
+    let link = some_is (outgoing r.plan r.node end) leaves in
+    own link.0 link.1 ∙ ap (λ s. history r.plan link.0 s r.clock) last ∙ none_carried r.plan link.0 r.clock
+
+pub no_entries : (xs : List Entry) (b : Bool) → b ≡ eqb (length xs) 0 → b ≡ true → xs ≡ []
+no_entries [] b is h = refl
+no_entries (x ∷ xs) b is h = absurd (omega (arith, eqb-true (length (x ∷ xs)) 0 (sym is ∙ h)))

@@ -1,5 +1,5 @@
 -- One node that runs ahead of the others, as far as what it has seen of the links that come to it lets it.
-use Rattle.std.specs.Prelude.{ℕ, ◌≡◌, ◌+◌, ◌<◌, true, List, length, replicate}
+use Rattle.std.specs.Prelude.{ℕ, ◌≡◌, ◌+◌, ◌<◌, true, List, replicate}
 use Rattle.xs_base.specs.Numbers.{Slot, Position}
 use Rattle.sys_plan.specs.Plan.{PlanRec, arc_count}
 use Rattle.sys_plan.specs.declared.system_plan.TheConstants.{ENDS}

@@ -1,6 +1,5 @@
-use Rattle.std.proofs.Common.{◌≡◌, ◌<◌, ℕ, Bool, true, eqb, List, [], ◌∷◌, length, IsSome, refl, sym, ap, ◌∙◌, subst, arith}
+use Rattle.std.proofs.Common.{◌≡◌, ◌<◌, ℕ, Bool, true, eqb, List, [], length, IsSome, sym, ap, ◌∙◌, subst, arith}
 use Rattle.std.specs.Prelude.{get_or}
-use Rattle.std.proofs.lemmas.Bool.{eqb-true}
 use Rattle.std.proofs.lemmas.List.{get_or_default}
 use Rattle.xs_base.specs.Batch.{BatchRec}
 use Rattle.xs_base.specs.declared.entry.Entry.{Entry}
@@ -8,7 +7,7 @@ use Rattle.sys_plan.specs.Plan.{outgoing}
 use Rattle.locality_laws.proofs.Links.{none_carried}
 use Rattle.node_runners.specs.Sent.{no_batch, batch_at}
 use Rattle.node_runners.specs.Runner.{RunnerRec}
-use Rattle.node_runners.proofs.Sends.{has_batch, is_end, publishes_nothing}
+use Rattle.node_runners.proofs.Sends.{has_batch, is_end, no_entries, publishes_nothing}
 use Rattle.node_runners.proofs.runner.NodeRunner.send.Goals as goal
 
 pub index-requires : goal.index-requires
@@ -19,10 +18,6 @@ index-requires c =
 pub bounds-self-inside-end : goal.bounds-self-inside-end
 bounds-self-inside-end c =
     is_end _ _ _ _ _ _ _ _ _ c.self.invariant.1 c.args.end (subst (λ (r : RunnerRec). IsSome (outgoing r.plan r.node c.args.end)) (sym c.self.view_is) c.requires.there)
-
-no_entries : (xs : List Entry) (b : Bool) → b ≡ eqb (length xs) 0 → b ≡ true → xs ≡ []
-no_entries [] b is h = refl
-no_entries (x ∷ xs) b is h = absurd (omega (arith, eqb-true (length (x ∷ xs)) 0 (sym is ∙ h)))
 
 -- a batch that was looked at has no entries
 nothing_there : (batches : List BatchRec) (end : ℕ) (here : BatchRec) (entries : List Entry) (b : Bool) → end < length batches → here ≡ get_or batches end here → entries ≡ here.entries
