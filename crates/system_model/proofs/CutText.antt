@@ -1,5 +1,5 @@
 -- A text that stands for a plan, cut inside a source or the script, ends in that section.
-use Rattle.std.proofs.Common.{◌≡◌, ◌≢◌, ℕ, zero, suc, ◌+◌, ◌≤◌, Bool, true, false, cond, ◌&&◌, ◌||◌, List, [], ◌∷◌, ◌++◌, length, Option, Some, None, refl, sym, ap, ◌∙◌, subst, inl, inr, arith, append_assoc, length-append}
+use Rattle.std.proofs.Common.{◌≡◌, ◌≢◌, ℕ, suc, ◌+◌, ◌≤◌, Bool, true, false, ◌&&◌, List, [], ◌∷◌, ◌++◌, length, Option, Some, None, refl, sym, ap, ◌∙◌, subst, inl, inr, arith, length-append}
 use Rattle.std.specs.Prelude.{◌==◌, nat_lt, option_map, codes, if◌then◌else◌}
 use Rattle.std.specs.List.{list_any}
 use Rattle.std.proofs.lemmas.Bool.{cases_Bool, cond-true, cond-false, or_from, or_parts, and_left, and_right}
@@ -15,10 +15,10 @@ use Rattle.system_model.specs.declared.frame_line.FrameLine.TheVariants.{Section
 use Rattle.system_model.specs.declared.frame_line.SectionKind.{SectionKind}
 use Rattle.system_model.specs.declared.frame_line.SectionKind.TheVariants.{Source, Pins, Play}
 use Rattle.system_model.specs.FrameLines.{same_words, is_end}
-use Rattle.system_model.specs.Frame.{SectionText, Given, Framed, Whole, Refused, FrameSays, Own, End, Blank, Form, nothing_given, says, says_by, says_in_frame, says_in_section, first_that_holds, tests, fault_of, with_own_line, given_with, given_after, at_the_end, unless_faulty, frame_from, is_empty, have_no_words, framed}
+use Rattle.system_model.specs.Frame.{SectionText, Given, Framed, Whole, Refused, FrameSays, Own, End, Form, nothing_given, says, says_by, says_in_frame, says_in_section, first_that_holds, tests, fault_of, with_own_line, given_with, given_after, at_the_end, unless_faulty, frame_from, is_empty, have_no_words, framed}
 use Rattle.system_model.specs.FirstFault.{given_after_lines, given_by}
-use Rattle.system_model.specs.System.{System, Plan, Frame, plan_of, longest_input, system_of}
-use Rattle.system_model.specs.CutText.{EndWithOpening, EndAtD, IsCutInside}
+use Rattle.system_model.specs.System.{Plan, Frame, plan_of, longest_input, system_of}
+use Rattle.system_model.specs.CutText.{EndWithOpening, IsCutInside}
 
 -- The lines of a text that is put together
 
