@@ -3,3 +3,4 @@ pub mod FrameLines
 pub mod Frame
 pub mod FirstFault
 pub mod System
+pub mod CutText

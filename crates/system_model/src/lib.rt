@@ -2,9 +2,11 @@
 //! docs/SYSTEM_TEXT.md.
 #![tactic(auto)]
 
+mod cut_text;
 mod first_fault;
 mod frame_line;
 
+pub use cut_text::cut_texts_are_refused;
 pub use first_fault::least_faulty_line_decides;
 pub use frame_line::{
     BitLine, EndName, FrameLine, GivenNode, LinkLine, NodeLine, PlayLine, SectionKind,

@@ -1,11 +1,14 @@
 -- What the caller learns of each outcome, from which one stands.
-use Rattle.std.proofs.Common.{◌≡◌, ℕ, Result, Ok, Err, refl}
+use Rattle.std.proofs.Common.{◌≡◌, ℕ, List, Result, Ok, Err, refl}
 use Rattle.pin_scripts.specs.declared.pin_error.PinKind.{PinKind}
 use Rattle.source_model.specs.declared.AsmKind.{AsmKind}
 use Rattle.sys_plan.specs.Plan.{PlanRec}
 use Rattle.system_model.specs.declared.SysKind.{SysKind}
-use Rattle.system_model.specs.System.{System}
+use Rattle.system_model.specs.declared.SysKind.TheVariants.{SectionNotEnded}
+use Rattle.system_model.specs.CutText.{IsCutInside}
+use Rattle.system_model.specs.System.{System, system_of}
 use Rattle.system_model.specs.System as stands
+use Rattle.system_model.proofs.CutText.{cut_refused}
 use Rattle.system_text.specs.declared.system_error.SystemError.{SystemError}
 use Rattle.system_text.specs.declared.system_error.SystemError.TheVariants.{Frame, Source, Pins, Memory}
 use Rattle.system_text.specs.Reads.{ReadsSystem, GivesPlan, RefusesFrame, RefusesSource, RefusesPins}
@@ -38,4 +41,9 @@ refuses_pins (Err (Frame l k)) system line kind h e = cc
 refuses_pins (Err (Source n l k)) system line kind h e = cc
 refuses_pins (Err (Pins l k)) system line kind h e = (cc, cc)
 
-pub ruleset outcomes = (gives_plan, refuses_frame, refuses_source, refuses_pins)
+-- the bytes are a text that is cut inside a section
+pub refuses_cut : (r : Result PlanRec SystemError) (text bytes : List ℕ) (plan : PlanRec) (line : ℕ) → ReadsSystem (system_of bytes) r → system_of text ≡ stands.Plan plan → IsCutInside text bytes line
+    → RefusesFrame line SectionNotEnded r
+refuses_cut r text bytes plan line h is cut = refuses_frame r (system_of bytes) line SectionNotEnded h (cut_refused text bytes plan line is cut)
+
+pub ruleset outcomes = (gives_plan, refuses_frame, refuses_source, refuses_pins, refuses_cut)

@@ -1,8 +1,10 @@
-ghost use Rattle.std.specs.Prelude.{◌≡◌, ℕ, IfOk};
+ghost use Rattle.std.specs.Prelude.{◌≡◌, ℕ, IfOk, List};
 ghost use Rattle.pin_scripts.specs.declared.pin_error.PinKind.{PinKind};
 ghost use Rattle.source_model.specs.declared.AsmKind.{AsmKind};
 ghost use Rattle.sys_plan.specs.Plan.{PlanRec};
 ghost use Rattle.system_model.specs.declared.SysKind.{SysKind};
+ghost use Rattle.system_model.specs.declared.SysKind.TheVariants.{SectionNotEnded};
+ghost use Rattle.system_model.specs.CutText.{IsCutInside};
 ghost use Rattle.system_model.specs.Frame.{framed};
 ghost use Rattle.system_model.specs.System as stands;
 ghost use Rattle.system_model.specs.System.{system_of, plan_of, plan_of_frame};
@@ -26,7 +28,8 @@ use system_model::SysKind;
 pub const LONGEST_INPUT: usize = 4_194_304;
 
 /// The plan of the system that the bytes stand for. An error comes exactly where they stand for a refusal, and is
-/// that one, with its line; want of memory may come in place of either. See docs/SYSTEM_TEXT.md.
+/// that one, with its line; want of memory may come in place of either. Bytes that are a good text cut inside a source or
+/// the script are refused at the line that begins it. See docs/SYSTEM_TEXT.md.
 #[tactic(auto, using(crate::proofs::Outcomes::outcomes), unfolding(system_model::specs::System::system_of))]
 pub fn read_system(alloc: Global, bytes: &[u8]) -> Result<Plan, SystemError>
     ensures exact { ReadsSystem (system_of bytes.now) result }
@@ -35,6 +38,8 @@ pub fn read_system(alloc: Global, bytes: &[u8]) -> Result<Plan, SystemError>
     ensures frame { (line : ℕ) (kind : SysKind) → system_of bytes.now ≡ stands.Frame line kind → RefusesFrame line kind result }
     ensures source { (node line : ℕ) (kind : AsmKind) → system_of bytes.now ≡ stands.Source node line kind → RefusesSource node line kind result }
     ensures pins { (line : ℕ) (kind : PinKind) → system_of bytes.now ≡ stands.Pins line kind → RefusesPins line kind result }
+    ensures cut { (text : List ℕ) (plan : PlanRec) (line : ℕ) → system_of text ≡ stands.Plan plan → IsCutInside text bytes.now line →
+        RefusesFrame line SectionNotEnded result }
 {
     if bytes.len() > LONGEST_INPUT {
         return Err(refusal(0, SysKind::TooLong));

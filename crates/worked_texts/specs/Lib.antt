@@ -6,3 +6,4 @@ pub mod Scripts
 pub mod SystemsRead
 pub mod PinsRead
 pub mod PlayRead
+pub mod CutTexts

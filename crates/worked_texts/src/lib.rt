@@ -3,6 +3,7 @@
 #![tactic(auto)]
 
 mod canonical_texts;
+mod cut_texts;
 mod forms;
 mod line_tokens;
 mod pins_read;
@@ -12,6 +13,7 @@ mod source_lines;
 mod systems_read;
 
 pub use canonical_texts::worked_canonical_texts;
+pub use cut_texts::worked_cut_texts;
 pub use forms::worked_forms;
 pub use line_tokens::worked_line_tokens;
 pub use pins_read::worked_pins_read;
