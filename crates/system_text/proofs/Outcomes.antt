@@ -46,4 +46,4 @@ pub refuses_cut : (r : Result PlanRec SystemError) (text bytes : List ℕ) (plan
     → RefusesFrame line SectionNotEnded r
 refuses_cut r text bytes plan line h is cut = refuses_frame r (system_of bytes) line SectionNotEnded h (cut_refused text bytes plan line is cut)
 
-pub ruleset outcomes = (gives_plan, refuses_frame, refuses_source, refuses_pins, refuses_cut)
+pub ruleset outcomes = (gives_plan, refuses_frame, refuses_source, refuses_pins)

@@ -30,7 +30,7 @@ pub const LONGEST_INPUT: usize = 4_194_304;
 /// The plan of the system that the bytes stand for. An error comes exactly where they stand for a refusal, and is
 /// that one, with its line; want of memory may come in place of either. Bytes that are a good text cut inside a source or
 /// the script are refused at the line that begins it. See docs/SYSTEM_TEXT.md.
-#[tactic(auto, using(crate::proofs::Outcomes::outcomes), unfolding(system_model::specs::System::system_of))]
+#[tactic(auto, using(crate::proofs::Outcomes::outcomes))]
 pub fn read_system(alloc: Global, bytes: &[u8]) -> Result<Plan, SystemError>
     ensures exact { ReadsSystem (system_of bytes.now) result }
     ensures ok { IfOk result (λ plan. system_of bytes.now ≡ stands.Plan plan) }
@@ -40,6 +40,14 @@ pub fn read_system(alloc: Global, bytes: &[u8]) -> Result<Plan, SystemError>
     ensures pins { (line : ℕ) (kind : PinKind) → system_of bytes.now ≡ stands.Pins line kind → RefusesPins line kind result }
     ensures cut { (text : List ℕ) (plan : PlanRec) (line : ℕ) → system_of text ≡ stands.Plan plan → IsCutInside text bytes.now line →
         RefusesFrame line SectionNotEnded result }
+{
+    read_all(alloc, bytes)
+}
+
+// The same, in one clause.
+#[tactic(auto, unfolding(system_model::specs::System::system_of))]
+fn read_all(alloc: Global, bytes: &[u8]) -> Result<Plan, SystemError>
+    ensures { ReadsSystem (system_of bytes.now) result }
 {
     if bytes.len() > LONGEST_INPUT {
         return Err(refusal(0, SysKind::TooLong));
