@@ -7,12 +7,15 @@ use std::sync::atomic::{AtomicBool, Ordering};
 use std::test::Fail;
 use std::thread::{Threads, yield_now};
 use xs_edge::{
-    CountingSource, FailingSink, FailingSource, Gate, ListSink, ListSource, OpenGate, Sink, Source,
+    CountingSource, DripSink, DripSource, FailingSink, FailingSource, Gate, ListSink, ListSource,
+    OnceSink, OnceSource, OpenGate, Sink, Source,
 };
 use xs1_top::{Status, top, top_counted};
 
 const SUM: &[u8] =
     b"xs1 1\nnode 0 id 0\nsource 0\nmain: ldc r0, 5\n  ldc r1, 7\n  add r2, r0, r1 // 12\n  stw r2, dp[0]\n  freet\nend\n";
+
+const SUM_FOR_20: &[u8] = b"n0 mem 0x00010000 0x0000000c\nend 20\n";
 
 // A system whose node has an empty source.
 const EMPTY: &[u8] = b"xs1 1\nnode 0 id 0\nsource 0\nend\n";
@@ -160,6 +163,67 @@ fn writes_a_front_before_a_failed_write(rt: HostRuntime) -> Result<(), Fail> {
     Ok(())
 }
 
+#[test]
+fn reads_and_writes_a_byte_at_a_time(rt: HostRuntime) -> Result<(), Fail> {
+    for mode in ["free", "serial", "rounds"] {
+        let mut source = DripSource::new(SUM.to_vec(rt.alloc())?);
+        let mut sink = DripSink::with_room(rt.alloc(), 256)?;
+        let ended = call(
+            &rt,
+            rt.alloc(),
+            &["run", "20", mode],
+            &mut source,
+            &mut sink,
+        )?;
+        assert!(rt; ended == Status::Done && sink.bytes() == SUM_FOR_20);
+    }
+    Ok(())
+}
+
+// The first read, or the one that was to find the end of the input.
+#[test]
+fn a_read_that_failed_is_not_made_again(rt: HostRuntime) -> Result<(), Fail> {
+    for (at, reads) in [(0, 1), (1, 2)] {
+        let mut source = OnceSource::new(SUM.to_vec(rt.alloc())?, at);
+        let mut sink = OnceSink::with_room(rt.alloc(), 256, u32::MAX)?;
+        let ended = call(&rt, rt.alloc(), &["run", "20"], &mut source, &mut sink)?;
+        assert!(rt; ended == Status::ReadFault && source.reads() == reads);
+        assert!(rt; sink.puts() == 0 && sink.bytes().is_empty());
+    }
+    Ok(())
+}
+
+#[test]
+fn a_write_that_failed_is_not_made_again(rt: HostRuntime) -> Result<(), Fail> {
+    let mut source = ListSource::new(SUM.to_vec(rt.alloc())?);
+    let mut sink = OnceSink::with_room(rt.alloc(), 256, 0)?;
+    let ended = call(&rt, rt.alloc(), &["run", "20"], &mut source, &mut sink)?;
+    assert!(rt; ended == Status::WriteFault && sink.puts() == 1 && sink.bytes().is_empty());
+    Ok(())
+}
+
+#[test]
+fn writes_nothing_wherever_a_read_fails(rt: HostRuntime) -> Result<(), Fail> {
+    for after in 0..=PAIR.len() {
+        let mut source = FailingSource::new(PAIR.to_vec(rt.alloc())?, after);
+        let mut sink = ListSink::with_room(rt.alloc(), 256)?;
+        let ended = call(&rt, rt.alloc(), &["run", "40"], &mut source, &mut sink)?;
+        assert!(rt; ended == Status::ReadFault && sink.bytes().is_empty());
+    }
+    Ok(())
+}
+
+#[test]
+fn writes_the_front_before_the_write_that_fails(rt: HostRuntime) -> Result<(), Fail> {
+    for after in 0..PAIR_FOR_40.len() {
+        let mut source = ListSource::new(PAIR.to_vec(rt.alloc())?);
+        let mut sink = FailingSink::new(rt.alloc(), after)?;
+        let ended = call(&rt, rt.alloc(), &["run", "40"], &mut source, &mut sink)?;
+        assert!(rt; ended == Status::WriteFault && sink.bytes() == &PAIR_FOR_40[..after]);
+    }
+    Ok(())
+}
+
 // The empty node's system with so many blank lines before it and after it.
 fn padded(alloc: Global, before: usize, after: usize) -> Result<Vec<u8>, AllocError> {
     let mut input = vec![in alloc; b'\n'; before]?;
@@ -187,6 +251,27 @@ fn takes_the_longest_input_and_no_longer(rt: HostRuntime) -> Result<(), Fail> {
         let mut sink = ListSink::with_room(rt.alloc(), 256)?;
         let ended = call(&rt, rt.alloc(), &["run", "0"], &mut source, &mut sink)?;
         assert!(rt; ended == status && sink.bytes() == text);
+    }
+    Ok(())
+}
+
+// A comment without an end: its length is tested first, and then it is no first line.
+#[test]
+fn takes_the_longest_comment_and_no_longer(rt: HostRuntime) -> Result<(), Fail> {
+    for (count, text) in [
+        (
+            LONGEST,
+            b"system line 1: S1 first line is not xs1 1\n".as_slice(),
+        ),
+        (
+            LONGEST + 1,
+            b"system line 0: S10 input too long\n".as_slice(),
+        ),
+    ] {
+        let mut source = ListSource::new(vec![in rt.alloc(); b'#'; count]?);
+        let mut sink = ListSink::with_room(rt.alloc(), 256)?;
+        let ended = call(&rt, rt.alloc(), &["run", "20"], &mut source, &mut sink)?;
+        assert!(rt; ended == Status::SystemFault && sink.bytes() == text);
     }
     Ok(())
 }

@@ -4,8 +4,9 @@ ghost use Rattle.std.specs.Prelude.{◌≤◌, IfOk};
 use std::io::{self, ErrorKind, Read, Write};
 use std::test::Fail;
 use xs_edge::{
-    Counted, CountingSource, Failed, FailingSink, FailingSource, Gate, ListSink, ListSource,
-    OpenGate, Sink, Source, StdSink, StdSource, StreamSink, StreamSource, read_makes_one_call,
+    Counted, CountingSource, DripSink, DripSource, Failed, FailingSink, FailingSource, Gate,
+    ListSink, ListSource, OnceSink, OnceSource, OpenGate, Sink, Source, StdSink, StdSource,
+    StreamSink, StreamSource, read_makes_one_call,
 };
 
 // Whether reads into three bytes, dots at first, answer so and leave these bytes there.
@@ -89,6 +90,58 @@ fn sinks_over_memory(rt: HostRuntime) -> Result<(), Fail> {
         ],
     );
     assert!(rt; breaks && broken.bytes() == b"abcd".as_slice());
+    Ok(())
+}
+
+#[test]
+fn moves_a_byte_at_a_time(rt: HostRuntime) -> Result<(), Fail> {
+    let mut source = DripSource::new(b"ab".to_vec(rt.alloc())?);
+    assert!(rt;
+        gives(
+            &mut source,
+            &[(Ok(1), *b"a.."), (Ok(1), *b"b.."), (Ok(0), *b"b..")]
+        )
+    );
+    let mut sink = DripSink::with_room(rt.alloc(), 2)?;
+    let fills = takes(
+        &mut sink,
+        &[
+            (b"abc", Ok(1)),
+            (b"", Ok(0)),
+            (b"bc", Ok(1)),
+            (b"c", Err(Failed)),
+            (b"", Ok(0)),
+        ],
+    );
+    assert!(rt; fills && sink.bytes() == b"ab".as_slice());
+    Ok(())
+}
+
+#[test]
+fn fails_once_and_goes_on(rt: HostRuntime) -> Result<(), Fail> {
+    let mut source = OnceSource::new(b"abcde".to_vec(rt.alloc())?, 1);
+    let reads = gives(
+        &mut source,
+        &[
+            (Ok(3), *b"abc"),
+            (Err(Failed), *b"abc"),
+            (Ok(2), *b"dec"),
+            (Ok(0), *b"dec"),
+        ],
+    );
+    assert!(rt; reads && source.reads() == 4);
+    let mut sink = OnceSink::with_room(rt.alloc(), 4, 1)?;
+    let writes = takes(
+        &mut sink,
+        &[
+            (b"abc", Ok(3)),
+            (b"de", Err(Failed)),
+            (b"de", Ok(1)),
+            (b"", Ok(0)),
+            (b"e", Err(Failed)),
+        ],
+    );
+    assert!(rt; writes && sink.puts() == 5 && sink.bytes() == b"abcd".as_slice());
     Ok(())
 }
 
