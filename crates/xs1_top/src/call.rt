@@ -128,9 +128,17 @@ fn respond_plainly<R: Threads + Sync, S: Source, K: Sink, G: Gate>(
     let Some(form) = form else {
         return finish(sink, usage_line(), Status::Usage);
     };
-    respond(alloc, words, form, source, sink, |input| {
-        answer_plainly(rt, alloc, form, input, gate)
-    })
+    respond(
+        alloc,
+        words,
+        form,
+        source,
+        sink,
+        |input: &[u8]| -> Result<Answer, AllocError>
+            requires { may_wait form ≡ false }
+            ensures { IfOk result (λ answer. answer ≡ answer_by form input.now) }
+        { answer_plainly(rt, alloc, form, input, gate) },
+    )
 }
 
 // What a form that waits for nobody answers to the bytes of the input: each has its module. The error is want of memory.
