@@ -5,7 +5,9 @@
 
 mod big_source;
 mod counter;
+mod labels;
 mod schedule;
+mod script;
 mod stream;
 mod trial;
 
@@ -27,6 +29,8 @@ fn main(rt: HostRuntime) -> Result<()> {
         "a fault in the last line of a big source",
         big_source::fault(alloc),
     )?;
+    tell(&rt, "a pin script of 300,000 lines", script::trial(alloc))?;
+    tell(&rt, "a source of 430,000 labels", labels::trial(alloc))?;
     Ok(())
 }
 
