@@ -1,4 +1,4 @@
-use Rattle.std.proofs.Common.{refl, List, [], ◌∷◌}
+use Rattle.std.proofs.Common.{refl, [], ◌∷◌}
 use Rattle.std.specs.Prelude.{codes}
 use Rattle.system_model.specs.declared.frame_line.SectionKind.TheVariants.{Source, Pins}
 use Rattle.system_model.specs.FirstFault.{given_after_lines}
