@@ -64,6 +64,7 @@ fn two_nodes_work_at_once(rt: HostRuntime) -> Result<(), Fail> {
         met: AtomicU64::new(0),
     };
     let run = RoundRun::new(alloc, &plan, 12)?;
+    assert!(rt; !run.is_at_limit());
     let run = run.pass(&rt, alloc, &gate)?;
     assert!(rt; run.passes() == 1 && gate.met.load(Ordering::SeqCst) == 1);
     Ok(())
