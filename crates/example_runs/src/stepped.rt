@@ -1,7 +1,7 @@
-//! How many slots each node of a system has stepped: in a free run and in one by rounds those that are busy, in a serial one all.
+//! How many slots each node of a system has stepped: in a free run those that are busy, in a serial one all.
 
 use anyhow::{Context, Result};
-use run_drive::{drive_free, drive_rounds, drive_serial};
+use run_drive::{drive_free, drive_serial};
 use std::alloc::Global;
 use std::sync::{Arc, Wait};
 use std::thread::Threads;
@@ -10,7 +10,7 @@ use system_text::read_system;
 use xs_edge::OpenGate;
 
 /// Whether each line of a picture says what runs of the system do: it has a number of slots, and then for each node how many of
-/// them a free run steps, and one by rounds.
+/// them a free run steps.
 pub fn steps_as<R: Threads + Wait + Sync + AllocGlobal>(
     rt: &R,
     system: &[u8],
@@ -36,9 +36,6 @@ fn line_is_so<R: Threads + Wait + Sync + AllocGlobal>(
     let free = drive_free(rt, alloc, plan, slots, &OpenGate {})
         .ok()
         .context("no memory")?;
-    let rounds = drive_rounds(rt, alloc, plan, slots, &OpenGate {})
-        .ok()
-        .context("no memory")?;
     let serial = drive_serial(alloc, plan, slots).ok().context("no memory")?;
     let count = plan.nodes().len();
     for n in 0..=u8::MAX {
@@ -46,8 +43,7 @@ fn line_is_so<R: Threads + Wait + Sync + AllocGlobal>(
             break;
         }
         let busy: u32 = words.next().context("no count")?.parse()?;
-        let by_itself = [free.stepped(n), rounds.stepped(n)];
-        if by_itself != [busy, busy] || serial.stepped(n) != slots {
+        if free.stepped(n) != busy || serial.stepped(n) != slots {
             return Ok(false);
         }
     }
