@@ -10,9 +10,10 @@ use Rattle.xs_model.specs.Threads.{register, with_register}
 use Rattle.xs_model.specs.Record.{CoreRec, thread_of, with_thread}
 use Rattle.xs_model.specs.Waits.{is_waited_at}
 
--- where an instruction is issued: the id of the node, the slot, what the pins show from outside by port, and which
--- channel ends the switch is at work with
+-- where an instruction is issued: the edition of the system, the id of the node, the slot, what the pins show from outside by
+-- port, and which channel ends the switch is at work with
 pub record Setting : Type 0 where
+  pub edition : ℕ  -- 1 or 2
   pub id : NodeId
   pub slot : Slot
   pub outside : List Word

@@ -2,6 +2,7 @@ pub mod Fixed
 pub mod Effect
 pub mod Outcomes
 pub mod WordRows
+pub mod DividerRows
 pub mod MemoryRows
 pub mod FlowRows
 pub mod KernelRows

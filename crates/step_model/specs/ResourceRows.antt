@@ -14,7 +14,8 @@ use Rattle.xs_model.specs.declared.resource.Resource.{Resource}
 use Rattle.xs_model.specs.declared.resource.Resource.TheVariants as resource
 use Rattle.xs_model.specs.declared.resource.Res.TheVariants as res
 use Rattle.xs_model.specs.Threads.{with_register}
-use Rattle.xs_model.specs.Record.{CoreRec, ChanRec, TimerRec, SyncRec, LockRec, thread_of, chan_of, timer_of, clock_of, sync_of, lock_of, with_thread, with_chan, with_timer, with_sync, with_lock, with_enabled}
+use Rattle.xs_model.specs.Record.{CoreRec, ChanRec, TimerRec, SyncRec, LockRec, thread_of, chan_of, timer_of}
+use Rattle.xs_model.specs.Record.{clock_of, sync_of, lock_of, with_thread, with_chan, with_timer, with_sync, with_lock, with_enabled}
 use Rattle.xs_model.specs.Free.{lowest_free}
 use Rattle.xs_model.specs.Syncs.{is_sync_used, got_sync, freed_sync, free_lock, Claimed, Owns, IsHeld, IsRefused, claimed, released, freed_lock}
 use Rattle.xs_model.specs.Time.{got_timer, freed_timer, with_value, divided_by}
@@ -23,13 +24,15 @@ use Rattle.xs_model.specs.PortActions.{set_value, tell_value, take_in, take_part
 use Rattle.xs_model.specs.Waits.{is_paused_on}
 use Rattle.xs_instructions.specs.declared.instr.ResIns.{ResIns}
 use Rattle.xs_instructions.specs.declared.instr.ResIns.TheVariants as resources
-use Rattle.net_model.specs.Chans.{Found, Got, Waits, Refused, got_chan, free_chan, freed_chan, chan_named, found_at, put_token, put_word, take_word, take_byte, take_ctrl, check_token, look, look_word, take_dest, tell_dest}
+use Rattle.net_model.specs.Chans.{Found, Got, Waits, Refused, got_chan, free_chan, freed_chan, chan_named, found_at}
+use Rattle.net_model.specs.Chans.{put_token, put_word, take_word, take_byte, take_ctrl, check_token, look, look_word, take_dest, tell_dest}
 use Rattle.step_model.specs.Effect.{Setting, Effect, Done, Pause, Trap, reg, after_it, goes_on, goes_on_with, goes_on_in, pauses_at}
 use Rattle.step_model.specs.Named.{resource_named}
 use Rattle.step_model.specs.TimeRows.{timer_becomes, clock_becomes, tells, takes_time}
 use Rattle.step_model.specs.EventRows.{sets_events, enables, clears, waits_where}
 use Rattle.step_model.specs.ModeRows.{sets_mode}
-use Rattle.step_model.specs.PortRows.{at_port, on_port, takes_no_word, takes_word, shifts_in_from_above, shifts_out_below, sets_clock, sets_strobe, sets_transfer_width, puts_word, puts_part, peeks, at_any}
+use Rattle.step_model.specs.PortRows.{at_port, on_port, takes_no_word, takes_word, shifts_in_from_above, shifts_out_below}
+use Rattle.step_model.specs.PortRows.{sets_clock, sets_strobe, sets_transfer_width, puts_word, puts_part, peeks, at_any}
 use Rattle.step_model.specs.ThreadRows.{thread_id, thread_to_get, with_got_thread}
 
 -- ---- Getting a resource

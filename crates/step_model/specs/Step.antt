@@ -94,6 +94,7 @@ ports_step slot pins m =
 -- where an instruction is issued in a slot
 abbrev pub setting_of : Fixed → Slot → PinView → NodeRec → Setting
 setting_of fixed slot pins rec = record {
+  edition = fixed.edition;
   id = fixed.routes.id;
   slot = slot;
   outside = pins.level;

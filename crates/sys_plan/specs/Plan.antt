@@ -137,14 +137,21 @@ NamesWhatIsThere plan (Send node end) = (node < length plan.nodes) × IsSome (ou
 abbrev pub node_numbers : PlanRec → List ℕ
 node_numbers plan = map (λ (node : NodePlan). node.number) plan.nodes
 
+-- the edition of the nodes, which is that of the first one; without nodes it is 1
+abbrev pub edition_of : List NodePlan → ℕ
+edition_of [] = 1
+edition_of (node ∷ nodes) = node.edition
+
 -- what every plan keeps
 pub record IsPlan (plan : PlanRec) : Type 0 where
   pub few_nodes : length plan.nodes ≤ 16
   pub few_links : length plan.links ≤ 48
   pub numbers : AllByRecursion (λ (node : NodePlan). node.number < 100) plan.nodes
   pub order : AreAscending (node_numbers plan)
-  -- every node is of edition 1, and every link of network 0
-  pub editions : AllByRecursion (λ (node : NodePlan). node.edition ≡ 1) plan.nodes
+  -- all nodes are of one edition, 1 or 2, and every link of network 0
+  pub least_edition : 1 ≤ edition_of plan.nodes
+  pub most_edition : edition_of plan.nodes ≤ 2
+  pub editions : AllByRecursion (λ (node : NodePlan). node.edition ≡ edition_of plan.nodes) plan.nodes
   pub nets : AllByRecursion (λ (node : NodePlan). node.nets ≡ replicate 8 0) plan.nodes
   pub ids : AreDistinct (map (λ (node : NodePlan). node.id) plan.nodes)
   pub links : AllByRecursion (IsLink (length plan.nodes)) plan.links

@@ -10,7 +10,7 @@ mod system_plan;
 pub use system_plan::{ENDS, Plan};
 use xs_instructions::Image;
 
-/// A node: its number, which names it in texts (0 to 99), the edition of its system, its id on the network, its image, for
+/// A node: its number, which names it in texts (0 to 99), the edition of its system (1 or 2, which all nodes of a plan have alike), its id on the network, its image, for
 /// each bit of an id the link ends that lead to nodes whose id differs there first, as a mask, and for each link end the
 /// network of its link, 0 where it has none.
 #[derive(Drop)]

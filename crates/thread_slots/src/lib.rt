@@ -3,7 +3,7 @@
 //! See docs/MACHINE.md.
 #![tactic(auto)]
 
-ghost use Rattle.std.specs.Prelude.{◌≡◌, ◌≢◌, ◌<◌, ◌≤◌, ◌↔◌, ℕ, Bool, true, false, List, Option, Some, None, length, replicate, slice_index, slice_index_or, slice_set, IfSome};
+ghost use Rattle.std.specs.Prelude.{◌≡◌, ◌≢◌, ◌<◌, ◌≤◌, ◌↔◌, ◌&&◌, ℕ, Bool, true, false, List, Option, Some, None, length, replicate, slice_index, slice_index_or, slice_set, IfSome};
 ghost use Rattle.xs_base.specs.declared.numbers.TheConstants.{THREADS};
 ghost use Rattle.xs_model.specs.Record.{never_divided};
 ghost use Rattle.xs_model.specs.Waits.{division_is_over};
@@ -146,12 +146,18 @@ impl Slots {
         }
     }
 
-    /// Notes that the core divides in a slot. No instruction does so yet. It takes no memory.
+    /// Notes that the core divides in a slot: the divider is not free then up to the 31st slot after it, nor where it was not free
+    /// before. Where it was free, that is the core's last division from now on. It takes no memory.
     #[inline]
     pub fn take_divider(&mut self, slot: u32)
-        ensures taken { self.new ≡ record self.old { division = Some slot } }
+        ensures taken { division_is_over self.old.division slot ≡ true → self.new ≡ record self.old { division = Some slot } }
+        ensures free { (at : ℕ) → division_is_over self.new.division at ≡ (division_is_over self.old.division at && division_is_over (Some slot) at) }
+        ensures last { self.new.last ≡ self.old.last }
     {
-        self.division = Some(slot);
+        self.division = match self.division {
+            Some(before) if before > slot => Some(before),
+            _ => Some(slot),
+        };
     }
 }
 
