@@ -1,7 +1,8 @@
 -- What an issue makes of a core, by how its instruction ends.
 use Rattle.std.specs.Prelude.{◌≡◌, if◌then◌else◌, Bool, true, false, List, [], ◌∷◌, ◌++◌, map}
-use Rattle.xs_base.specs.Numbers.{Slot}
+use Rattle.xs_base.specs.Numbers.{Slot, ChanNumber}
 use Rattle.xs_model.specs.declared.event.Happen.{Happen}
+use Rattle.xs_model.specs.declared.outside.PinView.{PinView}
 use Rattle.xs_model.specs.declared.thread.Thread.{Thread}
 use Rattle.xs_model.specs.declared.thread.Outcome.{Outcome}
 use Rattle.xs_model.specs.declared.thread.Outcome.TheVariants as outcome
@@ -10,11 +11,19 @@ use Rattle.xs_model.specs.Entry.{in_event, in_interrupt}
 use Rattle.xs_model.specs.Outside.{Emitted, in_slot}
 use Rattle.xs_instructions.specs.declared.instr.Instr.{Instr}
 use Rattle.xs_instructions.specs.declared.instr.Instr.TheVariants.{Resources}
-use Rattle.step_model.specs.Effect.{Effect, Done, Pause, Trap, Gone, after_it}
+use Rattle.step_model.specs.Effect.{Setting, Effect, Done, Pause, Trap, Gone, after_it}
 use Rattle.step_model.specs.Step.{Issued}
 use Rattle.event_unit.specs.declared.answers.Choice.{Choice}
+use Rattle.core_units.specs.Here.{IsHere}
 use Rattle.core_units.specs.declared.ending.Ending.{Ending}
 use Rattle.core_units.specs.declared.ending.Ending.TheVariants as ending
+use Rattle.processor.specs.Program.{ProgramRec}
+
+-- an issue is made on the node that a program is of, in this slot, with pins that show this from outside, and with these channel
+-- ends at work
+pub record IsIssuedAt (program : ProgramRec) (now : Slot) (pins : PinView) (is_busy : ChanNumber → Bool) (here : Setting) : Type 0 where
+  pub edition : here.edition ≡ program.edition
+  pub place : IsHere program.id now pins is_busy here
 
 -- a thread after its row on words, which goes on where the row was done
 abbrev pub gone_on : Outcome → Thread → Thread

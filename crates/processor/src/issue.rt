@@ -3,30 +3,33 @@ ghost use Rattle.std.specs.Prelude.{◌≡◌, ◌<◌, ◌≤◌, ◌+◌, Some
 ghost use Rattle.xs_base.specs.declared.numbers.TheConstants.{THREADS, EVENT_ROOM, ISSUE_EVENTS};
 ghost use Rattle.xs_model.specs.declared.thread.Run.TheVariants.{Going};
 ghost use Rattle.xs_model.specs.Record.{thread_of, with_thread, with_run, with_last};
-ghost use Rattle.xs_instructions.specs.Instr.{InRange, ResourcesInRange};
+ghost use Rattle.xs_instructions.specs.Instr.{InRange, WordsInRange, ResourcesInRange};
 ghost use Rattle.xs_instructions.specs.Code.{code_at};
 ghost use Rattle.step_model.specs.Effect.{Setting};
 ghost use Rattle.step_model.specs.Rows.{effect};
 ghost use Rattle.step_model.specs.ResourceRows.{resources_row};
 ghost use Rattle.step_model.specs.Step.{issue_begins, executed, settled, trap, issued, issued_by};
 ghost use Rattle.core_units.specs.Here.{IsHere};
+ghost use Rattle.step_model.specs.DividerRows.{words_effect};
 ghost use Rattle.xs_model.specs.Outside.{LevelsFit};
 ghost use Rattle.xs_model.specs.Picks.{picked};
 ghost use Rattle.core_units.specs.Ending.{IsEnding};
 ghost use Rattle.core_units.specs.Units.{Ends, EndsWith};
-ghost use Rattle.processor.specs.Issue.{effect_of, effect_with, is_quiet, and_happened, IsLeft, entered_by};
+ghost use Rattle.processor.specs.Issue.{IsIssuedAt, effect_of, effect_with, is_quiet, and_happened, IsLeft, entered_by};
 ghost use Rattle.processor.specs.Knows.{StaysKnown};
 
+use crate::divider::divide;
 use crate::processor::Processor;
 use crate::program::Program;
 use crate::rows::{kret, own, words};
+use alu_unit::is_division;
 use core_units::{Ending, Holders, Units};
 use event_unit::Choice;
 use resource_rows::on_resources;
 use thread_rows::on_threads;
 use trace_lines::Emissions;
 use trap_unit::{enter_event, enter_interrupt, enter_trap, return_address};
-use xs_instructions::{Instr, KernelIns, ResIns};
+use xs_instructions::{Instr, KernelIns, ResIns, WordIns};
 use xs_model::traps::ILLEGAL_PC;
 use xs_model::{Event, Happen, Outcome, PinView, Run, Thread};
 
@@ -44,9 +47,9 @@ impl Processor {
     )
         requires room { length out.old.events + ISSUE_EVENTS ≤ EVENT_ROOM }
         requires levels { LevelsFit pins.now.level }
-        ensures units { (here : Setting) → IsHere program.now.id slot pins.now (H.busy holders.now) here →
+        ensures units { (here : Setting) → IsIssuedAt program.now slot pins.now (H.busy holders.now) here →
             self.new ≡ (issued program.now.code here self.old).core }
-        ensures events { (here : Setting) → IsHere program.now.id slot pins.now (H.busy holders.now) here →
+        ensures events { (here : Setting) → IsIssuedAt program.now slot pins.now (H.busy holders.now) here →
             out.new ≡ and_happened out.old slot (issued program.now.code here self.old).happened }
     {
         if let Some(k) = self.picked(slot) {
@@ -68,7 +71,7 @@ impl Processor {
         requires thread { k < THREADS }
         requires room { length out.old.events + ISSUE_EVENTS ≤ EVENT_ROOM }
         requires levels { LevelsFit pins.now.level }
-        ensures { (here : Setting) → IsHere program.now.id slot pins.now (H.busy holders.now) here →
+        ensures { (here : Setting) → IsIssuedAt program.now slot pins.now (H.busy holders.now) here →
             IsLeft slot out.old self.new out.new (issued_by program.now.code here self.old (Some k)) }
     {
         self.begin(k, slot);
@@ -101,7 +104,7 @@ impl Processor {
         requires going { (thread_of self.old k).run ≡ Going }
         requires room { length out.old.events + ISSUE_EVENTS ≤ EVENT_ROOM }
         requires levels { LevelsFit pins.now.level }
-        ensures { (here : Setting) → IsHere program.now.id slot pins.now (H.busy holders.now) here →
+        ensures { (here : Setting) → IsIssuedAt program.now slot pins.now (H.busy holders.now) here →
             IsLeft slot out.old self.new out.new (executed program.now.code here self.old k (code_at program.now.code (thread_of self.old k).pc)) }
     {
         let pc = self.pc_of(k);
@@ -112,7 +115,7 @@ impl Processor {
                 self.settle(k, program, ending, slot, out);
             }
             Some(ins) => {
-                let outcome = self.execute(k, program.id(), slot, ins);
+                let outcome = self.execute(k, program, slot, ins);
                 self.settle_quietly(k, program, outcome, slot, out);
             }
         }
@@ -169,15 +172,15 @@ impl Processor {
 
     // What another instruction does when thread k issues it. It answers by less than an `Ending`, since nothing happens by it
     // but a trap.
-    fn execute(&mut self, k: u8, id: u16, slot: u32, ins: Instr) -> Outcome
+    fn execute(&mut self, k: u8, program: &Program, slot: u32, ins: Instr) -> Outcome
         requires thread { k < THREADS }
         requires going { (thread_of self.old k).run ≡ Going }
         requires range { InRange ins }
         requires part { IsTrue (is_quiet ins) }
-        ensures row { (here : Setting) → here.id ≡ id → here.slot ≡ slot → Ends result self.old self.new (effect here self.old k ins) }
+        ensures row { (here : Setting) → here.edition ≡ program.now.edition → here.id ≡ program.now.id → here.slot ≡ slot → Ends result self.old self.new (effect here self.old k ins) }
     {
         match ins {
-            Instr::Words(ins) => words(&mut self.units, k, ins),
+            Instr::Words(ins) => self.on_words(k, program, slot, ins),
             Instr::Kernel(KernelIns::Kret) => {
                 kret(&mut self.units, k);
                 Outcome::Done
@@ -185,9 +188,25 @@ impl Processor {
             Instr::Memory(_) | Instr::Flow(_) | Instr::Kernel(_) => own(&mut self.units, k, ins),
             Instr::Threads(ins) => {
                 self.able = None;
-                on_threads(&mut self.units, id, slot, k, ins)
+                on_threads(&mut self.units, program.id(), slot, k, ins)
             }
             Instr::Resources(_) => unreachable!(),
+        }
+    }
+
+    // What a row on words does when thread k issues it.
+    #[inline]
+    fn on_words(&mut self, k: u8, program: &Program, slot: u32, ins: WordIns) -> Outcome
+        requires thread { k < THREADS }
+        requires going { (thread_of self.old k).run ≡ Going }
+        requires range { WordsInRange ins }
+        ensures { (here : Setting) → here.edition ≡ program.now.edition → here.slot ≡ slot → Ends result self.old self.new (words_effect here self.old k ins) }
+    {
+        if program.has_shared_divider() && is_division(ins) {
+            self.able = None;
+            divide(&mut self.units, k, slot, ins)
+        } else {
+            words(&mut self.units, k, ins)
         }
     }
 

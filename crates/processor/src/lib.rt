@@ -1,6 +1,7 @@
 //! A core's processor: its program, its units, and at most one issue in a slot. See docs/MACHINE.md and docs/INSTRUCTIONS.md.
 #![tactic(auto)]
 
+mod divider;
 mod edges;
 mod issue;
 mod picks;

@@ -1,5 +1,5 @@
 //! `Program`, what a core executes.
-ghost use Rattle.std.specs.Prelude.{◌≡◌, IfSome};
+ghost use Rattle.std.specs.Prelude.{◌≡◌, ◌==◌, IfSome};
 ghost use Rattle.xs_instructions.specs.Code.{code_at, is_code_place};
 ghost use Rattle.xs_instructions.specs.Instr.{InRange};
 ghost use Rattle.processor.specs.Program.{IsCode};
@@ -40,6 +40,14 @@ impl Program {
         ensures { result ≡ self.now.id }
     {
         self.id
+    }
+
+    /// Whether the threads of the core share a divider.
+    #[inline]
+    pub(crate) fn has_shared_divider(&self) -> bool
+        ensures { result ≡ (self.now.edition == 2) }
+    {
+        self.edition == 2
     }
 
     /// The instruction at an address, or None exactly where none stands there.

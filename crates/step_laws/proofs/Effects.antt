@@ -1,10 +1,14 @@
 -- How an issue ends, with known bits in every thread of its core.
-use Rattle.std.proofs.Common.{Bool, true, false, if◌then◌else◌}
-use Rattle.xs_base.specs.Numbers.{ThreadNumber, Identifier}
+use Rattle.std.proofs.Common.{Bool, true, false, if◌then◌else◌, []}
+use Rattle.xs_base.specs.Numbers.{Slot, ThreadNumber, Identifier}
 use Rattle.xs_model.specs.declared.thread.Thread.{Thread}
+use Rattle.xs_model.specs.declared.thread.Wait.TheVariants.{Divider}
 use Rattle.xs_model.specs.declared.traps.TheConstants.{ILLEGAL_RESOURCE}
-use Rattle.xs_model.specs.Record.{CoreRec}
-use Rattle.step_model.specs.Effect.{Effect, Done, Pause, Trap, Gone, allowed_where, Leaving, Leaves, Traps, Own, on_own, on_registers}
+use Rattle.xs_model.specs.Record.{CoreRec, thread_of}
+use Rattle.xs_instructions.specs.declared.instr.WordIns.{WordIns}
+use Rattle.step_model.specs.Effect.{Setting, Effect, Done, Pause, Trap, Gone, allowed_where, Leaving, Leaves, Traps, Own, on_own, on_registers}
+use Rattle.step_model.specs.WordRows.{words_row}
+use Rattle.step_model.specs.DividerRows.{shares_divider, on_divider, words_effect}
 use Rattle.step_laws.specs.StatusBits.{AllKnown}
 use Rattle.step_laws.proofs.Threads.{on_known, with_thread_known}
 use Rattle.step_laws.proofs.Rows.{LeftKnown, OwnKnown}
@@ -25,9 +29,17 @@ pub allowed_known : (holds : Bool) (name : Identifier) (after : CoreRec) → All
 allowed_known holds name after all = branch_known holds _ (Trap ILLEGAL_RESOURCE name) all tt
 
 module _ (core : CoreRec) (k : ThreadNumber) (all : AllKnown core.threads) where
-  pub on_registers_known : (left : Leaving Thread) → LeftKnown left → EffectKnown (on_registers core k left)
+  on_registers_known : (left : Leaving Thread) → LeftKnown left → EffectKnown (on_registers core k left)
   on_registers_known (Leaves th) h = with_thread_known core k _ all (on_known th h)
   on_registers_known (Traps number value) h = tt
+
+  on_divider_known : (slot : Slot) (left : Leaving Thread) → LeftKnown left → EffectKnown (on_divider slot core k left)
+  on_divider_known slot (Leaves th) h = branch_known _ _ (Pause core Divider []) (with_thread_known core k _ all (on_known th h)) all
+  on_divider_known slot (Traps number value) h = tt
+
+  pub words_effect_known : (here : Setting) (ins : WordIns) → LeftKnown (words_row (thread_of core k) ins) → EffectKnown (words_effect here core k ins)
+  words_effect_known here ins h =
+      branch_known (shares_divider here.edition ins) _ _ (on_divider_known here.slot _ h) (on_registers_known _ h)
 
   pub on_own_known : (left : Leaving Own) → OwnKnown left → EffectKnown (on_own core k left)
   on_own_known (Leaves l) h = with_thread_known core k _ all h

@@ -19,13 +19,13 @@ use Rattle.step_model.specs.Step.{halt_unless, trap, settled, executed, issue_be
 use Rattle.step_laws.specs.StatusBits.{AllKnown}
 use Rattle.step_laws.proofs.Threads.{known, trapped_known, entered_known, with_thread_known, with_run_known}
 use Rattle.step_laws.proofs.Rows.{words_known, memory_known, flow_known, kernel_known}
-use Rattle.step_laws.proofs.Effects.{EffectKnown, on_registers_known, on_own_known}
+use Rattle.step_laws.proofs.Effects.{EffectKnown, words_effect_known, on_own_known}
 use Rattle.step_laws.proofs.ThreadRows.{threads_known}
 use Rattle.step_laws.proofs.ResourceRows.{resources_known}
 
 module _ (core : CoreRec) (k : ThreadNumber) (all : AllKnown core.threads) where
   effect_known : (here : Setting) (ins : Instr) → EffectKnown (effect here core k ins)
-  effect_known here (Words ins) = on_registers_known core k all _ (words_known (thread_of core k) ins (all k))
+  effect_known here (Words ins) = words_effect_known core k all here ins (words_known (thread_of core k) ins (all k))
   effect_known here (Memory ins) = on_own_known core k all _ (memory_known (own_of core k) ins (all k))
   effect_known here (Flow ins) = on_own_known core k all _ (flow_known (own_of core k) ins (all k))
   effect_known here (Kernel ins) = on_own_known core k all _ (kernel_known k (own_of core k) ins (all k))

@@ -21,15 +21,17 @@ use Rattle.xs_model.specs.Syncs.{is_thread, Claimed, Owns, IsHeld, IsRefused}
 use Rattle.xs_model.specs.Time.{timer_holds}
 use Rattle.xs_model.specs.Enabling.{with_vector, with_environment, enabled_for, forgotten}
 use Rattle.xs_model.specs.PortActions.{Acted, Did, Got as Gives, Waits as PausesAt, Refused as Refuses, in_mode, set_clock, set_strobe, set_value, tell_value, take_in, take_part, put_out, end_in, sync, tell_stamp, set_time, clear_time}
-use Rattle.xs_model.specs.Waits.{is_in, all_in, is_waited_at, is_paused_on}
+use Rattle.xs_model.specs.Waits.{is_in, all_in, division_is_over, is_waited_at, is_paused_on}
 use Rattle.xs_instructions.specs.declared.instr.Instr.{Instr}
 use Rattle.xs_instructions.specs.declared.instr.Instr.TheVariants.{Words, Memory, Flow, Kernel, Threads, Resources}
+use Rattle.xs_instructions.specs.declared.instr.WordIns.{WordIns}
 use Rattle.xs_instructions.specs.declared.instr.ThreadIns.{ThreadIns}
 use Rattle.xs_instructions.specs.declared.instr.ThreadIns.TheVariants as threads
 use Rattle.xs_instructions.specs.declared.instr.ResIns.{ResIns}
 use Rattle.xs_instructions.specs.declared.instr.ResIns.TheVariants as resources
 use Rattle.net_model.specs.Chans.{Found, Got, Waits, Refused, put_token, take_byte, take_ctrl, check_token, look, look_word}
 use Rattle.step_model.specs.Effect.{Setting, Effect, Done, Pause, Trap, Gone, Leaving, Leaves, Traps, Own, on_own, on_registers, reg, goes_on_in, pauses_at}
+use Rattle.step_model.specs.DividerRows.{shares_divider, on_divider, words_effect}
 use Rattle.step_model.specs.Named.{resource_named}
 use Rattle.step_model.specs.ThreadRows.{is_taken, thread_to_get, slave_got, by_master, as_master, slaves_go, slaves_are_freed, when_all_in, on_named_thread, on_thread, is_slave, may_start, sets_other, threads_row}
 use Rattle.step_model.specs.TimeRows.{takes_time}
@@ -72,6 +74,13 @@ module _ (here : Setting) (core : CoreRec) (k : ThreadNumber) where
   on_registers_after : (left : Leaving Thread) → EffectAfter core here.slot (on_registers core k left)
   on_registers_after (Leaves th) = stays
   on_registers_after (Traps number value) = tt
+
+  on_divider_after : (left : Leaving Thread) → EffectAfter core here.slot (on_divider here.slot core k left)
+  on_divider_after (Leaves th) = either (division_is_over core.slots.division here.slot) _ (Pause core wait.Divider []) stays stays
+  on_divider_after (Traps number value) = tt
+
+  words_after : (ins : WordIns) → EffectAfter core here.slot (words_effect here core k ins)
+  words_after ins = either (shares_divider here.edition ins) _ _ (on_divider_after _) (on_registers_after _)
 
   on_own_after : (left : Leaving Own) → EffectAfter core here.slot (on_own core k left)
   on_own_after (Leaves l) = stays
@@ -309,7 +318,7 @@ module _ (here : Setting) (core : CoreRec) (k : ThreadNumber) where
   resources_after (resources.Settw s x) = on_port_after s takes_no_word (sets_transfer_width (reg core k x)) (λ p. set_transfer_width_well (port_width p) (reg core k x))
 
   pub effect_after : (ins : Instr) → EffectAfter core here.slot (effect here core k ins)
-  effect_after (Words ins) = on_registers_after _
+  effect_after (Words ins) = words_after ins
   effect_after (Memory ins) = on_own_after _
   effect_after (Flow ins) = on_own_after _
   effect_after (Kernel ins) = on_own_after _

@@ -11,17 +11,17 @@ use Rattle.step_model.specs.Effect.{Setting, Effect, Done, Pause, Trap, Leaving,
 use Rattle.step_model.specs.WordRows.{words_row}
 
 -- whether a row on words divides
-abbrev pub divides : WordIns → Bool
-divides (words.Divu d x y) = true
-divides (words.Remu d x y) = true
-divides (words.Divs d x y) = true
-divides (words.Rems d x y) = true
-divides (words.Ldivu d e x y v) = true
-divides _ = false
+abbrev pub is_division : WordIns → Bool
+is_division (words.Divu d x y) = true
+is_division (words.Remu d x y) = true
+is_division (words.Divs d x y) = true
+is_division (words.Rems d x y) = true
+is_division (words.Ldivu d e x y v) = true
+is_division _ = false
 
 -- whether it does so by the divider that all threads of the core share
 abbrev pub shares_divider : ℕ → WordIns → Bool
-shares_divider edition ins = (edition == 2) && divides ins
+shares_divider edition ins = (edition == 2) && is_division ins
 
 -- this slot is that of the core's last division
 abbrev pub with_division : CoreRec → Slot → CoreRec

@@ -60,7 +60,7 @@ step_is c fixed rec h =
     let b = brings c rec at in
     subst (λ (v : CoreValue). StandsAt (record { fixed = fixed; core = c.issue.new.self; levels = from_outside c.args.pins.now; inputs = c.bring.new.self.switch.inputs; links = c.bring.new.self.links }) (node_step v.fixed rec a.slot a.arrivals.now a.pins.now).rec (a.slot + 1)) c.self.view_is
     (stepped now rec a.slot a.arrivals.now a.pins.now c.bring.new.units c.bring.new.self c.bring.new.out (core_is c rec at) b fixed c.issue.new.self
-    (c.issue.ensures.units (its_setting now rec a.slot a.arrivals.now a.pins.now) (record { id = c.self.invariant.node; slot = refl; outside = refl; busy = busy_is now rec a.slot a.arrivals.now a.pins.now c.bring.new.units c.bring.new.self c.bring.new.out (core_is c rec at) b }))
+    (c.issue.ensures.units (its_setting now rec a.slot a.arrivals.now a.pins.now) (record { edition = refl; place = record { id = c.self.invariant.node; slot = refl; outside = refl; busy = busy_is now rec a.slot a.arrivals.now a.pins.now c.bring.new.units c.bring.new.self c.bring.new.out (core_is c rec at) b } }))
     (sent c))
 
 emissions_are : (c : After-issue) (rec : NodeRec) → StandsAt c.args.self.now rec c.args.slot → c.issue.new.out ≡ (node_step c.args.self.now.fixed rec c.args.slot c.args.arrivals.now c.args.pins.now).emitted
@@ -72,7 +72,7 @@ emissions_are c rec h =
     let b = brings c rec at in
     subst (λ (v : CoreValue). c.issue.new.out ≡ (node_step v.fixed rec a.slot a.arrivals.now a.pins.now).emitted) c.self.view_is
     (gave now rec a.slot a.arrivals.now a.pins.now c.bring.new.units c.bring.new.self c.bring.new.out (core_is c rec at) b c.issue.new.out
-    (c.issue.ensures.events (its_setting now rec a.slot a.arrivals.now a.pins.now) (record { id = c.self.invariant.node; slot = refl; outside = refl; busy = busy_is now rec a.slot a.arrivals.now a.pins.now c.bring.new.units c.bring.new.self c.bring.new.out (core_is c rec at) b })))
+    (c.issue.ensures.events (its_setting now rec a.slot a.arrivals.now a.pins.now) (record { edition = refl; place = record { id = c.self.invariant.node; slot = refl; outside = refl; busy = busy_is now rec a.slot a.arrivals.now a.pins.now c.bring.new.units c.bring.new.self c.bring.new.out (core_is c rec at) b } })))
 
 pub returns : goal.returns
 returns c =

@@ -1,4 +1,4 @@
-use Rattle.std.proofs.Common.{sym, subst}
+use Rattle.std.proofs.Common.{sym, subst, ◌∙◌}
 use Rattle.xs_model.specs.Record.{CoreRec}
 use Rattle.step_model.specs.Rows.{effect}
 use Rattle.core_units.specs.Units.{Ends}
@@ -7,7 +7,7 @@ use Rattle.processor.proofs.processor.Processor.execute.Goals as goal
 pub returns-in-Threads : goal.returns-in-Threads
 returns-in-Threads c = record {
   row =
-      λ here id slot.
+      λ here edition id slot.
       subst (λ (old : CoreRec). Ends c.on_threads.result old c.on_threads.new.units (effect here old c.args.k c.args.ins)) c.self.view_is
-      (subst (λ ins. Ends c.on_threads.result c.self.inside.units c.on_threads.new.units (effect here c.self.inside.units c.args.k ins)) (sym c.in-Threads.is) (c.on_threads.ensures.row here id slot));
+      (subst (λ ins. Ends c.on_threads.result c.self.inside.units c.on_threads.new.units (effect here c.self.inside.units c.args.k ins)) (sym c.in-Threads.is) (c.on_threads.ensures.row here (id ∙ sym c.id.ensures) slot));
 }

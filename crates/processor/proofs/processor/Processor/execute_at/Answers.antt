@@ -5,28 +5,27 @@ use Rattle.xs_instructions.specs.declared.instr.Instr.TheVariants.{Resources}
 use Rattle.step_model.specs.Effect.{Setting}
 use Rattle.step_model.specs.Step.{Issued, executed, settled}
 use Rattle.step_model.specs.Rows.{effect}
-use Rattle.core_units.specs.Here.{IsHere}
-use Rattle.processor.specs.Issue.{IsLeft, effect_of, effect_with}
+use Rattle.processor.specs.Issue.{IsIssuedAt, IsLeft, effect_of, effect_with}
 use Rattle.processor.proofs.Settles.{same_settled, same_settled_with}
 use Rattle.processor.proofs.processor.Processor.execute_at.Given.{Over}
 use Rattle.processor.proofs.processor.Processor.execute_at.Goals as goal
 use Rattle.processor.proofs.processor.Processor.execute_at.Goals.{After-settle, After-settle_quietly}
 
 -- what the outcome makes of the thread is what the definition executes
-its_issue : (g : Over) (c : After-settle_quietly g) (here : Setting) → IsHere c.args.program.now.id c.args.slot c.args.pins.now (g.H.Holders.busy c.args.holders.now) here
+its_issue : (g : Over) (c : After-settle_quietly g) (here : Setting) → IsIssuedAt c.args.program.now c.args.slot c.args.pins.now (g.H.Holders.busy c.args.holders.now) here
     → settled c.args.program.now.code c.execute-outcome.new.self c.args.k (effect_of c.execute-outcome.result c.execute-outcome.new.self)
     ≡ executed c.args.program.now.code here c.args.self.now c.args.k (code_at c.args.program.now.code (thread_of c.args.self.now c.args.k).pc)
 its_issue g c here at =
     let code = c.args.program.now.code in
-    same_settled code c.args.k c.args.self.now c.execute-outcome.new.self c.execute-outcome.result (effect here c.args.self.now c.args.k c.in-Some.ins) (c.execute-outcome.ensures.row here (at.id ∙ sym c.id-in-Some.ensures) at.slot)
+    same_settled code c.args.k c.args.self.now c.execute-outcome.new.self c.execute-outcome.result (effect here c.args.self.now c.args.k c.in-Some.ins) (c.execute-outcome.ensures.row here at.edition at.place.id at.place.slot)
     ∙ ap (λ ins. executed code here c.args.self.now c.args.k ins) (sym c.in-Some.is ∙ c.at.ensures.value ∙ ap (code_at code) c.pc_of-pc.ensures)
 
-its_use : (g : Over) (c : After-settle g) (here : Setting) → IsHere c.args.program.now.id c.args.slot c.args.pins.now (g.H.Holders.busy c.args.holders.now) here
+its_use : (g : Over) (c : After-settle g) (here : Setting) → IsIssuedAt c.args.program.now c.args.slot c.args.pins.now (g.H.Holders.busy c.args.holders.now) here
     → settled c.args.program.now.code c.use_resource-ending.new.self c.args.k (effect_with c.use_resource-ending.result c.use_resource-ending.new.self)
     ≡ executed c.args.program.now.code here c.args.self.now c.args.k (code_at c.args.program.now.code (thread_of c.args.self.now c.args.k).pc)
 its_use g c here at =
     let code = c.args.program.now.code in
-    same_settled_with code c.args.k c.args.self.now c.use_resource-ending.new.self c.use_resource-ending.result (effect here c.args.self.now c.args.k (Resources c.in-Some-Resources.ins)) (c.use_resource-ending.ensures.row here (record { id = at.id ∙ sym c.id.ensures; slot = at.slot; outside = at.outside; busy = at.busy }))
+    same_settled_with code c.args.k c.args.self.now c.use_resource-ending.new.self c.use_resource-ending.result (effect here c.args.self.now c.args.k (Resources c.in-Some-Resources.ins)) (c.use_resource-ending.ensures.row here (record { id = at.place.id ∙ sym c.id.ensures; slot = at.place.slot; outside = at.place.outside; busy = at.place.busy }))
     ∙ ap (λ ins. executed code here c.args.self.now c.args.k ins) (ap Some (sym c.in-Some-Resources.field-0-is) ∙ sym c.in-Some-Resources.is ∙ c.at.ensures.value ∙ ap (code_at code) c.pc_of-pc.ensures)
 
 pub returns-in-Some-Resources : goal.returns-in-Some-Resources
