@@ -4,7 +4,7 @@ ghost use Rattle.xs_model.specs.Outside.{low_pins};
 ghost use Rattle.xs_model.specs.Picks.{picked};
 ghost use Rattle.step_model.specs.Effect.{Setting};
 ghost use Rattle.step_model.specs.Step.{issued};
-ghost use Rattle.core_units.specs.Here.{IsHere};
+ghost use Rattle.processor.specs.Issue.{IsIssuedAt};
 
 use anyhow::{Result, ensure};
 use processor::{Holders, Processor, Program, Ram};
@@ -45,7 +45,7 @@ impl Node {
     /// The issue of the next slot, which has this number: the thread, 0 to 7, or None where nobody issues.
     pub fn issue(&mut self, slot: u32) -> Option<u8>
         ensures issuer { result ≡ picked self.old.units slot }
-        ensures units { (here : Setting) → IsHere self.old.program.id slot low_pins (λ _. false) here →
+        ensures units { (here : Setting) → IsIssuedAt self.old.program slot low_pins (λ _. false) here →
             self.new.units ≡ (issued self.old.program.code here self.old.units).core }
     {
         let issuer = self.units.picked(slot);
