@@ -23,6 +23,7 @@ pub mod Nets
 pub mod Events
 pub mod EventRows
 pub mod Choices
+pub mod Dividers
 pub mod Entered
 pub mod TimeRuns
 pub mod Ports
