@@ -8,6 +8,6 @@ pub returns-in-Threads : goal.returns-in-Threads
 returns-in-Threads c = record {
   row =
       λ here edition id slot.
-      subst (λ (old : CoreRec). Ends c.on_threads.result old c.on_threads.new.units (effect here old c.args.k c.args.ins)) c.self.view_is
-      (subst (λ ins. Ends c.on_threads.result c.self.inside.units c.on_threads.new.units (effect here c.self.inside.units c.args.k ins)) (sym c.in-Threads.is) (c.on_threads.ensures.row here (id ∙ sym c.id.ensures) slot));
+      subst (λ (old : CoreRec). Ends c.on_threads.result old c.on_threads.new.units (effect here old c.args.k c.args.ins)) c.self-in-Threads.view_is
+      (subst (λ ins. Ends c.on_threads.result c.self-in-Threads.inside.units c.on_threads.new.units (effect here c.self-in-Threads.inside.units c.args.k ins)) (sym c.in-Threads.is) (c.on_threads.ensures.row here (id ∙ sym c.id.ensures) slot));
 }
