@@ -171,24 +171,23 @@ none_left (q ∷ r ∷ qs) (o ∷ own) begun h none last =
 -- The frame of the lines up to the section, and of those in it
 
 -- a line of the frame that begins a section has words
-abbrev says_words : Bool → Option SectionText → List (List ℕ) → FrameSays
-says_words begun None words = says_in_frame begun words
-says_words begun (Some section) words = if same_words (codes "end" ∷ []) words then End else says_in_section section.kind words
+abbrev says_words : Option ℕ → Option SectionText → List (List ℕ) → FrameSays
+says_words edition None words = says_in_frame edition words
+says_words edition (Some section) words = if same_words (codes "end" ∷ []) words then End else says_in_section section.kind words
 
-says_is : (begun : Bool) (reading : Option SectionText) (l : List ℕ) → says_by begun reading l ≡ says_words begun reading (words_of_line l)
-says_is begun None l = refl
-says_is begun (Some section) l = refl
+says_is : (edition : Option ℕ) (reading : Option SectionText) (l : List ℕ) → says_by edition reading l ≡ says_words edition reading (words_of_line l)
+says_is edition None l = refl
+says_is edition (Some section) l = refl
 
 blank_in_section : (kind : SectionKind) (form : FrameLine) → says_in_section kind [] ≡ Form form → ⊥
 blank_in_section (Source n) form e = cc
 blank_in_section Pins form e = cc
 blank_in_section Play form e = cc
 
-form_has_words : (begun : Bool) (reading : Option SectionText) (words : List (List ℕ)) (form : FrameLine) → says_words begun reading words ≡ Form form → is_empty words ≡ false
-form_has_words begun reading (w ∷ ws) form e = refl
-form_has_words true None [] form e = cc
-form_has_words false None [] form e = cc
-form_has_words begun (Some section) [] form e = absurd (blank_in_section section.kind form e)
+form_has_words : (edition : Option ℕ) (reading : Option SectionText) (words : List (List ℕ)) (form : FrameLine) → says_words edition reading words ≡ Form form → is_empty words ≡ false
+form_has_words edition reading (w ∷ ws) form e = refl
+form_has_words edition None [] form e = cc
+form_has_words edition (Some section) [] form e = absurd (blank_in_section section.kind form e)
 
 words_at_last : (before : List (List ℕ)) (opening : List ℕ) (rest : List (List ℕ)) → is_empty (words_of_line opening) ≡ false → have_no_words ((before ++ opening ∷ []) ++ rest) ≡ false
 words_at_last [] opening rest e = and_left _ _ e
@@ -232,7 +231,7 @@ stays_open [] n given section e kind none = ap (λ o. at_the_end given o) e
 stays_open (q ∷ qs) n given section e kind none =
     let parts = or_parts (is_end q) (list_any is_end qs) none in
     let said : says given q ≡ Own =
-    ap (λ o. says_by given.begun o q) e ∙ (cond-false _ _ _ parts.0 ∙ own_of section.kind (words_of_line q) kind) in
+    ap (λ o. says_by given.edition o q) e ∙ (cond-false _ _ _ parts.0 ∙ own_of section.kind (words_of_line q) kind) in
     let next : (given_after n q given).reading ≡ Some (with_own_line q section) =
     ap (λ s. (given_with n q s given).reading) said ∙ ap (λ o. option_map (with_own_line q) o) e in
     ap (λ o. unless_faulty o n (frame_from (n + 1) (given_after n q given) qs)) (ap (λ s. first_that_holds (tests given (all_allowed q) s)) said ∙ own_sound given (all_allowed q))
@@ -293,8 +292,8 @@ cut_framed text part line given e c =
     let front_lines : lines_of part ≡ lines_of c.front ++ lines_of c.left = ap (λ t. lines_of t) c.cut ∙ lines_past c.front line c.left o in
     let part_lines : lines_of part ≡ ls ++ lines_of c.left = front_lines ∙ ap (λ f. f ++ lines_of c.left) o.lines in
     let words : is_empty (words_of_line o.opening) ≡ false =
-    form_has_words (given_by o.before).begun (given_by o.before).reading (words_of_line o.opening) (Section o.kind)
-    (sym (says_is (given_by o.before).begun (given_by o.before).reading o.opening) ∙ o.begins) in
+    form_has_words (given_by o.before).edition (given_by o.before).reading (words_of_line o.opening) (Section o.kind)
+    (sym (says_is (given_by o.before).edition (given_by o.before).reading o.opening) ∙ o.begins) in
     let count : 1 + length o.before ≡ line = omega (arith, o.number) in
     let to : frame_from 1 nothing_given (ls ++ lines_of c.left) ≡ Refused line SectionNotEnded =
     passed ls (lines_of c.left) (lines_of others) 1 nothing_given given (Refused line SectionNotEnded)

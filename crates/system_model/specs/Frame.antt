@@ -16,7 +16,7 @@ use Rattle.system_model.specs.declared.frame_line.PlayLine.TheVariants.{Take, Ru
 use Rattle.system_model.specs.declared.frame_line.SectionKind.{SectionKind}
 use Rattle.system_model.specs.declared.frame_line.SectionKind.TheVariants.{Source, Pins, Play}
 use Rattle.system_model.specs.Bits.{BitRec}
-use Rattle.system_model.specs.FrameLines.{is_header, is_end, frame_line, play_line, are_numbers_in_range}
+use Rattle.system_model.specs.FrameLines.{edition_of_header, is_end, frame_line, play_line, are_numbers_in_range}
 
 -- a section: what it holds, the line that begins it, and its own lines, of which `play` has none
 pub record SectionText : Type 0 where
@@ -24,10 +24,10 @@ pub record SectionText : Type 0 where
   pub line : ℕ
   pub lines : List (List ℕ)
 
--- What the lines so far have given: whether one of them had words; the nodes, by ascending number; the links, the bits,
+-- What the lines so far have given: the edition, which the first line with words gives; the nodes, by ascending number; the links, the bits,
 -- the steps and the sections that have ended, in the order of the lines; and the section that has not ended yet.
 pub record Given : Type 0 where
-  pub begun : Bool
+  pub edition : Option ℕ
   pub nodes : List GivenNode
   pub links : List LinkLine
   pub bits : List BitRec
@@ -36,7 +36,7 @@ pub record Given : Type 0 where
   pub reading : Option SectionText
 
 abbrev pub nothing_given : Given
-nothing_given = record { begun = false; nodes = []; links = []; bits = []; steps = []; sections = []; reading = None }
+nothing_given = record { edition = None; nodes = []; links = []; bits = []; steps = []; sections = []; reading = None }
 
 -- What a line says
 
@@ -47,8 +47,8 @@ pub data FrameSays : Type 0 where
   End : FrameSays
   -- it has no words
   Blank : FrameSays
-  -- it is the first with words, and is `xs1 1`
-  Header : FrameSays
+  -- it is the first with words, and gives the edition
+  Header : (edition : ℕ) → FrameSays
   -- it is the first with words, and is something else
   NoHeader : FrameSays
   -- it is a later one, and has no form
@@ -60,11 +60,15 @@ abbrev pub says_form : Option FrameLine → FrameSays
 says_form None = NoForm
 says_form (Some form) = Form form
 
--- outside of the sections, by whether a line before it had words, and by its own words
-abbrev pub says_in_frame : Bool → List (List ℕ) → FrameSays
-says_in_frame begun [] = Blank
-says_in_frame false (w ∷ ws) = if is_header (w ∷ ws) then Header else NoHeader
-says_in_frame true (w ∷ ws) = says_form (frame_line (w ∷ ws))
+abbrev pub says_header : Option ℕ → FrameSays
+says_header None = NoHeader
+says_header (Some edition) = Header edition
+
+-- outside of the sections, by the edition, if a line before it gave one, and by its own words
+abbrev pub says_in_frame : Option ℕ → List (List ℕ) → FrameSays
+says_in_frame edition [] = Blank
+says_in_frame None (w ∷ ws) = says_header (edition_of_header (w ∷ ws))
+says_in_frame (Some edition) (w ∷ ws) = says_form (frame_line (w ∷ ws))
 
 -- in the section `play`, by its words
 abbrev pub says_in_play : List (List ℕ) → FrameSays
@@ -77,13 +81,13 @@ says_in_section (Source n) words = Own
 says_in_section Pins words = Own
 says_in_section Play words = says_in_play words
 
-abbrev pub says_by : Bool → Option SectionText → List ℕ → FrameSays
-says_by begun None l = says_in_frame begun (words_of_line l)
-says_by begun (Some section) l = if is_end l then End else says_in_section section.kind (words_of_line l)
+abbrev pub says_by : Option ℕ → Option SectionText → List ℕ → FrameSays
+says_by edition None l = says_in_frame edition (words_of_line l)
+says_by edition (Some section) l = if is_end l then End else says_in_section section.kind (words_of_line l)
 
 -- what a line says after what is given
 abbrev pub says : Given → List ℕ → FrameSays
-says given l = says_by given.begun given.reading l
+says given l = says_by given.edition given.reading l
 
 -- The tests of a line
 
@@ -116,7 +120,7 @@ is_same_kind _ _ = false
 abbrev pub has_section : List SectionText → SectionKind → Bool
 has_section sections kind = list_any (λ (section : SectionText). is_same_kind section.kind kind) sections
 
--- it is the first line with words, and is not `xs1 1`
+-- it is the first line with words, and gives no edition
 abbrev pub is_other_first_line : FrameSays → Bool
 is_other_first_line NoHeader = true
 is_other_first_line _ = false
@@ -233,7 +237,7 @@ with_own_line l section = record section { lines = section.lines ++ l ∷ [] }
 abbrev pub given_with : ℕ → List ℕ → FrameSays → Given → Given
 given_with n l Own given = record given { reading = option_map (with_own_line l) given.reading }
 given_with n l End given = record given { sections = given.sections ++ option_to_list given.reading; reading = None }
-given_with n l Header given = record given { begun = true }
+given_with n l (Header edition) given = record given { edition = Some edition }
 given_with n l (Form (Node node)) given =
     record given { nodes = put_by_number (record { line = n; number = node.number; id = node.id }) given.nodes }
 given_with n l (Form (Link link)) given = record given { links = given.links ++ link ∷ [] }

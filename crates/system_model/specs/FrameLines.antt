@@ -26,9 +26,14 @@ same_words [] (w ∷ ws) = false
 same_words (v ∷ vs) [] = false
 same_words (v ∷ vs) (w ∷ ws) = same_name v w && same_words vs ws
 
--- `xs1 1`
-abbrev pub is_header : List (List ℕ) → Bool
-is_header words = same_words (codes "xs1" ∷ codes "1" ∷ []) words
+-- the edition that a word gives, letter by letter
+abbrev pub edition_of_word : List ℕ → Option ℕ
+edition_of_word word = if same_name (codes "1") word then Some 1 else (if same_name (codes "2") word then Some 2 else None)
+
+-- the edition that a first line gives, which is `xs1 1` or `xs1 2`; other words are no first line
+abbrev pub edition_of_header : List (List ℕ) → Option ℕ
+edition_of_header (name ∷ edition ∷ []) = if same_name (codes "xs1") name then edition_of_word edition else None
+edition_of_header _ = None
 
 -- `end`
 abbrev pub is_end : List ℕ → Bool

@@ -1,5 +1,5 @@
 -- What a system text stands for.
-use Rattle.std.specs.Prelude.{ℕ, zero, suc, ◌+◌, ◌^◌, Bool, ◌&&◌, ◌==◌, nat_lt, if◌then◌else◌, Result, Ok, Err, List, [], ◌∷◌, map, filter, length}
+use Rattle.std.specs.Prelude.{ℕ, zero, suc, ◌+◌, ◌^◌, Bool, ◌&&◌, ◌==◌, nat_lt, if◌then◌else◌, Option, Some, None, Result, Ok, Err, List, [], ◌∷◌, map, filter, length}
 use Rattle.std.specs.List.{list_any}
 use Rattle.xs_base.specs.declared.numbers.TheConstants.{LINK_ENDS}
 use Rattle.xs_text.specs.Lines.{lines_of}
@@ -66,10 +66,10 @@ pub record SourceFault : Type 0 where
   pub line : ℕ
   pub kind : AsmKind
 
--- a node's plan by what its source stands for, or the refusal of its source
-abbrev pub planned : List BitRec → GivenNode → Assembled → Result NodePlan SourceFault
-planned bits node (Image image) = Ok (plain_plan node.number node.id image (ways_of bits node.number))
-planned bits node (Fault line kind) = Err (record { node = node.number; line = line; kind = kind })
+-- a node's plan by the edition and by what its source stands for, or the refusal of its source
+abbrev pub planned : ℕ → List BitRec → GivenNode → Assembled → Result NodePlan SourceFault
+planned edition bits node (Image image) = Ok (record (plain_plan node.number node.id image (ways_of bits node.number)) { edition = edition })
+planned edition bits node (Fault line kind) = Err (record { node = node.number; line = line; kind = kind })
 
 -- a node's plan before those of the nodes after it, or the first refusal
 abbrev pub plan_before : Result NodePlan SourceFault → Result (List NodePlan) SourceFault → Result (List NodePlan) SourceFault
@@ -78,10 +78,10 @@ plan_before (Ok plan) (Err fault) = Err fault
 plan_before (Ok plan) (Ok plans) = Ok (plan ∷ plans)
 
 -- the plans of nodes, or the refusal of the first source that is refused
-unfoldable pub node_plans : List BitRec → List SectionText → List GivenNode → Result (List NodePlan) SourceFault
-node_plans bits sections [] = Ok []
-node_plans bits sections (node ∷ nodes) =
-    plan_before (planned bits node (assembled_lines (section_lines sections (section.Source node.number)))) (node_plans bits sections nodes)
+unfoldable pub node_plans : ℕ → List BitRec → List SectionText → List GivenNode → Result (List NodePlan) SourceFault
+node_plans edition bits sections [] = Ok []
+node_plans edition bits sections (node ∷ nodes) =
+    plan_before (planned edition bits node (assembled_lines (section_lines sections (section.Source node.number)))) (node_plans edition bits sections nodes)
 
 -- where a node stands among nodes by ascending number: so many have a lesser one
 abbrev pub position_by_number : List GivenNode → ℕ → ℕ
@@ -117,11 +117,17 @@ abbrev pub plan_with : List LinkPlan → List Step → PinsRead → Result (List
 plan_with links steps script (Err fault) = Source fault.node fault.line fault.kind
 plan_with links steps script (Ok plans) = plan_by plans links steps script
 
+-- The edition of the nodes. A text without words is refused, so each frame that is whole has had a first line; what is said here of one
+-- that has had none is said of no text.
+abbrev pub edition_given : Option ℕ → ℕ
+edition_given None = 1
+edition_given (Some edition) = edition
+
 -- the plan of a frame
 abbrev pub plan_of_frame : Given → System
 plan_of_frame given =
     plan_with (map (link_plan given.nodes) given.links) (map (step_plan given.nodes) given.steps) (script_of given)
-    (node_plans given.bits given.sections given.nodes)
+    (node_plans (edition_given given.edition) given.bits given.sections given.nodes)
 
 abbrev pub plan_of : Framed → System
 plan_of (Refused line kind) = Frame line kind
