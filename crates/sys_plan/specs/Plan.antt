@@ -1,5 +1,5 @@
 -- The plan of a system: its nodes, the links between them, the script of its pins, and the steps of its schedule.
-use Rattle.std.specs.Prelude.{ℕ, ◌≡◌, ◌≢◌, ◌+◌, ◌<◌, ◌≤◌, Bool, ◌&&◌, ◌==◌, if◌then◌else◌, Option, Some, None, IsSome, List, [], ◌∷◌, length, map, replicate, slice_index}
+use Rattle.std.specs.Prelude.{ℕ, ◌≡◌, ◌≢◌, ◌+◌, ◌<◌, ◌≤◌, Bool, ◌&&◌, ◌||◌, ◌==◌, if◌then◌else◌, Option, Some, None, IsSome, List, [], ◌∷◌, length, map, slice_index}
 use Rattle.std.specs.List.{AllByRecursion}
 use Rattle.std.specs.Int.{bit_at}
 use Rattle.pin_scripts.specs.declared.line.PinLine.{PinLine}
@@ -106,7 +106,7 @@ abbrev pub places_of : List LinkPlan → List (ℕ × ℕ)
 places_of [] = []
 places_of (link ∷ links) = (link.a, link.a_end) ∷ ((link.b, link.b_end) ∷ places_of links)
 
--- a link joins link ends of two of so many nodes, and its delay and gap are within their ranges
+-- a link joins link ends of two of so many nodes, and its delay, its gap and its network are within their ranges
 pub record IsLink (nodes : ℕ) (link : LinkPlan) : Type 0 where
   pub a : link.a < nodes
   pub b : link.b < nodes
@@ -117,6 +117,7 @@ pub record IsLink (nodes : ℕ) (link : LinkPlan) : Type 0 where
   pub most_delay : link.delay ≤ 1000
   pub least_gap : 4 ≤ link.gap
   pub most_gap : link.gap ≤ 1000
+  pub most_net : link.net ≤ 3
 
 -- each link end that the ways of a node name, for some bit of an id, is there
 abbrev pub WaysLead : PlanRec → ℕ → List ℕ → Type 0
@@ -137,6 +138,24 @@ NamesWhatIsThere plan (Send node end) = (node < length plan.nodes) × IsSome (ou
 abbrev pub node_numbers : PlanRec → List ℕ
 node_numbers plan = map (λ (node : NodePlan). node.number) plan.nodes
 
+-- whether a link is at a link end of a node
+abbrev pub is_at : ℕ → ℕ → LinkPlan → Bool
+is_at node end link = ((link.a == node) && (link.a_end == end)) || ((link.b == node) && (link.b_end == end))
+
+-- the network of the link at a link end of a node, 0 where no link is
+abbrev pub net_at : List LinkPlan → ℕ → ℕ → ℕ
+net_at [] node end = 0
+net_at (link ∷ links) node end = if is_at node end link then link.net else net_at links node end
+
+-- the network of the link at each link end of a node
+abbrev pub nets_at : List LinkPlan → ℕ → List ℕ
+nets_at links node = map (net_at links node) link_ends
+
+-- these nodes, the first of which stands at position n, know the networks of their links
+abbrev pub AllKnowNets : List LinkPlan → ℕ → List NodePlan → Type 0
+AllKnowNets links n [] = Unit {0}
+AllKnowNets links n (node ∷ nodes) = (node.nets ≡ nets_at links n) × AllKnowNets links (n + 1) nodes
+
 -- the edition of the nodes, which is that of the first one; without nodes it is 1
 abbrev pub edition_of : List NodePlan → ℕ
 edition_of [] = 1
@@ -148,11 +167,13 @@ pub record IsPlan (plan : PlanRec) : Type 0 where
   pub few_links : length plan.links ≤ 48
   pub numbers : AllByRecursion (λ (node : NodePlan). node.number < 100) plan.nodes
   pub order : AreAscending (node_numbers plan)
-  -- all nodes are of one edition, 1 or 2, and every link of network 0
+  -- all nodes are of one edition, 1 or 2
   pub least_edition : 1 ≤ edition_of plan.nodes
   pub most_edition : edition_of plan.nodes ≤ 2
   pub editions : AllByRecursion (λ (node : NodePlan). node.edition ≡ edition_of plan.nodes) plan.nodes
-  pub nets : AllByRecursion (λ (node : NodePlan). node.nets ≡ replicate 8 0) plan.nodes
+  pub nets : AllKnowNets plan.links 0 plan.nodes
+  -- in edition 1 every link is of network 0
+  pub one_network : edition_of plan.nodes ≡ 1 → AllByRecursion (λ (link : LinkPlan). link.net ≡ 0) plan.links
   pub ids : AreDistinct (map (λ (node : NodePlan). node.id) plan.nodes)
   pub links : AllByRecursion (IsLink (length plan.nodes)) plan.links
   -- no link end belongs to two links

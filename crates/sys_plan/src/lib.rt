@@ -50,6 +50,7 @@ pub struct LinkPlan {
     pub b_end: u8,
     pub delay: u32,
     pub gap: u32,
+    pub net: u8,
 }
 
 /// A step of a schedule, in which nodes run one at a time and hand on by hand what their links carry. A node is named by position.
