@@ -1,5 +1,5 @@
 -- The edition that a first line gives, by its words.
-use Rattle.std.proofs.Common.{◌≡◌, ℕ, Bool, true, false, List, [], ◌∷◌, Option, None, refl, ap, ◌∙◌, cond}
+use Rattle.std.proofs.Common.{◌≡◌, ℕ, Bool, true, false, List, [], ◌∷◌, None, refl, ap, ◌∙◌, cond}
 use Rattle.std.specs.Prelude.{codes}
 use Rattle.xs_instructions.specs.Image.{same_name}
 use Rattle.system_model.specs.FrameLines.{edition_of_word, edition_of_header}
