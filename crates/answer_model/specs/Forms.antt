@@ -6,7 +6,7 @@ use Rattle.answer_model.specs.declared.Form.{Form}
 use Rattle.answer_model.specs.declared.Form.TheVariants.{Free, Serial, Rounds, Play, Make, Check}
 
 abbrev pub most_slots : ℕ
-most_slots = 1000000
+most_slots = 16000000
 
 -- the run of so many slots as the word says, by workers in threads, all nodes together or round by round, and the play in such a run
 abbrev pub free_of : List ℕ → Option Form

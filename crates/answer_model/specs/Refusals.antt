@@ -8,7 +8,7 @@ use Rattle.system_model.specs.declared.SysKind.{SysKind}
 use Rattle.system_model.specs.declared.SysKind.TheVariants as sys
 
 abbrev pub text_of_sys_kind : SysKind → List ℕ
-text_of_sys_kind sys.FirstLine = codes "S1 first line is not xs1 1"
+text_of_sys_kind sys.FirstLine = codes "S1 first line is not xs1 1 or xs1 2"
 text_of_sys_kind sys.BadLine = codes "S2 bad line"
 text_of_sys_kind sys.GivenTwice = codes "S3 given twice"
 text_of_sys_kind sys.IdTwice = codes "S4 id twice"

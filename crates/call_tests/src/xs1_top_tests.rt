@@ -261,7 +261,7 @@ fn takes_the_longest_comment_and_no_longer(rt: HostRuntime) -> Result<(), Fail> 
     for (count, text) in [
         (
             LONGEST,
-            b"system line 1: S1 first line is not xs1 1\n".as_slice(),
+            b"system line 1: S1 first line is not xs1 1 or xs1 2\n".as_slice(),
         ),
         (
             LONGEST + 1,

@@ -33,7 +33,7 @@ pub node_step : (n at m k : ℕ) (l : List ℕ) (ls : List (List ℕ)) → k < 1
 node_step n at m k l ls h e allowed form =
     form_taken m (given_of n at k 0 0 0) (given_of n at (suc k) 0 0 0) l ls (Node (record { number = k; id = k })) allowed (says_its_form (words_of_line l) _ form) (node_has_none n at k h)
     (ap (λ j. given_with j l (Form (Node (record { number = k; id = k }))) (given_of n at k 0 0 0)) e
-    ∙ ap (λ (ns : List GivenNode). record { begun = true; nodes = ns; links = []; bits = []; steps = []; sections = []; reading = None }) (put_next k))
+    ∙ ap (λ (ns : List GivenNode). record { edition = Some 1; nodes = ns; links = []; bits = []; steps = []; sections = []; reading = None }) (put_next k))
 
 -- so does that of the next link
 link_has_none : (n at k : ℕ) → k < node_count n → NoFault (given_of n at (node_count n) k 0 0) (Link (link_given n k))

@@ -79,11 +79,11 @@ module _ (bits : List BitRec) (image_at : ℕ → ImageRec) where
 
   -- where each source has its image the nodes have these plans
   pub plans_are : (sections : List SectionText) (c : ℕ) → ((i : ℕ) → i < c → assembled_lines (section_lines sections (Source i)) ≡ Image (image_at i))
-      → (a m : ℕ) → a + m ≡ c → node_plans bits sections (map node_given (range_with_len a m)) ≡ Ok (map node_plan (range_with_len a m))
+      → (a m : ℕ) → a + m ≡ c → node_plans 1 bits sections (map node_given (range_with_len a m)) ≡ Ok (map node_plan (range_with_len a m))
   unfolding node_plans
   plans_are sections c h a zero e = refl
   plans_are sections c h a (suc m) e =
-      ap (λ (read : Assembled). plan_before (planned bits (node_given a) read) (node_plans bits sections (map node_given (range_with_len (a + 1) m)))) (h a (omega arith))
+      ap (λ (read : Assembled). plan_before (planned 1 bits (node_given a) read) (node_plans 1 bits sections (map node_given (range_with_len (a + 1) m)))) (h a (omega arith))
       ∙ ap (λ (after : Result (List NodePlan) SourceFault). plan_before (Ok (node_plan a)) after) (plans_are sections c h (a + 1) m (omega arith))
 
 -- ---- The links

@@ -19,7 +19,7 @@ module _ (nodes : List GivenNode) (links : List LinkLine) (bits : List BitRec) w
   -- these, some sections, and what is being read
   abbrev with_sections : List SectionText → Option SectionText → Given
   with_sections sections reading =
-      record { begun = true; nodes = nodes; links = links; bits = bits; steps = []; sections = sections; reading = reading }
+      record { edition = Some 1; nodes = nodes; links = links; bits = bits; steps = []; sections = sections; reading = reading }
 
   -- the section of a source
   abbrev source_of : ℕ → ℕ → List (List ℕ) → SectionText

@@ -1,6 +1,6 @@
 -- What the lines of a load have given, after each of them: the first nodes, then the first links, then the first bits, then the first sections.
 use Rattle.std.proofs.Common.{◌≡◌, ℕ, suc, ◌+◌, ◌*◌, ◌<◌, true, false, not, nat_lt, ◌&&◌, List, [], ◌∷◌, ◌++◌, refl, ap, ◌∙◌, arith}
-use Rattle.std.specs.Prelude.{None, ◌==◌}
+use Rattle.std.specs.Prelude.{Some, None, ◌==◌}
 use Rattle.std.specs.List.{list_any}
 use Rattle.std.proofs.lemmas.Bool.{or_parts, or_from, or_left, and_from, and_left, and_right, cond-true, not-false, not_from_true, lt-ltb, eq-eqb, ne_eqb}
 use Rattle.system_model.specs.declared.frame_line.GivenNode.{GivenNode}
@@ -45,7 +45,7 @@ sections_of n at k = firsts (section_given n at) k
 -- so many nodes, links, bits and sections
 abbrev pub given_of : ℕ → ℕ → ℕ → ℕ → ℕ → ℕ → Given
 given_of n at nodes links bits sections =
-    record { begun = true; nodes = nodes_of nodes; links = links_of n links; bits = bits_of n bits; steps = []; sections = sections_of n at sections; reading = None }
+    record { edition = Some 1; nodes = nodes_of nodes; links = links_of n links; bits = bits_of n bits; steps = []; sections = sections_of n at sections; reading = None }
 
 -- a node that comes after all others by number is put behind them
 put_last : (node : GivenNode) (others : List GivenNode) → list_any (λ (other : GivenNode). not (nat_lt other.number node.number)) others ≡ false → put_by_number node others ≡ others ++ node ∷ []

@@ -47,8 +47,8 @@ no_words : frame_line [] ≡ None
 unfolding frame_line node_line link_line bit_line section_line
 no_words = refl
 
--- outside of the sections a line says its form
-pub says_its_form : (words : List (List ℕ)) (form : FrameLine) → frame_line words ≡ Some form → says_in_frame true words ≡ Form form
+-- outside of the sections a line after the first line of a load says its form
+pub says_its_form : (words : List (List ℕ)) (form : FrameLine) → frame_line words ≡ Some form → says_in_frame (Some 1) words ≡ Form form
 says_its_form [] form e = let absent : None ≡ Some form = sym no_words ∙ e in cc
 says_its_form (w ∷ ws) form e = ap says_form e
 

@@ -22,6 +22,11 @@ fn main(rt: HostRuntime) -> Result<()> {
     tell(&rt, "two nodes over 100,000 slots", stream::trial(alloc))?;
     tell(&rt, "a schedule of 12,000 steps", schedule::trial(alloc))?;
     tell(&rt, "one node over 1,000,000 slots", counter::trial(alloc))?;
+    tell(
+        &rt,
+        "one node over 16,000,000 slots",
+        counter::longest(alloc),
+    )?;
     tell(&rt, "check of a big source", big_source::check(alloc))?;
     tell(&rt, "run of a big source", big_source::run(alloc))?;
     tell(

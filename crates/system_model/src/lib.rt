@@ -15,7 +15,7 @@ pub use frame_line::{
 /// Why the frame of a system text is refused. See docs/SYSTEM_TEXT.md.
 #[derive(Clone, Copy, PartialEq, Eq, Debug)]
 pub enum SysKind {
-    /// S1: the first line with words is not `xs1 1`, or there is none.
+    /// S1: the first line with words is not `xs1 1` or `xs1 2`, or there is none.
     FirstLine,
     /// S2: a line that has no known form, or a byte that is not allowed.
     BadLine,

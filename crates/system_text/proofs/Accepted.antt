@@ -1,10 +1,12 @@
 -- What a frame keeps whose lines have no fault.
 use Rattle.std.proofs.Common.{◌≡◌, ℕ, suc, ◌+◌, ◌<◌, ◌≤◌, Bool, true, false, not, ◌&&◌, ◌||◌, List, [], ◌∷◌, ◌++◌, length, map, Option, Some, None, refl, sym, ap, ◌∙◌, cond, nat_lt, nat_le, subst, length-append, arith}
-use Rattle.std.specs.Prelude.{◌≢◌, ◌==◌, if◌then◌else◌}
+use Rattle.std.specs.Prelude.{◌≢◌, ◌==◌, if◌then◌else◌, option_map, codes}
 use Rattle.std.specs.List.{AllByRecursion, list_any, list_all}
 use Rattle.std.proofs.lemmas.Bool.Decides.{nat_tests}
 use Rattle.sys_plan.specs.Plan.{AreAscending, AreDistinct}
 use Rattle.xs_text.specs.Bytes.{all_allowed}
+use Rattle.xs_text.specs.Words.{words_of_line}
+use Rattle.xs_instructions.specs.Image.{same_name}
 use Rattle.system_model.specs.declared.SysKind.{SysKind}
 use Rattle.system_model.specs.declared.SysKind.TheVariants.{FirstLine, BadLine, GivenTwice, IdTwice, LinkEndTwice, LinkToItself, NumberOutOfRange, BitTwice, NoSuchNode, TooMany}
 use Rattle.system_model.specs.declared.frame_line.EndName.{EndName}
@@ -14,10 +16,12 @@ use Rattle.system_model.specs.declared.frame_line.GivenNode.{GivenNode}
 use Rattle.system_model.specs.declared.frame_line.LinkLine.{LinkLine}
 use Rattle.system_model.specs.declared.frame_line.PlayLine.{PlayLine}
 use Rattle.system_model.specs.declared.frame_line.PlayLine.TheVariants.{Take, Run, Send}
+use Rattle.system_model.specs.declared.frame_line.SectionKind.{SectionKind}
+use Rattle.system_model.specs.declared.frame_line.SectionKind.TheVariants.{Source, Pins, Play}
 use Rattle.system_model.specs.Bits.{BitRec}
-use Rattle.system_model.specs.FrameLines.{are_numbers_in_range, is_node_number, is_end_number, is_end_in_range, is_between}
-use Rattle.system_model.specs.Frame.{SectionText, Given, FrameSays, Own, End, Blank, Header, NoHeader, NoForm, Form, says, names_none, is_given_twice, is_id_twice, is_link_to_itself, is_link_end_twice, is_bit_twice, is_too_many, fault_of, first_that_holds, given_with, given_after, put_by_number, has_node, has_link_end, has_link_ends, is_step_of, is_same_end, unless_faulty, at_the_end, whole_but_for, without_source, Framed, Whole, Refused, frame_from, framed, nothing_given, have_no_words}
-use Rattle.system_text.specs.Accepted.{IsLinkOf, ends_of, AreAccepted, IsAccepted}
+use Rattle.system_model.specs.FrameLines.{edition_of_word, edition_of_header, frame_line, play_line, is_end, are_numbers_in_range, is_node_number, is_end_number, is_end_in_range, is_between}
+use Rattle.system_model.specs.Frame.{SectionText, Given, FrameSays, Own, End, Blank, Header, NoHeader, NoForm, Form, says_form, says_header, says_in_frame, says_in_play, says_in_section, says_by, says, names_none, is_given_twice, is_id_twice, is_link_to_itself, is_link_end_twice, is_bit_twice, is_too_many, fault_of, first_that_holds, given_with, given_after, put_by_number, has_node, has_link_end, has_link_ends, is_step_of, is_same_end, unless_faulty, at_the_end, whole_but_for, without_source, Framed, Whole, Refused, frame_from, framed, nothing_given, have_no_words}
+use Rattle.system_text.specs.Accepted.{IsLinkOf, ends_of, AreAccepted, IsEdition, IsAccepted}
 use Rattle.system_text.proofs.Judged.{fault_by}
 use Rattle.system_text.proofs.Walk.{from-cons, from-end, framed_is}
 
@@ -391,22 +395,71 @@ with_step nodes links bits steps step known k = record {
 -- A line without a fault keeps it all.
 
 form_keeps : (n : ℕ) (l : List ℕ) (form : FrameLine) (given : Given) → Passes given form → IsAccepted given → IsAccepted (given_with n l (Form form) given)
-form_keeps n l (Node node) given p k =
-    with_node given.nodes (record { line = n; number = node.number; id = node.id }) given.links given.bits given.steps p.few
-    (at_most node.number 99 (both (is_node_number node.number) (nat_le node.id 65535) p.ranged).0) p.new p.new_id k
-form_keeps n l (Link link) given p k = with_link given.nodes given.links link given.bits given.steps p.few (link_of given.nodes link p.ranged p.known p.apart) p.new_ends k
-form_keeps n l (Bit bit) given p k = with_bit given.nodes given.links given.bits given.steps bit p.known k
-form_keeps n l (Step step) given p k = with_step given.nodes given.links given.bits given.steps step p.known k
+form_keeps n l (Node node) given p k = (
+  k.0,
+  with_node given.nodes (record { line = n; number = node.number; id = node.id }) given.links given.bits given.steps p.few
+      (at_most node.number 99 (both (is_node_number node.number) (nat_le node.id 65535) p.ranged).0) p.new p.new_id k.1,
+)
+form_keeps n l (Link link) given p k = (k.0, with_link given.nodes given.links link given.bits given.steps p.few (link_of given.nodes link p.ranged p.known p.apart) p.new_ends k.1)
+form_keeps n l (Bit bit) given p k = (k.0, with_bit given.nodes given.links given.bits given.steps bit p.known k.1)
+form_keeps n l (Step step) given p k = (k.0, with_step given.nodes given.links given.bits given.steps step p.known k.1)
 form_keeps n l (Section kind) given p k = k
 
-line_keeps : (n : ℕ) (l : List ℕ) (what : FrameSays) (given : Given) (allowed : Bool) → fault_by given allowed what ≡ None → IsAccepted given → IsAccepted (given_with n l what given)
-line_keeps n l Own given allowed e k = k
-line_keeps n l End given allowed e k = k
-line_keeps n l Blank given allowed e k = k
-line_keeps n l Header given allowed e k = k
-line_keeps n l NoHeader given allowed e k = k
-line_keeps n l NoForm given allowed e k = k
-line_keeps n l (Form form) given allowed e k = form_keeps n l form given (passed given allowed form e) k
+-- The edition of a first line is 1 or 2.
+
+word_edition : (first second : Bool) (edition : ℕ) → cond first (Some 1) (cond second (Some 2) None) ≡ Some edition → IsEdition edition
+word_edition true second edition e = let is : 1 ≡ edition = cc in record { least = omega (arith, is); most = omega (arith, is) }
+word_edition false true edition e = let is : 2 ≡ edition = cc in record { least = omega (arith, is); most = omega (arith, is) }
+word_edition false false edition e = absurd cc
+
+named_edition : (named : Bool) (word : List ℕ) (edition : ℕ) → cond named (edition_of_word word) None ≡ Some edition → IsEdition edition
+named_edition true word edition e = word_edition (same_name (codes "1") word) (same_name (codes "2") word) edition e
+named_edition false word edition e = absurd cc
+
+header_edition : (words : List (List ℕ)) (edition : ℕ) → edition_of_header words ≡ Some edition → IsEdition edition
+header_edition [] edition e = absurd cc
+header_edition (a ∷ []) edition e = absurd cc
+header_edition (a ∷ b ∷ []) edition e = named_edition (same_name (codes "xs1") a) b edition e
+header_edition (a ∷ b ∷ c ∷ ws) edition e = absurd cc
+
+said_edition : (given : Option ℕ) (edition : ℕ) → says_header given ≡ Header edition → given ≡ Some edition
+said_edition None edition e = absurd cc
+said_edition (Some given) edition e = cc
+
+form_no_header : (o : Option FrameLine) (edition : ℕ) → says_form o ≡ Header edition → ⊥
+form_no_header None edition e = cc
+form_no_header (Some form) edition e = cc
+
+frame_edition : (given : Option ℕ) (words : List (List ℕ)) (edition : ℕ) → says_in_frame given words ≡ Header edition → IsEdition edition
+frame_edition given [] edition e = absurd cc
+frame_edition None (w ∷ ws) edition e = header_edition (w ∷ ws) edition (said_edition (edition_of_header (w ∷ ws)) edition e)
+frame_edition (Some given) (w ∷ ws) edition e = absurd (form_no_header (frame_line (w ∷ ws)) edition e)
+
+play_no_header : (words : List (List ℕ)) (edition : ℕ) → says_in_play words ≡ Header edition → ⊥
+play_no_header [] edition e = cc
+play_no_header (w ∷ ws) edition e = form_no_header (option_map (λ (x : PlayLine). Step x) (play_line (w ∷ ws))) edition e
+
+section_no_header : (kind : SectionKind) (words : List (List ℕ)) (edition : ℕ) → says_in_section kind words ≡ Header edition → ⊥
+section_no_header (Source n) words edition e = cc
+section_no_header Pins words edition e = cc
+section_no_header Play words edition e = play_no_header words edition e
+
+end_no_header : (end : Bool) (kind : SectionKind) (words : List (List ℕ)) (edition : ℕ) → cond end End (says_in_section kind words) ≡ Header edition → ⊥
+end_no_header true kind words edition e = cc
+end_no_header false kind words edition e = section_no_header kind words edition e
+
+line_edition : (given : Option ℕ) (reading : Option SectionText) (l : List ℕ) (edition : ℕ) → says_by given reading l ≡ Header edition → IsEdition edition
+line_edition given None l edition e = frame_edition given (words_of_line l) edition e
+line_edition given (Some section) l edition e = absurd (end_no_header (is_end l) section.kind (words_of_line l) edition e)
+
+line_keeps : (n : ℕ) (l : List ℕ) (what : FrameSays) (given : Given) (allowed : Bool) → says given l ≡ what → fault_by given allowed what ≡ None → IsAccepted given → IsAccepted (given_with n l what given)
+line_keeps n l Own given allowed s e k = k
+line_keeps n l End given allowed s e k = k
+line_keeps n l Blank given allowed s e k = k
+line_keeps n l (Header edition) given allowed s e k = (line_edition given.edition given.reading l edition s, k.1)
+line_keeps n l NoHeader given allowed s e k = k
+line_keeps n l NoForm given allowed s e k = k
+line_keeps n l (Form form) given allowed s e k = form_keeps n l form given (passed given allowed form e) k
 
 found_whole : (o : Option GivenNode) (given whole : Given) → whole_but_for o given ≡ Whole whole → given ≡ whole
 found_whole None given whole e = cc
@@ -426,10 +479,13 @@ from_keeps [] n given whole e k =
     subst (λ (g : Given). IsAccepted g) same k
 from_keeps (l ∷ ls) n given whole e k =
     let good = unless_whole (fault_of given l) n (frame_from (n + 1) (given_after n l given) ls) whole (sym (from-cons n given l ls) ∙ e) in
-    from_keeps ls (n + 1) (given_after n l given) whole good.1 (line_keeps n l (says given l) given (all_allowed l) good.0 k)
+    from_keeps ls (n + 1) (given_after n l given) whole good.1 (line_keeps n l (says given l) given (all_allowed l) refl good.0 k)
 
 nothing_kept : IsAccepted nothing_given
-nothing_kept = record { few_nodes = omega arith; few_links = omega arith; numbers = tt; order = tt; ids = tt; links = tt; ends = tt; bits = tt; steps = tt }
+nothing_kept = (
+  record { least = omega arith; most = omega arith },
+  record { few_nodes = omega arith; few_links = omega arith; numbers = tt; order = tt; ids = tt; links = tt; ends = tt; bits = tt; steps = tt },
+)
 
 framed_by : (wordless : Bool) (ls : List (List ℕ)) (whole : Given) → cond wordless (Refused 1 FirstLine) (frame_from 1 nothing_given ls) ≡ Whole whole → IsAccepted whole
 framed_by true ls whole e = absurd cc

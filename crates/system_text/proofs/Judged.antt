@@ -14,8 +14,8 @@ use Rattle.system_model.specs.declared.frame_line.GivenNode.{GivenNode}
 use Rattle.system_model.specs.declared.frame_line.PlayLine.{PlayLine}
 use Rattle.system_model.specs.declared.frame_line.SectionKind.{SectionKind}
 use Rattle.system_model.specs.declared.frame_line.SectionKind.TheVariants.{Play}
-use Rattle.system_model.specs.FrameLines.{is_header, is_end, frame_line, play_line, are_numbers_in_range}
-use Rattle.system_model.specs.Frame.{SectionText, Given, FrameSays, End, Blank, Header, NoHeader, Form, says_in_frame, says_in_play, says_by, says_form, says, is_empty, fault_of, first_that_holds, tests, put_by_number}
+use Rattle.system_model.specs.FrameLines.{edition_of_header, is_end, frame_line, play_line, are_numbers_in_range}
+use Rattle.system_model.specs.Frame.{SectionText, Given, FrameSays, End, Blank, Header, NoHeader, Form, says_header, says_in_frame, says_in_play, says_by, says_form, says, is_empty, fault_of, first_that_holds, tests, put_by_number}
 use Rattle.system_model.specs.System.{section_lines}
 use Rattle.system_text.specs.Forms.{ranged, formed}
 use Rattle.system_text.specs.Judged.{later_fault, said_by, IsFormless, IsFormOf, IsPlaying}
@@ -53,20 +53,20 @@ fault_by given allowed said = first_that_holds (tests given allowed said)
 pub fault_is : (given : Given) (l : List ℕ) (allowed : Bool) (said : FrameSays) → all_allowed l ≡ allowed → says given l ≡ said → fault_of given l ≡ fault_by given allowed said
 fault_is given l allowed said a s = ap (λ b. fault_by given b (says given l)) a ∙ ap (λ x. fault_by given allowed x) s
 
-says_outside : (given : Given) (l : List ℕ) → given.reading ≡ None → says given l ≡ says_in_frame given.begun (words_of_line l)
-says_outside given l e = ap (λ r. says_by given.begun r l) e
+says_outside : (given : Given) (l : List ℕ) → given.reading ≡ None → says given l ≡ says_in_frame given.edition (words_of_line l)
+says_outside given l e = ap (λ r. says_by given.edition r l) e
 
-blank_by : (begun : Bool) (words : List (List ℕ)) → is_empty words ≡ true → says_in_frame begun words ≡ Blank
-blank_by begun [] e = refl
-blank_by begun (w ∷ ws) e = cc
+blank_by : (edition : Option ℕ) (words : List (List ℕ)) → is_empty words ≡ true → says_in_frame edition words ≡ Blank
+blank_by edition [] e = refl
+blank_by edition (w ∷ ws) e = cc
 
 pub blank_outside : (given : Given) (l : List ℕ) → given.reading ≡ None → is_empty (words_of_line l) ≡ true → says given l ≡ Blank
-blank_outside given l r e = says_outside given l r ∙ blank_by given.begun (words_of_line l) e
+blank_outside given l r e = says_outside given l r ∙ blank_by given.edition (words_of_line l) e
 
 -- in the section `play`
 
 says_playing : (given : Given) (l : List ℕ) → IsPlaying given → says given l ≡ (if is_end l then End else says_in_play (words_of_line l))
-says_playing given l p = ap (λ r. says_by given.begun r l) p.1
+says_playing given l p = ap (λ r. says_by given.edition r l) p.1
 
 pub end_playing : (given : Given) (l : List ℕ) → IsPlaying given → is_end l ≡ true → says given l ≡ End
 end_playing given l p e = says_playing given l p ∙ cond-true _ _ _ e
@@ -96,8 +96,8 @@ formless given true said.End k = refl
 formless given false said.End k = refl
 formless given true said.Blank k = refl
 formless given false said.Blank k = refl
-formless given true said.Header k = refl
-formless given false said.Header k = refl
+formless given true (said.Header edition) k = refl
+formless given false (said.Header edition) k = refl
 formless given allowed (said.Form form) k = absurd k
 
 pub bytes_allowed : (given : Given) (l : List ℕ) (what : Said) → IsFormless what → says given l ≡ said_by what → all_allowed l ≡ true
@@ -107,34 +107,34 @@ bytes_allowed given l what k s a = (fault_is given l true (said_by what) a s ∙
 pub bytes_refused : (given : Given) (l : List ℕ) (what : Said) → IsFormless what → says given l ≡ said_by what → all_allowed l ≡ false → fault_of given l ≡ Some BadLine
 bytes_refused given l what k s a = fault_is given l false (said_by what) a s ∙ formless given false what k
 
-first_by : (words : List (List ℕ)) (header : Bool) → is_empty words ≡ false → is_header words ≡ header → says_in_frame false words ≡ (if header then Header else NoHeader)
+first_by : (words : List (List ℕ)) (header : Option ℕ) → is_empty words ≡ false → edition_of_header words ≡ header → says_in_frame None words ≡ says_header header
 first_by [] header e h = cc
-first_by (w ∷ ws) header e h = rw h refl
+first_by (w ∷ ws) header e h = ap (λ (o : Option ℕ). says_header o) h
 
-first_said : (given : Given) (l : List ℕ) (header : Bool) → given.begun ≡ false → given.reading ≡ None → is_empty (words_of_line l) ≡ false
-    → is_header (words_of_line l) ≡ header → says given l ≡ (if header then Header else NoHeader)
+first_said : (given : Given) (l : List ℕ) (header : Option ℕ) → given.edition ≡ None → given.reading ≡ None → is_empty (words_of_line l) ≡ false
+    → edition_of_header (words_of_line l) ≡ header → says given l ≡ says_header header
 first_said given l header b r e h = says_outside given l r ∙ (ap (λ x. says_in_frame x (words_of_line l)) b ∙ first_by (words_of_line l) header e h)
 
 no_header_by : (given : Given) (allowed : Bool) → fault_by given allowed NoHeader ≡ Some FirstLine
 no_header_by given allowed = refl
 
-pub no_header : (given : Given) (l : List ℕ) → given.begun ≡ false → given.reading ≡ None → is_empty (words_of_line l) ≡ false → is_header (words_of_line l) ≡ false → fault_of given l ≡ Some FirstLine
-no_header given l b r e h = fault_is given l (all_allowed l) NoHeader refl (first_said given l false b r e h)
+pub no_header : (given : Given) (l : List ℕ) → given.edition ≡ None → given.reading ≡ None → is_empty (words_of_line l) ≡ false → edition_of_header (words_of_line l) ≡ None → fault_of given l ≡ Some FirstLine
+no_header given l b r e h = fault_is given l (all_allowed l) NoHeader refl (first_said given l None b r e h)
 
-pub header_refused : (given : Given) (l : List ℕ) → given.begun ≡ false → given.reading ≡ None → is_empty (words_of_line l) ≡ false
-    → is_header (words_of_line l) ≡ true → all_allowed l ≡ false → fault_of given l ≡ Some BadLine
-header_refused given l b r e h a = fault_is given l false Header a (first_said given l true b r e h)
+pub header_refused : (given : Given) (l : List ℕ) (edition : ℕ) → given.edition ≡ None → given.reading ≡ None → is_empty (words_of_line l) ≡ false
+    → edition_of_header (words_of_line l) ≡ Some edition → all_allowed l ≡ false → fault_of given l ≡ Some BadLine
+header_refused given l edition b r e h a = fault_is given l false (Header edition) a (first_said given l (Some edition) b r e h)
 
-pub header_allowed : (given : Given) (l : List ℕ) → given.begun ≡ false → given.reading ≡ None → is_empty (words_of_line l) ≡ false
-    → is_header (words_of_line l) ≡ true → all_allowed l ≡ true → (fault_of given l ≡ None) × (says given l ≡ Header)
-header_allowed given l b r e h a = let is = first_said given l true b r e h in (fault_is given l true Header a is, is)
+pub header_allowed : (given : Given) (l : List ℕ) (edition : ℕ) → given.edition ≡ None → given.reading ≡ None → is_empty (words_of_line l) ≡ false
+    → edition_of_header (words_of_line l) ≡ Some edition → all_allowed l ≡ true → (fault_of given l ≡ None) × (says given l ≡ Header edition)
+header_allowed given l edition b r e h a = let is = first_said given l (Some edition) b r e h in (fault_is given l true (Header edition) a is, is)
 
-form_by : (words : List (List ℕ)) → is_empty words ≡ false → says_in_frame true words ≡ says_form (frame_line words)
-form_by [] e = cc
-form_by (w ∷ ws) e = refl
+form_by : (edition : ℕ) (words : List (List ℕ)) → is_empty words ≡ false → says_in_frame (Some edition) words ≡ says_form (frame_line words)
+form_by edition [] e = cc
+form_by edition (w ∷ ws) e = refl
 
-form_said : (given : Given) (l : List ℕ) → given.begun ≡ true → given.reading ≡ None → is_empty (words_of_line l) ≡ false → says given l ≡ says_form (frame_line (words_of_line l))
-form_said given l b r e = says_outside given l r ∙ (ap (λ x. says_in_frame x (words_of_line l)) b ∙ form_by (words_of_line l) e)
+form_said : (given : Given) (l : List ℕ) (edition : ℕ) → given.edition ≡ Some edition → given.reading ≡ None → is_empty (words_of_line l) ≡ false → says given l ≡ says_form (frame_line (words_of_line l))
+form_said given l edition b r e = says_outside given l r ∙ (ap (λ x. says_in_frame x (words_of_line l)) b ∙ form_by edition (words_of_line l) e)
 
 bad_form : (given : Given) (o : Option FrameLine) → fault_by given false (says_form o) ≡ Some BadLine
 bad_form given None = refl
@@ -144,9 +144,9 @@ bad_form given (Some (Bit bit)) = refl
 bad_form given (Some (Section kind)) = refl
 bad_form given (Some (Step step)) = refl
 
-pub form_outside : (given : Given) (l : List ℕ) (read : Result FrameLine SysKind) → given.begun ≡ true → given.reading ≡ None → is_empty (words_of_line l) ≡ false
+pub form_outside : (given : Given) (l : List ℕ) (read : Result FrameLine SysKind) (edition : ℕ) → given.edition ≡ Some edition → given.reading ≡ None → is_empty (words_of_line l) ≡ false
     → read ≡ formed (frame_line (words_of_line l)) → IsFormOf given l read
-form_outside given l read b r e h = record { form = frame_line (words_of_line l); taken = h; said = form_said given l b r e }
+form_outside given l read edition b r e h = record { form = frame_line (words_of_line l); taken = h; said = form_said given l edition b r e }
 
 pub form_not_allowed : (given : Given) (l : List ℕ) (read : Result FrameLine SysKind) → IsFormOf given l read → all_allowed l ≡ false → fault_of given l ≡ Some BadLine
 form_not_allowed given l read f a = fault_is given l false _ a f.said ∙ bad_form given f.form

@@ -1,6 +1,7 @@
 pub mod Lists
 pub mod Forms
 pub mod BitForms
+pub mod Headers
 pub mod FormNames
 pub mod Steps
 pub mod Judged

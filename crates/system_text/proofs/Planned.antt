@@ -5,7 +5,7 @@ use Rattle.std.specs.List.{AllByRecursion}
 use Rattle.source_model.specs.Source.{Assembled, Image, Fault, assembled_lines}
 use Rattle.pin_scripts.specs.declared.line.PinLine.{PinLine}
 use Rattle.pin_scripts.specs.Script.{IsScript, IsOfNodes}
-use Rattle.sys_plan.specs.Plan.{PlanRec, IsPlan, IsLink, NamesWhatIsThere, AllWaysLead, WaysLead, AreDistinct, AreAscending, places_of}
+use Rattle.sys_plan.specs.Plan.{PlanRec, IsPlan, IsLink, NamesWhatIsThere, AllWaysLead, WaysLead, edition_of, AreDistinct, AreAscending, places_of}
 use Rattle.sys_plan.specs.declared.LinkPlan.{LinkPlan}
 use Rattle.sys_plan.specs.declared.NodePlan.{NodePlan}
 use Rattle.sys_plan.specs.NodePlans.{plain_plan}
@@ -18,7 +18,7 @@ use Rattle.system_model.specs.declared.frame_line.PlayLine.TheVariants.{Take, Ru
 use Rattle.system_model.specs.declared.frame_line.SectionKind.TheVariants as section
 use Rattle.system_model.specs.Bits.{BitRec}
 use Rattle.system_model.specs.Frame.{SectionText, Given, has_node, has_link_end, is_step_of}
-use Rattle.system_model.specs.System.{SourceFault, planned, plan_before, section_lines, node_plans, link_plan, step_plan, position_by_number, ways_of}
+use Rattle.system_model.specs.System.{SourceFault, planned, plan_before, section_lines, node_plans, link_plan, step_plan, position_by_number, ways_of, edition_given}
 use Rattle.system_text.specs.Accepted.{IsLinkOf, AreAccepted, IsAccepted, ends_of}
 use Rattle.system_text.proofs.Places.{Stand, stand, within, same_number}
 use Rattle.system_text.proofs.Plans.{node_plans-cons, node_plans-none}
@@ -26,91 +26,113 @@ use Rattle.system_text.proofs.Ways.{ways_lead, leaves, comes}
 
 -- The plans of nodes, one for each
 
-record PlanOf (bits : List BitRec) (node : GivenNode) (plan : NodePlan) : Type 0 where
+record PlanOf (edition : ℕ) (bits : List BitRec) (node : GivenNode) (plan : NodePlan) : Type 0 where
   pub number : plan.number ≡ node.number
   pub id : plan.id ≡ node.id
   pub ways : plan.ways ≡ ways_of bits node.number
-  pub edition : plan.edition ≡ 1
+  pub of_edition : plan.edition ≡ edition
   pub nets : plan.nets ≡ replicate 8 0
 
-abbrev PlansOf : List BitRec → List GivenNode → List NodePlan → Type 0
-PlansOf bits [] [] = Unit {0}
-PlansOf bits [] (plan ∷ plans) = ⊥
-PlansOf bits (node ∷ nodes) [] = ⊥
-PlansOf bits (node ∷ nodes) (plan ∷ plans) = PlanOf bits node plan × PlansOf bits nodes plans
+abbrev PlansOf : ℕ → List BitRec → List GivenNode → List NodePlan → Type 0
+PlansOf edition bits [] [] = Unit {0}
+PlansOf edition bits [] (plan ∷ plans) = ⊥
+PlansOf edition bits (node ∷ nodes) [] = ⊥
+PlansOf edition bits (node ∷ nodes) (plan ∷ plans) = PlanOf edition bits node plan × PlansOf edition bits nodes plans
 
-plan_of_one : (bits : List BitRec) (node : GivenNode) (source : Assembled) (plan : NodePlan) → planned bits node source ≡ Ok plan → PlanOf bits node plan
-plan_of_one bits node (Fault line kind) plan e = absurd cc
-plan_of_one bits node (Image image) plan e =
-    let made : NodePlan = plain_plan node.number node.id image (ways_of bits node.number) in
+plan_of_one : (edition : ℕ) (bits : List BitRec) (node : GivenNode) (source : Assembled) (plan : NodePlan) → planned edition bits node source ≡ Ok plan → PlanOf edition bits node plan
+plan_of_one edition bits node (Fault line kind) plan e = absurd cc
+plan_of_one edition bits node (Image image) plan e =
+    let made : NodePlan = record (plain_plan node.number node.id image (ways_of bits node.number)) { edition = edition } in
     let same : made ≡ plan = cc in
-    subst (PlanOf bits node) same (record { number = refl; id = refl; ways = refl; edition = refl; nets = refl })
+    subst (PlanOf edition bits node) same (record { number = refl; id = refl; ways = refl; of_edition = refl; nets = refl })
 
-plans_by : (bits : List BitRec) (node : GivenNode) (nodes : List GivenNode) (first : Result NodePlan SourceFault) (rest : Result (List NodePlan) SourceFault) (plans : List NodePlan) →
-    ((plan : NodePlan) → first ≡ Ok plan → PlanOf bits node plan) → ((later : List NodePlan) → rest ≡ Ok later → PlansOf bits nodes later) →
-    plan_before first rest ≡ Ok plans → PlansOf bits (node ∷ nodes) plans
-plans_by bits node nodes (Err fault) rest plans h k e = absurd cc
-plans_by bits node nodes (Ok plan) (Err fault) plans h k e = absurd cc
-plans_by bits node nodes (Ok plan) (Ok later) plans h k e =
+plans_by : (edition : ℕ) (bits : List BitRec) (node : GivenNode) (nodes : List GivenNode) (first : Result NodePlan SourceFault) (rest : Result (List NodePlan) SourceFault) (plans : List NodePlan) →
+    ((plan : NodePlan) → first ≡ Ok plan → PlanOf edition bits node plan) → ((later : List NodePlan) → rest ≡ Ok later → PlansOf edition bits nodes later) →
+    plan_before first rest ≡ Ok plans → PlansOf edition bits (node ∷ nodes) plans
+plans_by edition bits node nodes (Err fault) rest plans h k e = absurd cc
+plans_by edition bits node nodes (Ok plan) (Err fault) plans h k e = absurd cc
+plans_by edition bits node nodes (Ok plan) (Ok later) plans h k e =
     let same : plan ∷ later ≡ plans = cc in
-    subst (PlansOf bits (node ∷ nodes)) same (h plan refl, k later refl)
+    subst (PlansOf edition bits (node ∷ nodes)) same (h plan refl, k later refl)
 
-plans_of : (bits : List BitRec) (sections : List SectionText) (nodes : List GivenNode) (plans : List NodePlan) → node_plans bits sections nodes ≡ Ok plans → PlansOf bits nodes plans
-plans_of bits sections [] plans e =
-    let is : Ok [] ≡ Ok plans = sym (node_plans-none bits sections) ∙ e in
+plans_of : (edition : ℕ) (bits : List BitRec) (sections : List SectionText) (nodes : List GivenNode) (plans : List NodePlan) → node_plans edition bits sections nodes ≡ Ok plans → PlansOf edition bits nodes plans
+plans_of edition bits sections [] plans e =
+    let is : Ok [] ≡ Ok plans = sym (node_plans-none edition bits sections) ∙ e in
     let same : [] ≡ plans = cc in
-    subst (PlansOf bits []) same tt
-plans_of bits sections (node ∷ nodes) plans e =
+    subst (PlansOf edition bits []) same tt
+plans_of edition bits sections (node ∷ nodes) plans e =
     let source : Assembled = assembled_lines (section_lines sections (section.Source node.number)) in
-    plans_by bits node nodes (planned bits node source) (node_plans bits sections nodes) plans (plan_of_one bits node source) (plans_of bits sections nodes)
-    (sym (node_plans-cons bits sections node nodes) ∙ e)
+    plans_by edition bits node nodes (planned edition bits node source) (node_plans edition bits sections nodes) plans (plan_of_one edition bits node source) (plans_of edition bits sections nodes)
+    (sym (node_plans-cons edition bits sections node nodes) ∙ e)
 
 -- What the plans of nodes keep
 
-as_many : (bits : List BitRec) (nodes : List GivenNode) (plans : List NodePlan) → PlansOf bits nodes plans → length nodes ≡ length plans
-as_many bits [] [] k = refl
-as_many bits [] (plan ∷ plans) k = absurd k
-as_many bits (node ∷ nodes) [] k = absurd k
-as_many bits (node ∷ nodes) (plan ∷ plans) k = ap suc (as_many bits nodes plans k.1)
+as_many : (edition : ℕ) (bits : List BitRec) (nodes : List GivenNode) (plans : List NodePlan) → PlansOf edition bits nodes plans → length nodes ≡ length plans
+as_many edition bits [] [] k = refl
+as_many edition bits [] (plan ∷ plans) k = absurd k
+as_many edition bits (node ∷ nodes) [] k = absurd k
+as_many edition bits (node ∷ nodes) (plan ∷ plans) k = ap suc (as_many edition bits nodes plans k.1)
 
-same_numbers : (bits : List BitRec) (nodes : List GivenNode) (plans : List NodePlan) → PlansOf bits nodes plans →
+same_numbers : (edition : ℕ) (bits : List BitRec) (nodes : List GivenNode) (plans : List NodePlan) → PlansOf edition bits nodes plans →
     map (λ (node : GivenNode). node.number) nodes ≡ map (λ (plan : NodePlan). plan.number) plans
-same_numbers bits [] [] k = refl
-same_numbers bits [] (plan ∷ plans) k = absurd k
-same_numbers bits (node ∷ nodes) [] k = absurd k
-same_numbers bits (node ∷ nodes) (plan ∷ plans) k = rw (k.0.number, same_numbers bits nodes plans k.1) refl
+same_numbers edition bits [] [] k = refl
+same_numbers edition bits [] (plan ∷ plans) k = absurd k
+same_numbers edition bits (node ∷ nodes) [] k = absurd k
+same_numbers edition bits (node ∷ nodes) (plan ∷ plans) k = rw (k.0.number, same_numbers edition bits nodes plans k.1) refl
 
-same_ids : (bits : List BitRec) (nodes : List GivenNode) (plans : List NodePlan) → PlansOf bits nodes plans →
+same_ids : (edition : ℕ) (bits : List BitRec) (nodes : List GivenNode) (plans : List NodePlan) → PlansOf edition bits nodes plans →
     map (λ (node : GivenNode). node.id) nodes ≡ map (λ (plan : NodePlan). plan.id) plans
-same_ids bits [] [] k = refl
-same_ids bits [] (plan ∷ plans) k = absurd k
-same_ids bits (node ∷ nodes) [] k = absurd k
-same_ids bits (node ∷ nodes) (plan ∷ plans) k = rw (k.0.id, same_ids bits nodes plans k.1) refl
+same_ids edition bits [] [] k = refl
+same_ids edition bits [] (plan ∷ plans) k = absurd k
+same_ids edition bits (node ∷ nodes) [] k = absurd k
+same_ids edition bits (node ∷ nodes) (plan ∷ plans) k = rw (k.0.id, same_ids edition bits nodes plans k.1) refl
 
-numbers_kept : (bits : List BitRec) (nodes : List GivenNode) (plans : List NodePlan) → PlansOf bits nodes plans →
+numbers_kept : (edition : ℕ) (bits : List BitRec) (nodes : List GivenNode) (plans : List NodePlan) → PlansOf edition bits nodes plans →
     AllByRecursion (λ (node : GivenNode). node.number ≤ 99) nodes → AllByRecursion (λ (plan : NodePlan). plan.number < 100) plans
-numbers_kept bits [] [] k h = tt
-numbers_kept bits [] (plan ∷ plans) k h = absurd k
-numbers_kept bits (node ∷ nodes) [] k h = absurd k
-numbers_kept bits (node ∷ nodes) (plan ∷ plans) k h = (omega (arith, k.0.number, h.0), numbers_kept bits nodes plans k.1 h.1)
+numbers_kept edition bits [] [] k h = tt
+numbers_kept edition bits [] (plan ∷ plans) k h = absurd k
+numbers_kept edition bits (node ∷ nodes) [] k h = absurd k
+numbers_kept edition bits (node ∷ nodes) (plan ∷ plans) k h = (omega (arith, k.0.number, h.0), numbers_kept edition bits nodes plans k.1 h.1)
 
 -- what is so of the plan of any node is so of each of them
-each_kept : (P : NodePlan → Type 0) (bits : List BitRec) → ((node : GivenNode) (plan : NodePlan) → PlanOf bits node plan → P plan) →
-    (nodes : List GivenNode) (plans : List NodePlan) → PlansOf bits nodes plans → AllByRecursion P plans
-each_kept P bits of [] [] k = tt
-each_kept P bits of [] (plan ∷ plans) k = absurd k
-each_kept P bits of (node ∷ nodes) [] k = absurd k
-each_kept P bits of (node ∷ nodes) (plan ∷ plans) k = (of node plan k.0, each_kept P bits of nodes plans k.1)
+each_kept : (P : NodePlan → Type 0) (edition : ℕ) (bits : List BitRec) → ((node : GivenNode) (plan : NodePlan) → PlanOf edition bits node plan → P plan) →
+    (nodes : List GivenNode) (plans : List NodePlan) → PlansOf edition bits nodes plans → AllByRecursion P plans
+each_kept P edition bits of [] [] k = tt
+each_kept P edition bits of [] (plan ∷ plans) k = absurd k
+each_kept P edition bits of (node ∷ nodes) [] k = absurd k
+each_kept P edition bits of (node ∷ nodes) (plan ∷ plans) k = (of node plan k.0, each_kept P edition bits of nodes plans k.1)
+
+-- the plans' edition is that of the nodes, where these have one that may be
+least_kept : (edition : ℕ) (bits : List BitRec) (nodes : List GivenNode) (plans : List NodePlan) → PlansOf edition bits nodes plans → 1 ≤ edition → 1 ≤ edition_of plans
+least_kept edition bits [] [] k h = omega arith
+least_kept edition bits [] (plan ∷ plans) k h = absurd k
+least_kept edition bits (node ∷ nodes) [] k h = absurd k
+least_kept edition bits (node ∷ nodes) (plan ∷ plans) k h = omega (arith, k.0.of_edition, h)
+
+most_kept : (edition : ℕ) (bits : List BitRec) (nodes : List GivenNode) (plans : List NodePlan) → PlansOf edition bits nodes plans → edition ≤ 2 → edition_of plans ≤ 2
+most_kept edition bits [] [] k h = omega arith
+most_kept edition bits [] (plan ∷ plans) k h = absurd k
+most_kept edition bits (node ∷ nodes) [] k h = absurd k
+most_kept edition bits (node ∷ nodes) (plan ∷ plans) k h = omega (arith, k.0.of_edition, h)
+
+-- and all have it
+editions_kept : (edition : ℕ) (bits : List BitRec) (nodes : List GivenNode) (plans : List NodePlan) → PlansOf edition bits nodes plans →
+    AllByRecursion (λ (plan : NodePlan). plan.edition ≡ edition_of plans) plans
+editions_kept edition bits [] [] k = tt
+editions_kept edition bits [] (plan ∷ plans) k = absurd k
+editions_kept edition bits (node ∷ nodes) [] k = absurd k
+editions_kept edition bits (node ∷ nodes) (plan ∷ plans) k =
+    each_kept (λ (other : NodePlan). other.edition ≡ plan.edition) edition bits (λ n p of. of.of_edition ∙ sym k.0.of_edition) (node ∷ nodes) (plan ∷ plans) k
 
 -- where the ways of each node lead out, those of its plan do
-ways_kept : (plan : PlanRec) (bits : List BitRec) (place : ℕ → ℕ) → ((number : ℕ) → WaysLead plan (place number) (ways_of bits number)) →
-    (n : ℕ) (nodes : List GivenNode) (plans : List NodePlan) → PlansOf bits nodes plans → Stand place n nodes → AllWaysLead plan n plans
-ways_kept plan bits place lead n [] [] k s = tt
-ways_kept plan bits place lead n [] (p ∷ plans) k s = absurd k
-ways_kept plan bits place lead n (node ∷ nodes) [] k s = absurd k
-ways_kept plan bits place lead n (node ∷ nodes) (p ∷ plans) k s = (
+ways_kept : (plan : PlanRec) (edition : ℕ) (bits : List BitRec) (place : ℕ → ℕ) → ((number : ℕ) → WaysLead plan (place number) (ways_of bits number)) →
+    (n : ℕ) (nodes : List GivenNode) (plans : List NodePlan) → PlansOf edition bits nodes plans → Stand place n nodes → AllWaysLead plan n plans
+ways_kept plan edition bits place lead n [] [] k s = tt
+ways_kept plan edition bits place lead n [] (p ∷ plans) k s = absurd k
+ways_kept plan edition bits place lead n (node ∷ nodes) [] k s = absurd k
+ways_kept plan edition bits place lead n (node ∷ nodes) (p ∷ plans) k s = (
   subst (WaysLead plan n) (sym k.0.ways) (subst (λ i. WaysLead plan i (ways_of bits node.number)) s.0 (lead node.number)),
-  ways_kept plan bits place lead (n + 1) nodes plans k.1 s.1,
+  ways_kept plan edition bits place lead (n + 1) nodes plans k.1 s.1,
 )
 
 -- What the links keep
@@ -207,30 +229,32 @@ pub record IsScriptOf (nodes : List GivenNode) (script : List PinLine) : Type 0 
   pub lines : IsScript script
   pub named : IsOfNodes (map (λ (node : GivenNode). node.number) nodes) script
 
-kept_plan : (nodes : List GivenNode) (links : List LinkLine) (bits : List BitRec) (lines : List PlayLine) (plans : List NodePlan) (script : List PinLine) →
-    AreAccepted nodes links bits lines → PlansOf bits nodes plans → IsScriptOf nodes script →
+kept_plan : (edition : ℕ) (nodes : List GivenNode) (links : List LinkLine) (bits : List BitRec) (lines : List PlayLine) (plans : List NodePlan) (script : List PinLine) →
+    1 ≤ edition → edition ≤ 2 → AreAccepted nodes links bits lines → PlansOf edition bits nodes plans → IsScriptOf nodes script →
     IsPlan (record { nodes = plans; links = map (link_plan nodes) links; script = script; steps = map (step_plan nodes) lines })
-kept_plan nodes links bits lines plans script k p s = record {
-  few_nodes = omega (arith, k.few_nodes, as_many bits nodes plans p);
+kept_plan edition nodes links bits lines plans script least most k p s = record {
+  few_nodes = omega (arith, k.few_nodes, as_many edition bits nodes plans p);
   few_links = omega (arith, k.few_links, as_many_links nodes links);
-  numbers = numbers_kept bits nodes plans p k.numbers;
-  order = subst AreAscending (same_numbers bits nodes plans p) k.order;
-  editions = each_kept (λ (plan : NodePlan). plan.edition ≡ 1) bits (λ node plan of. of.edition) nodes plans p;
-  nets = each_kept (λ (plan : NodePlan). plan.nets ≡ replicate 8 0) bits (λ node plan of. of.nets) nodes plans p;
-  ids = subst (λ ids. AreDistinct ids) (same_ids bits nodes plans p) k.ids;
-  links = links_kept nodes (length plans) links (as_many bits nodes plans p) k.links;
+  numbers = numbers_kept edition bits nodes plans p k.numbers;
+  order = subst AreAscending (same_numbers edition bits nodes plans p) k.order;
+  least_edition = least_kept edition bits nodes plans p least;
+  most_edition = most_kept edition bits nodes plans p most;
+  editions = editions_kept edition bits nodes plans p;
+  nets = each_kept (λ (plan : NodePlan). plan.nets ≡ replicate 8 0) edition bits (λ node plan of. of.nets) nodes plans p;
+  ids = subst (λ ids. AreDistinct ids) (same_ids edition bits nodes plans p) k.ids;
+  links = links_kept nodes (length plans) links (as_many edition bits nodes plans p) k.links;
   places = places_kept nodes links k.links k.ends;
   script = s.lines;
-  script_nodes = subst (λ numbers. IsOfNodes numbers script) (same_numbers bits nodes plans p) s.named;
+  script_nodes = subst (λ numbers. IsOfNodes numbers script) (same_numbers edition bits nodes plans p) s.named;
   ways = let plan : PlanRec = record { nodes = plans; links = map (link_plan nodes) links; script = script; steps = map (step_plan nodes) lines } in
-      ways_kept plan bits (position_by_number nodes) (ways_lead plan nodes links bits refl k.bits) 0 nodes plans p (stand nodes k.order);
+      ways_kept plan edition bits (position_by_number nodes) (ways_lead plan nodes links bits refl k.bits) 0 nodes plans p (stand nodes k.order);
   steps = let plan : PlanRec = record { nodes = plans; links = map (link_plan nodes) links; script = script; steps = map (step_plan nodes) lines } in
-      steps_kept plan nodes links (as_many bits nodes plans p) refl lines k.steps;
+      steps_kept plan nodes links (as_many edition bits nodes plans p) refl lines k.steps;
 }
 
 -- the plans of the nodes, the links and the steps of a frame that is accepted, and its script
 pub frame_plan : (given : Given) (nodes : List GivenNode) (links : List LinkLine) (lines : List PlayLine) (plans : List NodePlan) (joined : List LinkPlan) (script : List PinLine)
-    (steps : List Step) → IsAccepted given → nodes ≡ given.nodes → links ≡ given.links → lines ≡ given.steps → node_plans given.bits given.sections given.nodes ≡ Ok plans →
+    (steps : List Step) → IsAccepted given → nodes ≡ given.nodes → links ≡ given.links → lines ≡ given.steps → node_plans (edition_given given.edition) given.bits given.sections given.nodes ≡ Ok plans →
     joined ≡ map (link_plan nodes) links → steps ≡ map (step_plan nodes) lines → IsScriptOf given.nodes script →
     IsPlan (record { nodes = plans; links = joined; script = script; steps = steps })
 frame_plan given nodes links lines plans joined script steps k n l p e j t s =
@@ -238,4 +262,4 @@ frame_plan given nodes links lines plans joined script steps k n l p e j t s =
     let as_steps : map (step_plan given.nodes) given.steps ≡ steps = sym (t ∙ (ap (λ ns. map (step_plan ns) lines) n ∙ ap (map (step_plan given.nodes)) p)) in
     let scheduled : List LinkPlan → List Step → Type 0 = λ ls ss. IsPlan (record { nodes = plans; links = ls; script = script; steps = ss }) in
     subst (scheduled joined) as_steps (subst (λ ls. scheduled ls (map (step_plan given.nodes) given.steps)) same
-    (kept_plan given.nodes given.links given.bits given.steps plans script k (plans_of given.bits given.sections given.nodes plans e) s))
+    (kept_plan (edition_given given.edition) given.nodes given.links given.bits given.steps plans script k.0.least k.0.most k.1 (plans_of (edition_given given.edition) given.bits given.sections given.nodes plans e) s))

@@ -138,7 +138,7 @@ section_taken ls n at given new begun section t e a k is =
 given_without_line : (n : ℕ) (l : List ℕ) (what : Said) (given : Given) → given_with n l (said_by what) given ≡ given_with n [] (said_by what) given
 given_without_line n l said.End given = refl
 given_without_line n l said.Blank given = refl
-given_without_line n l said.Header given = refl
+given_without_line n l (said.Header edition) given = refl
 given_without_line n l (said.Form (form.Node node)) given = refl
 given_without_line n l (said.Form (form.Link link)) given = refl
 given_without_line n l (said.Form (form.Bit bit)) given = refl

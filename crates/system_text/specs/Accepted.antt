@@ -1,5 +1,5 @@
 -- What every frame keeps that is accepted.
-use Rattle.std.specs.Prelude.{◌≡◌, ◌≢◌, ◌≤◌, true, List, [], ◌∷◌, length, map}
+use Rattle.std.specs.Prelude.{ℕ, ◌≡◌, ◌≢◌, ◌≤◌, true, List, [], ◌∷◌, length, map}
 use Rattle.std.specs.List.{AllByRecursion}
 use Rattle.sys_plan.specs.Plan.{AreAscending, AreDistinct}
 use Rattle.system_model.specs.declared.frame_line.EndName.{EndName}
@@ -8,6 +8,7 @@ use Rattle.system_model.specs.declared.frame_line.LinkLine.{LinkLine}
 use Rattle.system_model.specs.declared.frame_line.PlayLine.{PlayLine}
 use Rattle.system_model.specs.Bits.{BitRec}
 use Rattle.system_model.specs.Frame.{Given, has_node, has_link_ends, is_step_of}
+use Rattle.system_model.specs.System.{edition_given}
 
 -- a link joins link ends of two of the nodes, and its delay and gap are within their ranges
 pub record IsLinkOf (nodes : List GivenNode) (link : LinkLine) : Type 0 where
@@ -41,5 +42,10 @@ pub record AreAccepted (ns : List GivenNode) (ls : List LinkLine) (bs : List Bit
   -- the nodes and link ends of a step are given
   pub steps : AllByRecursion (λ (step : PlayLine). is_step_of ns ls step ≡ true) ps
 
+-- an edition that there is
+pub record IsEdition (edition : ℕ) : Type 0 where
+  pub least : 1 ≤ edition
+  pub most : edition ≤ 2
+
 abbrev pub IsAccepted : Given → Type 0
-IsAccepted given = AreAccepted given.nodes given.links given.bits given.steps
+IsAccepted given = IsEdition (edition_given given.edition) × AreAccepted given.nodes given.links given.bits given.steps

@@ -14,7 +14,7 @@ use Rattle.system_text.specs.declared.frame.Said.TheVariants as said
 abbrev pub said_by : Said → FrameSays
 said_by said.End = End
 said_by said.Blank = Blank
-said_by said.Header = Header
+said_by (said.Header edition) = Header edition
 said_by (said.Form form) = Form form
 
 -- what a line says, which has no fault, or its fault

@@ -3,7 +3,7 @@ ghost use Rattle.std.specs.List.{list_any, prefix_len};
 ghost use Rattle.xs_text.specs.Lines.{lines_of};
 ghost use Rattle.xs_text.specs.Words.{words_of_line};
 ghost use Rattle.system_model.specs.Frame.{Given, Form, End, says, nothing_given, is_empty, has_node, has_link_end, has_link_ends, is_same_end, is_same_kind, has_section, given_with, without_source};
-ghost use Rattle.system_model.specs.System.{section_lines};
+ghost use Rattle.system_model.specs.System.{edition_given, section_lines};
 ghost use Rattle.system_text.specs.Judged.{Judges, IsFormless, IsFormOf, IsPlaying, NamesNoNode, said_by, later_fault, with_section};
 ghost use Rattle.system_text.specs.Ranges.{IsShortSource};
 ghost use Rattle.system_text.specs.Wants.{IsKept};
@@ -11,7 +11,7 @@ ghost use Rattle.system_text.specs.Wants.{IsKept};
 use crate::end_numbers::stands_twice;
 use crate::frame_lines::frame_line;
 use crate::step_lines::step_line;
-use crate::words::{is_empty, is_end, is_header};
+use crate::words::{edition_of_header, is_empty, is_end};
 use std::alloc::{AllocError, Global};
 use std::marker::Model;
 use system_model::{
@@ -31,8 +31,8 @@ pub enum Said {
     End,
     // It has no words.
     Blank,
-    // It is `xs1 1`, the first line with words.
-    Header,
+    // It is the first line with words, and gives the edition.
+    Header(u8),
     Form(FrameLine),
 }
 
@@ -45,11 +45,11 @@ pub struct SectionText<'a> {
     pub text: &'a [u8],
 }
 
-// What the lines so far have given: the nodes by ascending number, and the rest in the order of the lines; and the
+// What the lines so far have given: the edition, the nodes by ascending number, and the rest in the order of the lines; and the
 // number of the line that begins the section `play`, where it has begun and not ended. No other section is being read.
 #[derive(Drop)]
 pub struct Frame<'a> {
-    begun: bool,
+    edition: Option<u8>,
     nodes: Vec<GivenNode>,
     links: Vec<LinkLine>,
     bits: Vec<BitLine>,
@@ -68,7 +68,7 @@ impl<'a> Model for Frame<'a> {
 
     ghost Value = { Given };
 
-    ghost view = { λ f. record { begun = f.begun; nodes = f.nodes.items; links = f.links.items; bits = f.bits.items; steps = f.steps.items; sections = map (λ s. record { kind = s.kind; line = s.line; lines = lines_of s.text.now }) f.sections.items; reading = option_map play_from f.playing } };
+    ghost view = { λ f. record { edition = f.edition; nodes = f.nodes.items; links = f.links.items; bits = f.bits.items; steps = f.steps.items; sections = map (λ s. record { kind = s.kind; line = s.line; lines = lines_of s.text.now }) f.sections.items; reading = option_map play_from f.playing } };
 
     ghost invariant = { λ f. AllByRecursion (λ s. IsShortSource s.text.now) f.sections.items };
 }
@@ -79,7 +79,7 @@ impl<'a> Frame<'a> {
         ensures { result ≡ nothing_given }
     {
         Frame {
-            begun: false,
+            edition: None,
             nodes: Vec::new(alloc),
             links: Vec::new(alloc),
             bits: Vec::new(alloc),
@@ -104,13 +104,12 @@ impl<'a> Frame<'a> {
         requires { self.now.reading ≡ None }
         ensures { Judges self.now line.now result }
     {
-        let begun = self.begun;
         if is_empty(line) {
-            judge_bytes(line, Said::Blank)
-        } else if begun {
-            self.judge_form(line, frame_line(line))
-        } else {
-            judge_first(line)
+            return judge_bytes(line, Said::Blank);
+        }
+        match self.edition {
+            Some(_edition) => self.judge_form(line, frame_line(line)),
+            None => judge_first(line),
         }
     }
 
@@ -292,7 +291,7 @@ impl<'a> Frame<'a> {
         ensures memory { (after : List (List ℕ)) → IsErr result → IsKept after (said_by said) }
     {
         match said {
-            Said::Header => self.begun = true,
+            Said::Header(edition) => self.edition = Some(edition),
             Said::End => self.end_play()?,
             Said::Form(FrameLine::Section(SectionKind::Play)) => self.playing = Some(line),
             Said::Form(FrameLine::Step(step)) => self.steps.push(step)?,
@@ -362,6 +361,16 @@ impl<'a> Frame<'a> {
             .iter()
             .find(|node| !self.has_section(SectionKind::Source(node.number)))?;
         Some(node.line)
+    }
+
+    // The edition of the nodes.
+    pub fn edition(&self) -> u8
+        ensures { result ≡ edition_given self.now.edition }
+    {
+        match self.edition {
+            Some(edition) => edition,
+            None => 1,
+        }
     }
 
     pub fn nodes(&self) -> &[GivenNode]
@@ -453,13 +462,13 @@ fn judge_bytes(line: &[u8], said: Said) -> Result<Said, SysKind>
 // What the first line with words says, or its fault.
 fn judge_first(line: &[u8]) -> Result<Said, SysKind>
     requires { is_empty (words_of_line line.now) ≡ false }
-    ensures { (given : Given) → given.begun ≡ false → given.reading ≡ None → Judges given line.now result }
+    ensures { (given : Given) → given.edition ≡ None → given.reading ≡ None → Judges given line.now result }
 {
-    if !is_header(line) {
+    let Some(edition) = edition_of_header(line) else {
         return Err(SysKind::FirstLine);
-    }
+    };
     if !all_allowed(line) {
         return Err(SysKind::BadLine);
     }
-    Ok(Said::Header)
+    Ok(Said::Header(edition))
 }

@@ -1,7 +1,7 @@
 ghost use Rattle.std.specs.Prelude.{◌≡◌, ◌==◌};
 ghost use Rattle.std.specs.List.{list_any};
 ghost use Rattle.source_model.specs.Source.{assembled_lines};
-ghost use Rattle.system_model.specs.System.{node_plans, planned, section_lines, ways_of, way, ends_for, mask_where};
+ghost use Rattle.system_model.specs.System.{edition_given, node_plans, planned, section_lines, ways_of, way, ends_for, mask_where};
 ghost use Rattle.system_text.specs.Plans.{GivesNode, GivesNodes};
 
 use crate::end_numbers::is_among;
@@ -14,7 +14,7 @@ use xs_assembler::{AsmError, assemble};
 
 // The plans of the nodes of a frame by ascending number, or the refusal of the first source that is refused.
 pub fn node_plans(alloc: Global, frame: &Frame) -> Result<Vec<NodePlan>, SystemError>
-    ensures { GivesNodes (node_plans frame.now.bits frame.now.sections frame.now.nodes) result }
+    ensures { GivesNodes (node_plans (edition_given frame.now.edition) frame.now.bits frame.now.sections frame.now.nodes) result }
 {
     let nodes = frame.nodes();
     let mut plans = Vec::new(alloc);
@@ -29,12 +29,19 @@ pub fn node_plans(alloc: Global, frame: &Frame) -> Result<Vec<NodePlan>, SystemE
 
 // The plan of a node, or the refusal of its source.
 fn node_plan(alloc: Global, frame: &Frame, node: GivenNode) -> Result<NodePlan, SystemError>
-    ensures { GivesNode (planned frame.now.bits node (assembled_lines (section_lines frame.now.sections (SectionKind.Source node.number)))) result }
+    ensures { GivesNode (planned (edition_given frame.now.edition) frame.now.bits node (assembled_lines (section_lines frame.now.sections (SectionKind.Source node.number)))) result }
 {
     match assemble(alloc, frame.section(SectionKind::Source(node.number))) {
         Ok(image) => {
             let ways = ways_of(frame.bits(), node.number);
-            Ok(NodePlan::plain(node.number, node.id, image, ways))
+            Ok(NodePlan {
+                number: node.number,
+                edition: frame.edition(),
+                id: node.id,
+                image,
+                ways,
+                nets: [0; 8],
+            })
         }
         Err(AsmError::Fault { line, kind }) => Err(SystemError::Source {
             node: node.number,

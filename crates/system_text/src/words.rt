@@ -1,6 +1,6 @@
 ghost use Rattle.std.specs.Prelude.{◌≡◌, ◌<◌, length, map, IfOk, OnErr, IfErr};
 ghost use Rattle.xs_text.specs.Words.{words_of_line};
-ghost use Rattle.system_model.specs.FrameLines.{is_end, is_header};
+ghost use Rattle.system_model.specs.FrameLines.{edition_of_header, edition_of_word, is_end};
 ghost use Rattle.system_model.specs.Frame.{is_empty};
 ghost use Rattle.system_text.specs.LineWords.{bytes_of};
 
@@ -50,17 +50,33 @@ pub fn is_empty(line: &[u8]) -> bool
     next_word(line).is_none()
 }
 
-// `xs1 1`
-pub fn is_header(line: &[u8]) -> bool
-    ensures { result ≡ is_header (words_of_line line.now) }
+// The edition that a first line gives, which is `xs1 1` or `xs1 2`.
+pub fn edition_of_header(line: &[u8]) -> Option<u8>
+    ensures { result ≡ edition_of_header (words_of_line line.now) }
 {
-    let Some((name, rest)) = next_word(line) else {
-        return false;
-    };
-    let Some((edition, rest)) = next_word(rest) else {
-        return false;
-    };
-    same_name(b"xs1", name) && same_name(b"1", edition) && is_empty(rest)
+    let (name, rest) = next_word(line)?;
+    let (edition, rest) = next_word(rest)?;
+    if !is_empty(rest) {
+        return None;
+    }
+    if same_name(b"xs1", name) {
+        edition_of_word(edition)
+    } else {
+        None
+    }
+}
+
+// The edition that a word gives, letter by letter.
+fn edition_of_word(word: &[u8]) -> Option<u8>
+    ensures { result ≡ edition_of_word word.now }
+{
+    if same_name(b"1", word) {
+        Some(1)
+    } else if same_name(b"2", word) {
+        Some(2)
+    } else {
+        None
+    }
 }
 
 // `end`

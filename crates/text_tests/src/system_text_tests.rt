@@ -30,6 +30,27 @@ fn pair(rt: HostRuntime) -> Result<(), Fail> {
 }
 
 #[test]
+fn editions(rt: HostRuntime) -> Result<(), Fail> {
+    for (text, edition) in [
+        (
+            b"xs1 1\nnode 9 id 3\nnode 5 id 1\nsource 9\nend\nsource 5\nend".as_slice(),
+            1,
+        ),
+        (
+            b"\n xs1\t2# the second\nnode 9 id 3\nnode 5 id 1\nsource 9\nend\nsource 5\nend".as_slice(),
+            2,
+        ),
+    ] {
+        let plan = read_system(rt.alloc(), text)?;
+        let [low, high] = plan.nodes() else {
+            return Err(Fail::from("two nodes"));
+        };
+        assert!(rt; (low.edition, high.edition) == (edition, edition));
+    }
+    Ok(())
+}
+
+#[test]
 fn three_in_a_line(rt: HostRuntime) -> Result<(), Fail> {
     let text =
         b"xs1 1\nnode 9 id 3\nnode 5 id 1\nnode 7 id 2\nlink 5:7 9:0 delay 1 gap 4\nlink 7:3 5:2 delay 2 gap 5\nbit 5 1 7 2\nsource 5\nend\nsource 9\nend\nsource 7\nend";
@@ -119,7 +140,16 @@ fn refusal(alloc: Global, text: &[u8]) -> Option<(u32, SysKind)> {
     }
 }
 
-static REFUSED: [(&[u8], u32, SysKind); 14] = [
+static REFUSED: [(&[u8], u32, SysKind); 19] = [
+    (b"xs1 3\n", 1, SysKind::FirstLine),
+    (b"xs1 02\n", 1, SysKind::FirstLine),
+    (b"# a\nxs1 2 x\n", 2, SysKind::FirstLine),
+    (b"xs1 2\nxs1 2\n", 2, SysKind::BadLine),
+    (
+        b"xs1 2\nnode 0 id 0\nnode 1 id 1\nlink 0:0 1:0 delay 5 gap 4 net 1",
+        4,
+        SysKind::BadLine,
+    ),
     (b"xs1 1\npins\nfoo\nend\npins\n", 5, SysKind::GivenTwice),
     (
         b"xs1 1\nnode 0 id 0\npins\nend:\n",

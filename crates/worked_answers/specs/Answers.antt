@@ -53,10 +53,10 @@ pub record WorkedAnswers : Type 0 where
   pub number_too_great : answer (codes "make" ∷ codes "4294967296" ∷ []) (lone []) ≡ no_usage
   pub number_of_eleven_digits : answer (codes "make" ∷ codes "00000000001" ∷ []) (lone []) ≡ no_usage
   pub greatest : form_of_words (codes "make" ∷ codes "4294967295" ∷ []) ≡ Some (Make 4294967295)
-  pub too_many_slots : answer (run_for (codes "1000001")) (lone []) ≡ no_usage
+  pub too_many_slots : answer (run_for (codes "16000001")) (lone []) ≡ no_usage
   pub eleven_digits : answer (run_for (codes "00000000020")) (lone []) ≡ no_usage
   pub leading_zeros : answer (run_for (codes "0000000000")) (lone []) ≡ done (codes "end 0\n")
-  pub no_input : answer (run_for (codes "1")) [] ≡ frame_refused (codes "system line 1: S1 first line is not xs1 1\n")
+  pub no_input : answer (run_for (codes "1")) [] ≡ frame_refused (codes "system line 1: S1 first line is not xs1 1 or xs1 2\n")
   pub other_node : answer (run_for (codes "1")) (codes "xs1 1\nnode 0 id 0\nsource 1\nend\n") ≡ frame_refused (codes "system line 3: S12 no such node or link end\n")
   pub open_section : answer (run_for (codes "1")) (codes "xs1 1\nnode 0 id 0\nsource 0\n") ≡ frame_refused (codes "system line 3: S9 section not ended\n")
   pub comments : answer (run_for (codes "0")) (codes "# a system\r\n\nxs1 1 // edition 1\n  node 007 id 0xFf\nsource 7\n foo: # here\nend # of it\n\n//") ≡ done (codes "end 0\n")

@@ -9,7 +9,7 @@ pub record WorkedFrames : Type 0 where
   pub bad_byte_after_end_of_faulty_source : answer (run_for (codes "0")) (codes "xs1 1\nnode 0 id 0\nsource 0\nfoo\nend # " ++ (1 ∷ codes "\n")) ≡ frame_refused (codes "system line 5: S2 bad line\n")
   pub bad_byte_after_section : answer (run_for (codes "0")) (codes "xs1 1\nnode 0 id 0\nsource 0\nend\n# " ++ (0 ∷ [])) ≡ frame_refused (codes "system line 5: S2 bad line\n")
   pub bad_byte_before_header : answer (run_for (codes "0")) (codes "# " ++ (1 ∷ codes "\nxs1 1\nnode 0 id 0\nsource 0\nend\n")) ≡ frame_refused (codes "system line 1: S2 bad line\n")
-  pub two_returns : answer (run_for (codes "0")) (codes "xs1 1\r\r\nnode 0 id 0\nsource 0\nend\n") ≡ frame_refused (codes "system line 1: S1 first line is not xs1 1\n")
+  pub two_returns : answer (run_for (codes "0")) (codes "xs1 1\r\r\nnode 0 id 0\nsource 0\nend\n") ≡ frame_refused (codes "system line 1: S1 first line is not xs1 1 or xs1 2\n")
   pub return_at_the_end : answer (run_for (codes "0")) (codes "xs1 1\nnode 0 id 0\nsource 0\nend\r") ≡ frame_refused (codes "system line 3: S9 section not ended\n")
   pub returns_before_feeds : answer (run_for (codes "0")) (codes "xs1 1\r\nnode 0 id 0\r\nsource 0\r\nend\r\n") ≡ done (codes "end 0\n")
   pub no_last_feed : answer (run_for (codes "0")) (codes "xs1 1\nnode 0 id 0\nsource 0\nend") ≡ done (codes "end 0\n")
@@ -19,7 +19,7 @@ pub record WorkedFrames : Type 0 where
   pub id_65536 : answer (run_for (codes "1")) (codes "xs1 1\nnode 0 id 65536\nsource 0\nend") ≡ frame_refused (codes "system line 2: S7 number out of range\n")
   pub binary_number : answer (run_for (codes "1")) (codes "xs1 1\nnode 0b0 id 0\nsource 0\nend") ≡ frame_refused (codes "system line 2: S2 bad line\n")
   pub upper_case_prefix : answer (run_for (codes "1")) (codes "xs1 1\nnode 0X0 id 0\nsource 0\nend") ≡ frame_refused (codes "system line 2: S2 bad line\n")
-  pub header_01 : answer (run_for (codes "1")) (codes "xs1 01\nnode 0 id 0\nsource 0\nend") ≡ frame_refused (codes "system line 1: S1 first line is not xs1 1\n")
+  pub header_01 : answer (run_for (codes "1")) (codes "xs1 01\nnode 0 id 0\nsource 0\nend") ≡ frame_refused (codes "system line 1: S1 first line is not xs1 1 or xs1 2\n")
   pub node_17 : answer (codes "check" ∷ [])
       (codes "xs1 1\nnode 0 id 0\nnode 1 id 1\nnode 2 id 2\nnode 3 id 3\nnode 4 id 4\nnode 5 id 5\nnode 6 id 6\n"
       ++ codes "node 7 id 7\nnode 8 id 8\nnode 9 id 9\nnode 10 id 10\nnode 11 id 11\nnode 12 id 12\nnode 13 id 13\n"
@@ -79,4 +79,8 @@ pub record WorkedRuns : Type 0 where
   pub no_slots : answer (codes "run" ∷ []) [] ≡ no_usage
   pub signed_slots : answer (run_for (codes "+5")) [] ≡ no_usage
   pub empty_slots : answer (run_for []) [] ≡ no_usage
-  pub a_million_slots : answer (run_for (codes "1000000")) ([]) ≡ frame_refused (codes "system line 1: S1 first line is not xs1 1\n")
+  pub most_slots : answer (run_for (codes "16000000")) ([]) ≡ frame_refused (codes "system line 1: S1 first line is not xs1 1 or xs1 2\n")
+  -- the first line names the edition, letter by letter
+  pub second_edition : answer (run_for (codes "1")) (codes "xs1 2\nnode 0 id 0\nsource 0\nnop\nend\n") ≡ done (codes "end 1\n")
+  pub header_02 : answer (run_for (codes "1")) (codes "xs1 02\nnode 0 id 0\nsource 0\nnop\nend\n") ≡ frame_refused (codes "system line 1: S1 first line is not xs1 1 or xs1 2\n")
+  pub third_edition : answer (run_for (codes "1")) (codes "xs1 3\nnode 0 id 0\nsource 0\nnop\nend\n") ≡ frame_refused (codes "system line 1: S1 first line is not xs1 1 or xs1 2\n")

@@ -17,9 +17,17 @@ pub record WorkedForms : Type 0 where
   pub free : form_of_words (mode_words (codes "20") (codes "free")) ≡ Some (Free 20)
   pub serial : form_of_words (mode_words (codes "20") (codes "serial")) ≡ Some (Serial 20)
   pub rounds : form_of_words (in_rounds (codes "20")) ≡ Some (Rounds 20)
-  pub most_slots : form_of_words (in_rounds (codes "1000000")) ≡ Some (Rounds 1000000)
+  pub most_slots : form_of_words (in_rounds (codes "16000000")) ≡ Some (Rounds 16000000)
+  pub most_usual_slots : form_of_words (run_words (codes "16000000")) ≡ Some (Free 16000000)
+  pub most_free_slots : form_of_words (mode_words (codes "16000000") (codes "free")) ≡ Some (Free 16000000)
+  pub most_serial_slots : form_of_words (mode_words (codes "16000000") (codes "serial")) ≡ Some (Serial 16000000)
+  pub most_play_slots : form_of_words (codes "play" ∷ codes "16000000" ∷ []) ≡ Some (Play 16000000)
   pub ten_digits : form_of_words (in_rounds (codes "0000000020")) ≡ Some (Rounds 20)
-  pub too_many_slots : form_of_words (in_rounds (codes "1000001")) ≡ None
+  pub too_many_slots : form_of_words (in_rounds (codes "16000001")) ≡ None
+  pub too_many_usual_slots : form_of_words (run_words (codes "16000001")) ≡ None
+  pub too_many_free_slots : form_of_words (mode_words (codes "16000001") (codes "free")) ≡ None
+  pub too_many_serial_slots : form_of_words (mode_words (codes "16000001") (codes "serial")) ≡ None
+  pub too_many_play_slots : form_of_words (codes "play" ∷ codes "16000001" ∷ []) ≡ None
   pub eleven_digits : form_of_words (in_rounds (codes "00000000020")) ≡ None
   pub no_slots : form_of_words (run_words (codes "rounds")) ≡ None
   pub empty_slots : form_of_words (in_rounds []) ≡ None
@@ -38,7 +46,7 @@ pub record WorkedWaits : Type 0 where
   pub free : form_may_wait (form_of_words (mode_words (codes "20") (codes "free"))) ≡ true
   pub serial : form_may_wait (form_of_words (mode_words (codes "20") (codes "serial"))) ≡ false
   pub rounds : form_may_wait (form_of_words (in_rounds (codes "20"))) ≡ false
-  pub no_form : form_may_wait (form_of_words (in_rounds (codes "1000001"))) ≡ false
+  pub no_form : form_may_wait (form_of_words (in_rounds (codes "16000001"))) ≡ false
   pub rounds_ask : asks_for_input (form_of_words (in_rounds (codes "20"))) ≡ true
   pub rounds_take : taken (in_rounds (codes "20")) (codes "xs1 1\n") ≡ 6
 
@@ -52,7 +60,7 @@ pub record WorkedRounds : Type 0 where
       ++ codes "n0 mem 0x00010000 0x00010002\nend 40\n")
   pub pair_cut : answer (in_rounds (codes "30")) (joined_pair sender_source receiver_source) ≡
       done (codes "link 0:0>1:0 tokens 4 credits 0\nlink 1:0>0:0 tokens 0 credits 3\nn0 mem 0x00010000 0x00010002\nend 30\n")
-  pub no_input : answer (in_rounds (codes "1")) [] ≡ frame_refused (codes "system line 1: S1 first line is not xs1 1\n")
+  pub no_input : answer (in_rounds (codes "1")) [] ≡ frame_refused (codes "system line 1: S1 first line is not xs1 1 or xs1 2\n")
   pub bad_source : answer (in_rounds (codes "1")) (lone (codes "foo\n")) ≡ source_refused (codes "source 0 line 1: A2 unknown name\n")
   pub bad_script : answer (in_rounds (codes "1")) (with_script [] (codes "5 0:4A 16\n")) ≡ script_refused (codes "pins line 1: P4 value too wide\n")
-  pub too_many_slots : answer (in_rounds (codes "1000001")) (lone []) ≡ no_usage
+  pub too_many_slots : answer (in_rounds (codes "16000001")) (lone []) ≡ no_usage

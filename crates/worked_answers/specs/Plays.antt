@@ -55,16 +55,16 @@ pub record WorkedPlays : Type 0 where
   pub no_section : answer (play_for (codes "40")) (joined_pair sender_source receiver_source) ≡ done (codes "end play\n")
   pub no_steps : answer (play_for (codes "40")) (played_pair []) ≡ done (codes "end play\n")
   pub no_nodes : answer (play_for (codes "0")) (codes "xs1 1\n") ≡ done (codes "end play\n")
-  pub most_slots : answer (play_for (codes "1000000")) (lone []) ≡ done (codes "end play\n")
+  pub most_slots : answer (play_for (codes "16000000")) (lone []) ≡ done (codes "end play\n")
   pub leading_zeros : answer (play_for (codes "0000000000")) (lone []) ≡ done (codes "end play\n")
   pub no_slots : answer (codes "play" ∷ []) [] ≡ no_usage
   pub a_mode : answer (codes "play" ∷ codes "40" ∷ codes "serial" ∷ []) (lone []) ≡ no_usage
-  pub too_many_slots : answer (play_for (codes "1000001")) (lone []) ≡ no_usage
+  pub too_many_slots : answer (play_for (codes "16000001")) (lone []) ≡ no_usage
   pub signed_slots : answer (play_for (codes "+5")) (lone []) ≡ no_usage
   pub empty_slots : answer (play_for []) (lone []) ≡ no_usage
   pub eleven_digits : answer (play_for (codes "00000000040")) (lone []) ≡ no_usage
   pub other_case : answer (codes "Play" ∷ codes "40" ∷ []) (lone []) ≡ no_usage
-  pub no_input : answer (play_for (codes "1")) [] ≡ frame_refused (codes "system line 1: S1 first line is not xs1 1\n")
+  pub no_input : answer (play_for (codes "1")) [] ≡ frame_refused (codes "system line 1: S1 first line is not xs1 1 or xs1 2\n")
   pub bad_step : answer (play_for (codes "1")) (played_pair (codes "run 0 2\nwalk 1\n")) ≡ frame_refused (codes "system line 23: S2 bad line\n")
   pub no_such_link_end : answer (play_for (codes "1")) (played_pair (codes "run 0 2\ntake 1:1\n")) ≡ frame_refused (codes "system line 23: S12 no such node or link end\n")
   pub bad_source : answer (play_for (codes "1")) (lone (codes "foo\n")) ≡ source_refused (codes "source 0 line 1: A2 unknown name\n")

@@ -1,8 +1,9 @@
 -- Frames of systems, read by hand.
-use Rattle.std.specs.Prelude.{ℕ, ◌≡◌, true, None, List, [], ◌∷◌, ◌++◌, length, map, codes, replicate}
+use Rattle.std.specs.Prelude.{ℕ, ◌≡◌, Some, None, List, [], ◌∷◌, ◌++◌, length, map, codes, replicate}
 use Rattle.std.specs.List.{flat_map}
 use Rattle.xs_text.specs.Lines.{lines_of}
 use Rattle.xs_instructions.specs.Image.{ImageRec}
+use Rattle.sys_plan.specs.declared.NodePlan.{NodePlan}
 use Rattle.sys_plan.specs.NodePlans.{plain_plan}
 use Rattle.sys_plan.specs.Plan.{PlanRec}
 use Rattle.system_model.specs.declared.SysKind.{SysKind}
@@ -38,8 +39,18 @@ first_lines =
     ∷ (codes "  # nothing\n// here", 1, FirstLine)
     ∷ (codes "# " ++ 1 ∷ [], 1, FirstLine)
     ∷ (codes "\n# " ++ (1 ∷ codes "\n\n"), 1, FirstLine)
-    ∷ (codes "xs1 2\n", 1, FirstLine)
-    ∷ (codes "\n # x\nxs1 2\nnode 0 id 0\n", 3, FirstLine)
+    ∷ (codes "xs1 3\n", 1, FirstLine)
+    ∷ (codes "\n # x\nxs1 3\nnode 0 id 0\n", 3, FirstLine)
+    ∷ (codes "xs1 0\n", 1, FirstLine)
+    ∷ (codes "xs1 02\n", 1, FirstLine)
+    ∷ (codes "xs1 0x2\n", 1, FirstLine)
+    ∷ (codes "xs1 2 x\n", 1, FirstLine)
+    ∷ (codes "xs1 2 2\n", 1, FirstLine)
+    ∷ (codes "xs1 1 2\n", 1, FirstLine)
+    ∷ (codes "xs1 12\n", 1, FirstLine)
+    ∷ (codes "XS1 2\n", 1, FirstLine)
+    ∷ (codes "xs2 2\n", 1, FirstLine)
+    ∷ (codes "2 xs1\n", 1, FirstLine)
     ∷ (codes "xs1 01\n", 1, FirstLine)
     ∷ (codes "xs1 0x1\n", 1, FirstLine)
     ∷ (codes "xs1\n", 1, FirstLine)
@@ -48,10 +59,22 @@ first_lines =
     ∷ (codes "node 0 id 0\nxs1 1\n", 1, FirstLine)
     ∷ (codes "end\n", 1, FirstLine)
     ∷ (1 ∷ [], 1, FirstLine)
-    ∷ (codes "xs1 2 # " ++ 1 ∷ [], 1, FirstLine)
+    ∷ (codes "xs1 3 # " ++ 1 ∷ [], 1, FirstLine)
     -- a carriage return that does not end the line is a part of its word
     ∷ (codes "xs1 1\r\r\n", 1, FirstLine)
     ∷ (codes "xs1 1\r", 1, FirstLine)
+    ∷ []
+
+-- lines of a text of edition 2 that it refuses as one of edition 1 does: a first line once more, of either edition, and a link line with a network
+abbrev pub of_edition_2 : Refusals
+of_edition_2 =
+    (codes "xs1 2 # " ++ 1 ∷ [], 1, BadLine)
+    ∷ (codes "xs1 2\nxs1 2\n", 2, BadLine)
+    ∷ (codes "xs1 2\nxs1 1\n", 2, BadLine)
+    ∷ (codes "xs1 1\nxs1 2\n", 2, BadLine)
+    ∷ (codes "xs1 2\nnode 7 id 1\nnode 3 id 0\nlink 7:0 3:0 delay 5 gap 4 net 1\n", 4, BadLine)
+    ∷ (codes "xs1 1\nnode 7 id 1\nnode 3 id 0\nlink 7:0 3:0 delay 5 gap 4 net 1\n", 4, BadLine)
+    ∷ (codes "xs1 2\nnode 0 id 0\n", 2, NodeWithoutSource)
     ∷ []
 
 -- bytes that are not allowed, and lines of no form
@@ -272,6 +295,7 @@ ends =
 
 pub record WorkedRefusals : Type 0 where
   pub first : AreRefused first_lines
+  pub second_edition : AreRefused of_edition_2
   pub bad : AreRefused bad_lines
   pub bad_in_a_pair : AreRefused bad_pair_lines
   pub wide : AreRefused wide_numbers
@@ -295,7 +319,7 @@ mixed =
 
 abbrev pub mixed_frame : Framed
 mixed_frame = Whole (record {
-  begun = true;
+  edition = Some 1;
   nodes = record { line = 10; number = 3; id = 0 } ∷ record { line = 4; number = 7; id = 1 } ∷ [];
   links =
       record { a = record { node = 3; end = 0 }; b = record { node = 7; end = 0 }; delay = 1000; gap = 1000 }
@@ -385,6 +409,15 @@ plan_of_0_and_99 = record {
   steps = [];
 }
 
+-- nodes of edition 2, with all that they have in edition 1
+abbrev pub in_edition_2 : NodePlan → NodePlan
+in_edition_2 node = record node { edition = 2 }
+
+-- the text of two nodes, but for its first line, which has blanks and a comment
+abbrev pub second_7_and_3 : List ℕ
+second_7_and_3 =
+    codes "# a\n xs1\t2 // the second\nnode 7 id 1\nnode 3 id 0\nlink 7:0 3:0 delay 5 gap 4\nbit 3 0 0\nbit 7 15 0\nsource 7\nend\nsource 3\nend\n"
+
 pub record WorkedPlans : Type 0 where
   pub any_order : frame mixed ≡ mixed_frame
   -- nodes by number, and the link and the bits by their places
@@ -393,6 +426,9 @@ pub record WorkedPlans : Type 0 where
   pub eight : system_of eight_between ≡ Plan plan_of_eight
   pub edges : system_of (codes "xs1 1\nnode 99 id 0\nnode 0 id 65535\nsource 99\nend\nsource 0\nend\n") ≡ Plan plan_of_0_and_99
   pub no_node : system_of (codes "xs1 1") ≡ Plan (record { nodes = []; links = []; script = []; steps = [] })
+  pub second : system_of second_7_and_3 ≡ Plan (record plan_of_3_and_7 { nodes = map in_edition_2 plan_of_3_and_7.nodes })
+  pub second_edges : system_of (codes "xs1 2\nnode 99 id 0\nnode 0 id 65535\nsource 99\nend\nsource 0\nend\n") ≡ Plan (record plan_of_0_and_99 { nodes = map in_edition_2 plan_of_0_and_99.nodes })
+  pub second_no_node : system_of (codes "xs1 2") ≡ Plan (record { nodes = []; links = []; script = []; steps = [] })
 
 -- the longest input stands for what its lines say, and one byte more is too long, whatever the bytes
 pub record WorkedLength : Type 0 where

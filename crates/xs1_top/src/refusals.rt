@@ -55,7 +55,7 @@ fn text_of_sys_kind(kind: SysKind) -> &'static [u8]
     ensures { result.now ≡ text_of_sys_kind kind }
 {
     match kind {
-        SysKind::FirstLine => b"S1 first line is not xs1 1",
+        SysKind::FirstLine => b"S1 first line is not xs1 1 or xs1 2",
         SysKind::BadLine => b"S2 bad line",
         SysKind::GivenTwice => b"S3 given twice",
         SysKind::IdTwice => b"S4 id twice",

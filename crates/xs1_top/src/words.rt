@@ -9,13 +9,13 @@ use word_numbers::decimal_up_to;
 use xs_instructions::same_name;
 
 // The most slots that a run may have.
-const MOST_SLOTS: u32 = 1_000_000;
+const MOST_SLOTS: u32 = 16_000_000;
 
 // The greatest number of a load.
 const GREATEST_NUMBER: u32 = u32::MAX;
 
 /// The form of the program's words, without the program's name: `run SLOTS`, `run SLOTS free`, `run SLOTS serial`, `run SLOTS rounds`,
-/// `play SLOTS`, `make NUMBER` or `check`. SLOTS is one to ten decimal digits with a value of at most 1,000,000, NUMBER the same of at most
+/// `play SLOTS`, `make NUMBER` or `check`. SLOTS is one to ten decimal digits with a value of at most 16,000,000, NUMBER the same of at most
 /// 4,294,967,295. None comes exactly where the words are of no form. See docs/OUTPUT.md.
 #[tactic(auto, unfolding(answer_model::specs::Forms::form_of_words))]
 pub fn form_of_words(words: &[String]) -> Option<Form>

@@ -63,5 +63,8 @@ returns-clause-runs c = record {
   no_slots = refl;
   signed_slots = refl;
   empty_slots = refl;
-  a_million_slots = refl;
+  most_slots = refl;
+  second_edition = refl;
+  header_02 = refl;
+  third_edition = refl;
 }

@@ -7,6 +7,7 @@ pub returns-clause-refusals : goal.returns-clause-refusals
 unfolding computes
 returns-clause-refusals c = record {
   first = refl;
+  second_edition = refl;
   bad = refl;
   bad_in_a_pair = refl;
   wide = refl;
@@ -20,7 +21,7 @@ returns-clause-refusals c = record {
 
 pub returns-clause-systems : goal.returns-clause-systems
 unfolding computes
-returns-clause-systems c = record { any_order = refl; plan = refl; three = refl; eight = refl; edges = refl; no_node = refl }
+returns-clause-systems c = record { any_order = refl; plan = refl; three = refl; eight = refl; edges = refl; no_node = refl; second = refl; second_edges = refl; second_no_node = refl }
 
 pub returns-clause-length : goal.returns-clause-length
 unfolding system_of
