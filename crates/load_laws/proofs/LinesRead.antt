@@ -277,7 +277,7 @@ end_next node end rest h = ap (λ t. words_of_line t) (sym (append_assoc (decima
 -- the line of a link is read as its link
 pub link_read : (n i : ℕ) → n < 4294967296 → i < 16
     → frame_line (words_of_line (link_text n i))
-    ≡ Some (Link (record { a = record { node = i; end = 0 }; b = record { node = next_node n i; end = 1 }; delay = delay_at n i; gap = gap_at i }))
+    ≡ Some (Link (record { a = record { node = i; end = 0 }; b = record { node = next_node n i; end = 1 }; delay = delay_at n i; gap = gap_at i; net = 0 }))
 link_read n i k h =
     let o = next_node_small n i in
     let a = end_word i 0 (codes "0") (omega arith) refl refl in

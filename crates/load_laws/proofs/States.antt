@@ -18,7 +18,7 @@ node_given i = record { line = 2 + i; number = i; id = i }
 
 -- the line of a link
 abbrev pub link_given : ℕ → ℕ → LinkLine
-link_given n i = record { a = record { node = i; end = 0 }; b = record { node = next_node n i; end = 1 }; delay = delay_at n i; gap = gap_at i }
+link_given n i = record { a = record { node = i; end = 0 }; b = record { node = next_node n i; end = 1 }; delay = delay_at n i; gap = gap_at i; net = 0 }
 
 -- the line of a bit
 abbrev pub bit_given : ℕ → ℕ → BitRec

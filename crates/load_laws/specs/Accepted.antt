@@ -19,7 +19,7 @@ pub record IsAcceptedSource (destination first : ℕ) : Type 0 where
 
 -- the link from node i to the node after it
 abbrev pub load_link : ℕ → ℕ → LinkPlan
-load_link n i = record { a = i; a_end = 0; b = next_node n i; b_end = 1; delay = delay_at n i; gap = gap_at i }
+load_link n i = record { a = i; a_end = 0; b = next_node n i; b_end = 1; delay = delay_at n i; gap = gap_at i; net = 0 }
 
 -- the plan of node i: the number is its id too, its source is that of the load, and by the bit in which the id of the node after it differs
 -- link end 0 leads on, and no other

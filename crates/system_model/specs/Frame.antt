@@ -68,7 +68,7 @@ says_header (Some edition) = Header edition
 abbrev pub says_in_frame : Option ℕ → List (List ℕ) → FrameSays
 says_in_frame edition [] = Blank
 says_in_frame None (w ∷ ws) = says_header (edition_of_header (w ∷ ws))
-says_in_frame (Some edition) (w ∷ ws) = says_form (frame_line (w ∷ ws))
+says_in_frame (Some edition) (w ∷ ws) = says_form (frame_line edition (w ∷ ws))
 
 -- in the section `play`, by its words
 abbrev pub says_in_play : List (List ℕ) → FrameSays

@@ -57,14 +57,20 @@ end_name word =
     number_of (take (before_colon word) word) >>= λ node. number_of (drop (before_colon word + 1) word) >>= λ end.
     Some (record { node = node; end = end })
 
--- `link N:E M:F delay D gap G`
-unfoldable pub link_line : List (List ℕ) → Option LinkLine
-link_line (k ∷ x ∷ y ∷ v ∷ d ∷ w ∷ g ∷ []) =
+-- the network of a link by the words after its gap: 0 where there are none, and in edition 2 also that of `net K`
+abbrev pub net_of_words : ℕ → List (List ℕ) → Option ℕ
+net_of_words edition [] = Some 0
+net_of_words edition (u ∷ n ∷ []) = if (edition == 2) && same_name (codes "net") u then number_of n else None
+net_of_words edition _ = None
+
+-- `link N:E M:F delay D gap G`, in edition 2 also with `net K` after it
+unfoldable pub link_line : ℕ → List (List ℕ) → Option LinkLine
+link_line edition (k ∷ x ∷ y ∷ v ∷ d ∷ w ∷ g ∷ rest) =
     if same_name (codes "link") k && (same_name (codes "delay") v && same_name (codes "gap") w)
-    then (end_name x >>= λ a. end_name y >>= λ b. number_of d >>= λ delay. number_of g >>= λ gap.
-    Some (record { a = a; b = b; delay = delay; gap = gap }))
+    then (end_name x >>= λ a. end_name y >>= λ b. number_of d >>= λ delay. number_of g >>= λ gap. net_of_words edition rest >>= λ net.
+    Some (record { a = a; b = b; delay = delay; gap = gap; net = net }))
     else None
-link_line _ = None
+link_line edition _ = None
 
 -- words that are all numbers
 unfoldable pub numbers_of : List (List ℕ) → Option (List ℕ)
@@ -90,11 +96,11 @@ abbrev pub or_line : Option FrameLine → Option FrameLine → Option FrameLine
 or_line (Some l) other = Some l
 or_line None other = other
 
--- a line of the frame outside of the sections by its words
-unfoldable pub frame_line : List (List ℕ) → Option FrameLine
-frame_line words =
+-- a line of the frame outside of the sections by its words, in a system of an edition
+unfoldable pub frame_line : ℕ → List (List ℕ) → Option FrameLine
+frame_line edition words =
     or_line (option_map Node (node_line words))
-    (or_line (option_map Link (link_line words)) (or_line (option_map Bit (bit_line words)) (option_map Section (section_line words))))
+    (or_line (option_map Link (link_line edition words)) (or_line (option_map Bit (bit_line words)) (option_map Section (section_line words))))
 
 -- a run of the node with this number, over so many slots
 abbrev pub run_of : List ℕ → Option ℕ → Option PlayLine
@@ -118,6 +124,10 @@ is_node_number n = nat_le n 99
 abbrev pub is_end_number : ℕ → Bool
 is_end_number n = nat_le n 7
 
+-- and that of a network at most 3
+abbrev pub is_net : ℕ → Bool
+is_net n = nat_le n 3
+
 abbrev pub is_end_in_range : EndName → Bool
 is_end_in_range name = is_node_number name.node && is_end_number name.end
 
@@ -125,7 +135,7 @@ is_end_in_range name = is_node_number name.node && is_end_number name.end
 abbrev pub are_numbers_in_range : FrameLine → Bool
 are_numbers_in_range (Node node) = is_node_number node.number && nat_le node.id 65535
 are_numbers_in_range (Link link) =
-    is_end_in_range link.a && (is_end_in_range link.b && (is_between 1 1000 link.delay && is_between 4 1000 link.gap))
+    is_end_in_range link.a && (is_end_in_range link.b && (is_between 1 1000 link.delay && (is_between 4 1000 link.gap && is_net link.net)))
 are_numbers_in_range (Bit bit) = is_node_number bit.node && (nat_le bit.bit 15 && list_all is_end_number bit.ends)
 are_numbers_in_range (Section (Source n)) = is_node_number n
 are_numbers_in_range (Section Pins) = true

@@ -1,5 +1,5 @@
 -- What a system text stands for.
-use Rattle.std.specs.Prelude.{ℕ, zero, suc, ◌+◌, ◌^◌, Bool, ◌&&◌, ◌==◌, nat_lt, if◌then◌else◌, Option, Some, None, Result, Ok, Err, List, [], ◌∷◌, map, filter, length}
+use Rattle.std.specs.Prelude.{ℕ, zero, suc, ◌+◌, ◌^◌, Bool, ◌&&◌, ◌||◌, ◌==◌, nat_lt, if◌then◌else◌, Option, Some, None, Result, Ok, Err, List, [], ◌∷◌, map, filter, length}
 use Rattle.std.specs.List.{list_any}
 use Rattle.xs_base.specs.declared.numbers.TheConstants.{LINK_ENDS}
 use Rattle.xs_text.specs.Lines.{lines_of}
@@ -8,14 +8,14 @@ use Rattle.source_model.specs.declared.AsmKind.{AsmKind}
 use Rattle.pin_scripts.specs.declared.pin_error.PinKind.{PinKind}
 use Rattle.pin_scripts.specs.Pins.{PinsRead, pins_of}
 use Rattle.pin_scripts.specs.Pins as pins
-use Rattle.sys_plan.specs.Plan.{PlanRec}
+use Rattle.sys_plan.specs.Plan.{PlanRec, link_ends}
 use Rattle.sys_plan.specs.declared.LinkPlan.{LinkPlan}
 use Rattle.sys_plan.specs.declared.NodePlan.{NodePlan}
-use Rattle.sys_plan.specs.NodePlans.{plain_plan}
 use Rattle.sys_plan.specs.declared.Step.{Step}
 use Rattle.sys_plan.specs.declared.Step.TheVariants as step
 use Rattle.system_model.specs.declared.SysKind.{SysKind}
 use Rattle.system_model.specs.declared.SysKind.TheVariants.{TooLong}
+use Rattle.system_model.specs.declared.frame_line.EndName.{EndName}
 use Rattle.system_model.specs.declared.frame_line.GivenNode.{GivenNode}
 use Rattle.system_model.specs.declared.frame_line.LinkLine.{LinkLine}
 use Rattle.system_model.specs.declared.frame_line.PlayLine.{PlayLine}
@@ -23,7 +23,7 @@ use Rattle.system_model.specs.declared.frame_line.PlayLine.TheVariants.{Take, Ru
 use Rattle.system_model.specs.declared.frame_line.SectionKind.{SectionKind}
 use Rattle.system_model.specs.declared.frame_line.SectionKind.TheVariants as section
 use Rattle.system_model.specs.Bits.{BitRec}
-use Rattle.system_model.specs.Frame.{SectionText, Given, Framed, Whole, Refused, framed, is_same_kind}
+use Rattle.system_model.specs.Frame.{SectionText, Given, Framed, Whole, Refused, framed, is_same_end, is_same_kind}
 
 -- what a system text stands for
 pub data System : Type 0 where
@@ -55,6 +55,15 @@ id_bits = 0 ∷ 1 ∷ 2 ∷ 3 ∷ 4 ∷ 5 ∷ 6 ∷ 7 ∷ 8 ∷ 9 ∷ 10 ∷ 11 
 abbrev pub ways_of : List BitRec → ℕ → List ℕ
 ways_of bits number = map (way bits number) id_bits
 
+-- the network of the link at a link end, 0 where no link is
+abbrev pub net_of_end : List LinkLine → EndName → ℕ
+net_of_end [] name = 0
+net_of_end (link ∷ links) name = if is_same_end link.a name || is_same_end link.b name then link.net else net_of_end links name
+
+-- that of each link end of a node
+abbrev pub nets_of : List LinkLine → ℕ → List ℕ
+nets_of links number = map (λ end. net_of_end links (record { node = number; end = end })) link_ends
+
 -- the lines of the section that holds this, none where there is no such section
 abbrev pub section_lines : List SectionText → SectionKind → List (List ℕ)
 section_lines [] kind = []
@@ -66,10 +75,17 @@ pub record SourceFault : Type 0 where
   pub line : ℕ
   pub kind : AsmKind
 
--- a node's plan by the edition and by what its source stands for, or the refusal of its source
-abbrev pub planned : ℕ → List BitRec → GivenNode → Assembled → Result NodePlan SourceFault
-planned edition bits node (Image image) = Ok (record (plain_plan node.number node.id image (ways_of bits node.number)) { edition = edition })
-planned edition bits node (Fault line kind) = Err (record { node = node.number; line = line; kind = kind })
+-- a node's plan by the edition, the links and the bits, and by what its source stands for, or the refusal of its source
+abbrev pub planned : ℕ → List LinkLine → List BitRec → GivenNode → Assembled → Result NodePlan SourceFault
+planned edition links bits node (Image image) = Ok (record {
+  number = node.number;
+  edition = edition;
+  id = node.id;
+  image = image;
+  ways = ways_of bits node.number;
+  nets = nets_of links node.number;
+})
+planned edition links bits node (Fault line kind) = Err (record { node = node.number; line = line; kind = kind })
 
 -- a node's plan before those of the nodes after it, or the first refusal
 abbrev pub plan_before : Result NodePlan SourceFault → Result (List NodePlan) SourceFault → Result (List NodePlan) SourceFault
@@ -78,10 +94,11 @@ plan_before (Ok plan) (Err fault) = Err fault
 plan_before (Ok plan) (Ok plans) = Ok (plan ∷ plans)
 
 -- the plans of nodes, or the refusal of the first source that is refused
-unfoldable pub node_plans : ℕ → List BitRec → List SectionText → List GivenNode → Result (List NodePlan) SourceFault
-node_plans edition bits sections [] = Ok []
-node_plans edition bits sections (node ∷ nodes) =
-    plan_before (planned edition bits node (assembled_lines (section_lines sections (section.Source node.number)))) (node_plans edition bits sections nodes)
+unfoldable pub node_plans : ℕ → List LinkLine → List BitRec → List SectionText → List GivenNode → Result (List NodePlan) SourceFault
+node_plans edition links bits sections [] = Ok []
+node_plans edition links bits sections (node ∷ nodes) =
+    plan_before (planned edition links bits node (assembled_lines (section_lines sections (section.Source node.number))))
+    (node_plans edition links bits sections nodes)
 
 -- where a node stands among nodes by ascending number: so many have a lesser one
 abbrev pub position_by_number : List GivenNode → ℕ → ℕ
@@ -95,6 +112,7 @@ link_plan nodes link = record {
   b_end = link.b.end;
   delay = link.delay;
   gap = link.gap;
+  net = link.net;
 }
 
 -- a step with its node by position
@@ -127,7 +145,7 @@ edition_given (Some edition) = edition
 abbrev pub plan_of_frame : Given → System
 plan_of_frame given =
     plan_with (map (link_plan given.nodes) given.links) (map (step_plan given.nodes) given.steps) (script_of given)
-    (node_plans (edition_given given.edition) given.bits given.sections given.nodes)
+    (node_plans (edition_given given.edition) given.links given.bits given.sections given.nodes)
 
 abbrev pub plan_of : Framed → System
 plan_of (Refused line kind) = Frame line kind

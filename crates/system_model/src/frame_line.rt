@@ -15,13 +15,15 @@ pub struct EndName {
     pub end: u8,
 }
 
-/// A link's line: the two link ends that it joins, and its delay (1 to 1,000) and gap (4 to 1,000) in slots.
+/// A link's line: the two link ends that it joins, its delay (1 to 1,000) and gap (4 to 1,000) in slots, and its network, 0 to 3, which
+/// is 0 in edition 1.
 #[derive(Clone, Copy)]
 pub struct LinkLine {
     pub a: EndName,
     pub b: EndName,
     pub delay: u32,
     pub gap: u32,
+    pub net: u8,
 }
 
 /// A bit's line: the node with this number sends what differs from its id at this bit first, 0 to 15, by one of these link
@@ -68,7 +70,7 @@ pub enum PlayLine {
 pub enum FrameLine {
     /// `node N id ID`.
     Node(NodeLine),
-    /// `link N:E M:F delay D gap G`.
+    /// `link N:E M:F delay D gap G`, in edition 2 also with `net K` after it.
     Link(LinkLine),
     /// `bit N B E`, with up to seven more link ends.
     Bit(BitLine),

@@ -108,7 +108,7 @@ impl<'a> Frame<'a> {
             return judge_bytes(line, Said::Blank);
         }
         match self.edition {
-            Some(_edition) => self.judge_form(line, frame_line(line)),
+            Some(edition) => self.judge_form(line, frame_line(edition, line)),
             None => judge_first(line),
         }
     }
@@ -412,7 +412,7 @@ impl<'a> Frame<'a> {
 }
 
 // Whether two names are of one link end.
-fn is_same_end(a: EndName, b: EndName) -> bool
+pub fn is_same_end(a: EndName, b: EndName) -> bool
     ensures { result ≡ is_same_end a b }
 {
     a.node == b.node && a.end == b.end

@@ -2,7 +2,7 @@ ghost use Rattle.std.specs.Prelude.{◌≡◌, ◌≤◌, ◌∷◌, codes, is_s
 ghost use Rattle.std.specs.List.{list_all};
 ghost use Rattle.xs_text.specs.Words.{words_of_line};
 ghost use Rattle.xs_text.specs.Numbers.{number_of};
-ghost use Rattle.system_model.specs.FrameLines.{node_line, link_line, bit_line, section_line, frame_line, end_name, before_colon, is_between};
+ghost use Rattle.system_model.specs.FrameLines.{node_line, link_line, net_of_words, bit_line, section_line, frame_line, end_name, before_colon, is_between};
 ghost use Rattle.system_text.specs.Forms.{formed, ranged, or_bad, capped, capped_end, is_in_range, end_of, end_numbers, GivesEnds};
 ghost use Rattle.system_text.specs.LineWords.{bytes_of};
 
@@ -19,20 +19,20 @@ pub struct NamedEnd {
     end: u32,
 }
 
-// A line of the frame outside of the sections. The error is that it has no form, or else that a number is out of range.
-pub fn frame_line(line: &[u8]) -> Result<FrameLine, SysKind>
-    ensures { result ≡ formed (frame_line (words_of_line line.now)) }
+// A line of the frame outside of the sections, in a system of an edition. The error is that it has no form, or else that a number is out of range.
+pub fn frame_line(edition: u8, line: &[u8]) -> Result<FrameLine, SysKind>
+    ensures { result ≡ formed (frame_line edition (words_of_line line.now)) }
 {
     match line_words(line) {
-        Ok(words) => form_of(&words),
+        Ok(words) => form_of(edition, &words),
         Err(kind) => Err(kind),
     }
 }
 
 // The same by the words.
-fn form_of(words: &[Word]) -> Result<FrameLine, SysKind>
+fn form_of(edition: u8, words: &[Word]) -> Result<FrameLine, SysKind>
     requires { length words.now ≤ 11 }
-    ensures { result ≡ formed (frame_line (bytes_of words.now)) }
+    ensures { result ≡ formed (frame_line edition (bytes_of words.now)) }
 {
     let [name, rest @ ..] = words else {
         return Err(SysKind::BadLine);
@@ -40,7 +40,7 @@ fn form_of(words: &[Word]) -> Result<FrameLine, SysKind>
     if same_name(b"node", name.bytes) {
         node_line(rest)
     } else if same_name(b"link", name.bytes) {
-        link_line(rest)
+        link_line(edition, rest)
     } else if same_name(b"bit", name.bytes) {
         bit_line(rest)
     } else if same_name(b"source", name.bytes) {
@@ -72,11 +72,11 @@ fn node_line(words: &[Word]) -> Result<FrameLine, SysKind>
     }))
 }
 
-// `N:E M:F delay D gap G` after `link`.
-fn link_line(words: &[Word]) -> Result<FrameLine, SysKind>
-    ensures { result ≡ formed (option_map FrameLine.Link (link_line (codes "link" ∷ bytes_of words.now))) }
+// `N:E M:F delay D gap G` after `link`, in edition 2 also with `net K` after it.
+fn link_line(edition: u8, words: &[Word]) -> Result<FrameLine, SysKind>
+    ensures { result ≡ formed (option_map FrameLine.Link (link_line edition (codes "link" ∷ bytes_of words.now))) }
 {
-    let [a, b, delay_word, delay, gap_word, gap] = words else {
+    let [a, b, delay_word, delay, gap_word, gap, rest @ ..] = words else {
         return Err(SysKind::BadLine);
     };
     if !same_name(b"delay", delay_word.bytes) {
@@ -89,12 +89,25 @@ fn link_line(words: &[Word]) -> Result<FrameLine, SysKind>
     let b = end_name(b.bytes)?;
     let delay = any_number(delay.bytes)?;
     let gap = any_number(gap.bytes)?;
+    let net = net_of_words(edition, rest)?;
     Ok(FrameLine::Link(LinkLine {
         a: end_in_range(a)?,
         b: end_in_range(b)?,
         delay: between(delay, 1, 1000)?,
         gap: between(gap, 4, 1000)?,
+        net: up_to(net, 3)? as u8,
     }))
+}
+
+// The network of a link by the words after its gap: 0 where there are none, and in edition 2 also that of `net K`.
+fn net_of_words(edition: u8, words: &[Word]) -> Result<u32, SysKind>
+    ensures { result ≡ or_bad (option_map capped (net_of_words edition (bytes_of words.now))) }
+{
+    match words {
+        [] => Ok(0),
+        [name, net] if edition == 2 && same_name(b"net", name.bytes) => any_number(net.bytes),
+        _ => Err(SysKind::BadLine),
+    }
 }
 
 // `N B E` after `bit`, with up to seven more link ends.

@@ -23,6 +23,7 @@ pub fn link_plans(
             b_end: link.b.end,
             delay: link.delay,
             gap: link.gap,
+            net: link.net,
         })?;
     }
     Ok(plans)

@@ -1,20 +1,20 @@
 ghost use Rattle.std.specs.Prelude.{◌≡◌, ◌==◌};
 ghost use Rattle.std.specs.List.{list_any};
 ghost use Rattle.source_model.specs.Source.{assembled_lines};
-ghost use Rattle.system_model.specs.System.{edition_given, node_plans, planned, section_lines, ways_of, way, ends_for, mask_where};
+ghost use Rattle.system_model.specs.System.{edition_given, node_plans, planned, section_lines, nets_of, net_of_end, ways_of, way, ends_for, mask_where};
 ghost use Rattle.system_text.specs.Plans.{GivesNode, GivesNodes};
 
 use crate::end_numbers::is_among;
-use crate::frame::Frame;
+use crate::frame::{Frame, is_same_end};
 use crate::system_error::SystemError;
 use std::alloc::Global;
 use sys_plan::NodePlan;
-use system_model::{BitLine, GivenNode, SectionKind};
+use system_model::{BitLine, EndName, GivenNode, LinkLine, SectionKind};
 use xs_assembler::{AsmError, assemble};
 
 // The plans of the nodes of a frame by ascending number, or the refusal of the first source that is refused.
 pub fn node_plans(alloc: Global, frame: &Frame) -> Result<Vec<NodePlan>, SystemError>
-    ensures { GivesNodes (node_plans (edition_given frame.now.edition) frame.now.bits frame.now.sections frame.now.nodes) result }
+    ensures { GivesNodes (node_plans (edition_given frame.now.edition) frame.now.links frame.now.bits frame.now.sections frame.now.nodes) result }
 {
     let nodes = frame.nodes();
     let mut plans = Vec::new(alloc);
@@ -29,7 +29,7 @@ pub fn node_plans(alloc: Global, frame: &Frame) -> Result<Vec<NodePlan>, SystemE
 
 // The plan of a node, or the refusal of its source.
 fn node_plan(alloc: Global, frame: &Frame, node: GivenNode) -> Result<NodePlan, SystemError>
-    ensures { GivesNode (planned (edition_given frame.now.edition) frame.now.bits node (assembled_lines (section_lines frame.now.sections (SectionKind.Source node.number)))) result }
+    ensures { GivesNode (planned (edition_given frame.now.edition) frame.now.links frame.now.bits node (assembled_lines (section_lines frame.now.sections (SectionKind.Source node.number)))) result }
 {
     match assemble(alloc, frame.section(SectionKind::Source(node.number))) {
         Ok(image) => {
@@ -40,7 +40,7 @@ fn node_plan(alloc: Global, frame: &Frame, node: GivenNode) -> Result<NodePlan, 
                 id: node.id,
                 image,
                 ways,
-                nets: [0; 8],
+                nets: nets_of(frame.links(), node.number),
             })
         }
         Err(AsmError::Fault { line, kind }) => Err(SystemError::Source {
@@ -50,6 +50,34 @@ fn node_plan(alloc: Global, frame: &Frame, node: GivenNode) -> Result<NodePlan, 
         }),
         Err(AsmError::Memory) => Err(SystemError::Memory),
     }
+}
+
+// The network of the link at each link end of a node, 0 where no link is.
+fn nets_of(links: &[LinkLine], node: u8) -> [u8; 8]
+    ensures { result ≡ nets_of links.now node }
+{
+    [
+        net_of_end(links, EndName { node, end: 0 }),
+        net_of_end(links, EndName { node, end: 1 }),
+        net_of_end(links, EndName { node, end: 2 }),
+        net_of_end(links, EndName { node, end: 3 }),
+        net_of_end(links, EndName { node, end: 4 }),
+        net_of_end(links, EndName { node, end: 5 }),
+        net_of_end(links, EndName { node, end: 6 }),
+        net_of_end(links, EndName { node, end: 7 }),
+    ]
+}
+
+// The network of the link at a link end, 0 where no link is.
+fn net_of_end(links: &[LinkLine], name: EndName) -> u8
+    ensures { result ≡ net_of_end links.now name }
+{
+    for link in links {
+        if is_same_end(link.a, name) || is_same_end(link.b, name) {
+            return link.net;
+        }
+    }
+    0
 }
 
 // The ways of a node, for each bit of an id.

@@ -19,7 +19,7 @@ bare_node number = plain_plan number number empty_image (replicate 16 0)
 
 -- link end 7 of a node is joined to link end 0 of the next one
 abbrev pub link_on : ℕ → ℕ → LinkPlan
-link_on first delay = record { a = first; a_end = 7; b = first + 1; b_end = 0; delay = delay; gap = 4 }
+link_on first delay = record { a = first; a_end = 7; b = first + 1; b_end = 0; delay = delay; gap = 4; net = 0 }
 
 -- two nodes with a link between them
 abbrev pub pair : ℕ → PlanRec

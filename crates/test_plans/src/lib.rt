@@ -55,6 +55,7 @@ pub fn link_on(first: u8, delay: u32) -> LinkPlan
         b_end: 0,
         delay,
         gap: 4,
+        net: 0,
     }
 }
 

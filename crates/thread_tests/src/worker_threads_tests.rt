@@ -42,6 +42,7 @@ fn ring_of_three(alloc: Global, delay: u32) -> Result<Plan, AllocError>
         b_end: 0,
         delay,
         gap: 4,
+        net: 0,
     })?;
     Ok(Plan::of(nodes, links, Script::empty(), Vec::new(alloc)))
 }

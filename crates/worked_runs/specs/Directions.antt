@@ -5,11 +5,11 @@ use Rattle.sys_plan.specs.Plan.{PlanRec, arcs, outgoing, incoming, delay_of, gap
 
 -- from link end 2 of the second node to link end 7 of the first one
 abbrev pub first_link_plan : LinkPlan
-first_link_plan = record { a = 1; a_end = 2; b = 0; b_end = 7; delay = 5; gap = 4 }
+first_link_plan = record { a = 1; a_end = 2; b = 0; b_end = 7; delay = 5; gap = 4; net = 0 }
 
 -- from link end 0 of the first node to link end 1 of the third one
 abbrev pub second_link_plan : LinkPlan
-second_link_plan = record { a = 0; a_end = 0; b = 2; b_end = 1; delay = 9; gap = 6 }
+second_link_plan = record { a = 0; a_end = 0; b = 2; b_end = 1; delay = 9; gap = 6; net = 0 }
 
 -- links alone matter here
 abbrev pub one_link : PlanRec

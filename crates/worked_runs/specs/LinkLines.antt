@@ -23,7 +23,7 @@ three_entries =
 abbrev pub three_and_seven : PlanRec
 three_and_seven = record {
   nodes = plain_node 3 (Words words.Nop ∷ []) (1 ∷ 0 ∷ 0 ∷ 0 ∷ 2 ∷ []) ∷ plain_node 7 [] (3 ∷ []) ∷ [];
-  links = record { a = 1; a_end = 2; b = 0; b_end = 6; delay = 5; gap = 4 } ∷ [];
+  links = record { a = 1; a_end = 2; b = 0; b_end = 6; delay = 5; gap = 4; net = 0 } ∷ [];
   script = [];
   steps = [];
 }
@@ -38,7 +38,7 @@ flooding_node = record (plain_node 0 (
 abbrev pub flooded_pair : PlanRec
 flooded_pair = record {
   nodes = flooding_node ∷ plain_node 1 (Resources (resources.Getr 0 2) ∷ Threads threads.Freet ∷ []) [] ∷ [];
-  links = record { a = 0; a_end = 0; b = 1; b_end = 0; delay = 5; gap = 4 } ∷ [];
+  links = record { a = 0; a_end = 0; b = 1; b_end = 0; delay = 5; gap = 4; net = 0 } ∷ [];
   script = [];
   steps = [];
 }

@@ -53,9 +53,9 @@ pub record StepRounds : Type 0 where
 -- three nodes in a ring: delay 3 between 0 and 1, 7 between 1 and 2 and between 2 and 0
 abbrev pub slow_third : PlanRec
 slow_third = of_nodes (idle_node 0 ∷ idle_node 1 ∷ idle_node 2 ∷ [])
-    (record { a = 0; a_end = 0; b = 1; b_end = 0; delay = 3; gap = 4 }
-    ∷ record { a = 1; a_end = 1; b = 2; b_end = 0; delay = 7; gap = 4 }
-    ∷ record { a = 2; a_end = 1; b = 0; b_end = 1; delay = 7; gap = 4 }
+    (record { a = 0; a_end = 0; b = 1; b_end = 0; delay = 3; gap = 4; net = 0 }
+    ∷ record { a = 1; a_end = 1; b = 2; b_end = 0; delay = 7; gap = 4; net = 0 }
+    ∷ record { a = 2; a_end = 1; b = 0; b_end = 1; delay = 7; gap = 4; net = 0 }
     ∷ [])
 
 -- Nodes 0 and 1 wait for each other, 3 slots a round; node 2 is 7 slots ahead of where they were, which is 4 ahead of where they are.
@@ -73,9 +73,9 @@ pub record RingRounds : Type 0 where
 -- Nodes 0 and 1 with a delay of 6, two links between 1 and 2 with delays of 4 and 9, and node 3 alone. The shorter of the two links counts.
 abbrev pub two_ways : PlanRec
 two_ways = of_nodes (idle_node 0 ∷ idle_node 1 ∷ idle_node 2 ∷ idle_node 3 ∷ [])
-    (record { a = 0; a_end = 0; b = 1; b_end = 0; delay = 6; gap = 4 }
-    ∷ record { a = 2; a_end = 3; b = 1; b_end = 1; delay = 9; gap = 4 }
-    ∷ record { a = 1; a_end = 2; b = 2; b_end = 5; delay = 4; gap = 4 }
+    (record { a = 0; a_end = 0; b = 1; b_end = 0; delay = 6; gap = 4; net = 0 }
+    ∷ record { a = 2; a_end = 3; b = 1; b_end = 1; delay = 9; gap = 4; net = 0 }
+    ∷ record { a = 1; a_end = 2; b = 2; b_end = 5; delay = 4; gap = 4; net = 0 }
     ∷ [])
 
 pub record TwoWays : Type 0 where

@@ -17,7 +17,7 @@ idle_node id = plain_plan id id (record { code = []; bytes = []; cp_at = 0x00010
 abbrev pub pair : List Step → PlanRec
 pair steps = record {
   nodes = idle_node 0 ∷ idle_node 1 ∷ [];
-  links = record { a = 0; a_end = 0; b = 1; b_end = 0; delay = 5; gap = 4 } ∷ [];
+  links = record { a = 0; a_end = 0; b = 1; b_end = 0; delay = 5; gap = 4; net = 0 } ∷ [];
   script = [];
   steps = steps;
 }
@@ -47,9 +47,9 @@ pub record PairNumbers : Type 0 where
 abbrev pub ring : List Step → PlanRec
 ring steps = record {
   nodes = idle_node 0 ∷ idle_node 1 ∷ idle_node 2 ∷ [];
-  links = record { a = 0; a_end = 0; b = 1; b_end = 0; delay = 5; gap = 4 }
-      ∷ record { a = 1; a_end = 1; b = 2; b_end = 0; delay = 2; gap = 4 }
-      ∷ record { a = 2; a_end = 1; b = 0; b_end = 1; delay = 7; gap = 4 }
+  links = record { a = 0; a_end = 0; b = 1; b_end = 0; delay = 5; gap = 4; net = 0 }
+      ∷ record { a = 1; a_end = 1; b = 2; b_end = 0; delay = 2; gap = 4; net = 0 }
+      ∷ record { a = 2; a_end = 1; b = 0; b_end = 1; delay = 7; gap = 4; net = 0 }
       ∷ [];
   script = [];
   steps = steps;

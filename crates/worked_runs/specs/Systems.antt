@@ -40,7 +40,7 @@ two_alone = record {
 abbrev pub two_joined : PlanRec
 two_joined = record {
   nodes = two_alone.nodes;
-  links = record { a = 1; a_end = 2; b = 0; b_end = 7; delay = 5; gap = 4 } ∷ [];
+  links = record { a = 1; a_end = 2; b = 0; b_end = 7; delay = 5; gap = 4; net = 0 } ∷ [];
   script = [];
   steps = [];
 }
@@ -68,7 +68,7 @@ receiving_node = record (plain_node 1 (
 abbrev pub talking_pair : PlanRec
 talking_pair = record {
   nodes = sending_node ∷ receiving_node ∷ [];
-  links = record { a = 0; a_end = 0; b = 1; b_end = 0; delay = 5; gap = 4 } ∷ [];
+  links = record { a = 0; a_end = 0; b = 1; b_end = 0; delay = 5; gap = 4; net = 0 } ∷ [];
   script = [];
   steps = [];
 }
@@ -146,7 +146,7 @@ line_other_end =
 abbrev pub line_of_three : PlanRec
 line_of_three = record {
   nodes = line_end ∷ line_middle ∷ line_other_end ∷ [];
-  links = record { a = 0; a_end = 0; b = 1; b_end = 0; delay = 5; gap = 4 } ∷ record { a = 1; a_end = 1; b = 2; b_end = 0; delay = 5; gap = 4 } ∷ [];
+  links = record { a = 0; a_end = 0; b = 1; b_end = 0; delay = 5; gap = 4; net = 0 } ∷ record { a = 1; a_end = 1; b = 2; b_end = 0; delay = 5; gap = 4; net = 0 } ∷ [];
   script = [];
   steps = [];
 }

@@ -178,7 +178,7 @@ scheduled steps = record {
       plain_plan 3 0 empty_image (replicate 16 0)
       ∷ plain_plan 7 1 empty_image (replicate 16 0)
       ∷ [];
-  links = record { a = 1; a_end = 0; b = 0; b_end = 0; delay = 5; gap = 4 } ∷ [];
+  links = record { a = 1; a_end = 0; b = 0; b_end = 0; delay = 5; gap = 4; net = 0 } ∷ [];
   script = [];
   steps = steps;
 }

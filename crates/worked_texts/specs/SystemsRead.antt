@@ -322,8 +322,8 @@ mixed_frame = Whole (record {
   edition = Some 1;
   nodes = record { line = 10; number = 3; id = 0 } ∷ record { line = 4; number = 7; id = 1 } ∷ [];
   links =
-      record { a = record { node = 3; end = 0 }; b = record { node = 7; end = 0 }; delay = 1000; gap = 1000 }
-      ∷ record { a = record { node = 7; end = 7 }; b = record { node = 3; end = 1 }; delay = 1; gap = 4 }
+      record { a = record { node = 3; end = 0 }; b = record { node = 7; end = 0 }; delay = 1000; gap = 1000; net = 0 }
+      ∷ record { a = record { node = 7; end = 7 }; b = record { node = 3; end = 1 }; delay = 1; gap = 4; net = 0 }
       ∷ [];
   bits =
       record { node = 7; bit = 15; ends = 0 ∷ [] }
@@ -353,7 +353,7 @@ plan_of_3_and_7 = record {
       plain_plan 3 0 empty_image (1 ∷ replicate 15 0)
       ∷ plain_plan 7 1 empty_image (replicate 15 0 ++ 1 ∷ [])
       ∷ [];
-  links = record { a = 1; a_end = 0; b = 0; b_end = 0; delay = 5; gap = 4 } ∷ [];
+  links = record { a = 1; a_end = 0; b = 0; b_end = 0; delay = 5; gap = 4; net = 0 } ∷ [];
   script = [];
   steps = [];
 }
@@ -372,9 +372,9 @@ plan_of_three = record {
       ∷ plain_plan 9 0 empty_image (0 ∷ 1 ∷ replicate 14 0)
       ∷ [];
   links =
-      record { a = 1; a_end = 1; b = 0; b_end = 6; delay = 7; gap = 4 }
-      ∷ record { a = 2; a_end = 0; b = 1; b_end = 3; delay = 5; gap = 9 }
-      ∷ record { a = 1; a_end = 4; b = 0; b_end = 0; delay = 6; gap = 5 }
+      record { a = 1; a_end = 1; b = 0; b_end = 6; delay = 7; gap = 4; net = 0 }
+      ∷ record { a = 2; a_end = 0; b = 1; b_end = 3; delay = 5; gap = 9; net = 0 }
+      ∷ record { a = 1; a_end = 4; b = 0; b_end = 0; delay = 6; gap = 5; net = 0 }
       ∷ [];
   script = [];
   steps = [];
@@ -392,7 +392,7 @@ plan_of_eight = record {
       ∷ plain_plan 7 1 empty_image (255 ∷ replicate 15 0)
       ∷ [];
   links =
-      map (λ end. record { a = 0; a_end = end; b = 1; b_end = end; delay = 5; gap = 4 }) (0 ∷ 1 ∷ 2 ∷ 3 ∷ 4 ∷ 5 ∷ 6 ∷ 7 ∷ []);
+      map (λ end. record { a = 0; a_end = end; b = 1; b_end = end; delay = 5; gap = 4; net = 0 }) (0 ∷ 1 ∷ 2 ∷ 3 ∷ 4 ∷ 5 ∷ 6 ∷ 7 ∷ []);
   script = [];
   steps = [];
 }

@@ -10,7 +10,7 @@ few : (c : After-links) → c.args.link / 2 < length c.links.result.now
 few c = omega (arith, c.requires.link, arcs_length c.args.plan.now.links, ap (λ (ls : List LinkPlan). length ls) c.links.ensures.value)
 
 abbrev no_link : LinkPlan
-no_link = record { a = 0; a_end = 0; b = 0; b_end = 0; delay = 0; gap = 0 }
+no_link = record { a = 0; a_end = 0; b = 0; b_end = 0; delay = 0; gap = 0; net = 0 }
 
 joins : (c : After-links) → slice_get c.args.plan.now.links (c.args.link / 2) ≡ Some (get_or c.links.result.now (c.args.link / 2) no_link)
 joins c =

@@ -12,10 +12,10 @@ bounds-links-link c = omega (arith, c.requires.link, arcs_length c.args.plan.now
 
 pub returns-then-link-eq0 : goal.returns-then-link-eq0
 returns-then-link-eq0 c = record {
-  ends = ends_forth c.args.plan.now c.links.ensures.plan c.links.result.now c.links.ensures.value c.args.link (record { a = 0; a_end = 0; b = 0; b_end = 0; delay = 0; gap = 0 }) c.requires.link c.if-link-eq0.true;
+  ends = ends_forth c.args.plan.now c.links.ensures.plan c.links.result.now c.links.ensures.value c.args.link (record { a = 0; a_end = 0; b = 0; b_end = 0; delay = 0; gap = 0; net = 0 }) c.requires.link c.if-link-eq0.true;
 }
 
 pub returns-else-link-eq0 : goal.returns-else-link-eq0
 returns-else-link-eq0 c = record {
-  ends = ends_back c.args.plan.now c.links.ensures.plan c.links.result.now c.links.ensures.value c.args.link (record { a = 0; a_end = 0; b = 0; b_end = 0; delay = 0; gap = 0 }) c.requires.link c.if-link-eq0.false;
+  ends = ends_back c.args.plan.now c.links.ensures.plan c.links.result.now c.links.ensures.value c.args.link (record { a = 0; a_end = 0; b = 0; b_end = 0; delay = 0; gap = 0; net = 0 }) c.requires.link c.if-link-eq0.false;
 }

@@ -9,7 +9,7 @@ loop-link-preserved c =
     let links = c.args.plan.now.links in
     let lent = c.links-link-items.result.now in
     let i = c.loop-link.link-index in
-    let d : LinkPlan = record { a = 0; a_end = 0; b = 0; b_end = 0; delay = 0; gap = 0 } in
+    let d : LinkPlan = record { a = 0; a_end = 0; b = 0; b_end = 0; delay = 0; gap = 0; net = 0 } in
     let there = c.track_of.ensures in
     let back = c.track_of-in-loop-link.ensures in
     let first : c.push.new.self.items ≡ c.loop-link.tracks.items ++ c.track_of.result ∷ [] = grind (arith, common_steps) in
