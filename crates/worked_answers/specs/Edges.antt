@@ -1,5 +1,5 @@
 -- Answers at the edges, worked out by hand.
-use Rattle.std.specs.Prelude.{◌≡◌, [], ◌∷◌, ◌++◌, codes}
+use Rattle.std.specs.Prelude.{ℕ, ◌≡◌, List, [], ◌∷◌, ◌++◌, codes}
 use Rattle.answer_model.specs.Top.{answer}
 use Rattle.worked_answers.specs.Answers.{lone, run_for, done, frame_refused, source_refused, no_usage}
 
@@ -20,6 +20,9 @@ pub record WorkedFrames : Type 0 where
   pub binary_number : answer (run_for (codes "1")) (codes "xs1 1\nnode 0b0 id 0\nsource 0\nend") ≡ frame_refused (codes "system line 2: S2 bad line\n")
   pub upper_case_prefix : answer (run_for (codes "1")) (codes "xs1 1\nnode 0X0 id 0\nsource 0\nend") ≡ frame_refused (codes "system line 2: S2 bad line\n")
   pub header_01 : answer (run_for (codes "1")) (codes "xs1 01\nnode 0 id 0\nsource 0\nend") ≡ frame_refused (codes "system line 1: S1 first line is not xs1 1 or xs1 2\n")
+  pub second_edition : answer (run_for (codes "1")) (codes "xs1 2\nnode 0 id 0\nsource 0\nnop\nend\n") ≡ done (codes "end 1\n")
+  pub header_02 : answer (run_for (codes "1")) (codes "xs1 02\nnode 0 id 0\nsource 0\nnop\nend\n") ≡ frame_refused (codes "system line 1: S1 first line is not xs1 1 or xs1 2\n")
+  pub third_edition : answer (run_for (codes "1")) (codes "xs1 3\nnode 0 id 0\nsource 0\nnop\nend\n") ≡ frame_refused (codes "system line 1: S1 first line is not xs1 1 or xs1 2\n")
   pub node_17 : answer (codes "check" ∷ [])
       (codes "xs1 1\nnode 0 id 0\nnode 1 id 1\nnode 2 id 2\nnode 3 id 3\nnode 4 id 4\nnode 5 id 5\nnode 6 id 6\n"
       ++ codes "node 7 id 7\nnode 8 id 8\nnode 9 id 9\nnode 10 id 10\nnode 11 id 11\nnode 12 id 12\nnode 13 id 13\n"
@@ -54,6 +57,11 @@ pub record WorkedSources : Type 0 where
   pub sp_in_ldc : answer (run_for (codes "0")) (lone (codes "ldc sp, 1\n")) ≡ source_refused (codes "source 0 line 1: A3 wrong operands\n")
   pub lone_slash : answer (run_for (codes "0")) (lone (codes "nop / x\n")) ≡ source_refused (codes "source 0 line 1: A3 wrong operands\n")
 
+-- a system with this first line, whose node divides 100 by 7 twice, for the quotient and for the remainder
+abbrev pub divided : List ℕ → List ℕ
+divided first =
+    first ++ codes "\nnode 0 id 0\nsource 0\nldc r0, 100\nldc r1, 7\ndivu r2, r0, r1\nremu r3, r0, r1\nstw r2, dp[0]\nstw r3, dp[1]\nfreet\nend\n"
+
 -- at runs
 pub record WorkedRuns : Type 0 where
   pub binary_numbers : answer (run_for (codes "5")) (lone (codes "ldc r0, 0b11\nstw r0, dp[0b0]\n")) ≡ done (codes "n0 mem 0x00010000 0x00000003\nend 5\n")
@@ -80,7 +88,9 @@ pub record WorkedRuns : Type 0 where
   pub signed_slots : answer (run_for (codes "+5")) [] ≡ no_usage
   pub empty_slots : answer (run_for []) [] ≡ no_usage
   pub most_slots : answer (run_for (codes "16000000")) ([]) ≡ frame_refused (codes "system line 1: S1 first line is not xs1 1 or xs1 2\n")
-  -- the first line names the edition, letter by letter
-  pub second_edition : answer (run_for (codes "1")) (codes "xs1 2\nnode 0 id 0\nsource 0\nnop\nend\n") ≡ done (codes "end 1\n")
-  pub header_02 : answer (run_for (codes "1")) (codes "xs1 02\nnode 0 id 0\nsource 0\nnop\nend\n") ≡ frame_refused (codes "system line 1: S1 first line is not xs1 1 or xs1 2\n")
-  pub third_edition : answer (run_for (codes "1")) (codes "xs1 3\nnode 0 id 0\nsource 0\nnop\nend\n") ≡ frame_refused (codes "system line 1: S1 first line is not xs1 1 or xs1 2\n")
+  -- the first division is issued in slot 8, and in edition 2 the other may be from slot 40 on, so the second store is issued in slot 48;
+  -- in edition 1 it is in slot 20
+  pub second_waits : answer (run_for (codes "49")) (divided (codes "xs1 2")) ≡ done (codes "n0 mem 0x00010000 0x0000000e\nn0 mem 0x00010004 0x00000002\nend 49\n")
+  pub second_waits_cut : answer (run_for (codes "48")) (divided (codes "xs1 2")) ≡ done (codes "n0 mem 0x00010000 0x0000000e\nend 48\n")
+  pub first_waits_not : answer (run_for (codes "21")) (divided (codes "xs1 1")) ≡ done (codes "n0 mem 0x00010000 0x0000000e\nn0 mem 0x00010004 0x00000002\nend 21\n")
+  pub first_waits_not_cut : answer (run_for (codes "20")) (divided (codes "xs1 1")) ≡ done (codes "n0 mem 0x00010000 0x0000000e\nend 20\n")
