@@ -2,7 +2,7 @@
 ghost use Rattle.std.specs.Prelude.{◌≡◌, ◌↔◌, ◌<◌, ◌||◌, true, false, nat_lt, if◌then◌else◌, Some, None, [], ◌∷◌, ◌++◌, length, take, drop, slice_get, IsOk, OnOk, OnErr, IsTrue, IsFalse};
 ghost use Rattle.std.specs.List.{list_any};
 ghost use Rattle.xs_model.specs.Waits.{has_room, has_tokens, is_control};
-ghost use Rattle.net_model.specs.Chans.{Got, Refused, got_chan, put_away, freed_chan, found_at, chan_after, take_dest, put_tokens, put_token, bytes_of_word, put_word};
+ghost use Rattle.net_model.specs.Chans.{Got, Refused, got_chan, put_away, freed_chan, found_at, chan_after, take_dest, take_net, put_tokens, put_token, bytes_of_word, put_word};
 ghost use Rattle.net_model.specs.Chans.{joined, take_word, take_byte, take_ctrl, check_token, look, control_place, look_word};
 ghost use Rattle.chan_ends.specs.Ends.{has_output, chan_where_freed};
 ghost use Rattle.xs_model.specs.Choices.{chan_is_ready};
@@ -14,6 +14,9 @@ use arrayvec::ArrayVec;
 use std::marker::Model;
 use xs_base::Token;
 use xs_base::numbers::{BUFFER_TOKENS, CHAN_END_KIND};
+
+// The networks are 0 to 3.
+const NETWORKS: u32 = 4;
 
 /// A channel end. Contracts see it as a `ChanRec` of `Rattle.xs_model.specs.Record`.
 #[derive(Drop)]
@@ -123,6 +126,21 @@ impl ChanEnd {
             return Err(Bad);
         }
         self.dest = Some(id);
+        Ok(())
+    }
+
+    /// Gives it a network: refused exactly where it is not in use or there is no such network.
+    pub(crate) fn set_net(&mut self, n: u32) -> Result<(), Bad>
+        ensures ok { OnOk result (found_at (take_net n) self.old ≡ Got (record self.old { net = n }) 0) }
+        ensures err { OnErr result (found_at (take_net n) self.old ≡ Refused) }
+        ensures after { self.new ≡ chan_after self.old (found_at (take_net n) self.old) }
+        ensures allowed { IsOk result ↔ ((self.old.used ≡ true) × (n < 4)) }
+        ensures unchanged { OnErr result (self.new ≡ self.old) }
+    {
+        if !self.used || n >= NETWORKS {
+            return Err(Bad);
+        }
+        self.net = n as u8;
         Ok(())
     }
 

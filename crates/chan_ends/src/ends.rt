@@ -5,7 +5,7 @@ ghost use Rattle.xs_base.specs.declared.numbers.TheConstants.{CHAN_ENDS};
 ghost use Rattle.xs_model.specs.Record.{unused_chan};
 ghost use Rattle.xs_model.specs.Masks.{in_mask};
 ghost use Rattle.xs_model.specs.Waits.{has_room, has_tokens};
-ghost use Rattle.net_model.specs.Chans.{Got, Refused, free_chan, put_away, freed_chan, found_at, put_token, put_word, take_word, take_byte, take_ctrl, check_token, look, look_word, take_dest};
+ghost use Rattle.net_model.specs.Chans.{Got, Refused, free_chan, put_away, freed_chan, found_at, put_token, put_word, take_word, take_byte, take_ctrl, check_token, look, look_word, take_dest, take_net};
 ghost use Rattle.chan_ends.specs.Ends.{chan_at, has_output, with_got, with_freed, chans_after};
 ghost use Rattle.xs_model.specs.Choices.{chan_is_ready};
 ghost use Rattle.chan_ends.specs.Answers.{put_answer, take_answer};
@@ -118,6 +118,22 @@ impl ChanEnds {
     {
         let end = &mut self.ends[c as usize];
         let answer = end.set_dest(id);
+        self.marks.note(c, end);
+        answer
+    }
+
+    /// Gives channel end `c`, 0 to 31, a network for the packets that it begins from now on. `Bad` comes exactly where it is
+    /// not in use or the network is above 3, and then nothing changes. It takes no memory. See docs/LINKS.md.
+    pub fn set_net(&mut self, c: u8, n: u32) -> Result<(), Bad>
+        requires { c < CHAN_ENDS }
+        ensures ok { OnOk result (found_at (take_net n) (chan_at self.old c) ≡ Got (record (chan_at self.old c) { net = n }) 0) }
+        ensures err { OnErr result (found_at (take_net n) (chan_at self.old c) ≡ Refused) }
+        ensures after { self.new ≡ chans_after self.old c (found_at (take_net n) (chan_at self.old c)) }
+        ensures allowed { IsOk result ↔ (((chan_at self.old c).used ≡ true) × (n < 4)) }
+        ensures unchanged { OnErr result (self.new ≡ self.old) }
+    {
+        let end = &mut self.ends[c as usize];
+        let answer = end.set_net(n);
         self.marks.note(c, end);
         answer
     }

@@ -104,12 +104,12 @@ module _ (routes : Routes) (slot : Slot) (e : EndNumber) (before : Option LinkRe
       way_so dest (Behind mask) m h =
           either (suc i) (mask == 0) _ _ (λ _. later i m h) (hold_so dest (free_end m.rec mask 0 LINK_ENDS) m h)
 
-      want_so : (dest : Dest) (m : AtWork) → At i m → At (suc i) (want_step routes slot i dest m)
-      want_so dest m h = way_so dest (way_to routes.id routes.ways dest.node) m h
+      want_so : (dest : Dest) (net : ℕ) (m : AtWork) → At i m → At (suc i) (want_step routes slot i dest net m)
+      want_so dest net m h = way_so dest (way_to routes.id routes.ways routes.nets net dest.node) m h
 
       start_so : (net : ℕ) (id : Option Identifier) (m : AtWork) → At i m → At (suc i) (start_packet (want_step routes slot i) i net id m)
       start_so net None m h = later i m h
-      start_so net (Some id) m h = want_so (dest_of id) _ h
+      start_so net (Some id) m h = want_so (dest_of id) net _ h
 
       packet_so : (waiting : List Token) (m : AtWork) → At i m → At (suc i) (packet_step (want_step routes slot i) i waiting m)
       packet_so [] m h = later i m h
@@ -122,7 +122,7 @@ module _ (routes : Routes) (slot : Slot) (e : EndNumber) (before : Option LinkRe
           either (suc i) (is_link_input i) _ m (λ _. head_so (Head1 high) (waiting_at m.rec i) m refl h) (later i m h)
       step_so (Head2 high low) m h =
           either (suc i) (is_link_input i) _ m (λ _. head_so (Head2 high low) (waiting_at m.rec i) m refl h) (later i m h)
-      step_so (Want dest net) m h = want_so dest m h
+      step_so (Want dest net) m h = want_so dest net m h
       step_so (Local n) m h = local_so n (waiting_at m.rec i) m refl h
       step_so (Out end headers dest) m h = out_so end headers dest m h
       step_so Lost m h = lost_so (waiting_at m.rec i) m refl h

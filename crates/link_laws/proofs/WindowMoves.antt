@@ -161,13 +161,13 @@ module _ (slot : Slot) where
     way_so dest (Behind mask) m others h =
         either (mask == 0) (mask == 0) _ _ _ _ refl (loses_so i dest m others h) (held_so dest mask m others h)
 
-    want_so : (dest : Dest) → Keeps (want_step routes slot i dest)
-    want_so dest m others h = way_so dest (way_to routes.id routes.ways dest.node) m others h
+    want_so : (dest : Dest) (net : ℕ) → Keeps (want_step routes slot i dest net)
+    want_so dest net m others h = way_so dest (way_to routes.id routes.ways routes.nets net dest.node) m others h
 
     start_so : (net : ℕ) (id : Option Identifier) → Keeps (start_packet (want_step routes slot i) i net id)
     start_so net None m others h = nothing m others h
     start_so net (Some id) m others h =
-        after (want_step routes slot i (dest_of id)) _ _ (want_so (dest_of id)) (to_state_so i (Want (dest_of id) net) m others h)
+        after (want_step routes slot i (dest_of id) net) _ _ (want_so (dest_of id) net) (to_state_so i (Want (dest_of id) net) m others h)
 
     packet_so : (waiting : List Token) → Keeps (packet_step (want_step routes slot i) i waiting)
     packet_so [] m others h = nothing m others h
@@ -179,7 +179,7 @@ module _ (slot : Slot) where
         (on_waiting i (packet_step (want_step routes slot i) i) packet_so m others h)
     step_so (Head1 high) m others h = link_head_so (Head1 high) m others h
     step_so (Head2 high low) m others h = link_head_so (Head2 high low) m others h
-    step_so (Want dest net) m others h = want_so dest m others h
+    step_so (Want dest net) m others h = want_so dest net m others h
     step_so (Local n) m others h = on_waiting i (local_step i n) (local_so n) m others h
     step_so (Out end headers dest) m others h = out_so end headers dest m others h
     step_so Lost m others h = on_waiting i (lost_step i) lost_so m others h

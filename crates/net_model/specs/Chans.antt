@@ -144,6 +144,20 @@ dest_or_0 (Some dest) = dest
 abbrev pub tell_dest : ChanRec → Found
 tell_dest chan = Got chan (dest_or_0 chan.dest)
 
+-- ---- Its network
+
+-- the networks are 0 to 3
+abbrev pub is_network : ℕ → Bool
+is_network n = nat_lt n 4
+
+-- takes a network for the packets that begin from now on: a number that is none is refused
+abbrev pub take_net : Word → ChanRec → Found
+take_net n chan = if is_network n then Got (record chan { net = n }) 0 else Refused
+
+-- tells its network
+abbrev pub tell_net : ChanRec → Found
+tell_net chan = Got chan chan.net
+
 -- a channel end after what was found there
 abbrev pub chan_after : ChanRec → Found → ChanRec
 chan_after chan (Got after word) = after

@@ -156,11 +156,11 @@ end_may_send routes slot e (Some link) = may_send (slice_index routes.gaps e) sl
 -- ---- Rule 1. An idle channel end at which tokens wait begins a packet: it wants to go to its destination by its network, and
 -- goes on at once by rule 3, which is given as `onward`. Where there is no destination, nothing begins.
 
-abbrev pub start_packet : (Dest → AtWork → AtWork) → InputNumber → ℕ → Option Identifier → AtWork → AtWork
+abbrev pub start_packet : (Dest → ℕ → AtWork → AtWork) → InputNumber → ℕ → Option Identifier → AtWork → AtWork
 start_packet onward i net None m = m
-start_packet onward i net (Some id) m = onward (dest_of id) (to_state i (Want (dest_of id) net) m)
+start_packet onward i net (Some id) m = onward (dest_of id) net (to_state i (Want (dest_of id) net) m)
 
-abbrev pub packet_step : (Dest → AtWork → AtWork) → InputNumber → List Token → AtWork → AtWork
+abbrev pub packet_step : (Dest → ℕ → AtWork → AtWork) → InputNumber → List Token → AtWork → AtWork
 packet_step onward i [] m = m
 packet_step onward i (t ∷ rest) m =
     let chan = chan_of m.rec.core (chan_of_input i) in start_packet onward i chan.net chan.dest m
@@ -184,8 +184,8 @@ abbrev pub head_step : Routes → InputNumber → InputRec → List Token → At
 head_step routes i state [] m = m
 head_step routes i state (t ∷ rest) m = head_token routes i state t m
 
--- ---- Rule 3. An input that wants to go to a destination looks for the way there. It goes on at once by rule 4 where
--- it holds a channel end of this node, and by rule 5 where it holds a link end; they are given as `onward`.
+-- ---- Rule 3. An input that wants to go to a destination by a network looks for the way there. It goes on at once by rule 4
+-- where it holds a channel end of this node, and by rule 5 where it holds a link end; they are given as `onward`.
 
 -- to a channel end of this node: it is held from now on, unless another input holds it
 abbrev pub want_chan : (ChanNumber → AtWork → AtWork) → InputNumber → Dest → AtWork → AtWork
@@ -252,9 +252,10 @@ abbrev pub want_way : Routes → Slot → InputNumber → Dest → Way → AtWor
 want_way routes slot i dest Here m = want_chan (λ n m. local_step i n (waiting_at m.rec i) m) i dest m
 want_way routes slot i dest (Behind mask) m = want_end (λ e m. out_step routes slot i e 0 dest m) i mask dest m
 
--- a packet goes by the ways towards its destination; its network says nothing yet, since all link ends are of network 0
-abbrev pub want_step : Routes → Slot → InputNumber → Dest → AtWork → AtWork
-want_step routes slot i dest m = want_way routes slot i dest (way_to routes.id routes.ways dest.node) m
+-- a packet goes by the way towards its destination, on its network
+abbrev pub want_step : Routes → Slot → InputNumber → Dest → ℕ → AtWork → AtWork
+want_step routes slot i dest net m =
+    want_way routes slot i dest (way_to routes.id routes.ways routes.nets net dest.node) m
 
 abbrev pub idle_step : Routes → Slot → InputNumber → List Token → AtWork → AtWork
 idle_step routes slot i tokens m =
@@ -268,7 +269,7 @@ abbrev pub step_at : Routes → Slot → InputNumber → InputRec → AtWork →
 step_at routes slot i Idle m = idle_step routes slot i (waiting_at m.rec i) m
 step_at routes slot i (Head1 high) m = link_head_step routes i (Head1 high) m
 step_at routes slot i (Head2 high low) m = link_head_step routes i (Head2 high low) m
-step_at routes slot i (Want dest net) m = want_step routes slot i dest m
+step_at routes slot i (Want dest net) m = want_step routes slot i dest net m
 step_at routes slot i (Local n) m = local_step i n (waiting_at m.rec i) m
 step_at routes slot i (Out e headers dest) m = out_step routes slot i e headers dest m
 step_at routes slot i Lost m = lost_step i (waiting_at m.rec i) m

@@ -10,6 +10,8 @@ enum Call {
     Used(bool),
     SetDest(u32, Result<(), Bad>),
     Dest(Option<u32>),
+    SetNet(u32, Result<(), Bad>),
+    Net(u8),
     Put(Token, Put),
     PutWord(u32, Put),
     FirstOut(Option<Token>),
@@ -143,11 +145,29 @@ const OF_WORDS: [Call; 20] = [
     Call::Sending(0),
 ];
 
+// The network of channel end 1.
+const OF_NETS: [Call; 12] = [
+    Call::Net(0),
+    Call::SetNet(3, Ok(())),
+    Call::Net(3),
+    Call::SetNet(4, Err(Bad)),
+    Call::SetNet(256, Err(Bad)),
+    Call::SetNet(0xFFFF_FFFF, Err(Bad)),
+    Call::Net(3),
+    Call::Dest(None),
+    Call::SetDest(0x00030102, Ok(())),
+    Call::Net(3),
+    Call::SetNet(0, Ok(())),
+    Call::Net(0),
+];
+
 // The calls on channel end 2, which is not in use.
-const OF_UNUSED: [Call; 11] = [
+const OF_UNUSED: [Call; 13] = [
     Call::Used(false),
     Call::SetDest(0x00030102, Err(Bad)),
     Call::Dest(None),
+    Call::SetNet(2, Err(Bad)),
+    Call::Net(0),
     Call::Put(END, Put::Bad),
     Call::PutWord(1, Put::Bad),
     Call::TakeWord(Take::Bad),
@@ -166,6 +186,8 @@ fn answers(ends: &mut ChanEnds, c: u8, call: Call) -> bool
         Call::Used(want) => ends.used(c) == want,
         Call::SetDest(id, want) => ends.set_dest(c, id) == want,
         Call::Dest(want) => ends.dest(c) == want,
+        Call::SetNet(n, want) => ends.set_net(c, n) == want,
+        Call::Net(want) => ends.net(c) == want,
         Call::Put(t, want) => ends.put(c, t) == want,
         Call::PutWord(w, want) => ends.put_word(c, w) == want,
         Call::FirstOut(want) => ends.first_out(c) == want,
@@ -210,6 +232,23 @@ fn calls_answer_in_turn(rt: HostRuntime) {
     let mut ends = two_in_use(&rt);
     make(&rt, &mut ends, 1, &OF_TAKES);
     make(&rt, &mut ends, 1, &OF_WORDS);
+    let mut ends = two_in_use(&rt);
+    make(&rt, &mut ends, 1, &OF_NETS);
+}
+
+#[test]
+fn a_network_is_kept_until_it_is_got_again(rt: HostRuntime) {
+    let mut ends = two_in_use(&rt);
+    let set = (ends.set_net(0, 2), ends.set_net(1, 1));
+    let freed = (ends.free(0, false), ends.net(0), ends.set_net(0, 3));
+    let kept = (ends.net(0), ends.net(1));
+    let got = (ends.alloc(), ends.net(0), ends.net(1));
+    assert!(rt;
+        set == (Ok(()), Ok(()))
+            && freed == (Ok(()), 2, Err(Bad))
+            && kept == (2, 1)
+            && got == (Some(0), 0, 1)
+    );
 }
 
 #[test]

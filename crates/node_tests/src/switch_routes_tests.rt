@@ -130,6 +130,11 @@ struct Hub {
 
 impl Hub {
     fn new() -> Hub {
+        Hub::with_nets([0; 8])
+    }
+
+    // The networks of its link ends are these.
+    fn with_nets(nets: [u8; 8]) -> Hub {
         let mut chans = ChanEnds::new(0);
         for _ in 0..4u8 {
             let _ = chans.alloc();
@@ -141,7 +146,7 @@ impl Hub {
         let mut ways = [0; 16];
         ways[0] = 0b0010_1100;
         Hub {
-            switch: Switch::new(0, ways, [0; 8]),
+            switch: Switch::new(0, ways, nets),
             chans,
             links,
             out: Emissions::new(),
@@ -202,6 +207,70 @@ fn the_lowest_free_link_end_is_taken(rt: HostRuntime) {
         let _ = hub.slot(slot);
     }
     assert!(rt; last == Some(END) && hub.out.token(3) == first);
+}
+
+// Link end 5 is of network 2, and link ends 2 and 3 of network 1.
+const NETS: [u8; 8] = [0, 0, 1, 1, 0, 2, 0, 3];
+
+#[test]
+fn a_packet_goes_by_its_network(rt: HostRuntime) {
+    let mut hub = Hub::with_nets(NETS);
+    let set = [
+        hub.chans.set_net(0, 2),
+        hub.chans.set_net(1, 1),
+        hub.chans.set_net(2, 1),
+        hub.chans.set_net(3, 2),
+    ];
+    for c in 0..4u8 {
+        hub.send(c, chan_id(1, c), Token::Byte(7));
+    }
+    let _ = hub.slot(0);
+    let first = Some(Token::Byte(0));
+    let tokens = [hub.out.token(2), hub.out.token(3), hub.out.token(5)];
+    // The fourth packet waits for link end 5, also where its channel end is of another network by now.
+    let set_late = (hub.chans.set_net(3, 1), hub.switch.held(3));
+    hub.send(0, chan_id(1, 0), END);
+    hub.send(1, chan_id(1, 1), END);
+    for slot in 1..17u32 {
+        let _ = hub.slot(slot);
+    }
+    for slot in 17..21u32 {
+        let _ = hub.slot(slot);
+    }
+    let next = [hub.out.token(2), hub.out.token(3), hub.out.token(5)];
+    assert!(rt;
+        set == [Ok(()); 4]
+            && tokens == [first; 3]
+            && set_late == (Ok(()), true)
+            && next == [None, None, first]
+    );
+}
+
+#[test]
+fn a_packet_of_a_network_with_no_way_is_lost(rt: HostRuntime) {
+    let mut hub = Hub::with_nets(NETS);
+    let set = (hub.chans.set_net(0, 3), hub.chans.set_net(1, 3));
+    hub.send(0, chan_id(1, 9), END);
+    hub.send(1, chan_id(0, 2), END);
+    hub.send(3, chan_id(1, 8), END);
+    // Channel end 0 is of network 3 and channel end 3 of network 0, by which no link end leads to node 1. That of the own node
+    // is found by any network.
+    let moved = hub.slot(0);
+    let mut lost = [0; 2];
+    let mut count = 0;
+    for event in hub.out.events() {
+        if let Happen::Lost { id } = event.what {
+            if count < 2 {
+                lost[count] = id;
+                count += 1;
+            }
+        }
+    }
+    assert!(rt;
+        set == (Ok(()), Ok(()))
+            && moved == [Some(END), None, None]
+            && lost == [chan_id(1, 9), chan_id(1, 8)]
+    );
 }
 
 #[test]

@@ -4,7 +4,7 @@ use Rattle.xs_base.specs.Numbers.{Word, Register, ChanNumber}
 use Rattle.xs_model.specs.declared.thread.Thread.{Thread}
 use Rattle.xs_model.specs.declared.thread.Wait.{Wait}
 use Rattle.xs_model.specs.Record.{ChanRec}
-use Rattle.net_model.specs.Chans.{Found, put_token, put_word, take_word, take_byte, take_ctrl, check_token, look, look_word, take_dest, tell_dest}
+use Rattle.net_model.specs.Chans.{Found, put_token, put_word, take_word, take_byte, take_ctrl, check_token, look, look_word, take_dest, tell_dest, take_net, tell_net}
 use Rattle.step_model.specs.ResourceRows.{room, tokens, no_wait, takes_nothing, takes_into}
 use Rattle.chan_ends.specs.declared.answers.Put.{Put}
 use Rattle.chan_ends.specs.declared.answers.Put.TheVariants as put
@@ -25,6 +25,8 @@ does action.Look = look
 does action.LookWord = look_word
 does (action.SetDest dest) = take_dest dest
 does action.TellDest = tell_dest
+does (action.SetNet n) = take_net n
+does action.TellNet = tell_net
 
 -- where its thread would wait
 abbrev pub waits : Action → ChanNumber → Wait
@@ -38,6 +40,8 @@ waits action.Look = tokens 1
 waits action.LookWord = tokens 4
 waits (action.SetDest dest) = no_wait
 waits action.TellDest = no_wait
+waits (action.SetNet n) = no_wait
+waits action.TellNet = no_wait
 
 -- what a thread does with the word that is found, by the register that is to have it
 abbrev pub takes : Option Register → Word → Thread → Thread

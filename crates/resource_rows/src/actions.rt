@@ -1,7 +1,7 @@
 //! What the rows on channel ends do there. See docs/LINKS.md.
 ghost use Rattle.std.specs.Prelude.{◌≡◌, ◌<◌};
 ghost use Rattle.xs_base.specs.declared.numbers.TheConstants.{CHAN_ENDS};
-ghost use Rattle.net_model.specs.Chans.{found_at, take_dest, tell_dest};
+ghost use Rattle.net_model.specs.Chans.{found_at, take_dest, tell_dest, take_net, tell_net};
 ghost use Rattle.chan_ends.specs.Ends.{chan_at, chans_after};
 ghost use Rattle.chan_ends.specs.Answers.{take_answer};
 ghost use Rattle.resource_rows.specs.Actions.{does, waits, of_put};
@@ -26,10 +26,12 @@ pub(crate) enum Action {
     LookWord,
     SetDest(u32),
     TellDest,
+    SetNet(u32),
+    TellNet,
 }
 
 impl Action {
-    /// Does it at a channel end. What is put, and a destination that is set, leaves no word: the answer has 0 then.
+    /// Does it at a channel end. What is put, and a destination or a network that is set, leaves no word: the answer has 0 then.
     pub(crate) fn at(self, chans: &mut ChanEnds, c: u8) -> Take
         requires { c < CHAN_ENDS }
         ensures answer { result ≡ take_answer (found_at (does self) (chan_at chans.old c)) }
@@ -46,10 +48,12 @@ impl Action {
             Action::LookWord => chans.look_word(c),
             Action::SetDest(dest) => set_dest(chans, c, dest),
             Action::TellDest => tell_dest(chans, c),
+            Action::SetNet(n) => set_net(chans, c, n),
+            Action::TellNet => tell_net(chans, c),
         }
     }
 
-    /// What a thread waits for where it cannot be done yet. Destinations are set and told at once.
+    /// What a thread waits for where it cannot be done yet. Destinations and networks are set and told at once.
     pub(crate) fn wait(self, chan: u8) -> Wait
         ensures { result ≡ waits self chan }
     {
@@ -61,6 +65,7 @@ impl Action {
                 Wait::Tokens { chan, count: 1 }
             }
             Action::SetDest(_) | Action::TellDest => Wait::Choice,
+            Action::SetNet(_) | Action::TellNet => Wait::Choice,
         }
     }
 }
@@ -101,4 +106,28 @@ fn tell_dest(chans: &ChanEnds, c: u8) -> Take
         None => Take::Got(0),
         Some(dest) => Take::Got(dest),
     }
+}
+
+// The channel end takes a network.
+fn set_net(chans: &mut ChanEnds, c: u8, n: u32) -> Take
+    requires { c < CHAN_ENDS }
+    ensures answer { result ≡ take_answer (found_at (take_net n) (chan_at chans.old c)) }
+    ensures after { chans.new ≡ chans_after chans.old c (found_at (take_net n) (chan_at chans.old c)) }
+{
+    match chans.set_net(c, n) {
+        Ok(()) => Take::Got(0),
+        Err(_) => Take::Bad,
+    }
+}
+
+// The channel end tells its network.
+fn tell_net(chans: &ChanEnds, c: u8) -> Take
+    requires { c < CHAN_ENDS }
+    ensures answer { result ≡ take_answer (found_at tell_net (chan_at chans.now c)) }
+    ensures unchanged { chans.now ≡ chans_after chans.now c (found_at tell_net (chan_at chans.now c)) }
+{
+    if !chans.used(c) {
+        return Take::Bad;
+    }
+    Take::Got(u32::from(chans.net(c)))
 }

@@ -90,7 +90,7 @@ pub fn on_resources<H: Holders>(
 }
 
 // The rows that no port takes part in, but for those on its events: first those that get and free resources, and those on the
-// tokens of channel ends.
+// tokens and the network of channel ends.
 fn on_other_resources<H: Holders>(
     units: &mut Units,
     id: u16,
@@ -129,6 +129,11 @@ fn on_other_resources<H: Holders>(
         ResIns::ChkctImm(s, i) => on_chan(units, id, k, s, Action::Check(u32::from(i)), None),
         ResIns::Testct(d, s) => on_chan(units, id, k, s, Action::Look, Some(d)),
         ResIns::Testwct(d, s) => on_chan(units, id, k, s, Action::LookWord, Some(d)),
+        ResIns::Setn(s, x) => {
+            let n = units.reg(k, x);
+            on_chan(units, id, k, s, Action::SetNet(n), None)
+        }
+        ResIns::Getn(d, s) => on_chan(units, id, k, s, Action::TellNet, Some(d)),
         _ => on_events(units, id, k, ins),
     }
 }

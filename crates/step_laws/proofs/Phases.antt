@@ -165,13 +165,13 @@ module _ (S : Type 0) where
           let free = free_end m.rec mask 0 LINK_ENDS in
           either (mask == 0) _ _ (loses_moved i dest m h) (moved (hold_end (λ e m. out_step routes slot i e 0 dest m) i dest free m) (hold_still dest free m h))
 
-      want_moved : (dest : Dest) (m : AtWork) → Still m → Moved (want_step routes slot i dest m)
-      want_moved dest m h = way_moved dest (way_to routes.id routes.ways dest.node) m h
+      want_moved : (dest : Dest) (net : ℕ) (m : AtWork) → Still m → Moved (want_step routes slot i dest net m)
+      want_moved dest net m h = way_moved dest (way_to routes.id routes.ways routes.nets net dest.node) m h
 
       start_moved : (net : ℕ) (dest : Option Identifier) (m : AtWork) → Still m → Moved (start_packet (want_step routes slot i) i net dest m)
       start_moved net None m h = moved m h
       start_moved net (Some id) m h =
-          want_moved (dest_of id) (to_state i (Want (dest_of id) net) m) (state_still i (Want (dest_of id) net) m (λ s. tt) h)
+          want_moved (dest_of id) net (to_state i (Want (dest_of id) net) m) (state_still i (Want (dest_of id) net) m (λ s. tt) h)
 
       packet_moved : (waiting : List Token) (m : AtWork) → Still m → Moved (packet_step (want_step routes slot i) i waiting m)
       packet_moved [] m h = moved m h
@@ -185,7 +185,7 @@ module _ (S : Type 0) where
           either (is_link_input i) _ m (moved (head_step routes i (Head1 high) (waiting_at m.rec i) m) (head_still routes i (Head1 high) (waiting_at m.rec i) m tt h)) (moved m h)
       step_moved (Head2 high low) m is h =
           either (is_link_input i) _ m (moved (head_step routes i (Head2 high low) (waiting_at m.rec i) m) (head_still routes i (Head2 high low) (waiting_at m.rec i) m tt h)) (moved m h)
-      step_moved (Want dest net) m is h = want_moved dest m h
+      step_moved (Want dest net) m is h = want_moved dest net m h
       step_moved (Local n) m is h = local_moved i n (waiting_at m.rec i) m is h
       step_moved (Out e headers dest) m is h = moved (out_step routes slot i e headers dest m) (out_still e headers dest m h)
       step_moved Lost m is h = moved (lost_step i (waiting_at m.rec i) m) (lost_still i (waiting_at m.rec i) m h)

@@ -25,7 +25,7 @@ use Rattle.xs_model.specs.PortActions.{in_mode, set_value, tell_value, take_in, 
 use Rattle.xs_model.specs.Waits.{is_waited_at, is_paused_on}
 use Rattle.xs_instructions.specs.declared.instr.ResIns.{ResIns}
 use Rattle.xs_instructions.specs.declared.instr.ResIns.TheVariants as resources
-use Rattle.net_model.specs.Chans.{Found, Got, Waits, Refused, free_chan, put_token, take_byte, take_ctrl, check_token, look, look_word}
+use Rattle.net_model.specs.Chans.{Found, Got, Waits, Refused, free_chan, put_token, take_byte, take_ctrl, check_token, look, look_word, take_net, tell_net}
 use Rattle.step_model.specs.Effect.{Setting, Done, Pause, Trap, reg, goes_on_with, goes_on_in, pauses_at}
 use Rattle.step_model.specs.ThreadRows.{thread_to_get, with_got_thread}
 use Rattle.step_model.specs.TimeRows.{tells, takes_time}
@@ -242,6 +242,8 @@ module _ (here : Setting) (core : CoreRec) (k : ThreadNumber) (all : AllKnown co
   resources_known (resources.Testwct d s) = finds_known d _ (tokens 4) look_word _
   resources_known (resources.Setd s x) = sets_data_known (reg core k s) (reg core k x) (named_in here core k s)
   resources_known (resources.Getd d s) = tells_data_known d (reg core k s) (named_in here core k s)
+  resources_known (resources.Setn s x) = puts_known _ no_wait (take_net (reg core k x)) _
+  resources_known (resources.Getn d s) = finds_known d _ no_wait tell_net _
   resources_known (resources.SetcImm s u) = mode_known (reg core k s) u (named_in here core k s)
   resources_known (resources.Setc s x) = mode_known (reg core k s) (reg core k x) (named_in here core k s)
   resources_known (resources.Setv s) = events_known (reg core k s) (with_vector (reg core k 11)) (named_in here core k s)

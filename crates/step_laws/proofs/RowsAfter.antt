@@ -29,7 +29,7 @@ use Rattle.xs_instructions.specs.declared.instr.ThreadIns.{ThreadIns}
 use Rattle.xs_instructions.specs.declared.instr.ThreadIns.TheVariants as threads
 use Rattle.xs_instructions.specs.declared.instr.ResIns.{ResIns}
 use Rattle.xs_instructions.specs.declared.instr.ResIns.TheVariants as resources
-use Rattle.net_model.specs.Chans.{Found, Got, Waits, Refused, put_token, take_byte, take_ctrl, check_token, look, look_word}
+use Rattle.net_model.specs.Chans.{Found, Got, Waits, Refused, put_token, take_byte, take_ctrl, check_token, look, look_word, take_net, tell_net}
 use Rattle.step_model.specs.Effect.{Setting, Effect, Done, Pause, Trap, Gone, Leaving, Leaves, Traps, Own, on_own, on_registers, reg, goes_on_in, pauses_at}
 use Rattle.step_model.specs.DividerRows.{shares_divider, on_divider, words_effect}
 use Rattle.step_model.specs.Named.{resource_named}
@@ -291,6 +291,8 @@ module _ (here : Setting) (core : CoreRec) (k : ThreadNumber) where
   resources_after (resources.Testwct d s) = named_after _ (tokens 4) look_word (takes_into d) _
   resources_after (resources.Setd s x) = sets_data_after _ _ _ (names_port s)
   resources_after (resources.Getd d s) = tells_data_after d _ _ (names_port s)
+  resources_after (resources.Setn s x) = named_after _ no_wait (take_net (reg core k x)) takes_nothing _
+  resources_after (resources.Getn d s) = named_after _ no_wait tell_net (takes_into d) _
   resources_after (resources.SetcImm s u) = mode_after (reg core k s) u (named_in here core k s) (names_port s)
   resources_after (resources.Setc s x) = mode_after (reg core k s) (reg core k x) (named_in here core k s) (names_port s)
   resources_after (resources.Setv s) = events_after _ (with_vector (reg core k 11)) (named_in here core k s)

@@ -25,7 +25,7 @@ use Rattle.xs_model.specs.Waits.{is_paused_on}
 use Rattle.xs_instructions.specs.declared.instr.ResIns.{ResIns}
 use Rattle.xs_instructions.specs.declared.instr.ResIns.TheVariants as resources
 use Rattle.net_model.specs.Chans.{Found, Got, Waits, Refused, got_chan, free_chan, freed_chan, chan_named, found_at}
-use Rattle.net_model.specs.Chans.{put_token, put_word, take_word, take_byte, take_ctrl, check_token, look, look_word, take_dest, tell_dest}
+use Rattle.net_model.specs.Chans.{put_token, put_word, take_word, take_byte, take_ctrl, check_token, look, look_word, take_dest, tell_dest, take_net, tell_net}
 use Rattle.step_model.specs.Effect.{Setting, Effect, Done, Pause, Trap, reg, after_it, goes_on, goes_on_with, goes_on_in, pauses_at}
 use Rattle.step_model.specs.Named.{resource_named}
 use Rattle.step_model.specs.TimeRows.{timer_becomes, clock_becomes, tells, takes_time}
@@ -211,6 +211,8 @@ resources_row here core k (resources.Testct d s) = finds here core k d s 1 look
 resources_row here core k (resources.Testwct d s) = finds here core k d s 4 look_word
 resources_row here core k (resources.Setd s x) = sets_data core k (reg core k s) (reg core k x) (named_in here core k s)
 resources_row here core k (resources.Getd d s) = tells_data core k d (reg core k s) (named_in here core k s)
+resources_row here core k (resources.Setn s x) = on_chan here core k s no_wait (take_net (reg core k x)) takes_nothing
+resources_row here core k (resources.Getn d s) = on_chan here core k s no_wait tell_net (takes_into d)
 resources_row here core k (resources.SetcImm s u) = sets_mode core k (reg core k s) u (named_in here core k s)
 resources_row here core k (resources.Setc s x) = sets_mode core k (reg core k s) (reg core k x) (named_in here core k s)
 resources_row here core k (resources.Setv s) = sets_events core k (reg core k s) (with_vector (reg core k 11)) (named_in here core k s)

@@ -4,6 +4,7 @@ pub mod Held
 pub mod GoesBy
 pub mod Rules
 pub mod Differences
+pub mod Networks
 pub mod Frees
 pub mod Moves
 pub mod Begins

@@ -140,13 +140,13 @@ module _ (i j : ℕ) (other : j ≢ i) where
   spares-way routes slot dest (Behind mask) m =
       same-cond j m _ _ (eqb mask 0) (spares-lose dest m) (spares-hold routes slot dest (free_end m.rec mask 0 8) m)
 
-  spares-want : (routes : Routes) (slot : ℕ) (dest : Dest) (m : AtWork) → SameAt j m (want_step routes slot i dest m)
-  spares-want routes slot dest m = spares-way routes slot dest (way_to routes.id routes.ways dest.node) m
+  spares-want : (routes : Routes) (slot : ℕ) (dest : Dest) (net : ℕ) (m : AtWork) → SameAt j m (want_step routes slot i dest net m)
+  spares-want routes slot dest net m = spares-way routes slot dest (way_to routes.id routes.ways routes.nets net dest.node) m
 
   spares-start : (routes : Routes) (slot net : ℕ) (dest : Option ℕ) (m : AtWork) → SameAt j m (start_packet (want_step routes slot i) i net dest m)
   spares-start routes slot net None m = same-itself j m
   spares-start routes slot net (Some id) m =
-      same-then j m (to_state i (Want (dest_of id) net) m) _ (spares-state (Want (dest_of id) net) m) (spares-want routes slot (dest_of id) (to_state i (Want (dest_of id) net) m))
+      same-then j m (to_state i (Want (dest_of id) net) m) _ (spares-state (Want (dest_of id) net) m) (spares-want routes slot (dest_of id) net (to_state i (Want (dest_of id) net) m))
 
   spares-packet : (routes : Routes) (slot : ℕ) (ts : List Token) (m : AtWork) → SameAt j m (packet_step (want_step routes slot i) i ts m)
   spares-packet routes slot [] m = same-itself j m
@@ -158,7 +158,7 @@ module _ (i j : ℕ) (other : j ≢ i) where
       same-cond j m _ _ (ltb i 8) (spares-head routes Idle (waiting_at m.rec i) m) (spares-packet routes slot (waiting_at m.rec i) m)
   spares-at routes slot (Head1 high) m = same-cond j m _ m (ltb i 8) (spares-head routes (Head1 high) (waiting_at m.rec i) m) (same-itself j m)
   spares-at routes slot (Head2 high low) m = same-cond j m _ m (ltb i 8) (spares-head routes (Head2 high low) (waiting_at m.rec i) m) (same-itself j m)
-  spares-at routes slot (Want dest net) m = spares-want routes slot dest m
+  spares-at routes slot (Want dest net) m = spares-want routes slot dest net m
   spares-at routes slot (Local n) m = spares-local n (waiting_at m.rec i) m
   spares-at routes slot (Out e headers dest) m = spares-out routes slot e headers dest m
   spares-at routes slot Lost m = spares-lost (waiting_at m.rec i) m

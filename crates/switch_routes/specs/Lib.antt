@@ -4,6 +4,7 @@ pub mod Switch
 pub mod Lends
 pub mod Inputs
 pub mod Work
+pub mod Known
 pub mod Ways
 pub mod InsideSwitch
 pub mod Rest

@@ -48,11 +48,7 @@ impl Switch {
         ensures value { result ≡ idle_switch node ways nets }
     {
         Switch {
-            ways: Ways {
-                id: node,
-                ends: ways,
-                nets,
-            },
+            ways: Ways::new(node, ways, nets),
             inputs: Inputs::new(),
         }
     }

@@ -30,7 +30,7 @@ impl Work<'_> {
             Input::Idle => self.idle_step(input),
             Input::Head1 { .. } => self.link_head_step(input, state),
             Input::Head2 { .. } => self.link_head_step(input, state),
-            Input::Want { dest, .. } => self.want_step(input, dest),
+            Input::Want { dest, net } => self.want_step(input, dest, net),
             Input::Local { chan } => self.local_step(input, chan),
             Input::Out { end, headers, dest } => self.out_step(input, Held { end, headers, dest }),
             Input::Lost => self.lost_step(input),
@@ -85,17 +85,17 @@ impl Work<'_> {
             let dest = Dest::of_id(id);
             let net = self.chans.net(input - LINK_ENDS);
             self.set(input, Input::Want { dest, net });
-            self.want_step(input, dest);
+            self.want_step(input, dest, net);
         }
     }
 
-    // An input that wants to go on to a destination.
-    fn want_step(&mut self, input: u8, dest: Dest)
+    // An input that wants to go on to a destination by a network.
+    fn want_step(&mut self, input: u8, dest: Dest, net: u8)
         requires input { input < INPUTS }
         requires room { HasRoom self.old }
-        ensures { GoesBy 1 (λ begun. want_step begun.routes begun.slot input dest) self.old self.new }
+        ensures { GoesBy 1 (λ begun. want_step begun.routes begun.slot input dest net) self.old self.new }
     {
-        match self.ways.way_to(dest.node) {
+        match self.ways.way_to(dest.node, net) {
             Way::Here => self.want_chan(input, dest),
             Way::Behind { ends } => self.want_end(input, dest, ends),
         }

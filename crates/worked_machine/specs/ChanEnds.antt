@@ -3,7 +3,7 @@ use Rattle.std.specs.Prelude.{ℕ, ◌≡◌, Some, List, [], ◌∷◌, ◌++�
 use Rattle.xs_base.specs.declared.token.Token.{Token}
 use Rattle.xs_base.specs.declared.token.Token.TheVariants.{Byte, Ctrl}
 use Rattle.xs_model.specs.Record.{ChanRec, unused_chan}
-use Rattle.net_model.specs.Chans.{Got, Waits, Refused, got_chan, found_at, put_token, put_word, take_word, take_byte, take_ctrl, check_token, look, look_word, take_dest, tell_dest, chan_after}
+use Rattle.net_model.specs.Chans.{Got, Waits, Refused, got_chan, found_at, put_token, put_word, take_word, take_byte, take_ctrl, check_token, look, look_word, take_dest, tell_dest, take_net, tell_net, chan_after}
 
 -- a channel end to which these tokens came
 abbrev pub came : List Token → ChanRec
@@ -64,6 +64,14 @@ pub record WorkedChans : Type 0 where
   pub no_chan_end : take_dest 0x00050003 (waits_with []) ≡ Refused
   pub dest_told : tell_dest (waits_with []) ≡ Got (waits_with []) 0x00050002
   pub none_told : tell_dest got_chan ≡ Got got_chan 0
+  -- the networks are 0 to 3
+  pub net_set : take_net 3 (waits_with (bytes 2)) ≡ Got (record (waits_with (bytes 2)) { net = 3 }) 0
+  pub net_0_set : take_net 0 (record got_chan { net = 2 }) ≡ Got got_chan 0
+  pub no_net_4 : take_net 4 got_chan ≡ Refused
+  pub no_net_256 : take_net 256 got_chan ≡ Refused
+  pub net_told : tell_net (record got_chan { net = 2 }) ≡ Got (record got_chan { net = 2 }) 2
   -- a channel end that is not in use refuses
   pub unused : found_at look unused_chan ≡ Refused
   pub unused_no_dest : found_at tell_dest unused_chan ≡ Refused
+  pub unused_no_net : found_at tell_net (record unused_chan { net = 3 }) ≡ Refused
+  pub unused_takes_no_net : found_at (take_net 3) unused_chan ≡ Refused

@@ -8,7 +8,7 @@ use Rattle.xs_model.specs.AtWork.{AtWork}
 use Rattle.xs_model.specs.Record.{NodeRec, ChanRec, Idle, Head2, Want, Local, Out, Lost, unused_chan, chan_of, with_chan}
 use Rattle.net_model.specs.Chans.{got_chan, freed_chan}
 use Rattle.net_model.specs.Links.{fresh_link}
-use Rattle.net_model.specs.Ways.{Here, Behind, way_to}
+use Rattle.net_model.specs.Ways.{Way, Here, Behind, way_to}
 use Rattle.net_model.specs.Switch.{Routes, state_at, with_state, chan_is_busy, free_end}
 use Rattle.worked_machine.specs.Pair.{node_of_parts, switched}
 use Rattle.worked_machine.specs.SwitchSteps.{to, sends, counted}
@@ -19,17 +19,21 @@ use Rattle.worked_machine.specs.SwitchSteps.{to, sends, counted}
 abbrev pub eight_ways : List ℕ
 eight_ways = 1 ∷ 2 ∷ 4 ∷ 8 ∷ 16 ∷ 32 ∷ 64 ∷ 128 ∷ replicate 8 0
 
+-- the way from a node to another, where all are of network 0
+abbrev pub way_by_0 : ℕ → List ℕ → ℕ → Way
+way_by_0 id ways node = way_to id ways (replicate 8 0) 0 node
+
 pub record WorkedWays : Type 0 where
-  pub itself : way_to 5 eight_ways 5 ≡ Here
-  pub bit_0 : way_to 5 eight_ways 4 ≡ Behind 1
+  pub itself : way_by_0 5 eight_ways 5 ≡ Here
+  pub bit_0 : way_by_0 5 eight_ways 4 ≡ Behind 1
   -- 6 differs from 5 in the bits 0 and 1, 2 in the bits 0 to 2, and 1 in bit 2 alone
-  pub bit_1 : way_to 5 eight_ways 6 ≡ Behind 2
-  pub bit_2 : way_to 5 eight_ways 2 ≡ Behind 4
-  pub bit_2_alone : way_to 5 eight_ways 1 ≡ Behind 4
-  pub bit_7 : way_to 5 eight_ways 0xfa ≡ Behind 128
+  pub bit_1 : way_by_0 5 eight_ways 6 ≡ Behind 2
+  pub bit_2 : way_by_0 5 eight_ways 2 ≡ Behind 4
+  pub bit_2_alone : way_by_0 5 eight_ways 1 ≡ Behind 4
+  pub bit_7 : way_by_0 5 eight_ways 0xfa ≡ Behind 128
   -- none leads on for bit 15, though one would for bit 0
-  pub bit_15 : way_to 5 eight_ways 0x8004 ≡ Behind 0
-  pub greatest : way_to 0xffff eight_ways 0 ≡ Behind 0
+  pub bit_15 : way_by_0 5 eight_ways 0x8004 ≡ Behind 0
+  pub greatest : way_by_0 0xffff eight_ways 0 ≡ Behind 0
 
 -- ---- Node 1: to even ids by link end 0, to ids of which bit 1 differs by link ends 1 and 2
 

@@ -181,6 +181,8 @@ printed_forms =
     ∷ (row.Testwct, codes "testwct d, res[s]")
     ∷ (row.Setd, codes "setd res[s], x")
     ∷ (row.Getd, codes "getd d, res[s]")
+    ∷ (row.Setn, codes "setn res[s], x")
+    ∷ (row.Getn, codes "getn d, res[s]")
     ∷ (row.SetcImm, codes "setc res[s], u")
     ∷ (row.Setc, codes "setc res[s], x")
     ∷ (row.Setv, codes "setv res[s], r11")

@@ -79,10 +79,10 @@ macro_rules! parts {
 }
 
 // The names of the rows, in the order of `Row`.
-static NAMES: [&str; 156] = table!(names);
+static NAMES: [&str; 158] = table!(names);
 
 // What stands at each place after the name, in the same order.
-static PARTS: [&[Part]; 156] = table!(parts);
+static PARTS: [&[Part]; 158] = table!(parts);
 
 impl Row {
     /// The name with which the row is written.

@@ -293,6 +293,10 @@ pub enum ResIns {
     Setd(u8, u8),
     /// `getd d, res[s]`
     Getd(u8, u8),
+    /// `setn res[s], x`
+    Setn(u8, u8),
+    /// `getn d, res[s]`
+    Getn(u8, u8),
     /// `setc res[s], u`
     SetcImm(u8, u16),
     /// `setc res[s], x`

@@ -288,6 +288,10 @@ pub enum Row {
     Setd,
     /// `getd d, res[s]`
     Getd,
+    /// `setn res[s], x`
+    Setn,
+    /// `getn d, res[s]`
+    Getn,
     /// `setc res[s], u`
     SetcImm,
     /// `setc res[s], x`
@@ -347,4 +351,4 @@ macro_rules! rows {
 }
 
 /// All rows, in the order of docs/INSTRUCTIONS.md.
-pub static ROWS: [Row; 156] = table!(rows);
+pub static ROWS: [Row; 158] = table!(rows);

@@ -149,6 +149,8 @@ macro_rules! table {
                 Testwct "testwct" [(d) COMMA RES LEFT (s) RIGHT]
                 Setd "setd" [RES LEFT (s) RIGHT COMMA (x)]
                 Getd "getd" [(d) COMMA RES LEFT (s) RIGHT]
+                Setn "setn" [RES LEFT (s) RIGHT COMMA (x)]
+                Getn "getn" [(d) COMMA RES LEFT (s) RIGHT]
                 SetcImm "setc" [RES LEFT (s) RIGHT COMMA (u)]
                 Setc "setc" [RES LEFT (s) RIGHT COMMA (x)]
                 Setv "setv" [RES LEFT (s) RIGHT COMMA R11]

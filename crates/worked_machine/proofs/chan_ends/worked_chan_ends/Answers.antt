@@ -32,6 +32,13 @@ returns c = record {
   no_chan_end = refl;
   dest_told = refl;
   none_told = refl;
+  net_set = refl;
+  net_0_set = refl;
+  no_net_4 = refl;
+  no_net_256 = refl;
+  net_told = refl;
   unused = refl;
   unused_no_dest = refl;
+  unused_no_net = refl;
+  unused_takes_no_net = refl;
 }
