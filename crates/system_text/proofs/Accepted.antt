@@ -19,10 +19,12 @@ use Rattle.system_model.specs.declared.frame_line.PlayLine.TheVariants.{Take, Ru
 use Rattle.system_model.specs.declared.frame_line.SectionKind.{SectionKind}
 use Rattle.system_model.specs.declared.frame_line.SectionKind.TheVariants.{Source, Pins, Play}
 use Rattle.system_model.specs.Bits.{BitRec}
-use Rattle.system_model.specs.FrameLines.{edition_of_word, edition_of_header, frame_line, play_line, is_end, are_numbers_in_range, is_node_number, is_end_number, is_end_in_range, is_between}
+use Rattle.system_model.specs.FrameLines.{edition_of_word, edition_of_header, frame_line, play_line, is_end, are_numbers_in_range, is_node_number, is_end_number, is_end_in_range, is_net, is_between}
 use Rattle.system_model.specs.Frame.{SectionText, Given, FrameSays, Own, End, Blank, Header, NoHeader, NoForm, Form, says_form, says_header, says_in_frame, says_in_play, says_in_section, says_by, says, names_none, is_given_twice, is_id_twice, is_link_to_itself, is_link_end_twice, is_bit_twice, is_too_many, fault_of, first_that_holds, given_with, given_after, put_by_number, has_node, has_link_end, has_link_ends, is_step_of, is_same_end, unless_faulty, at_the_end, whole_but_for, without_source, Framed, Whole, Refused, frame_from, framed, nothing_given, have_no_words}
+use Rattle.system_model.specs.System.{edition_given}
 use Rattle.system_text.specs.Accepted.{IsLinkOf, ends_of, AreAccepted, IsEdition, IsAccepted}
 use Rattle.system_text.proofs.Judged.{fault_by}
+use Rattle.system_text.proofs.Networks.{of_network_0}
 use Rattle.system_text.proofs.Walk.{from-cons, from-end, framed_is}
 
 not_false : (b : Bool) → not b ≡ false → b ≡ true
@@ -226,6 +228,7 @@ still_link node nodes link k = record {
   most_delay = k.most_delay;
   least_gap = k.least_gap;
   most_gap = k.most_gap;
+  most_net = k.most_net;
 }
 
 more_nodes : (node : GivenNode) (nodes : List GivenNode) (links : List LinkLine) → AllByRecursion (IsLinkOf nodes) links → AllByRecursion (IsLinkOf (put_by_number node nodes)) links
@@ -277,9 +280,10 @@ link_of nodes link range known apart =
     let given = both (has_node nodes link.a.node) (has_node nodes link.b.node) (not_false _ known) in
     let a = both (is_end_in_range link.a) _ range in
     let b = both (is_end_in_range link.b) _ a.1 in
-    let times = both (is_between 1 1000 link.delay) (is_between 4 1000 link.gap) b.1 in
+    let times = both (is_between 1 1000 link.delay) _ b.1 in
+    let last = both (is_between 4 1000 link.gap) (is_net link.net) times.1 in
     let delay = ranges 1 1000 link.delay times.0 in
-    let gap = ranges 4 1000 link.gap times.1 in
+    let gap = ranges 4 1000 link.gap last.0 in
     record {
       a = given.0;
       b = given.1;
@@ -290,6 +294,7 @@ link_of nodes link range known apart =
       most_delay = delay.1;
       least_gap = gap.0;
       most_gap = gap.1;
+      most_net = at_most link.net 3 last.1;
     }
 
 is_same : (name : EndName) → is_same_end name name ≡ true
@@ -394,16 +399,21 @@ with_step nodes links bits steps step known k = record {
 
 -- A line without a fault keeps it all.
 
-form_keeps : (n : ℕ) (l : List ℕ) (form : FrameLine) (given : Given) → Passes given form → IsAccepted given → IsAccepted (given_with n l (Form form) given)
-form_keeps n l (Node node) given p k = (
+form_keeps : (n : ℕ) (l : List ℕ) (form : FrameLine) (given : Given) → says given l ≡ Form form → Passes given form → IsAccepted given → IsAccepted (given_with n l (Form form) given)
+form_keeps n l (Node node) given s p k = (
   k.0,
   with_node given.nodes (record { line = n; number = node.number; id = node.id }) given.links given.bits given.steps p.few
       (at_most node.number 99 (both (is_node_number node.number) (nat_le node.id 65535) p.ranged).0) p.new p.new_id k.1,
+  k.2,
 )
-form_keeps n l (Link link) given p k = (k.0, with_link given.nodes given.links link given.bits given.steps p.few (link_of given.nodes link p.ranged p.known p.apart) p.new_ends k.1)
-form_keeps n l (Bit bit) given p k = (k.0, with_bit given.nodes given.links given.bits given.steps bit p.known k.1)
-form_keeps n l (Step step) given p k = (k.0, with_step given.nodes given.links given.bits given.steps step p.known k.1)
-form_keeps n l (Section kind) given p k = k
+form_keeps n l (Link link) given s p k = (
+  k.0,
+  with_link given.nodes given.links link given.bits given.steps p.few (link_of given.nodes link p.ranged p.known p.apart) p.new_ends k.1,
+  λ e. one_more (λ (x : LinkLine). x.net ≡ 0) given.links link (k.2 e) (of_network_0 given l link s e),
+)
+form_keeps n l (Bit bit) given s p k = (k.0, with_bit given.nodes given.links given.bits given.steps bit p.known k.1, k.2)
+form_keeps n l (Step step) given s p k = (k.0, with_step given.nodes given.links given.bits given.steps step p.known k.1, k.2)
+form_keeps n l (Section kind) given s p k = k
 
 -- The edition of a first line is 1 or 2.
 
@@ -433,7 +443,7 @@ form_no_header (Some form) edition e = cc
 frame_edition : (given : Option ℕ) (words : List (List ℕ)) (edition : ℕ) → says_in_frame given words ≡ Header edition → IsEdition edition
 frame_edition given [] edition e = absurd cc
 frame_edition None (w ∷ ws) edition e = header_edition (w ∷ ws) edition (said_edition (edition_of_header (w ∷ ws)) edition e)
-frame_edition (Some given) (w ∷ ws) edition e = absurd (form_no_header (frame_line (w ∷ ws)) edition e)
+frame_edition (Some given) (w ∷ ws) edition e = absurd (form_no_header (frame_line given (w ∷ ws)) edition e)
 
 play_no_header : (words : List (List ℕ)) (edition : ℕ) → says_in_play words ≡ Header edition → ⊥
 play_no_header [] edition e = cc
@@ -452,14 +462,29 @@ line_edition : (given : Option ℕ) (reading : Option SectionText) (l : List ℕ
 line_edition given None l edition e = frame_edition given (words_of_line l) edition e
 line_edition given (Some section) l edition e = absurd (end_no_header (is_end l) section.kind (words_of_line l) edition e)
 
+-- No line before it gives one.
+
+frame_first : (given : Option ℕ) (words : List (List ℕ)) (edition : ℕ) → says_in_frame given words ≡ Header edition → edition_given given ≡ 1
+frame_first given [] edition e = absurd cc
+frame_first None (w ∷ ws) edition e = refl
+frame_first (Some given) (w ∷ ws) edition e = absurd (form_no_header (frame_line given (w ∷ ws)) edition e)
+
+line_first : (given : Option ℕ) (reading : Option SectionText) (l : List ℕ) (edition : ℕ) → says_by given reading l ≡ Header edition → edition_given given ≡ 1
+line_first given None l edition e = frame_first given (words_of_line l) edition e
+line_first given (Some section) l edition e = absurd (end_no_header (is_end l) section.kind (words_of_line l) edition e)
+
 line_keeps : (n : ℕ) (l : List ℕ) (what : FrameSays) (given : Given) (allowed : Bool) → says given l ≡ what → fault_by given allowed what ≡ None → IsAccepted given → IsAccepted (given_with n l what given)
 line_keeps n l Own given allowed s e k = k
 line_keeps n l End given allowed s e k = k
 line_keeps n l Blank given allowed s e k = k
-line_keeps n l (Header edition) given allowed s e k = (line_edition given.edition given.reading l edition s, k.1)
+line_keeps n l (Header edition) given allowed s e k = (
+  line_edition given.edition given.reading l edition s,
+  k.1,
+  λ one. k.2 (line_first given.edition given.reading l edition s),
+)
 line_keeps n l NoHeader given allowed s e k = k
 line_keeps n l NoForm given allowed s e k = k
-line_keeps n l (Form form) given allowed s e k = form_keeps n l form given (passed given allowed form e) k
+line_keeps n l (Form form) given allowed s e k = form_keeps n l form given s (passed given allowed form e) k
 
 found_whole : (o : Option GivenNode) (given whole : Given) → whole_but_for o given ≡ Whole whole → given ≡ whole
 found_whole None given whole e = cc
@@ -485,6 +510,7 @@ nothing_kept : IsAccepted nothing_given
 nothing_kept = (
   record { least = omega arith; most = omega arith },
   record { few_nodes = omega arith; few_links = omega arith; numbers = tt; order = tt; ids = tt; links = tt; ends = tt; bits = tt; steps = tt },
+  λ one. tt,
 )
 
 framed_by : (wordless : Bool) (ls : List (List ℕ)) (whole : Given) → cond wordless (Refused 1 FirstLine) (frame_from 1 nothing_given ls) ≡ Whole whole → IsAccepted whole

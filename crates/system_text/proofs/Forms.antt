@@ -13,7 +13,7 @@ use Rattle.system_model.specs.declared.frame_line.LinkLine.{LinkLine}
 use Rattle.system_model.specs.declared.frame_line.NodeLine.{NodeLine}
 use Rattle.system_model.specs.declared.frame_line.SectionKind.{SectionKind}
 use Rattle.system_model.specs.declared.frame_line.SectionKind.TheVariants.{Source, Pins, Play}
-use Rattle.system_model.specs.FrameLines.{◌>>=◌, node_line, link_line, section_line, end_name, before_colon, is_between, is_end_in_range}
+use Rattle.system_model.specs.FrameLines.{◌>>=◌, node_line, link_line, net_of_words, section_line, end_name, before_colon, is_between, is_end_in_range}
 use Rattle.system_text.specs.declared.frame_lines.NamedEnd.{NamedEnd}
 use Rattle.system_text.specs.declared.words.Word.{Word}
 use Rattle.system_text.specs.Forms.{ranged, or_bad, formed, capped, capped_end, is_in_range, end_of}
@@ -205,78 +205,87 @@ between_by least most n false h e =
 pub between_capped : (least most n : ℕ) → most ≤ 4294967294 → ranged (is_between least most (capped n)) (capped n) ≡ ranged (is_between least most n) n
 between_capped least most n h = between_by least most n (nat_le n most) h refl
 
-abbrev link_of : Option EndName → Option EndName → Option ℕ → Option ℕ → Option LinkLine
-link_of p q d g = p >>= λ a. q >>= λ b. d >>= λ delay. g >>= λ gap. Some (record { a = a; b = b; delay = delay; gap = gap })
+abbrev pub link_of : Option EndName → Option EndName → Option ℕ → Option ℕ → Option ℕ → Option LinkLine
+link_of p q d g k = p >>= λ a. q >>= λ b. d >>= λ delay. g >>= λ gap. k >>= λ net. Some (record { a = a; b = b; delay = delay; gap = gap; net = net })
 
-abbrev made_link : EndName → EndName → ℕ → ℕ → FrameLine
-made_link a b delay gap = Link (record { a = a; b = b; delay = delay; gap = gap })
+abbrev made_link : EndName → EndName → ℕ → ℕ → ℕ → FrameLine
+made_link a b delay gap net = Link (record { a = a; b = b; delay = delay; gap = gap; net = net })
 
-all_ranged : (s t u v : Bool) (a b : EndName) (d g : ℕ) → ranged (s && (t && (u && v))) (made_link a b d g) ≡ chain (ranged s a)
-    (λ x. chain (ranged t b) (λ y. chain (ranged u d) (λ m. chain (ranged v g) (λ n. Ok (made_link x y m n)))))
-all_ranged true true true true a b d g = refl
-all_ranged true true true false a b d g = refl
-all_ranged true true false v a b d g = refl
-all_ranged true false u v a b d g = refl
-all_ranged false t u v a b d g = refl
+all_ranged : (s t u v w : Bool) (a b : EndName) (d g k : ℕ) → ranged (s && (t && (u && (v && w)))) (made_link a b d g k) ≡ chain (ranged s a)
+    (λ x. chain (ranged t b) (λ y. chain (ranged u d) (λ m. chain (ranged v g) (λ n. chain (ranged w k) (λ o. Ok (made_link x y m n o))))))
+all_ranged true true true true true a b d g k = refl
+all_ranged true true true true false a b d g k = refl
+all_ranged true true true false w a b d g k = refl
+all_ranged true true false v w a b d g k = refl
+all_ranged true false u v w a b d g k = refl
+all_ranged false t u v w a b d g k = refl
 
-abbrev pub link_ranged : NamedEnd → NamedEnd → ℕ → ℕ → Result FrameLine SysKind
-link_ranged a b d g =
+abbrev pub link_ranged : NamedEnd → NamedEnd → ℕ → ℕ → ℕ → Result FrameLine SysKind
+link_ranged a b d g k =
     chain (ranged (is_in_range a) (end_of a)) (λ x. chain (ranged (is_in_range b) (end_of b))
     (λ y. chain (ranged (is_between 1 1000 d) d) (λ m. chain (ranged (is_between 4 1000 g) g)
-    (λ n. Ok (Link (record { a = x; b = y; delay = m; gap = n }))))))
+    (λ n. chain (ranged (nat_le k 3) k) (λ o. Ok (Link (record { a = x; b = y; delay = m; gap = n; net = o })))))))
 
 -- a link end as it is read
 abbrev pub read_end : Option EndName → Result NamedEnd SysKind
 read_end o = or_bad (option_map capped_end o)
 
-link_steps : (p q : Option EndName) (d g : Option ℕ) → formed (option_map (λ (l : LinkLine). Link l) (link_of p q d g)) ≡ chain (read_end p)
-    (λ a. chain (read_end q) (λ b. chain (read d) (λ m. chain (read g) (λ n. link_ranged a b m n))))
-link_steps None q d g = refl
-link_steps (Some a) None d g = refl
-link_steps (Some a) (Some b) None g = refl
-link_steps (Some a) (Some b) (Some m) None = refl
-link_steps (Some a) (Some b) (Some m) (Some n) =
-    rw (end_capped a, end_capped b, between_capped 1 1000 m (omega arith), between_capped 4 1000 n (omega arith))
-    (all_ranged (is_end_in_range a) (is_end_in_range b) (is_between 1 1000 m) (is_between 4 1000 n) a b m n)
+-- a link whose parts are read so
+abbrev pub link_read : Option EndName → Option EndName → Option ℕ → Option ℕ → Option ℕ → Result FrameLine SysKind
+link_read p q d g k =
+    chain (read_end p) (λ a. chain (read_end q) (λ b. chain (read d) (λ m. chain (read g) (λ n. chain (read k) (λ o. link_ranged a b m n o)))))
 
-link_by : (s t : Bool) (p q : Option EndName) (d g : Option ℕ) → s ≡ true → t ≡ true
-    → formed (option_map (λ (l : LinkLine). Link l) (if s && t then link_of p q d g else None)) ≡ chain (read_end p)
-    (λ a. chain (read_end q) (λ b. chain (read d) (λ m. chain (read g) (λ n. link_ranged a b m n))))
-link_by true true p q d g e f = link_steps p q d g
-link_by true false p q d g e f = cc
-link_by false t p q d g e f = cc
+link_steps : (p q : Option EndName) (d g k : Option ℕ) → formed (option_map (λ (l : LinkLine). Link l) (link_of p q d g k)) ≡ link_read p q d g k
+link_steps None q d g k = refl
+link_steps (Some a) None d g k = refl
+link_steps (Some a) (Some b) None g k = refl
+link_steps (Some a) (Some b) (Some m) None k = refl
+link_steps (Some a) (Some b) (Some m) (Some n) None = refl
+link_steps (Some a) (Some b) (Some m) (Some n) (Some o) =
+    rw (end_capped a, end_capped b, between_capped 1 1000 m (omega arith), between_capped 4 1000 n (omega arith), up_to_capped 3 o (omega arith))
+    (all_ranged (is_end_in_range a) (is_end_in_range b) (is_between 1 1000 m) (is_between 4 1000 n) (nat_le o 3) a b m n o)
 
-pub link_is : (words : List Word) → 6 ≤ length words → length words < 7 → same_name (codes "delay") (word_at words 2) ≡ true
-    → same_name (codes "gap") (word_at words 4) ≡ true → formed (option_map (λ (l : LinkLine). Link l) (link_line (codes "link" ∷ bytes_of words))) ≡ chain
-    (read_end (end_name (word_at words 0))) (λ a. chain (read_end (end_name (word_at words 1)))
-    (λ b. chain (read (number_of (word_at words 3))) (λ m. chain (read (number_of (word_at words 5))) (λ n. link_ranged a b m n))))
+link_by : (s t : Bool) (p q : Option EndName) (d g k : Option ℕ) → s ≡ true → t ≡ true
+    → formed (option_map (λ (l : LinkLine). Link l) (if s && t then link_of p q d g k else None)) ≡ link_read p q d g k
+link_by true true p q d g k e f = link_steps p q d g k
+link_by true false p q d g k e f = cc
+link_by false t p q d g k e f = cc
+
+-- a link by the words after `link`, of which these are the ones after its gap
+abbrev pub link_by_words : ℕ → List Word → List Word → Result FrameLine SysKind
+link_by_words edition words rest =
+    link_read (end_name (word_at words 0)) (end_name (word_at words 1)) (number_of (word_at words 3)) (number_of (word_at words 5)) (net_of_words edition (bytes_of rest))
+
+pub link_is : (edition : ℕ) (words rest : List Word) → rest ≡ drop 6 words → 6 ≤ length words → same_name (codes "delay") (word_at words 2) ≡ true
+    → same_name (codes "gap") (word_at words 4) ≡ true
+    → formed (option_map (λ (l : LinkLine). Link l) (link_line edition (codes "link" ∷ bytes_of words))) ≡ link_by_words edition words rest
 unfolding link_line
-link_is [] h k e f = absurd (omega (arith, h))
-link_is (a ∷ []) h k e f = absurd (omega (arith, h))
-link_is (a ∷ b ∷ []) h k e f = absurd (omega (arith, h))
-link_is (a ∷ b ∷ v ∷ []) h k e f = absurd (omega (arith, h))
-link_is (a ∷ b ∷ v ∷ d ∷ []) h k e f = absurd (omega (arith, h))
-link_is (a ∷ b ∷ v ∷ d ∷ w ∷ []) h k e f = absurd (omega (arith, h))
-link_is (a ∷ b ∷ v ∷ d ∷ w ∷ g ∷ []) h k e f =
-    link_by (same_name (codes "delay") v.bytes.now) (same_name (codes "gap") w.bytes.now) (end_name a.bytes.now) (end_name b.bytes.now) (number_of d.bytes.now) (number_of g.bytes.now) e f
-link_is (a ∷ b ∷ v ∷ d ∷ w ∷ g ∷ x ∷ words) h k e f = absurd (omega (arith, k))
+link_is edition [] rest r h e f = absurd (omega (arith, h))
+link_is edition (a ∷ []) rest r h e f = absurd (omega (arith, h))
+link_is edition (a ∷ b ∷ []) rest r h e f = absurd (omega (arith, h))
+link_is edition (a ∷ b ∷ v ∷ []) rest r h e f = absurd (omega (arith, h))
+link_is edition (a ∷ b ∷ v ∷ d ∷ []) rest r h e f = absurd (omega (arith, h))
+link_is edition (a ∷ b ∷ v ∷ d ∷ w ∷ []) rest r h e f = absurd (omega (arith, h))
+link_is edition (a ∷ b ∷ v ∷ d ∷ w ∷ g ∷ words) rest r h e f =
+    rw r
+    (link_by (same_name (codes "delay") v.bytes.now) (same_name (codes "gap") w.bytes.now) (end_name a.bytes.now) (end_name b.bytes.now) (number_of d.bytes.now) (number_of g.bytes.now)
+    (net_of_words edition (bytes_of words)) e f)
 
 not_by : (s t : Bool) (o : Option LinkLine) → (s && t) ≡ false → Err BadLine ≡ formed (option_map (λ (l : LinkLine). Link l) (if s && t then o else None))
 not_by s t o e = rw e refl
 
-pub link_not : (words : List Word) → 6 ≤ length words → length words < 7
-    → (same_name (codes "delay") (word_at words 2) && same_name (codes "gap") (word_at words 4)) ≡ false
-    → Err BadLine ≡ formed (option_map (λ (l : LinkLine). Link l) (link_line (codes "link" ∷ bytes_of words)))
+pub link_not : (edition : ℕ) (words : List Word) → (same_name (codes "delay") (word_at words 2) && same_name (codes "gap") (word_at words 4)) ≡ false
+    → Err BadLine ≡ formed (option_map (λ (l : LinkLine). Link l) (link_line edition (codes "link" ∷ bytes_of words)))
 unfolding link_line
-link_not [] h k e = refl
-link_not (a ∷ []) h k e = refl
-link_not (a ∷ b ∷ []) h k e = refl
-link_not (a ∷ b ∷ v ∷ []) h k e = refl
-link_not (a ∷ b ∷ v ∷ d ∷ []) h k e = refl
-link_not (a ∷ b ∷ v ∷ d ∷ w ∷ []) h k e = refl
-link_not (a ∷ b ∷ v ∷ d ∷ w ∷ g ∷ []) h k e =
-    not_by (same_name (codes "delay") v.bytes.now) (same_name (codes "gap") w.bytes.now) (link_of (end_name a.bytes.now) (end_name b.bytes.now) (number_of d.bytes.now) (number_of g.bytes.now)) e
-link_not (a ∷ b ∷ v ∷ d ∷ w ∷ g ∷ x ∷ words) h k e = refl
+link_not edition [] e = refl
+link_not edition (a ∷ []) e = refl
+link_not edition (a ∷ b ∷ []) e = refl
+link_not edition (a ∷ b ∷ v ∷ []) e = refl
+link_not edition (a ∷ b ∷ v ∷ d ∷ []) e = refl
+link_not edition (a ∷ b ∷ v ∷ d ∷ w ∷ []) e = refl
+link_not edition (a ∷ b ∷ v ∷ d ∷ w ∷ g ∷ rest) e =
+    not_by (same_name (codes "delay") v.bytes.now) (same_name (codes "gap") w.bytes.now)
+    (link_of (end_name a.bytes.now) (end_name b.bytes.now) (number_of d.bytes.now) (number_of g.bytes.now) (net_of_words edition (bytes_of rest))) e
 
 pub no_delay : (b c : Bool) → b ≡ false → (b && c) ≡ false
 no_delay true c e = cc
@@ -286,13 +295,21 @@ pub no_gap : (b c : Bool) → b ≡ true → c ≡ false → (b && c) ≡ false
 no_gap true c e f = f
 no_gap false c e f = refl
 
-pub link_other : (words : List Word) → (length words ≡ 6 → ⊥) → Err BadLine ≡ formed (option_map (λ (l : LinkLine). Link l) (link_line (codes "link" ∷ bytes_of words)))
+-- words too few for a link
+pub link_short : (edition : ℕ) (words : List Word) → length words < 6
+    → Err BadLine ≡ formed (option_map (λ (l : LinkLine). Link l) (link_line edition (codes "link" ∷ bytes_of words)))
 unfolding link_line
-link_other [] h = refl
-link_other (a ∷ []) h = refl
-link_other (a ∷ b ∷ []) h = refl
-link_other (a ∷ b ∷ v ∷ []) h = refl
-link_other (a ∷ b ∷ v ∷ d ∷ []) h = refl
-link_other (a ∷ b ∷ v ∷ d ∷ w ∷ []) h = refl
-link_other (a ∷ b ∷ v ∷ d ∷ w ∷ g ∷ []) h = absurd (h refl)
-link_other (a ∷ b ∷ v ∷ d ∷ w ∷ g ∷ x ∷ words) h = refl
+link_short edition [] h = refl
+link_short edition (a ∷ []) h = refl
+link_short edition (a ∷ b ∷ []) h = refl
+link_short edition (a ∷ b ∷ v ∷ []) h = refl
+link_short edition (a ∷ b ∷ v ∷ d ∷ []) h = refl
+link_short edition (a ∷ b ∷ v ∷ d ∷ w ∷ []) h = refl
+link_short edition (a ∷ b ∷ v ∷ d ∷ w ∷ g ∷ rest) h = absurd (omega (arith, h))
+
+-- words that name no network
+pub net_other : (edition : ℕ) (words : List Word) → (length words ≡ 0 → ⊥) → (length words ≡ 2 → ⊥) → Err BadLine ≡ read (net_of_words edition (bytes_of words))
+net_other edition [] h k = absurd (h refl)
+net_other edition (u ∷ []) h k = refl
+net_other edition (u ∷ n ∷ []) h k = absurd (k refl)
+net_other edition (u ∷ n ∷ x ∷ words) h k = refl

@@ -129,11 +129,11 @@ pub header_allowed : (given : Given) (l : List ℕ) (edition : ℕ) → given.ed
     → edition_of_header (words_of_line l) ≡ Some edition → all_allowed l ≡ true → (fault_of given l ≡ None) × (says given l ≡ Header edition)
 header_allowed given l edition b r e h a = let is = first_said given l (Some edition) b r e h in (fault_is given l true (Header edition) a is, is)
 
-form_by : (edition : ℕ) (words : List (List ℕ)) → is_empty words ≡ false → says_in_frame (Some edition) words ≡ says_form (frame_line words)
+form_by : (edition : ℕ) (words : List (List ℕ)) → is_empty words ≡ false → says_in_frame (Some edition) words ≡ says_form (frame_line edition words)
 form_by edition [] e = cc
 form_by edition (w ∷ ws) e = refl
 
-form_said : (given : Given) (l : List ℕ) (edition : ℕ) → given.edition ≡ Some edition → given.reading ≡ None → is_empty (words_of_line l) ≡ false → says given l ≡ says_form (frame_line (words_of_line l))
+form_said : (given : Given) (l : List ℕ) (edition : ℕ) → given.edition ≡ Some edition → given.reading ≡ None → is_empty (words_of_line l) ≡ false → says given l ≡ says_form (frame_line edition (words_of_line l))
 form_said given l edition b r e = says_outside given l r ∙ (ap (λ x. says_in_frame x (words_of_line l)) b ∙ form_by edition (words_of_line l) e)
 
 bad_form : (given : Given) (o : Option FrameLine) → fault_by given false (says_form o) ≡ Some BadLine
@@ -145,8 +145,8 @@ bad_form given (Some (Section kind)) = refl
 bad_form given (Some (Step step)) = refl
 
 pub form_outside : (given : Given) (l : List ℕ) (read : Result FrameLine SysKind) (edition : ℕ) → given.edition ≡ Some edition → given.reading ≡ None → is_empty (words_of_line l) ≡ false
-    → read ≡ formed (frame_line (words_of_line l)) → IsFormOf given l read
-form_outside given l read edition b r e h = record { form = frame_line (words_of_line l); taken = h; said = form_said given l edition b r e }
+    → read ≡ formed (frame_line edition (words_of_line l)) → IsFormOf given l read
+form_outside given l read edition b r e h = record { form = frame_line edition (words_of_line l); taken = h; said = form_said given l edition b r e }
 
 pub form_not_allowed : (given : Given) (l : List ℕ) (read : Result FrameLine SysKind) → IsFormOf given l read → all_allowed l ≡ false → fault_of given l ≡ Some BadLine
 form_not_allowed given l read f a = fault_is given l false _ a f.said ∙ bad_form given f.form

@@ -9,6 +9,7 @@ pub mod Sections
 pub mod Walk
 pub mod Outcomes
 pub mod Plans
+pub mod Networks
 pub mod Accepted
 pub mod Masks
 pub mod Places

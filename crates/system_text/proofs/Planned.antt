@@ -1,14 +1,14 @@
 -- The plan of a frame that is accepted keeps what every plan keeps.
 use Rattle.std.proofs.Common.{◌≡◌, ℕ, suc, ◌+◌, ◌<◌, ◌≤◌, true, List, [], ◌∷◌, length, map, Result, Ok, Err, refl, ap, sym, ◌∙◌, subst, arith}
-use Rattle.std.specs.Prelude.{◌≢◌, Bool, ◌&&◌, false, replicate}
+use Rattle.std.specs.Prelude.{◌≢◌, Bool, ◌&&◌, false, ◌==◌, ◌||◌}
 use Rattle.std.specs.List.{AllByRecursion}
+use Rattle.std.proofs.lemmas.Bool.Decides.{nat_tests}
 use Rattle.source_model.specs.Source.{Assembled, Image, Fault, assembled_lines}
 use Rattle.pin_scripts.specs.declared.line.PinLine.{PinLine}
 use Rattle.pin_scripts.specs.Script.{IsScript, IsOfNodes}
-use Rattle.sys_plan.specs.Plan.{PlanRec, IsPlan, IsLink, NamesWhatIsThere, AllWaysLead, WaysLead, edition_of, AreDistinct, AreAscending, places_of}
+use Rattle.sys_plan.specs.Plan.{PlanRec, IsPlan, IsLink, NamesWhatIsThere, AllWaysLead, WaysLead, link_ends, net_at, nets_at, AllKnowNets, edition_of, AreDistinct, AreAscending, places_of}
 use Rattle.sys_plan.specs.declared.LinkPlan.{LinkPlan}
 use Rattle.sys_plan.specs.declared.NodePlan.{NodePlan}
-use Rattle.sys_plan.specs.NodePlans.{plain_plan}
 use Rattle.sys_plan.specs.declared.Step.{Step}
 use Rattle.system_model.specs.declared.frame_line.EndName.{EndName}
 use Rattle.system_model.specs.declared.frame_line.GivenNode.{GivenNode}
@@ -18,121 +18,188 @@ use Rattle.system_model.specs.declared.frame_line.PlayLine.TheVariants.{Take, Ru
 use Rattle.system_model.specs.declared.frame_line.SectionKind.TheVariants as section
 use Rattle.system_model.specs.Bits.{BitRec}
 use Rattle.system_model.specs.Frame.{SectionText, Given, has_node, has_link_end, is_step_of}
-use Rattle.system_model.specs.System.{SourceFault, planned, plan_before, section_lines, node_plans, link_plan, step_plan, position_by_number, ways_of, edition_given}
-use Rattle.system_text.specs.Accepted.{IsLinkOf, AreAccepted, IsAccepted, ends_of}
+use Rattle.system_model.specs.System.{SourceFault, planned, plan_before, section_lines, node_plans, link_plan, step_plan, position_by_number, ways_of, net_of_end, nets_of, edition_given}
+use Rattle.system_text.specs.Accepted.{IsLinkOf, AreAccepted, AreOfOneNetwork, IsAccepted, ends_of}
 use Rattle.system_text.proofs.Places.{Stand, stand, within, same_number}
 use Rattle.system_text.proofs.Plans.{node_plans-cons, node_plans-none}
 use Rattle.system_text.proofs.Ways.{ways_lead, leaves, comes}
 
 -- The plans of nodes, one for each
 
-record PlanOf (edition : ℕ) (bits : List BitRec) (node : GivenNode) (plan : NodePlan) : Type 0 where
+record PlanOf (edition : ℕ) (links : List LinkLine) (bits : List BitRec) (node : GivenNode) (plan : NodePlan) : Type 0 where
   pub number : plan.number ≡ node.number
   pub id : plan.id ≡ node.id
   pub ways : plan.ways ≡ ways_of bits node.number
   pub of_edition : plan.edition ≡ edition
-  pub nets : plan.nets ≡ replicate 8 0
+  pub nets : plan.nets ≡ nets_of links node.number
 
-abbrev PlansOf : ℕ → List BitRec → List GivenNode → List NodePlan → Type 0
-PlansOf edition bits [] [] = Unit {0}
-PlansOf edition bits [] (plan ∷ plans) = ⊥
-PlansOf edition bits (node ∷ nodes) [] = ⊥
-PlansOf edition bits (node ∷ nodes) (plan ∷ plans) = PlanOf edition bits node plan × PlansOf edition bits nodes plans
+abbrev PlansOf : ℕ → List LinkLine → List BitRec → List GivenNode → List NodePlan → Type 0
+PlansOf edition links bits [] [] = Unit {0}
+PlansOf edition links bits [] (plan ∷ plans) = ⊥
+PlansOf edition links bits (node ∷ nodes) [] = ⊥
+PlansOf edition links bits (node ∷ nodes) (plan ∷ plans) = PlanOf edition links bits node plan × PlansOf edition links bits nodes plans
 
-plan_of_one : (edition : ℕ) (bits : List BitRec) (node : GivenNode) (source : Assembled) (plan : NodePlan) → planned edition bits node source ≡ Ok plan → PlanOf edition bits node plan
-plan_of_one edition bits node (Fault line kind) plan e = absurd cc
-plan_of_one edition bits node (Image image) plan e =
-    let made : NodePlan = record (plain_plan node.number node.id image (ways_of bits node.number)) { edition = edition } in
+plan_of_one : (edition : ℕ) (links : List LinkLine) (bits : List BitRec) (node : GivenNode) (source : Assembled) (plan : NodePlan) → planned edition links bits node source ≡ Ok plan → PlanOf edition links bits node plan
+plan_of_one edition links bits node (Fault line kind) plan e = absurd cc
+plan_of_one edition links bits node (Image image) plan e =
+    let made : NodePlan = record {
+      number = node.number;
+      edition = edition;
+      id = node.id;
+      image = image;
+      ways = ways_of bits node.number;
+      nets = nets_of links node.number;
+    } in
     let same : made ≡ plan = cc in
-    subst (PlanOf edition bits node) same (record { number = refl; id = refl; ways = refl; of_edition = refl; nets = refl })
+    subst (PlanOf edition links bits node) same (record { number = refl; id = refl; ways = refl; of_edition = refl; nets = refl })
 
-plans_by : (edition : ℕ) (bits : List BitRec) (node : GivenNode) (nodes : List GivenNode) (first : Result NodePlan SourceFault) (rest : Result (List NodePlan) SourceFault) (plans : List NodePlan) →
-    ((plan : NodePlan) → first ≡ Ok plan → PlanOf edition bits node plan) → ((later : List NodePlan) → rest ≡ Ok later → PlansOf edition bits nodes later) →
-    plan_before first rest ≡ Ok plans → PlansOf edition bits (node ∷ nodes) plans
-plans_by edition bits node nodes (Err fault) rest plans h k e = absurd cc
-plans_by edition bits node nodes (Ok plan) (Err fault) plans h k e = absurd cc
-plans_by edition bits node nodes (Ok plan) (Ok later) plans h k e =
+plans_by : (edition : ℕ) (links : List LinkLine) (bits : List BitRec) (node : GivenNode) (nodes : List GivenNode) (first : Result NodePlan SourceFault) (rest : Result (List NodePlan) SourceFault) (plans : List NodePlan) →
+    ((plan : NodePlan) → first ≡ Ok plan → PlanOf edition links bits node plan) → ((later : List NodePlan) → rest ≡ Ok later → PlansOf edition links bits nodes later) →
+    plan_before first rest ≡ Ok plans → PlansOf edition links bits (node ∷ nodes) plans
+plans_by edition links bits node nodes (Err fault) rest plans h k e = absurd cc
+plans_by edition links bits node nodes (Ok plan) (Err fault) plans h k e = absurd cc
+plans_by edition links bits node nodes (Ok plan) (Ok later) plans h k e =
     let same : plan ∷ later ≡ plans = cc in
-    subst (PlansOf edition bits (node ∷ nodes)) same (h plan refl, k later refl)
+    subst (PlansOf edition links bits (node ∷ nodes)) same (h plan refl, k later refl)
 
-plans_of : (edition : ℕ) (bits : List BitRec) (sections : List SectionText) (nodes : List GivenNode) (plans : List NodePlan) → node_plans edition bits sections nodes ≡ Ok plans → PlansOf edition bits nodes plans
-plans_of edition bits sections [] plans e =
-    let is : Ok [] ≡ Ok plans = sym (node_plans-none edition bits sections) ∙ e in
+plans_of : (edition : ℕ) (links : List LinkLine) (bits : List BitRec) (sections : List SectionText) (nodes : List GivenNode) (plans : List NodePlan) → node_plans edition links bits sections nodes ≡ Ok plans → PlansOf edition links bits nodes plans
+plans_of edition links bits sections [] plans e =
+    let is : Ok [] ≡ Ok plans = sym (node_plans-none edition links bits sections) ∙ e in
     let same : [] ≡ plans = cc in
-    subst (PlansOf edition bits []) same tt
-plans_of edition bits sections (node ∷ nodes) plans e =
+    subst (PlansOf edition links bits []) same tt
+plans_of edition links bits sections (node ∷ nodes) plans e =
     let source : Assembled = assembled_lines (section_lines sections (section.Source node.number)) in
-    plans_by edition bits node nodes (planned edition bits node source) (node_plans edition bits sections nodes) plans (plan_of_one edition bits node source) (plans_of edition bits sections nodes)
-    (sym (node_plans-cons edition bits sections node nodes) ∙ e)
+    plans_by edition links bits node nodes (planned edition links bits node source) (node_plans edition links bits sections nodes) plans (plan_of_one edition links bits node source) (plans_of edition links bits sections nodes)
+    (sym (node_plans-cons edition links bits sections node nodes) ∙ e)
 
 -- What the plans of nodes keep
 
-as_many : (edition : ℕ) (bits : List BitRec) (nodes : List GivenNode) (plans : List NodePlan) → PlansOf edition bits nodes plans → length nodes ≡ length plans
-as_many edition bits [] [] k = refl
-as_many edition bits [] (plan ∷ plans) k = absurd k
-as_many edition bits (node ∷ nodes) [] k = absurd k
-as_many edition bits (node ∷ nodes) (plan ∷ plans) k = ap suc (as_many edition bits nodes plans k.1)
+as_many : (edition : ℕ) (links : List LinkLine) (bits : List BitRec) (nodes : List GivenNode) (plans : List NodePlan) → PlansOf edition links bits nodes plans → length nodes ≡ length plans
+as_many edition links bits [] [] k = refl
+as_many edition links bits [] (plan ∷ plans) k = absurd k
+as_many edition links bits (node ∷ nodes) [] k = absurd k
+as_many edition links bits (node ∷ nodes) (plan ∷ plans) k = ap suc (as_many edition links bits nodes plans k.1)
 
-same_numbers : (edition : ℕ) (bits : List BitRec) (nodes : List GivenNode) (plans : List NodePlan) → PlansOf edition bits nodes plans →
+same_numbers : (edition : ℕ) (links : List LinkLine) (bits : List BitRec) (nodes : List GivenNode) (plans : List NodePlan) → PlansOf edition links bits nodes plans →
     map (λ (node : GivenNode). node.number) nodes ≡ map (λ (plan : NodePlan). plan.number) plans
-same_numbers edition bits [] [] k = refl
-same_numbers edition bits [] (plan ∷ plans) k = absurd k
-same_numbers edition bits (node ∷ nodes) [] k = absurd k
-same_numbers edition bits (node ∷ nodes) (plan ∷ plans) k = rw (k.0.number, same_numbers edition bits nodes plans k.1) refl
+same_numbers edition links bits [] [] k = refl
+same_numbers edition links bits [] (plan ∷ plans) k = absurd k
+same_numbers edition links bits (node ∷ nodes) [] k = absurd k
+same_numbers edition links bits (node ∷ nodes) (plan ∷ plans) k = rw (k.0.number, same_numbers edition links bits nodes plans k.1) refl
 
-same_ids : (edition : ℕ) (bits : List BitRec) (nodes : List GivenNode) (plans : List NodePlan) → PlansOf edition bits nodes plans →
+same_ids : (edition : ℕ) (links : List LinkLine) (bits : List BitRec) (nodes : List GivenNode) (plans : List NodePlan) → PlansOf edition links bits nodes plans →
     map (λ (node : GivenNode). node.id) nodes ≡ map (λ (plan : NodePlan). plan.id) plans
-same_ids edition bits [] [] k = refl
-same_ids edition bits [] (plan ∷ plans) k = absurd k
-same_ids edition bits (node ∷ nodes) [] k = absurd k
-same_ids edition bits (node ∷ nodes) (plan ∷ plans) k = rw (k.0.id, same_ids edition bits nodes plans k.1) refl
+same_ids edition links bits [] [] k = refl
+same_ids edition links bits [] (plan ∷ plans) k = absurd k
+same_ids edition links bits (node ∷ nodes) [] k = absurd k
+same_ids edition links bits (node ∷ nodes) (plan ∷ plans) k = rw (k.0.id, same_ids edition links bits nodes plans k.1) refl
 
-numbers_kept : (edition : ℕ) (bits : List BitRec) (nodes : List GivenNode) (plans : List NodePlan) → PlansOf edition bits nodes plans →
+numbers_kept : (edition : ℕ) (links : List LinkLine) (bits : List BitRec) (nodes : List GivenNode) (plans : List NodePlan) → PlansOf edition links bits nodes plans →
     AllByRecursion (λ (node : GivenNode). node.number ≤ 99) nodes → AllByRecursion (λ (plan : NodePlan). plan.number < 100) plans
-numbers_kept edition bits [] [] k h = tt
-numbers_kept edition bits [] (plan ∷ plans) k h = absurd k
-numbers_kept edition bits (node ∷ nodes) [] k h = absurd k
-numbers_kept edition bits (node ∷ nodes) (plan ∷ plans) k h = (omega (arith, k.0.number, h.0), numbers_kept edition bits nodes plans k.1 h.1)
+numbers_kept edition links bits [] [] k h = tt
+numbers_kept edition links bits [] (plan ∷ plans) k h = absurd k
+numbers_kept edition links bits (node ∷ nodes) [] k h = absurd k
+numbers_kept edition links bits (node ∷ nodes) (plan ∷ plans) k h = (omega (arith, k.0.number, h.0), numbers_kept edition links bits nodes plans k.1 h.1)
 
 -- what is so of the plan of any node is so of each of them
-each_kept : (P : NodePlan → Type 0) (edition : ℕ) (bits : List BitRec) → ((node : GivenNode) (plan : NodePlan) → PlanOf edition bits node plan → P plan) →
-    (nodes : List GivenNode) (plans : List NodePlan) → PlansOf edition bits nodes plans → AllByRecursion P plans
-each_kept P edition bits of [] [] k = tt
-each_kept P edition bits of [] (plan ∷ plans) k = absurd k
-each_kept P edition bits of (node ∷ nodes) [] k = absurd k
-each_kept P edition bits of (node ∷ nodes) (plan ∷ plans) k = (of node plan k.0, each_kept P edition bits of nodes plans k.1)
+each_kept : (P : NodePlan → Type 0) (edition : ℕ) (links : List LinkLine) (bits : List BitRec) → ((node : GivenNode) (plan : NodePlan) → PlanOf edition links bits node plan → P plan) →
+    (nodes : List GivenNode) (plans : List NodePlan) → PlansOf edition links bits nodes plans → AllByRecursion P plans
+each_kept P edition links bits of [] [] k = tt
+each_kept P edition links bits of [] (plan ∷ plans) k = absurd k
+each_kept P edition links bits of (node ∷ nodes) [] k = absurd k
+each_kept P edition links bits of (node ∷ nodes) (plan ∷ plans) k = (of node plan k.0, each_kept P edition links bits of nodes plans k.1)
 
 -- the plans' edition is that of the nodes, where these have one that may be
-least_kept : (edition : ℕ) (bits : List BitRec) (nodes : List GivenNode) (plans : List NodePlan) → PlansOf edition bits nodes plans → 1 ≤ edition → 1 ≤ edition_of plans
-least_kept edition bits [] [] k h = omega arith
-least_kept edition bits [] (plan ∷ plans) k h = absurd k
-least_kept edition bits (node ∷ nodes) [] k h = absurd k
-least_kept edition bits (node ∷ nodes) (plan ∷ plans) k h = omega (arith, k.0.of_edition, h)
+least_kept : (edition : ℕ) (links : List LinkLine) (bits : List BitRec) (nodes : List GivenNode) (plans : List NodePlan) → PlansOf edition links bits nodes plans → 1 ≤ edition → 1 ≤ edition_of plans
+least_kept edition links bits [] [] k h = omega arith
+least_kept edition links bits [] (plan ∷ plans) k h = absurd k
+least_kept edition links bits (node ∷ nodes) [] k h = absurd k
+least_kept edition links bits (node ∷ nodes) (plan ∷ plans) k h = omega (arith, k.0.of_edition, h)
 
-most_kept : (edition : ℕ) (bits : List BitRec) (nodes : List GivenNode) (plans : List NodePlan) → PlansOf edition bits nodes plans → edition ≤ 2 → edition_of plans ≤ 2
-most_kept edition bits [] [] k h = omega arith
-most_kept edition bits [] (plan ∷ plans) k h = absurd k
-most_kept edition bits (node ∷ nodes) [] k h = absurd k
-most_kept edition bits (node ∷ nodes) (plan ∷ plans) k h = omega (arith, k.0.of_edition, h)
+most_kept : (edition : ℕ) (links : List LinkLine) (bits : List BitRec) (nodes : List GivenNode) (plans : List NodePlan) → PlansOf edition links bits nodes plans → edition ≤ 2 → edition_of plans ≤ 2
+most_kept edition links bits [] [] k h = omega arith
+most_kept edition links bits [] (plan ∷ plans) k h = absurd k
+most_kept edition links bits (node ∷ nodes) [] k h = absurd k
+most_kept edition links bits (node ∷ nodes) (plan ∷ plans) k h = omega (arith, k.0.of_edition, h)
 
 -- and all have it
-editions_kept : (edition : ℕ) (bits : List BitRec) (nodes : List GivenNode) (plans : List NodePlan) → PlansOf edition bits nodes plans →
+editions_kept : (edition : ℕ) (links : List LinkLine) (bits : List BitRec) (nodes : List GivenNode) (plans : List NodePlan) → PlansOf edition links bits nodes plans →
     AllByRecursion (λ (plan : NodePlan). plan.edition ≡ edition_of plans) plans
-editions_kept edition bits [] [] k = tt
-editions_kept edition bits [] (plan ∷ plans) k = absurd k
-editions_kept edition bits (node ∷ nodes) [] k = absurd k
-editions_kept edition bits (node ∷ nodes) (plan ∷ plans) k =
-    each_kept (λ (other : NodePlan). other.edition ≡ plan.edition) edition bits (λ n p of. of.of_edition ∙ sym k.0.of_edition) (node ∷ nodes) (plan ∷ plans) k
+editions_kept edition links bits [] [] k = tt
+editions_kept edition links bits [] (plan ∷ plans) k = absurd k
+editions_kept edition links bits (node ∷ nodes) [] k = absurd k
+editions_kept edition links bits (node ∷ nodes) (plan ∷ plans) k =
+    each_kept (λ (other : NodePlan). other.edition ≡ plan.edition) edition links bits (λ n p of. of.of_edition ∙ sym k.0.of_edition) (node ∷ nodes) (plan ∷ plans) k
 
 -- where the ways of each node lead out, those of its plan do
-ways_kept : (plan : PlanRec) (edition : ℕ) (bits : List BitRec) (place : ℕ → ℕ) → ((number : ℕ) → WaysLead plan (place number) (ways_of bits number)) →
-    (n : ℕ) (nodes : List GivenNode) (plans : List NodePlan) → PlansOf edition bits nodes plans → Stand place n nodes → AllWaysLead plan n plans
-ways_kept plan edition bits place lead n [] [] k s = tt
-ways_kept plan edition bits place lead n [] (p ∷ plans) k s = absurd k
-ways_kept plan edition bits place lead n (node ∷ nodes) [] k s = absurd k
-ways_kept plan edition bits place lead n (node ∷ nodes) (p ∷ plans) k s = (
+ways_kept : (plan : PlanRec) (edition : ℕ) (links : List LinkLine) (bits : List BitRec) (place : ℕ → ℕ) → ((number : ℕ) → WaysLead plan (place number) (ways_of bits number)) →
+    (n : ℕ) (nodes : List GivenNode) (plans : List NodePlan) → PlansOf edition links bits nodes plans → Stand place n nodes → AllWaysLead plan n plans
+ways_kept plan edition links bits place lead n [] [] k s = tt
+ways_kept plan edition links bits place lead n [] (p ∷ plans) k s = absurd k
+ways_kept plan edition links bits place lead n (node ∷ nodes) [] k s = absurd k
+ways_kept plan edition links bits place lead n (node ∷ nodes) (p ∷ plans) k s = (
   subst (WaysLead plan n) (sym k.0.ways) (subst (λ i. WaysLead plan i (ways_of bits node.number)) s.0 (lead node.number)),
-  ways_kept plan edition bits place lead (n + 1) nodes plans k.1 s.1,
+  ways_kept plan edition links bits place lead (n + 1) nodes plans k.1 s.1,
+)
+
+-- A link end of a node has the network by the node's number that it has by its place.
+
+same_test : (nodes : List GivenNode) (j k : ℕ) → has_node nodes j ≡ true → has_node nodes k ≡ true → (position_by_number nodes j == position_by_number nodes k) ≡ (j == k)
+same_test nodes j k e f = by (j == k) (position_by_number nodes j == position_by_number nodes k) refl refl
+  where
+    by : (b c : Bool) → (j == k) ≡ b → (position_by_number nodes j == position_by_number nodes k) ≡ c → c ≡ b
+    by true true g h = refl
+    by true false g h = let same : j ≡ k = grind (arith, nat_tests) in let at = ap (position_by_number nodes) same in grind (arith, nat_tests)
+    by false true g h =
+        let at : position_by_number nodes j ≡ position_by_number nodes k = grind (arith, nat_tests) in
+        let same : j ≡ k = same_number nodes j k e f at in
+        grind (arith, nat_tests)
+    by false false g h = refl
+
+net_same : (nodes : List GivenNode) (number end : ℕ) (links : List LinkLine) → has_node nodes number ≡ true → AllByRecursion (IsLinkOf nodes) links →
+    net_of_end links (record { node = number; end = end }) ≡ net_at (map (link_plan nodes) links) (position_by_number nodes number) end
+net_same nodes number end [] h k = refl
+net_same nodes number end (link ∷ links) h k =
+    rw (same_test nodes link.a.node number k.0.a h, same_test nodes link.b.node number k.0.b h, net_same nodes number end links h k.1) refl
+
+each_same : (f g : ℕ → ℕ) → ((n : ℕ) → f n ≡ g n) → (ns : List ℕ) → map f ns ≡ map g ns
+each_same f g h [] = refl
+each_same f g h (n ∷ ns) = rw (h n, each_same f g h ns) refl
+
+nets_same : (nodes : List GivenNode) (number : ℕ) (links : List LinkLine) → has_node nodes number ≡ true → AllByRecursion (IsLinkOf nodes) links →
+    nets_of links number ≡ nets_at (map (link_plan nodes) links) (position_by_number nodes number)
+nets_same nodes number links h k =
+    each_same (λ end. net_of_end links (record { node = number; end = end })) (net_at (map (link_plan nodes) links) (position_by_number nodes number))
+    (λ end. net_same nodes number end links h k) link_ends
+
+-- these nodes are given
+abbrev AreGiven : List GivenNode → List GivenNode → Type 0
+AreGiven all nodes = AllByRecursion (λ (node : GivenNode). has_node all node.number ≡ true) nodes
+
+one_given : (m n : ℕ) (rest : Bool) → rest ≡ true → ((m == n) || rest) ≡ true
+one_given m n rest e = grind (arith, nat_tests)
+
+given_still : (m : GivenNode) (all nodes : List GivenNode) → AreGiven all nodes → AreGiven (m ∷ all) nodes
+given_still m all [] h = tt
+given_still m all (node ∷ nodes) h = (one_given m.number node.number (has_node all node.number) h.0, given_still m all nodes h.1)
+
+first_given : (n : ℕ) (rest : Bool) → ((n == n) || rest) ≡ true
+first_given n rest = grind (arith, nat_tests)
+
+all_given : (nodes : List GivenNode) → AreGiven nodes nodes
+all_given [] = tt
+all_given (node ∷ nodes) = (first_given node.number (has_node nodes node.number), given_still node nodes nodes (all_given nodes))
+
+-- the plan of each node knows the networks of the links at its place
+nets_kept : (all : List GivenNode) (edition : ℕ) (links : List LinkLine) (bits : List BitRec) → AllByRecursion (IsLinkOf all) links →
+    (n : ℕ) (nodes : List GivenNode) (plans : List NodePlan) → PlansOf edition links bits nodes plans → Stand (position_by_number all) n nodes → AreGiven all nodes →
+    AllKnowNets (map (link_plan all) links) n plans
+nets_kept all edition links bits joined n [] [] k s h = tt
+nets_kept all edition links bits joined n [] (p ∷ plans) k s h = absurd k
+nets_kept all edition links bits joined n (node ∷ nodes) [] k s h = absurd k
+nets_kept all edition links bits joined n (node ∷ nodes) (p ∷ plans) k s h = (
+  k.0.nets ∙ (nets_same all node.number links h.0 joined ∙ ap (nets_at (map (link_plan all) links)) s.0),
+  nets_kept all edition links bits joined (n + 1) nodes plans k.1 s.1 h.1,
 )
 
 -- What the links keep
@@ -148,12 +215,30 @@ link_kept nodes count link n k = record {
   most_delay = k.most_delay;
   least_gap = k.least_gap;
   most_gap = k.most_gap;
+  most_net = k.most_net;
 }
 
 links_kept : (nodes : List GivenNode) (count : ℕ) (links : List LinkLine) → length nodes ≡ count → AllByRecursion (IsLinkOf nodes) links →
     AllByRecursion (IsLink count) (map (link_plan nodes) links)
 links_kept nodes count [] n k = tt
 links_kept nodes count (link ∷ links) n k = (link_kept nodes count link n k.0, links_kept nodes count links n k.1)
+
+-- in edition 1 each is of network 0; without nodes there is none
+no_links : (links : List LinkLine) → AllByRecursion (IsLinkOf []) links → AllByRecursion (λ (link : LinkPlan). link.net ≡ 0) (map (link_plan []) links)
+no_links [] k = tt
+no_links (link ∷ links) k = let a = k.0.a in absurd cc
+
+all_of_0 : (nodes : List GivenNode) (links : List LinkLine) → AllByRecursion (λ (link : LinkLine). link.net ≡ 0) links →
+    AllByRecursion (λ (link : LinkPlan). link.net ≡ 0) (map (link_plan nodes) links)
+all_of_0 nodes [] h = tt
+all_of_0 nodes (link ∷ links) h = (h.0, all_of_0 nodes links h.1)
+
+one_network_kept : (edition : ℕ) (links : List LinkLine) (bits : List BitRec) (nodes : List GivenNode) (plans : List NodePlan) → PlansOf edition links bits nodes plans →
+    AllByRecursion (IsLinkOf nodes) links → AreOfOneNetwork edition links → edition_of plans ≡ 1 → AllByRecursion (λ (link : LinkPlan). link.net ≡ 0) (map (link_plan nodes) links)
+one_network_kept edition links bits [] [] k joined h e = no_links links joined
+one_network_kept edition links bits [] (plan ∷ plans) k joined h e = absurd k
+one_network_kept edition links bits (node ∷ nodes) [] k joined h e = absurd k
+one_network_kept edition links bits (node ∷ nodes) (plan ∷ plans) k joined h e = all_of_0 (node ∷ nodes) links (h (sym k.0.of_edition ∙ e))
 
 as_many_links : (nodes : List GivenNode) (links : List LinkLine) → length (map (link_plan nodes) links) ≡ length links
 as_many_links nodes [] = refl
@@ -230,31 +315,32 @@ pub record IsScriptOf (nodes : List GivenNode) (script : List PinLine) : Type 0 
   pub named : IsOfNodes (map (λ (node : GivenNode). node.number) nodes) script
 
 kept_plan : (edition : ℕ) (nodes : List GivenNode) (links : List LinkLine) (bits : List BitRec) (lines : List PlayLine) (plans : List NodePlan) (script : List PinLine) →
-    1 ≤ edition → edition ≤ 2 → AreAccepted nodes links bits lines → PlansOf edition bits nodes plans → IsScriptOf nodes script →
+    1 ≤ edition → edition ≤ 2 → AreAccepted nodes links bits lines → AreOfOneNetwork edition links → PlansOf edition links bits nodes plans → IsScriptOf nodes script →
     IsPlan (record { nodes = plans; links = map (link_plan nodes) links; script = script; steps = map (step_plan nodes) lines })
-kept_plan edition nodes links bits lines plans script least most k p s = record {
-  few_nodes = omega (arith, k.few_nodes, as_many edition bits nodes plans p);
+kept_plan edition nodes links bits lines plans script least most k one p s = record {
+  few_nodes = omega (arith, k.few_nodes, as_many edition links bits nodes plans p);
   few_links = omega (arith, k.few_links, as_many_links nodes links);
-  numbers = numbers_kept edition bits nodes plans p k.numbers;
-  order = subst AreAscending (same_numbers edition bits nodes plans p) k.order;
-  least_edition = least_kept edition bits nodes plans p least;
-  most_edition = most_kept edition bits nodes plans p most;
-  editions = editions_kept edition bits nodes plans p;
-  nets = each_kept (λ (plan : NodePlan). plan.nets ≡ replicate 8 0) edition bits (λ node plan of. of.nets) nodes plans p;
-  ids = subst (λ ids. AreDistinct ids) (same_ids edition bits nodes plans p) k.ids;
-  links = links_kept nodes (length plans) links (as_many edition bits nodes plans p) k.links;
+  numbers = numbers_kept edition links bits nodes plans p k.numbers;
+  order = subst AreAscending (same_numbers edition links bits nodes plans p) k.order;
+  least_edition = least_kept edition links bits nodes plans p least;
+  most_edition = most_kept edition links bits nodes plans p most;
+  editions = editions_kept edition links bits nodes plans p;
+  nets = nets_kept nodes edition links bits k.links 0 nodes plans p (stand nodes k.order) (all_given nodes);
+  one_network = one_network_kept edition links bits nodes plans p k.links one;
+  ids = subst (λ ids. AreDistinct ids) (same_ids edition links bits nodes plans p) k.ids;
+  links = links_kept nodes (length plans) links (as_many edition links bits nodes plans p) k.links;
   places = places_kept nodes links k.links k.ends;
   script = s.lines;
-  script_nodes = subst (λ numbers. IsOfNodes numbers script) (same_numbers edition bits nodes plans p) s.named;
+  script_nodes = subst (λ numbers. IsOfNodes numbers script) (same_numbers edition links bits nodes plans p) s.named;
   ways = let plan : PlanRec = record { nodes = plans; links = map (link_plan nodes) links; script = script; steps = map (step_plan nodes) lines } in
-      ways_kept plan edition bits (position_by_number nodes) (ways_lead plan nodes links bits refl k.bits) 0 nodes plans p (stand nodes k.order);
+      ways_kept plan edition links bits (position_by_number nodes) (ways_lead plan nodes links bits refl k.bits) 0 nodes plans p (stand nodes k.order);
   steps = let plan : PlanRec = record { nodes = plans; links = map (link_plan nodes) links; script = script; steps = map (step_plan nodes) lines } in
-      steps_kept plan nodes links (as_many edition bits nodes plans p) refl lines k.steps;
+      steps_kept plan nodes links (as_many edition links bits nodes plans p) refl lines k.steps;
 }
 
 -- the plans of the nodes, the links and the steps of a frame that is accepted, and its script
 pub frame_plan : (given : Given) (nodes : List GivenNode) (links : List LinkLine) (lines : List PlayLine) (plans : List NodePlan) (joined : List LinkPlan) (script : List PinLine)
-    (steps : List Step) → IsAccepted given → nodes ≡ given.nodes → links ≡ given.links → lines ≡ given.steps → node_plans (edition_given given.edition) given.bits given.sections given.nodes ≡ Ok plans →
+    (steps : List Step) → IsAccepted given → nodes ≡ given.nodes → links ≡ given.links → lines ≡ given.steps → node_plans (edition_given given.edition) given.links given.bits given.sections given.nodes ≡ Ok plans →
     joined ≡ map (link_plan nodes) links → steps ≡ map (step_plan nodes) lines → IsScriptOf given.nodes script →
     IsPlan (record { nodes = plans; links = joined; script = script; steps = steps })
 frame_plan given nodes links lines plans joined script steps k n l p e j t s =
@@ -262,4 +348,4 @@ frame_plan given nodes links lines plans joined script steps k n l p e j t s =
     let as_steps : map (step_plan given.nodes) given.steps ≡ steps = sym (t ∙ (ap (λ ns. map (step_plan ns) lines) n ∙ ap (map (step_plan given.nodes)) p)) in
     let scheduled : List LinkPlan → List Step → Type 0 = λ ls ss. IsPlan (record { nodes = plans; links = ls; script = script; steps = ss }) in
     subst (scheduled joined) as_steps (subst (λ ls. scheduled ls (map (step_plan given.nodes) given.steps)) same
-    (kept_plan (edition_given given.edition) given.nodes given.links given.bits given.steps plans script k.0.least k.0.most k.1 (plans_of (edition_given given.edition) given.bits given.sections given.nodes plans e) s))
+    (kept_plan (edition_given given.edition) given.nodes given.links given.bits given.steps plans script k.0.least k.0.most k.1 k.2 (plans_of (edition_given given.edition) given.links given.bits given.sections given.nodes plans e) s))

@@ -10,7 +10,7 @@ use Rattle.system_model.specs.Bits.{BitRec}
 use Rattle.system_model.specs.Frame.{Given, has_node, has_link_ends, is_step_of}
 use Rattle.system_model.specs.System.{edition_given}
 
--- a link joins link ends of two of the nodes, and its delay and gap are within their ranges
+-- a link joins link ends of two of the nodes, and its delay, its gap and its network are within their ranges
 pub record IsLinkOf (nodes : List GivenNode) (link : LinkLine) : Type 0 where
   pub a : has_node nodes link.a.node ≡ true
   pub b : has_node nodes link.b.node ≡ true
@@ -21,6 +21,7 @@ pub record IsLinkOf (nodes : List GivenNode) (link : LinkLine) : Type 0 where
   pub most_delay : link.delay ≤ 1000
   pub least_gap : 4 ≤ link.gap
   pub most_gap : link.gap ≤ 1000
+  pub most_net : link.net ≤ 3
 
 -- the link ends of links
 abbrev pub ends_of : List LinkLine → List EndName
@@ -47,5 +48,10 @@ pub record IsEdition (edition : ℕ) : Type 0 where
   pub least : 1 ≤ edition
   pub most : edition ≤ 2
 
+-- in edition 1 each link is of network 0
+abbrev pub AreOfOneNetwork : ℕ → List LinkLine → Type 0
+AreOfOneNetwork edition links = edition ≡ 1 → AllByRecursion (λ (link : LinkLine). link.net ≡ 0) links
+
 abbrev pub IsAccepted : Given → Type 0
-IsAccepted given = IsEdition (edition_given given.edition) × AreAccepted given.nodes given.links given.bits given.steps
+IsAccepted given =
+    IsEdition (edition_given given.edition) × AreAccepted given.nodes given.links given.bits given.steps × AreOfOneNetwork (edition_given given.edition) given.links

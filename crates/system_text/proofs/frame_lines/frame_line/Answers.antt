@@ -6,7 +6,7 @@ use Rattle.system_text.proofs.FormNames.{too_many}
 use Rattle.system_text.proofs.frame_lines.frame_line.Goals as goal
 
 pub returns-in-Ok : goal.returns-in-Ok
-returns-in-Ok c = c.form_of.ensures ∙ ap (λ ws. formed (frame_line ws)) (ap bytes_of c.deref.ensures.0 ∙ c.in-Ok.ensures.words)
+returns-in-Ok c = c.form_of.ensures ∙ ap (λ ws. formed (frame_line c.args.edition ws)) (ap bytes_of c.deref.ensures.0 ∙ c.in-Ok.ensures.words)
 
 pub returns-in-Err : goal.returns-in-Err
-returns-in-Err c = too_many _ _ c.in-Err.ensures.kind c.in-Err.ensures.many
+returns-in-Err c = too_many c.args.edition _ _ c.in-Err.ensures.kind c.in-Err.ensures.many
