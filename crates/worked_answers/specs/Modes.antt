@@ -1,6 +1,6 @@
 -- The modes of a run, worked out by hand: which form words with them have, what is answered to them, and which may wait.
 use Rattle.std.specs.Prelude.{◌≡◌, true, false, Some, None, List, ℕ, [], ◌∷◌, ◌++◌, codes}
-use Rattle.answer_model.specs.declared.Form.TheVariants.{Free, Serial, Rounds}
+use Rattle.answer_model.specs.declared.Form.TheVariants.{Free, Serial, Rounds, Play}
 use Rattle.answer_model.specs.Forms.{form_of_words, asks_for_input, form_may_wait}
 use Rattle.answer_model.specs.Modes.{run_words, mode_words}
 use Rattle.answer_model.specs.Top.{answer, taken}
