@@ -8,7 +8,7 @@ use Rattle.xs_instructions.specs.declared.instr.Instr.{Instr}
 use Rattle.xs_instructions.specs.declared.instr.Instr.TheVariants.{Resources}
 use Rattle.xs_instructions.specs.declared.instr.ResIns.TheVariants as resources
 use Rattle.net_model.specs.Chans.{got_chan}
-use Rattle.net_model.specs.Ways.{Way, Here, Behind, way_to}
+use Rattle.net_model.specs.Ways.{Here, Behind, way_to}
 use Rattle.net_model.specs.Switch.{Routes, state_at, with_state, node_with_chan}
 use Rattle.worked_machine.specs.Pair.{switched}
 use Rattle.worked_machine.specs.SwitchSteps.{to, sends}
