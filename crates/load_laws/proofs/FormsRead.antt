@@ -21,20 +21,20 @@ node_by_words n i number id e f = bind (number_of n) number _ e ∙ bind (number
 
 -- the same as a line of a frame
 pub node_form : (n i : List ℕ) (number id : ℕ) → number_of n ≡ Some number → number_of i ≡ Some id
-    → frame_line (codes "node" ∷ n ∷ codes "id" ∷ i ∷ []) ≡ Some (Node (record { number = number; id = id }))
+    → frame_line 1 (codes "node" ∷ n ∷ codes "id" ∷ i ∷ []) ≡ Some (Node (record { number = number; id = id }))
 unfolding frame_line
 node_form n i number id e f = first_form _ _ _ (ap (λ o. option_map Node o) (node_by_words n i number id e f))
 
--- `link N:E M:F delay D gap G`
+-- `link N:E M:F delay D gap G`, which is of network 0
 link_by_words : (x y d g : List ℕ) (a b : EndName) (delay gap : ℕ) → end_name x ≡ Some a → end_name y ≡ Some b → number_of d ≡ Some delay → number_of g ≡ Some gap
-    → link_line (codes "link" ∷ x ∷ y ∷ codes "delay" ∷ d ∷ codes "gap" ∷ g ∷ []) ≡ Some (record { a = a; b = b; delay = delay; gap = gap })
+    → link_line 1 (codes "link" ∷ x ∷ y ∷ codes "delay" ∷ d ∷ codes "gap" ∷ g ∷ []) ≡ Some (record { a = a; b = b; delay = delay; gap = gap; net = 0 })
 unfolding link_line
 link_by_words x y d g a b delay gap e f h k =
     bind (end_name x) a _ e ∙ (bind (end_name y) b _ f ∙ (bind (number_of d) delay _ h ∙ bind (number_of g) gap _ k))
 
 -- the same as a line of a frame
 pub link_form : (x y d g : List ℕ) (a b : EndName) (delay gap : ℕ) → end_name x ≡ Some a → end_name y ≡ Some b → number_of d ≡ Some delay → number_of g ≡ Some gap
-    → frame_line (codes "link" ∷ x ∷ y ∷ codes "delay" ∷ d ∷ codes "gap" ∷ g ∷ []) ≡ Some (Link (record { a = a; b = b; delay = delay; gap = gap }))
+    → frame_line 1 (codes "link" ∷ x ∷ y ∷ codes "delay" ∷ d ∷ codes "gap" ∷ g ∷ []) ≡ Some (Link (record { a = a; b = b; delay = delay; gap = gap; net = 0 }))
 unfolding frame_line node_line
 link_form x y d g a b delay gap e f h k = first_form _ _ _ (ap (λ o. option_map Link o) (link_by_words x y d g a b delay gap e f h k))
 
@@ -51,7 +51,7 @@ bit_by_words n b e node bit end h k j = bind (number_of n) node _ h ∙ (bind (n
 
 -- the same as a line of a frame
 pub bit_form : (n b e : List ℕ) (node bit end : ℕ) → number_of n ≡ Some node → number_of b ≡ Some bit → number_of e ≡ Some end
-    → frame_line (codes "bit" ∷ n ∷ b ∷ e ∷ []) ≡ Some (Bit (record { node = node; bit = bit; ends = end ∷ [] }))
+    → frame_line 1 (codes "bit" ∷ n ∷ b ∷ e ∷ []) ≡ Some (Bit (record { node = node; bit = bit; ends = end ∷ [] }))
 unfolding frame_line node_line link_line
 bit_form n b e node bit end h k j = first_form _ _ _ (ap (λ o. option_map Bit o) (bit_by_words n b e node bit end h k j))
 
@@ -61,6 +61,6 @@ unfolding section_line
 source_by_words n node h = ap (λ o. option_map Source o) h
 
 -- the same as a line of a frame
-pub source_form : (n : List ℕ) (node : ℕ) → number_of n ≡ Some node → frame_line (codes "source" ∷ n ∷ []) ≡ Some (Section (Source node))
+pub source_form : (n : List ℕ) (node : ℕ) → number_of n ≡ Some node → frame_line 1 (codes "source" ∷ n ∷ []) ≡ Some (Section (Source node))
 unfolding frame_line node_line link_line bit_line
 source_form n node h = ap (λ o. option_map Section o) (source_by_words n node h)

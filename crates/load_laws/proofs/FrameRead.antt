@@ -16,8 +16,8 @@ use Rattle.load_model.specs.Load.{node_count, node_numbers, destination_at, firs
 use Rattle.load_laws.specs.Accepted.{IsAccepted, IsRingNode, load_link}
 use Rattle.load_laws.proofs.Counted.{firsts_counted}
 use Rattle.load_laws.proofs.Ring.{bit_below, destination_below, first_word_below}
-use Rattle.load_laws.proofs.States.{node_given, nodes_of, bits_of, sections_of}
-use Rattle.load_laws.proofs.PlanRead.{source_found, no_pins, no_lines_no_script, node_plan, plans_are, links_are}
+use Rattle.load_laws.proofs.States.{node_given, nodes_of, links_of, bits_of, sections_of}
+use Rattle.load_laws.proofs.PlanRead.{source_found, no_pins, no_lines_no_script, load_nets, node_plan, plans_are, links_are}
 use Rattle.load_laws.proofs.WayRead.{way_is}
 use Rattle.load_laws.proofs.FrameWhole.{sections_at, all_given, frame_is_whole}
 use Rattle.load_laws.proofs.SourceRead.{source_read}
@@ -41,10 +41,10 @@ abbrev load_plan : ℕ → PlanRec
 load_plan n = record { nodes = load_nodes n; links = map (load_link n) (node_numbers n); script = []; steps = [] }
 
 -- the nodes have these plans
-nodes_planned : (n : ℕ) → node_plans 1 (bits_of n (node_count n)) (sections_of n (sections_at n) (node_count n)) (nodes_of (node_count n)) ≡ Ok (load_nodes n)
+nodes_planned : (n : ℕ) → node_plans 1 (links_of n (node_count n)) (bits_of n (node_count n)) (sections_of n (sections_at n) (node_count n)) (nodes_of (node_count n)) ≡ Ok (load_nodes n)
 nodes_planned n =
-    ap (λ (nodes : List GivenNode). node_plans 1 (bits_of n (node_count n)) (sections_of n (sections_at n) (node_count n)) nodes) (firsts_counted node_given (node_count n))
-    ∙ plans_are (bits_of n (node_count n)) (image_of n) (sections_of n (sections_at n) (node_count n)) (node_count n)
+    ap (λ (nodes : List GivenNode). node_plans 1 (links_of n (node_count n)) (bits_of n (node_count n)) (sections_of n (sections_at n) (node_count n)) nodes) (firsts_counted node_given (node_count n))
+    ∙ plans_are (bits_of n (node_count n)) (image_of n) (links_of n (node_count n)) (load_nets n (node_count n)) (sections_of n (sections_at n) (node_count n)) (node_count n)
     (λ i l. ap assembled_lines (source_found (λ j. sections_at n + j * 24) (λ j. source_lines (destination_at n j) (first_word_at n j)) (node_count n) i l) ∙ image_is n i)
     0 (node_count n) (omega arith)
 
@@ -57,8 +57,8 @@ no_script n =
 -- the frame stands for the plan
 planned : (n : ℕ) → plan_of_frame (all_given n) ≡ Plan (load_plan n)
 planned n =
-    ap (λ (links : List LinkPlan). plan_with links [] (script_of (all_given n)) (node_plans 1 (bits_of n (node_count n)) (sections_of n (sections_at n) (node_count n)) (nodes_of (node_count n)))) (links_are n)
-    ∙ ap (λ (script : PinsRead). plan_with (map (load_link n) (node_numbers n)) [] script (node_plans 1 (bits_of n (node_count n)) (sections_of n (sections_at n) (node_count n)) (nodes_of (node_count n)))) (no_script n)
+    ap (λ (links : List LinkPlan). plan_with links [] (script_of (all_given n)) (node_plans 1 (links_of n (node_count n)) (bits_of n (node_count n)) (sections_of n (sections_at n) (node_count n)) (nodes_of (node_count n)))) (links_are n)
+    ∙ ap (λ (script : PinsRead). plan_with (map (load_link n) (node_numbers n)) [] script (node_plans 1 (links_of n (node_count n)) (bits_of n (node_count n)) (sections_of n (sections_at n) (node_count n)) (nodes_of (node_count n)))) (no_script n)
     ∙ ap (λ (nodes : Result (List NodePlan) SourceFault). plan_with (map (load_link n) (node_numbers n)) [] (Script []) nodes) (nodes_planned n)
 
 -- and so does the text

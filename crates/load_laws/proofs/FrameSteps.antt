@@ -8,7 +8,7 @@ use Rattle.system_model.specs.declared.frame_line.FrameLine.TheVariants.{Node, L
 use Rattle.system_model.specs.declared.frame_line.GivenNode.{GivenNode}
 use Rattle.system_model.specs.FrameLines.{frame_line}
 use Rattle.system_model.specs.Frame.{Form, given_with, frame_from}
-use Rattle.load_model.specs.Load.{node_count, next_node, delay_at, route_bit_at}
+use Rattle.load_model.specs.Load.{node_count, next_node, delay_at, gap_at, route_bit_at}
 use Rattle.load_laws.proofs.Counted.{length-firsts}
 use Rattle.load_laws.proofs.Ring.{not_onward, next_node_below, most_count, bit_in_range, delay_least, delay_most, gap_least, gap_most, within, beyond}
 use Rattle.load_laws.proofs.Taken.{NoFault, form_taken, says_its_form}
@@ -28,7 +28,7 @@ node_has_none n at k h = record {
 }
 
 -- the line of node k after those of the nodes below it
-pub node_step : (n at m k : ℕ) (l : List ℕ) (ls : List (List ℕ)) → k < 16 → m ≡ 2 + k → all_allowed l ≡ true → frame_line (words_of_line l) ≡ Some (Node (record { number = k; id = k }))
+pub node_step : (n at m k : ℕ) (l : List ℕ) (ls : List (List ℕ)) → k < 16 → m ≡ 2 + k → all_allowed l ≡ true → frame_line 1 (words_of_line l) ≡ Some (Node (record { number = k; id = k }))
     → frame_from m (given_of n at k 0 0 0) (l ∷ ls) ≡ frame_from (m + 1) (given_of n at (suc k) 0 0 0) ls
 node_step n at m k l ls h e allowed form =
     form_taken m (given_of n at k 0 0 0) (given_of n at (suc k) 0 0 0) l ls (Node (record { number = k; id = k })) allowed (says_its_form (words_of_line l) _ form) (node_has_none n at k h)
@@ -45,7 +45,7 @@ link_has_none n at k l =
           and_from (nat_le k 99 && nat_le 0 7) _ (and_from (nat_le k 99) (nat_le 0 7) (within k 99 low (omega arith)) refl) (
           and_from (nat_le (next_node n k) 99 && nat_le 1 7) _ (and_from (nat_le (next_node n k) 99) (nat_le 1 7) (within (next_node n k) 99 next (omega arith)) refl) (
           and_from (nat_le 1 (delay_at n k) && nat_le (delay_at n k) 1000) _ (and_from _ _ (delay_least n k) (delay_most n k)) (
-          and_from _ _ (gap_least k) (gap_most k)))));
+          and_from (nat_le 4 (gap_at k) && nat_le (gap_at k) 1000) _ (and_from _ _ (gap_least k) (gap_most k)) refl))));
       named = not_from_true _ (and_from _ _ (is_node (node_count n) k l) (is_node (node_count n) (next_node n k) (next_node_below n k)));
       once = refl;
       id_once = refl;
@@ -56,7 +56,7 @@ link_has_none n at k l =
     }
 
 -- the line of link k after those before it
-pub link_step : (n at m k : ℕ) (l : List ℕ) (ls : List (List ℕ)) → k < node_count n → all_allowed l ≡ true → frame_line (words_of_line l) ≡ Some (Link (link_given n k))
+pub link_step : (n at m k : ℕ) (l : List ℕ) (ls : List (List ℕ)) → k < node_count n → all_allowed l ≡ true → frame_line 1 (words_of_line l) ≡ Some (Link (link_given n k))
     → frame_from m (given_of n at (node_count n) k 0 0) (l ∷ ls) ≡ frame_from (m + 1) (given_of n at (node_count n) (suc k) 0 0) ls
 link_step n at m k l ls h allowed form =
     form_taken m (given_of n at (node_count n) k 0 0) (given_of n at (node_count n) (suc k) 0 0) l ls (Link (link_given n k)) allowed (says_its_form (words_of_line l) _ form) (link_has_none n at k h) refl
@@ -77,7 +77,7 @@ bit_has_none n at k l =
     }
 
 -- the line of bit k after those before it
-pub bit_step : (n at m k : ℕ) (l : List ℕ) (ls : List (List ℕ)) → k < node_count n → all_allowed l ≡ true → frame_line (words_of_line l) ≡ Some (Bit (bit_given n k))
+pub bit_step : (n at m k : ℕ) (l : List ℕ) (ls : List (List ℕ)) → k < node_count n → all_allowed l ≡ true → frame_line 1 (words_of_line l) ≡ Some (Bit (bit_given n k))
     → frame_from m (given_of n at (node_count n) (node_count n) k 0) (l ∷ ls) ≡ frame_from (m + 1) (given_of n at (node_count n) (node_count n) (suc k) 0) ls
 bit_step n at m k l ls h allowed form =
     form_taken m (given_of n at (node_count n) (node_count n) k 0) (given_of n at (node_count n) (node_count n) (suc k) 0) l ls (Bit (bit_given n k)) allowed (says_its_form (words_of_line l) _ form) (bit_has_none n at k h) refl

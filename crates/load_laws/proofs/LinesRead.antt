@@ -251,10 +251,10 @@ is_short n h = let e = length-load_text n h in grind (arith, nat_tests)
 -- ---- The words of the lines
 
 -- the line of a node is read as its node
-pub node_read : (i : ℕ) → i < 16 → frame_line (words_of_line (node_text i)) ≡ Some (Node (record { number = i; id = i }))
+pub node_read : (i : ℕ) → i < 16 → frame_line 1 (words_of_line (node_text i)) ≡ Some (Node (record { number = i; id = i }))
 node_read i h =
     let d = number_of_node i h in
-    ap frame_line (
+    ap (λ w. frame_line 1 w) (
     words_next (codes "node") (decimal i ++ (codes " id " ++ decimal i)) refl
     ∙ ap (λ w. codes "node" ∷ w) (words_next (decimal i) (codes "id " ++ decimal i) d.plain
     ∙ ap (λ w. decimal i ∷ w) (words_next (codes "id") (decimal i) refl ∙ ap (λ w. codes "id" ∷ w) (words_last (decimal i) d.plain)))
@@ -276,14 +276,14 @@ end_next node end rest h = ap (λ t. words_of_line t) (sym (append_assoc (decima
 
 -- the line of a link is read as its link
 pub link_read : (n i : ℕ) → n < 4294967296 → i < 16
-    → frame_line (words_of_line (link_text n i))
+    → frame_line 1 (words_of_line (link_text n i))
     ≡ Some (Link (record { a = record { node = i; end = 0 }; b = record { node = next_node n i; end = 1 }; delay = delay_at n i; gap = gap_at i; net = 0 }))
 link_read n i k h =
     let o = next_node_small n i in
     let a = end_word i 0 (codes "0") (omega arith) refl refl in
     let b = end_word (next_node n i) 1 (codes "1") (omega (arith, o)) refl refl in
     let delays = codes "delay " ++ (decimal (delay_at n i) ++ (codes " gap " ++ decimal (gap_at i))) in
-    ap frame_line (
+    ap (λ w. frame_line 1 w) (
     words_next (codes "link") (decimal i ++ (codes ":0 " ++ (decimal (next_node n i) ++ (codes ":1 " ++ delays)))) refl
     ∙ ap (λ w. codes "link" ∷ w) (end_next i (codes "0") (decimal (next_node n i) ++ (codes ":1 " ++ delays)) a.plain
     ∙ ap (λ w. (decimal i ++ codes ":0") ∷ w) (end_next (next_node n i) (codes "1") delays b.plain
@@ -295,11 +295,11 @@ link_read n i k h =
 
 -- the line of a bit is read as its bit
 pub bit_read : (n i : ℕ) → n < 4294967296 → i < 16
-    → frame_line (words_of_line (bit_text n i)) ≡ Some (Bit (record { node = i; bit = route_bit_at n i; ends = 0 ∷ [] }))
+    → frame_line 1 (words_of_line (bit_text n i)) ≡ Some (Bit (record { node = i; bit = route_bit_at n i; ends = 0 ∷ [] }))
 bit_read n i k h =
     let d = number_of_node i h in
     let e = number_word (route_bit_at n i) (bit_small n i) in
-    ap frame_line (
+    ap (λ w. frame_line 1 w) (
     words_next (codes "bit") (decimal i ++ (codes " " ++ (decimal (route_bit_at n i) ++ codes " 0"))) refl
     ∙ ap (λ w. codes "bit" ∷ w) (words_next (decimal i) (decimal (route_bit_at n i) ++ codes " 0") d.plain
     ∙ ap (λ w. decimal i ∷ w) (words_next (decimal (route_bit_at n i)) (codes "0") e.plain ∙ ap (λ w. decimal (route_bit_at n i) ∷ w) (words_last (codes "0") refl)))
@@ -307,10 +307,10 @@ bit_read n i k h =
     ∙ bit_form (decimal i) (decimal (route_bit_at n i)) (codes "0") i (route_bit_at n i) 0 d.read e.read refl
 
 -- the line that begins a source is read so
-pub source_read : (i : ℕ) → i < 16 → frame_line (words_of_line (source_text i)) ≡ Some (Section (Source i))
+pub source_read : (i : ℕ) → i < 16 → frame_line 1 (words_of_line (source_text i)) ≡ Some (Section (Source i))
 source_read i h =
     let d = number_of_node i h in
-    ap frame_line (words_next (codes "source") (decimal i) refl ∙ ap (λ w. codes "source" ∷ w) (words_last (decimal i) d.plain))
+    ap (λ w. frame_line 1 w) (words_next (codes "source") (decimal i) refl ∙ ap (λ w. codes "source" ∷ w) (words_last (decimal i) d.plain))
     ∙ source_form (decimal i) i d.read
 
 -- the line of data ends no section

@@ -1,19 +1,22 @@
 -- The plan of the frame that a load's lines have given.
-use Rattle.std.proofs.Common.{◌≡◌, ℕ, zero, suc, ◌+◌, ◌<◌, true, false, ◌||◌, List, [], ◌∷◌, ◌++◌, map, refl, sym, ap, ◌∙◌, inl, inr, arith}
-use Rattle.std.specs.Prelude.{Result, Ok}
-use Rattle.std.specs.List.{range_with_len}
-use Rattle.std.proofs.lemmas.Bool.{cases_Bool, or_parts, cond-true, cond-false, eq-eqb, ne_eqb}
+use Rattle.std.proofs.Common.{◌≡◌, ℕ, zero, suc, ◌+◌, ◌<◌, true, false, not, ◌||◌, List, [], ◌∷◌, ◌++◌, map, refl, sym, ap, ◌∙◌, inl, inr, arith}
+use Rattle.std.specs.Prelude.{Result, Ok, ◌==◌, replicate}
+use Rattle.std.specs.List.{list_any, range_with_len}
+use Rattle.std.proofs.lemmas.Bool.{cases_Bool, or_parts, cond-true, cond-false, not-false, eqb-true, eq-eqb, ne_eqb}
 use Rattle.xs_instructions.specs.Image.{ImageRec}
 use Rattle.source_model.specs.Source.{Assembled, Image, assembled_lines}
 use Rattle.pin_scripts.specs.Pins.{Script, pins_from, pins_of}
 use Rattle.sys_plan.specs.declared.NodePlan.{NodePlan}
+use Rattle.sys_plan.specs.Plan.{link_ends}
 use Rattle.sys_plan.specs.NodePlans.{plain_plan}
+use Rattle.system_model.specs.declared.frame_line.EndName.{EndName}
 use Rattle.system_model.specs.declared.frame_line.GivenNode.{GivenNode}
+use Rattle.system_model.specs.declared.frame_line.LinkLine.{LinkLine}
 use Rattle.system_model.specs.declared.frame_line.SectionKind.{SectionKind}
 use Rattle.system_model.specs.declared.frame_line.SectionKind.TheVariants.{Source, Pins}
 use Rattle.system_model.specs.Bits.{BitRec}
-use Rattle.system_model.specs.Frame.{SectionText, is_same_kind, has_section}
-use Rattle.system_model.specs.System.{SourceFault, section_lines, planned, plan_before, node_plans, ways_of, link_plan, position_by_number}
+use Rattle.system_model.specs.Frame.{SectionText, is_same_end, is_same_kind, has_section}
+use Rattle.system_model.specs.System.{SourceFault, section_lines, planned, plan_before, node_plans, net_of_end, nets_of, ways_of, link_plan, position_by_number}
 use Rattle.load_model.specs.Load.{node_count, node_numbers, next_node}
 use Rattle.load_laws.specs.Accepted.{load_link}
 use Rattle.load_laws.proofs.Counted.{firsts, below_or_at, any_none, any_one, firsts_counted, count_below, map-firsts}
@@ -72,19 +75,37 @@ no_lines_no_script numbers = refl
 
 -- ---- The plans of the nodes
 
+-- where each link is of network 0, that at a link end is
+nets_0 : (links : List LinkLine) (name : EndName) → list_any (λ (link : LinkLine). not (link.net == 0)) links ≡ false → net_of_end links name ≡ 0
+nets_0 [] name h = refl
+nets_0 (link ∷ links) name h =
+    let parts = or_parts (not (link.net == 0)) (list_any (λ (l : LinkLine). not (l.net == 0)) links) h in
+    elim (cases_Bool (is_same_end link.a name || is_same_end link.b name)) [
+      | inl e ↦ cond-true (is_same_end link.a name || is_same_end link.b name) link.net (net_of_end links name) e ∙ eqb-true link.net 0 (not-false _ parts.0)
+      | inr e ↦ cond-false (is_same_end link.a name || is_same_end link.b name) link.net (net_of_end links name) e ∙ nets_0 links name parts.1
+    ]
+
+-- so those of a node are, among the links of a load
+pub load_nets : (n k i : ℕ) → nets_of (links_of n k) i ≡ replicate 8 0
+load_nets n k i =
+    λ j. map (λ end. nets_0 (links_of n k) (record { node = i; end = end }) (any_none _ (link_given n) k (λ m l. refl)) j) link_ends
+
 module _ (bits : List BitRec) (image_at : ℕ → ImageRec) where
   -- a node's plan by its image
   abbrev pub node_plan : ℕ → NodePlan
   node_plan i = plain_plan i i (image_at i) (ways_of bits i)
 
-  -- where each source has its image the nodes have these plans
-  pub plans_are : (sections : List SectionText) (c : ℕ) → ((i : ℕ) → i < c → assembled_lines (section_lines sections (Source i)) ≡ Image (image_at i))
-      → (a m : ℕ) → a + m ≡ c → node_plans 1 bits sections (map node_given (range_with_len a m)) ≡ Ok (map node_plan (range_with_len a m))
+  -- where each source has its image and each link is of network 0 the nodes have these plans
+  pub plans_are : (links : List LinkLine) → ((i : ℕ) → nets_of links i ≡ replicate 8 0)
+      → (sections : List SectionText) (c : ℕ) → ((i : ℕ) → i < c → assembled_lines (section_lines sections (Source i)) ≡ Image (image_at i))
+      → (a m : ℕ) → a + m ≡ c → node_plans 1 links bits sections (map node_given (range_with_len a m)) ≡ Ok (map node_plan (range_with_len a m))
   unfolding node_plans
-  plans_are sections c h a zero e = refl
-  plans_are sections c h a (suc m) e =
-      ap (λ (read : Assembled). plan_before (planned 1 bits (node_given a) read) (node_plans 1 bits sections (map node_given (range_with_len (a + 1) m)))) (h a (omega arith))
-      ∙ ap (λ (after : Result (List NodePlan) SourceFault). plan_before (Ok (node_plan a)) after) (plans_are sections c h (a + 1) m (omega arith))
+  plans_are links nets sections c h a zero e = refl
+  plans_are links nets sections c h a (suc m) e =
+      let after = node_plans 1 links bits sections (map node_given (range_with_len (a + 1) m)) in
+      ap (λ (read : Assembled). plan_before (planned 1 links bits (node_given a) read) after) (h a (omega arith))
+      ∙ ap (λ (of_ends : List ℕ). plan_before (Ok (record (node_plan a) { nets = of_ends })) after) (nets a)
+      ∙ ap (λ (others : Result (List NodePlan) SourceFault). plan_before (Ok (node_plan a)) others) (plans_are links nets sections c h (a + 1) m (omega arith))
 
 -- ---- The links
 

@@ -77,7 +77,7 @@ module _ (nodes : List GivenNode) (links : List LinkLine) (bits : List BitRec) w
   -- a source of node i, which has none yet, is one section more
   pub section_step : (sections : List SectionText) (i m next : ℕ) (first last : List ℕ) (own ls : List (List ℕ)) → i < 16
       → has_node nodes i ≡ true → has_section sections (Source i) ≡ false
-      → all_allowed first ≡ true → frame_line (words_of_line first) ≡ Some (Section (Source i))
+      → all_allowed first ≡ true → frame_line 1 (words_of_line first) ≡ Some (Section (Source i))
       → list_any is_end own ≡ false → is_end last ≡ true → all_allowed last ≡ true → m + 2 + length own ≡ next
       → frame_from m (with_sections sections None) (first ∷ ((own ++ last ∷ []) ++ ls))
       ≡ frame_from next (with_sections (sections ++ source_of i m own ∷ []) None) ls

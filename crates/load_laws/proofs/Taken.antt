@@ -43,12 +43,12 @@ form_taken m given next l ls form allowed said none g =
     (ap (λ s. given_with m l s given) said ∙ g)
 
 -- no words are no line of a form
-no_words : frame_line [] ≡ None
+no_words : frame_line 1 [] ≡ None
 unfolding frame_line node_line link_line bit_line section_line
 no_words = refl
 
 -- outside of the sections a line after the first line of a load says its form
-pub says_its_form : (words : List (List ℕ)) (form : FrameLine) → frame_line words ≡ Some form → says_in_frame (Some 1) words ≡ Form form
+pub says_its_form : (words : List (List ℕ)) (form : FrameLine) → frame_line 1 words ≡ Some form → says_in_frame (Some 1) words ≡ Form form
 says_its_form [] form e = let absent : None ≡ Some form = sym no_words ∙ e in cc
 says_its_form (w ∷ ws) form e = ap says_form e
 
