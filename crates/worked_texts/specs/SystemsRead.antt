@@ -65,16 +65,53 @@ first_lines =
     ∷ (codes "xs1 1\r", 1, FirstLine)
     ∷ []
 
--- lines of a text of edition 2 that it refuses as one of edition 1 does: a first line once more, of either edition, and a link line with a network
+-- lines of a text of edition 2 that it refuses as one of edition 1 does: a first line once more, of either edition
 abbrev pub of_edition_2 : Refusals
 of_edition_2 =
     (codes "xs1 2 # " ++ 1 ∷ [], 1, BadLine)
     ∷ (codes "xs1 2\nxs1 2\n", 2, BadLine)
     ∷ (codes "xs1 2\nxs1 1\n", 2, BadLine)
     ∷ (codes "xs1 1\nxs1 2\n", 2, BadLine)
-    ∷ (codes "xs1 2\nnode 7 id 1\nnode 3 id 0\nlink 7:0 3:0 delay 5 gap 4 net 1\n", 4, BadLine)
-    ∷ (codes "xs1 1\nnode 7 id 1\nnode 3 id 0\nlink 7:0 3:0 delay 5 gap 4 net 1\n", 4, BadLine)
     ∷ (codes "xs1 2\nnode 0 id 0\n", 2, NodeWithoutSource)
+    ∷ []
+
+-- the header of edition 2 and two nodes in falling order, and then these lines, from line 4 on
+abbrev pub two_of_edition_2 : List ℕ → List ℕ
+two_of_edition_2 lines = codes "xs1 2\nnode 7 id 1\nnode 3 id 0\n" ++ lines
+
+-- link lines with a network, which in edition 2 is 0 to 3
+abbrev pub of_networks : Refusals
+of_networks =
+    (two_of_edition_2 (codes "link 7:0 3:0 delay 5 gap 4 net 4\n"), 4, NumberOutOfRange)
+    ∷ (two_of_edition_2 (codes "link 7:0 3:0 delay 5 gap 4 net 0x4\n"), 4, NumberOutOfRange)
+    ∷ (two_of_edition_2 (codes "link 7:0 3:0 delay 5 gap 4 net 256\n"), 4, NumberOutOfRange)
+    ∷ (two_of_edition_2 (codes "link 7:0 3:0 delay 5 gap 4 net 99999999999999999999999999999999999999999999\n"), 4, NumberOutOfRange)
+    ∷ (two_of_edition_2 (codes "link 7:0 3:0 delay 5 gap 4 net x\n"), 4, BadLine)
+    ∷ (two_of_edition_2 (codes "link 7:0 3:0 delay 5 gap 4 net -1\n"), 4, BadLine)
+    ∷ (two_of_edition_2 (codes "link 7:0 3:0 delay 5 gap 4 net 0x\n"), 4, BadLine)
+    ∷ (two_of_edition_2 (codes "link 7:0 3:0 delay 5 gap 4 net\n"), 4, BadLine)
+    ∷ (two_of_edition_2 (codes "link 7:0 3:0 delay 5 gap 4 1\n"), 4, BadLine)
+    ∷ (two_of_edition_2 (codes "link 7:0 3:0 delay 5 gap 4 net 1 1\n"), 4, BadLine)
+    ∷ (two_of_edition_2 (codes "link 7:0 3:0 delay 5 gap 4 net 1 net 1\n"), 4, BadLine)
+    ∷ (two_of_edition_2 (codes "link 7:0 3:0 delay 5 gap 4 Net 1\n"), 4, BadLine)
+    ∷ (two_of_edition_2 (codes "link 7:0 3:0 delay 5 gap 4 gap 1\n"), 4, BadLine)
+    ∷ (two_of_edition_2 (codes "link 7:0 3:0 net 1 delay 5 gap 4\n"), 4, BadLine)
+    ∷ (two_of_edition_2 (codes "link 7:0 3:0 delay 5 net 1\n"), 4, BadLine)
+    -- a line of no form comes before a number out of range, and that before the other faults
+    ∷ (two_of_edition_2 (codes "link 7:0 3:0 delay 0 gap 4 net x\n"), 4, BadLine)
+    ∷ (two_of_edition_2 (codes "link 7:0 3:0 delay x gap 4 net 4\n"), 4, BadLine)
+    ∷ (two_of_edition_2 (codes "link 7:0 4:0 delay 5 gap 4 net 4\n"), 4, NumberOutOfRange)
+    ∷ (two_of_edition_2 (codes "link 7:0 7:1 delay 5 gap 4 net 4\n"), 4, NumberOutOfRange)
+    -- a network leaves them as they are
+    ∷ (two_of_edition_2 (codes "link 7:0 4:0 delay 5 gap 4 net 3\n"), 4, NoSuchNode)
+    ∷ (two_of_edition_2 (codes "link 7:0 7:1 delay 5 gap 4 net 3\n"), 4, LinkToItself)
+    ∷ (two_of_edition_2 (codes "link 7:0 3:0 delay 5 gap 4 net 1\nlink 7:1 3:0 delay 5 gap 4 net 2\n"), 5, LinkEndTwice)
+    ∷ (two_of_edition_2 (codes "link 7:0 3:0 delay 5 gap 4 net 3\n"), 3, NodeWithoutSource)
+    -- edition 1 has none, whatever its number
+    ∷ (two_nodes (codes "link 7:0 3:0 delay 5 gap 4 net 0\n"), 4, BadLine)
+    ∷ (two_nodes (codes "link 7:0 3:0 delay 5 gap 4 net 1\n"), 4, BadLine)
+    ∷ (two_nodes (codes "link 7:0 3:0 delay 5 gap 4 net 4\n"), 4, BadLine)
+    ∷ (two_nodes (codes "link 7:0 3:0 delay 0 gap 4 net 1\n"), 4, BadLine)
     ∷ []
 
 -- bytes that are not allowed, and lines of no form
@@ -122,7 +159,6 @@ bad_pair_lines =
     ∷ (two_nodes (codes "link 7 3 delay 5 gap 4\n"), 4, BadLine)
     ∷ (two_nodes (codes "link 7:0 3:0 gap 4 delay 5\n"), 4, BadLine)
     ∷ (two_nodes (codes "link 7:0 3:0 delay 5\n"), 4, BadLine)
-    ∷ (two_nodes (codes "link 7:0 3:0 delay 5 gap 4 net 0\n"), 4, BadLine)
     ∷ (two_nodes (codes "link 100:8 3:0 delay 0 gap x\n"), 4, BadLine)
     ∷ (linked (codes "bit 7 0\n"), 5, BadLine)
     ∷ (linked (codes "bit 7 0 x\n"), 5, BadLine)
@@ -296,6 +332,7 @@ ends =
 pub record WorkedRefusals : Type 0 where
   pub first : AreRefused first_lines
   pub second_edition : AreRefused of_edition_2
+  pub networks : AreRefused of_networks
   pub bad : AreRefused bad_lines
   pub bad_in_a_pair : AreRefused bad_pair_lines
   pub wide : AreRefused wide_numbers
@@ -418,6 +455,33 @@ abbrev pub second_7_and_3 : List ℕ
 second_7_and_3 =
     codes "# a\n xs1\t2 // the second\nnode 7 id 1\nnode 3 id 0\nlink 7:0 3:0 delay 5 gap 4\nbit 3 0 0\nbit 7 15 0\nsource 7\nend\nsource 3\nend\n"
 
+-- the same line of three nodes with links of networks: each of the four, and one without, which is of network 0; node 5 has two ways for bit 1, of
+-- networks 3 and 1
+abbrev pub three_with_networks : List ℕ
+three_with_networks =
+    codes "xs1 2\nnode 9 id 0\nnode 2 id 3\nnode 5 id 1\nlink 5:1 2:6 delay 7 gap 4 net 0x1\nlink 9:0 5:3 delay 5 gap 9 net 0\n"
+    ++ (codes "link 5:4 2:0 delay 6 gap 5 net 3\nlink 9:5 2:2 delay 8 gap 4\nlink 2:7 9:7 delay 1 gap 4\tnet 002# two\n"
+    ++ codes "bit 5 1 4 1\nbit 9 1 0\nbit 5 0 3\nsource 2\nend\nsource 5\nend\nsource 9\nend\n")
+
+-- each node has the network of the link at each of its link ends, 0 where no link is
+abbrev pub plan_with_networks : PlanRec
+plan_with_networks = record {
+  nodes =
+      record (in_edition_2 (plain_plan 2 3 empty_image (replicate 16 0))) { nets = 3 ∷ 0 ∷ 0 ∷ 0 ∷ 0 ∷ 0 ∷ 1 ∷ 2 ∷ [] }
+      ∷ record (in_edition_2 (plain_plan 5 1 empty_image (8 ∷ 18 ∷ replicate 14 0))) { nets = 0 ∷ 1 ∷ 0 ∷ 0 ∷ 3 ∷ 0 ∷ 0 ∷ 0 ∷ [] }
+      ∷ record (in_edition_2 (plain_plan 9 0 empty_image (0 ∷ 1 ∷ replicate 14 0))) { nets = 0 ∷ 0 ∷ 0 ∷ 0 ∷ 0 ∷ 0 ∷ 0 ∷ 2 ∷ [] }
+      ∷ [];
+  links =
+      record { a = 1; a_end = 1; b = 0; b_end = 6; delay = 7; gap = 4; net = 1 }
+      ∷ record { a = 2; a_end = 0; b = 1; b_end = 3; delay = 5; gap = 9; net = 0 }
+      ∷ record { a = 1; a_end = 4; b = 0; b_end = 0; delay = 6; gap = 5; net = 3 }
+      ∷ record { a = 2; a_end = 5; b = 0; b_end = 2; delay = 8; gap = 4; net = 0 }
+      ∷ record { a = 0; a_end = 7; b = 2; b_end = 7; delay = 1; gap = 4; net = 2 }
+      ∷ [];
+  script = [];
+  steps = [];
+}
+
 pub record WorkedPlans : Type 0 where
   pub any_order : frame mixed ≡ mixed_frame
   -- nodes by number, and the link and the bits by their places
@@ -429,6 +493,7 @@ pub record WorkedPlans : Type 0 where
   pub second : system_of second_7_and_3 ≡ Plan (record plan_of_3_and_7 { nodes = map in_edition_2 plan_of_3_and_7.nodes })
   pub second_edges : system_of (codes "xs1 2\nnode 99 id 0\nnode 0 id 65535\nsource 99\nend\nsource 0\nend\n") ≡ Plan (record plan_of_0_and_99 { nodes = map in_edition_2 plan_of_0_and_99.nodes })
   pub second_no_node : system_of (codes "xs1 2") ≡ Plan (record { nodes = []; links = []; script = []; steps = [] })
+  pub networks : system_of three_with_networks ≡ Plan plan_with_networks
 
 -- the longest input stands for what its lines say, and one byte more is too long, whatever the bytes
 pub record WorkedLength : Type 0 where

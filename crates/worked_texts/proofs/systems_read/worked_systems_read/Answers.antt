@@ -8,6 +8,7 @@ unfolding computes
 returns-clause-refusals c = record {
   first = refl;
   second_edition = refl;
+  networks = refl;
   bad = refl;
   bad_in_a_pair = refl;
   wide = refl;
@@ -21,7 +22,7 @@ returns-clause-refusals c = record {
 
 pub returns-clause-systems : goal.returns-clause-systems
 unfolding computes
-returns-clause-systems c = record { any_order = refl; plan = refl; three = refl; eight = refl; edges = refl; no_node = refl; second = refl; second_edges = refl; second_no_node = refl }
+returns-clause-systems c = record { any_order = refl; plan = refl; three = refl; eight = refl; edges = refl; no_node = refl; second = refl; second_edges = refl; second_no_node = refl; networks = refl }
 
 pub returns-clause-length : goal.returns-clause-length
 unfolding system_of
