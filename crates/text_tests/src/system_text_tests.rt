@@ -71,6 +71,22 @@ fn three_in_a_line(rt: HostRuntime) -> Result<(), Fail> {
 }
 
 #[test]
+fn networks_of_links(rt: HostRuntime) -> Result<(), Fail> {
+    let text =
+        b"xs1 2\nnode 9 id 3\nnode 5 id 1\nlink 5:7 9:0 delay 1 gap 4 net 0x3\nlink 9:3 5:2 delay 2 gap 5 net 1 # one\nlink 5:4 9:6 delay 1 gap 4 net 0\nlink 5:5 9:5 delay 1 gap 4\nsource 5\nend\nsource 9\nend";
+    let plan = read_system(rt.alloc(), text)?;
+    let [low, high] = plan.nodes() else {
+        return Err(Fail::from("two nodes"));
+    };
+    assert!(rt; low.nets == [0, 0, 1, 0, 0, 0, 0, 3] && high.nets == [3, 0, 0, 1, 0, 0, 0, 0]);
+    let [a, b, c, d] = plan.links() else {
+        return Err(Fail::from("four links"));
+    };
+    assert!(rt; [a.net, b.net, c.net, d.net] == [3, 1, 0, 0]);
+    Ok(())
+}
+
+#[test]
 fn pin_script_before_its_nodes(rt: HostRuntime) -> Result<(), Fail> {
     let text =
         b"xs1 1\npins # of both\n# slots\n5 3:4A 15\n\n  0x9 7:1B 1 // last\n end\nnode 7 id 1\nnode 3 id 0\nsource 7\nend\nsource 3\nend";
@@ -140,15 +156,25 @@ fn refusal(alloc: Global, text: &[u8]) -> Option<(u32, SysKind)> {
     }
 }
 
-static REFUSED: [(&[u8], u32, SysKind); 19] = [
+static REFUSED: [(&[u8], u32, SysKind); 21] = [
     (b"xs1 3\n", 1, SysKind::FirstLine),
     (b"xs1 02\n", 1, SysKind::FirstLine),
     (b"# a\nxs1 2 x\n", 2, SysKind::FirstLine),
     (b"xs1 2\nxs1 2\n", 2, SysKind::BadLine),
     (
-        b"xs1 2\nnode 0 id 0\nnode 1 id 1\nlink 0:0 1:0 delay 5 gap 4 net 1",
+        b"xs1 1\nnode 0 id 0\nnode 1 id 1\nlink 0:0 1:0 delay 5 gap 4 net 0",
         4,
         SysKind::BadLine,
+    ),
+    (
+        b"xs1 2\nnode 0 id 0\nnode 1 id 1\nlink 0:0 1:0 delay 0 gap 4 net x",
+        4,
+        SysKind::BadLine,
+    ),
+    (
+        b"xs1 2\nnode 0 id 0\nnode 1 id 1\nlink 0:0 1:0 delay 5 gap 4 net 256",
+        4,
+        SysKind::NumberOutOfRange,
     ),
     (b"xs1 1\npins\nfoo\nend\npins\n", 5, SysKind::GivenTwice),
     (
