@@ -80,6 +80,8 @@ pub record WorkedDividers : Type 0 where
   pub still : (shared_after two_quotients one_divides 5).core.slots.division ≡ Some 0
   pub both : thread_of (shared_after two_quotients one_divides 33).core 0 ≡ record by_7 { r = 100 ∷ 7 ∷ 14 ∷ 2 ∷ replicate 8 0; pc = 0x00040008 }
   pub second : (shared_after two_quotients one_divides 33).core.slots.division ≡ Some 32
+  -- a thread that pauses in slot 30 rests up to slot 33, though the divider is free from slot 32 on
+  pub rests : shared_issuers two_quotients (busy by_7) 30 5 ≡ alone 0 ++ 0 ∷ []
   -- two threads: thread 1 waits from slot 1 on and thread 0 from slot 4 on; in slot 32 thread 1 waited longer, and in slot 64 thread 0
   pub in_turn : shared_issuers two_quotients two_divide 0 69 ≡
       (0 ∷ 1 ∷ nobody ∷ nobody ∷ 0 ∷ replicate 27 nobody) ++ ((alone 1 ++ (1 ∷ replicate 27 nobody)) ++ (alone 0 ++ 0 ∷ []))

@@ -1,5 +1,5 @@
--- What waits hold and at which thing a thread waits, worked out by hand, for rows that are not built yet too; when
--- the divider is free for a thread; and the levels of pins that a port drives.
+-- What waits hold and at which thing a thread waits, worked out by hand; when the divider is free for a thread; and the
+-- levels of pins that a port drives.
 use Rattle.std.specs.Prelude.{ℕ, ◌≡◌, Bool, true, false, Option, Some, None, List, [], ◌∷◌, ◌++◌, replicate, slice_set}
 use Rattle.xs_base.specs.Numbers.{Slot}
 use Rattle.xs_base.specs.declared.token.Token.{Token}

@@ -13,6 +13,7 @@ returns c = record {
   still = refl;
   both = refl;
   second = refl;
+  rests = refl;
   in_turn = refl;
   apart = refl;
   unkept = refl;
