@@ -31,7 +31,7 @@ use Rattle.core_step.specs.PinLevels.{from_outside}
 use Rattle.node_seats.specs.declared.pins.Pins.{Pins}
 use Rattle.node_seats.specs.declared.seat.Seat.{Seat}
 use Rattle.node_seats.specs.Seats.{Plays, SkipsOn}
-use Rattle.node_seats.specs.Shown.{IsShown, ArePins, shown_by}
+use Rattle.node_seats.specs.Shown.{IsSteady, IsShown, ArePins, shown_by}
 use Rattle.node_seats.proofs.Seats.{plays-later}
 use Rattle.node_runners.specs.Queue.{InletRec, AllWait, some_arrive}
 use Rattle.node_runners.specs.Inside.{Hears, HasLinks, IsRunner}
@@ -231,6 +231,10 @@ pub pins_skipped : (plan : PlanRec) (n from to : ℕ) (pins after : Pins) → Ar
 pins_skipped plan n from to pins after are script number shown some =
     let there : to - 1 + 1 ≡ to = omega (arith, some) in
     record { script = script ∙ are.script; number = number ∙ are.number; shown = subst (λ t. IsShown t after) there shown }
+
+-- what they show until the next change they show from a later slot on too
+pub steady_later : (slot later : ℕ) (pins : Pins) → slot ≤ later → IsSteady slot pins → IsSteady later pins
+steady_later slot later pins h steady = record { until_change = λ at on before. steady.until_change at (omega (arith, h, on)) before; levels = steady.levels }
 
 -- what they showed in it
 pub shown_last : (plan : PlanRec) (n from later : ℕ) (pins : Pins) → ArePins plan n from pins → shown_by pins later ≡ pins_at plan n later

@@ -3,7 +3,7 @@ use Rattle.quiet_model.specs.Slots.{NoneBefore}
 use Rattle.busy_slots.specs.Busy.{is_busy}
 use Rattle.ahead_limits.specs.Horizon.{may_run}
 use Rattle.node_runners.specs.Runner.{RunnerRec}
-use Rattle.node_runners.proofs.Skips.{with_seat, issue_is_busy, goes_to, goes_on, pins_skipped, shown_last}
+use Rattle.node_runners.proofs.Skips.{with_seat, issue_is_busy, goes_to, goes_on, pins_skipped, shown_last, steady_later}
 use Rattle.node_runners.proofs.runner.NodeRunner.skip.Goals as goal
 
 pub invariant_of-self : goal.invariant_of-self
@@ -27,6 +27,11 @@ returns-then-to-from-clause-greatest c =
     c.first_busy_by_both.ensures.first c.quiet_to-to.ensures.first in
     let same : c.quiet_to-to.result ≡ i.clock = omega (arith, c.if-to-from.true, goes.on) in
     subst (λ t. may_run i.horizon t ≡ true → is_busy i.plan.value i.node t ≡ true) same goes.greatest
+
+pub look-requires-clause-shown : goal.look-requires-clause-shown
+look-requires-clause-shown c =
+    let pins = c.self.invariant.1.pins_are in
+    steady_later c.self.inside.clock (c.quiet_to-to.result - 1) c.self.inside.pins (omega (arith, c.if-to-from.false)) pins.shown.steady
 
 pub returns-clause-quiet : goal.returns-clause-quiet
 returns-clause-quiet c =
