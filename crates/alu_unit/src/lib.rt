@@ -6,4 +6,4 @@ mod rows;
 mod words;
 
 pub use divisions::is_division;
-pub use rows::alu;
+pub use rows::{alu, division};

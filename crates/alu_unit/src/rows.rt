@@ -1,4 +1,4 @@
-//! The rows, by `alu`: each reads its operands, works on words, and then writes what comes of it.
+//! The rows, by `alu` and `division`: each reads its operands, works on words, and then writes what comes of it.
 ghost use Rattle.std.specs.Prelude.{◌≡◌, ◌<◌, ℕ, Bool, IsTrue, Some, None, if◌then◌else◌};
 ghost use Rattle.xs_instructions.specs.declared.rows.Row.TheVariants as row;
 ghost use Rattle.xs_instructions.specs.Instr.{WordsInRange};
@@ -6,6 +6,7 @@ ghost use Rattle.step_model.specs.Outcomes.{EndsAs, IsDoneOrTraps};
 ghost use Rattle.xs_model.specs.Threads.{register};
 ghost use Rattle.alu_unit.specs.Ends.{TrapsAsArithmetic, IsRow};
 ghost use Rattle.alu_unit.specs.Parts.{stands_after};
+ghost use Rattle.step_model.specs.DividerRows.{is_division};
 ghost use Rattle.step_model.specs.WordRows.{words_row, sets, sets_two, divides, divides_long};
 
 use crate::words::{divs, divu, lss, maccs, maccu, rems, remu};
@@ -78,10 +79,9 @@ fn multiply_or_divide(thread: &mut Thread, ins: WordIns) -> Outcome
 {
     match ins {
         WordIns::Mul(d, x, y) => set(thread, d, get(thread, x).wrapping_mul(get(thread, y))),
-        WordIns::Divu(d, x, y) => divide(thread, d, divu(get(thread, x), get(thread, y))),
-        WordIns::Remu(d, x, y) => divide(thread, d, remu(get(thread, x), get(thread, y))),
-        WordIns::Divs(d, x, y) => divide(thread, d, divs(get(thread, x), get(thread, y))),
-        WordIns::Rems(d, x, y) => divide(thread, d, rems(get(thread, x), get(thread, y))),
+        WordIns::Divu(..) | WordIns::Remu(..) | WordIns::Divs(..) | WordIns::Rems(..) => {
+            division(thread, ins)
+        }
         _ => mask_or_count(thread, ins),
     }
 }
@@ -128,10 +128,7 @@ fn on_two_words(thread: &mut Thread, ins: WordIns) -> Outcome
             let both = mul_long(get(thread, x), get(thread, y), v, w);
             set_two(thread, d, e, both)
         }
-        WordIns::Ldivu(d, e, x, y, v) => {
-            let both = div_long(get(thread, x), get(thread, y), get(thread, v));
-            divide_long(thread, d, e, both)
-        }
+        WordIns::Ldivu(..) => division(thread, ins),
         WordIns::Maccu(d, e, x, y) => {
             let (high, low) = (get(thread, d), get(thread, e));
             let both = maccu(high, low, get(thread, x), get(thread, y));
@@ -144,6 +141,29 @@ fn on_two_words(thread: &mut Thread, ins: WordIns) -> Outcome
         }
         WordIns::Ldc(d, u) => set(thread, d, u32::from(u)),
         WordIns::Nop => Outcome::Done,
+        _ => unreachable!(),
+    }
+}
+
+/// Does a row that divides, as `alu` does it: `divu`, `divs`, `remu`, `rems` or `ldivu`. pc is left to the caller. See
+/// docs/INSTRUCTIONS.md.
+pub fn division(thread: &mut Thread, ins: WordIns) -> Outcome
+    requires range { WordsInRange ins }
+    requires part { IsTrue (is_division ins) }
+    ensures row { EndsAs result thread.old thread.new (words_row thread.old ins) }
+    ensures ends { IsDoneOrTraps result thread.old thread.new }
+    ensures trap { TrapsAsArithmetic result }
+    ensures stays { thread.new ≡ record thread.old { r = thread.new.r } }
+{
+    match ins {
+        WordIns::Divu(d, x, y) => divide(thread, d, divu(get(thread, x), get(thread, y))),
+        WordIns::Remu(d, x, y) => divide(thread, d, remu(get(thread, x), get(thread, y))),
+        WordIns::Divs(d, x, y) => divide(thread, d, divs(get(thread, x), get(thread, y))),
+        WordIns::Rems(d, x, y) => divide(thread, d, rems(get(thread, x), get(thread, y))),
+        WordIns::Ldivu(d, e, x, y, v) => {
+            let both = div_long(get(thread, x), get(thread, y), get(thread, v));
+            divide_long(thread, d, e, both)
+        }
         _ => unreachable!(),
     }
 }
