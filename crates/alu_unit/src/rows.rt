@@ -107,7 +107,7 @@ fn mask_or_count(thread: &mut Thread, ins: WordIns) -> Outcome
     }
 }
 
-// From `ladd` on: numbers of two words, and the last two rows.
+// From `ladd` on: numbers of two words, and the part that follows.
 #[inline]
 fn on_two_words(thread: &mut Thread, ins: WordIns) -> Outcome
     requires range { WordsInRange ins }
@@ -129,6 +129,18 @@ fn on_two_words(thread: &mut Thread, ins: WordIns) -> Outcome
             set_two(thread, d, e, both)
         }
         WordIns::Ldivu(..) => division(thread, ins),
+        _ => accumulate_or_load(thread, ins),
+    }
+}
+
+// From `maccu` on: sums of products, and the last two rows.
+#[inline]
+fn accumulate_or_load(thread: &mut Thread, ins: WordIns) -> Outcome
+    requires range { WordsInRange ins }
+    requires part { IsTrue (stands_after row.Ldivu ins) }
+    ensures { IsRow result thread.old thread.new (words_row thread.old ins) }
+{
+    match ins {
         WordIns::Maccu(d, e, x, y) => {
             let (high, low) = (get(thread, d), get(thread, e));
             let both = maccu(high, low, get(thread, x), get(thread, y));
