@@ -6,7 +6,7 @@ use Rattle.std.proofs.lemmas.Option.{none-some, same_Some, slice_get-get_or, get
 use Rattle.xs_base.specs.Numbers.{Slot, Position, LinkNumber}
 use Rattle.xs_base.specs.declared.entry.Entry.{Entry}
 use Rattle.sys_plan.specs.Plan.{PlanRec, Arc, arcs, arc_count}
-use Rattle.sys_plan.proofs.Routes.{directed}
+use Rattle.sys_plan.proofs.Routes.{within}
 use Rattle.serial_model.specs.Serial.{history}
 use Rattle.trace_model.specs.Trace.{tokens_sent, credits_sent}
 use Rattle.ahead_limits.specs.Horizon.{HorizonRec}
@@ -101,7 +101,7 @@ module _ (plan : PlanRec) (limit : Slot) (rounds : ℕ) (seats : List Seat) (lan
         sym (get_or-map of_lane lanes link lane 0 lane_below ∙ ap of_lane lane_here)
         ∙ ap (λ (ns : List Slot). get_or ns link 0) after.published
         ∙ get_or-map of_arc (arcs plan) link no_arc 0 arc_below
-        ∙ all arc.from (directed plan after.between.plan_is link arc there).from
+        ∙ all arc.from (within plan after.between.plan_is link arc there).from
 
     has_sent : HasSent plan limit link (sent_by lane)
     has_sent =

@@ -5,6 +5,7 @@ use Rattle.std.proofs.lemmas.List.{length-map, map-set}
 use Rattle.std.proofs.lemmas.Option.{same_Some}
 use Rattle.xs_base.specs.Numbers.{Slot}
 use Rattle.xs_base.specs.declared.entry.Entry.{Entry}
+use Rattle.sys_plan.specs.declared.system_plan.TheConstants.{ENDS}
 use Rattle.sys_plan.specs.declared.Step.TheVariants.{Take, Send}
 use Rattle.sys_plan.specs.Plan.{PlanRec, arc_count, outgoing, incoming}
 use Rattle.serial_model.specs.Serial.{history}
@@ -40,7 +41,7 @@ read_of lane got = record lane { log = emptied lane.log; r = looked lane.log got
 module _ (plan : PlanRec) (limit : Slot) (seats : List Seat) (lanes : List Lane) (between : AreBetween plan limit seats lanes) where
   -- ---- A take of nothing
 
-  module _ (link : ℕ) (lane : Lane) (lane_is : lane ≡ get_or lanes link lane) (link_below : link < arc_count plan) (node end : ℕ) (inside : end < 8) (here : incoming plan node end ≡ Some link) (got : Got) where
+  module _ (link : ℕ) (lane : Lane) (lane_is : lane ≡ get_or lanes link lane) (link_below : link < arc_count plan) (node end : ℕ) (inside : end < ENDS) (here : incoming plan node end ≡ Some link) (got : Got) where
     pub takes_nothing : lane.log.published ≡ lane.r.got → Takes plan link limit seats lanes seats (set lanes link (read_of lane got))
     takes_nothing none =
         let goes = take_nothing plan limit (all_told seats) lanes between.are_at link lane lane_is link_below node end here inside got lane.log.published refl none in
@@ -78,7 +79,7 @@ module _ (plan : PlanRec) (limit : Slot) (seats : List Seat) (lanes : List Lane)
       busy = all_set IsBusySeat seats node next between.busy busy;
     }
 
-    module _ (link : ℕ) (lane : Lane) (lane_is : lane ≡ get_or lanes link lane) (link_below : link < arc_count plan) (end : ℕ) (inside : end < 8) where
+    module _ (link : ℕ) (lane : Lane) (lane_is : lane ≡ get_or lanes link lane) (link_below : link < arc_count plan) (end : ℕ) (inside : end < ENDS) where
       pub own_log : IsLane plan link lane
       own_log = own_lane plan limit (all_told seats) lanes between.are_at link lane lane_is link_below
 

@@ -8,12 +8,16 @@ mod frame_lines;
 mod frame_reader;
 mod link_plans;
 mod node_plans;
+mod port_names;
 mod script;
 mod section;
 mod step_lines;
 mod step_plans;
 mod system_error;
 mod system_reader;
+mod wire_lines;
+mod wire_plans;
+mod wires;
 mod words;
 
 pub use pin_scripts::PinKind;
