@@ -17,8 +17,8 @@ use std::marker::Model;
 use xs_base::Token;
 use xs_base::numbers::{BUFFER_TOKENS, CHAN_ENDS};
 
-/// A core's 32 channel ends, numbered from 0: each is in use or not, may have a destination, and has an output and
-/// an input buffer of 8 tokens. Contracts see them as the list of their `ChanRec`s. See docs/LINKS.md.
+/// A core's 32 channel ends, numbered from 0: each is in use or not, may have a destination, sends by one of the networks 0 to 3, and has
+/// an output and an input buffer of 8 tokens. Contracts see them as the list of their `ChanRec`s. See docs/LINKS.md.
 #[derive(Drop)]
 pub struct ChanEnds {
     ends: [ChanEnd; 32],
@@ -50,8 +50,8 @@ impl ChanEnds {
         }
     }
 
-    /// Gets the channel end with the lowest number that is not in use: it is in use then, with no destination and
-    /// empty buffers. `None` comes exactly where all 32 are in use. See docs/LINKS.md.
+    /// Gets the channel end with the lowest number that is not in use: it is in use then, of network 0, with no
+    /// destination and empty buffers. `None` comes exactly where all 32 are in use. See docs/LINKS.md.
     pub fn alloc(&mut self) -> Option<u8>
         ensures lowest { result ≡ free_chan self.old 0 }
         ensures got { self.new ≡ with_got self.old (free_chan self.old 0) }

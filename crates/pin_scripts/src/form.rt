@@ -1,13 +1,13 @@
 //! A line of a pin script by its words.
-ghost use Rattle.std.specs.Prelude.{◌≡◌, ◌≤◌, ◌<◌, ◌+◌, ◌∷◌, [], length, drop, bytes_eq, IfSome, Some};
+ghost use Rattle.std.specs.Prelude.{◌≡◌, ◌≤◌, ◌<◌, ◌+◌, ◌∷◌, [], length, drop, IfSome, Some};
 ghost use Rattle.std.specs.List.{prefix_len};
 ghost use Rattle.std.specs.Char.{is_ascii_digit};
 ghost use Rattle.xs_text.specs.Words.{words_of_line};
-ghost use Rattle.pin_scripts.specs.Pins.{before_colon, is_one_letter, is_port_shape, pin_form, port_name, port_of, port_word, says_words, word_number};
+ghost use Rattle.pin_scripts.specs.Pins.{before_colon, is_one_letter, is_port_shape, pin_form, port_word, says_words, word_number};
 ghost use Rattle.pin_scripts.specs.Facts.{HasPort, SaysPort, IfPort};
 
+use crate::port_names::port_of;
 use crate::{PinForm, PinSays};
-use xs_base::numbers::PORTS;
 use xs_text::{next_word, number};
 
 // What a line says.
@@ -113,32 +113,5 @@ fn is_one_letter(bytes: &[u8]) -> bool
     match bytes {
         [b] => b.is_ascii_alphabetic(),
         _ => false,
-    }
-}
-
-// The port of a name, where one has it.
-fn port_of(name: &[u8]) -> Option<u8>
-    ensures value { result ≡ port_of name.now }
-    ensures port { IfSome result (λ port. port < 29) }
-{
-    for port in 0..PORTS {
-        if is_name_of(port, name) {
-            return Some(port);
-        }
-    }
-    None
-}
-
-// Whether a port has a name.
-fn is_name_of(port: u8, name: &[u8]) -> bool
-    requires { port < 29 }
-    ensures { result ≡ bytes_eq (port_name port) name.now }
-{
-    match port {
-        0..=15 => name == [b'1', b'A' + port].as_slice(),
-        16..=21 => name == [b'4', b'A' + (port - 16)].as_slice(),
-        22..=25 => name == [b'8', b'A' + (port - 22)].as_slice(),
-        26 | 27 => name == [b'1', b'6', b'A' + (port - 26)].as_slice(),
-        _ => name == b"32A".as_slice(),
     }
 }

@@ -37,7 +37,7 @@ beats_mod w most n none some few =
 
 -- ---- Bits
 
-bits_drop : (n : ℕ) (bits : List ℕ) → AreBits bits → AreBits (drop n bits)
+pub bits_drop : (n : ℕ) (bits : List ℕ) → AreBits bits → AreBits (drop n bits)
 bits_drop zero bits are = are
 bits_drop (suc n) [] are = tt
 bits_drop (suc n) (bit ∷ bits) are = bits_drop n bits are.1
@@ -47,11 +47,11 @@ bits_take zero bits are = tt
 bits_take (suc n) [] are = tt
 bits_take (suc n) (bit ∷ bits) are = (are.0, bits_take n bits are.1)
 
-bits_append : (bits others : List ℕ) → AreBits bits → AreBits others → AreBits (bits ++ others)
+pub bits_append : (bits others : List ℕ) → AreBits bits → AreBits others → AreBits (bits ++ others)
 bits_append [] others are too = too
 bits_append (bit ∷ bits) others are too = (are.0, bits_append bits others are.1 too)
 
-bits_are : (n v : ℕ) → AreBits (bits_of n v)
+pub bits_are : (n v : ℕ) → AreBits (bits_of n v)
 unfolding bits_of
 bits_are zero v = tt
 bits_are (suc n) v = (omega arith, bits_are n (v / 2))

@@ -1,5 +1,5 @@
 -- The arcs of a list of links, by number.
-use Rattle.std.proofs.Common.{◌≡◌, ℕ, zero, suc, ◌*◌, ◌/◌, ◌<◌, List, [], ◌∷◌, length, map, get_or, refl, ◌∙◌, sym, ap, arith}
+use Rattle.std.proofs.Common.{◌≡◌, ℕ, zero, suc, ◌*◌, ◌/◌, ◌<◌, ◌+◌, List, [], ◌∷◌, ◌++◌, length, map, get_or, refl, ◌∙◌, sym, ap, arith}
 use Rattle.std.specs.List.{AllByRecursion}
 use Rattle.sys_plan.specs.declared.LinkPlan.{LinkPlan}
 use Rattle.sys_plan.specs.Plan.{Arc, forth, back, link_arcs}
@@ -17,6 +17,18 @@ module _ (of_arc : Arc → ℕ) (of_link : LinkPlan → ℕ) (forth_is : (l : Li
   shared-at (link ∷ links) (suc (suc k)) d h =
       let half : suc (suc k) / 2 ≡ suc (k / 2) = omega arith in
       shared-at links k d (omega arith) ∙ ap of_link (ap (λ i. get_or (link ∷ links) i d) (sym half))
+
+-- what is told of the arcs at the places of the first ones, and of those after them
+module _ (f : Arc → ℕ) where
+  pub at-front : (xs ys : List Arc) (k : ℕ) → k < length xs → get_or (map f (xs ++ ys)) k 0 ≡ get_or (map f xs) k 0
+  at-front [] ys k h = absurd (omega arith)
+  at-front (x ∷ xs) ys zero h = refl
+  at-front (x ∷ xs) ys (suc k) h = at-front xs ys k (omega arith)
+
+  pub at-back : (xs ys : List Arc) (k m : ℕ) → k ≡ length xs + m → get_or (map f (xs ++ ys)) k 0 ≡ get_or (map f ys) m 0
+  at-back [] ys k m h = ap (λ i. get_or (map f ys) i 0) (omega arith)
+  at-back (x ∷ xs) ys zero m h = absurd (omega arith)
+  at-back (x ∷ xs) ys (suc k) m h = at-back xs ys k m (omega arith)
 
 -- what holds of each element holds at each place
 pub all-at : {X : Type 0} (P : X → Type 0) (xs : List X) (k : ℕ) (d : X) → AllByRecursion P xs → k < length xs → P (get_or xs k d)

@@ -1,23 +1,32 @@
--- The plan of a system: its nodes, the links between them, the script of its pins, and the steps of its schedule.
-use Rattle.std.specs.Prelude.{ℕ, ◌≡◌, ◌≢◌, ◌+◌, ◌<◌, ◌≤◌, Bool, ◌&&◌, ◌||◌, ◌==◌, if◌then◌else◌, Option, Some, None, IsSome, List, [], ◌∷◌, length, map, slice_index}
+-- The plan of a system: its nodes, the links and wires between them, the script of its pins, and the steps of its schedule.
+use Rattle.std.specs.Prelude.{ℕ, zero, suc, ◌≡◌, ◌≢◌, ◌+◌, ◌<◌, ◌≤◌, Bool, false, ◌&&◌, ◌||◌, ◌==◌, if◌then◌else◌, Option, Some, None, IsSome, List, [], ◌∷◌, ◌++◌, length, map, filter, slice_index}
 use Rattle.std.specs.List.{AllByRecursion}
 use Rattle.std.specs.Int.{bit_at}
+use Rattle.xs_base.specs.Ids.{port_width}
 use Rattle.pin_scripts.specs.declared.line.PinLine.{PinLine}
 use Rattle.pin_scripts.specs.Script.{IsScript, IsOfNodes}
 use Rattle.sys_plan.specs.declared.NodePlan.{NodePlan}
 use Rattle.sys_plan.specs.declared.LinkPlan.{LinkPlan}
+use Rattle.sys_plan.specs.declared.WirePlan.{WirePlan}
 use Rattle.sys_plan.specs.declared.Step.{Step}
 use Rattle.sys_plan.specs.declared.Step.TheVariants.{Take, Run, Send}
 
--- nodes by ascending number, and links, script and steps in the order of their lines; a link and a step name their nodes by position, and
--- the script by number
+-- nodes by ascending number, and links, script, steps and wires in the order of their lines; a link, a step and a wire name their nodes by
+-- position, and the script by number
 pub record PlanRec : Type 0 where
   pub nodes : List NodePlan
   pub links : List LinkPlan
   pub script : List PinLine
   pub steps : List Step
+  pub wires : List WirePlan
 
--- an arc: what leads one way from an end of a node to an end of another, with the delay and the gap in slots
+-- the ports whose pins a wire joins: what the first one drives, the other shows
+pub record Joined : Type 0 where
+  pub from_port : ℕ
+  pub to_port : ℕ
+
+-- an arc: what leads one way from an end of a node to an end of another, with the delay and the gap in slots. It is a directed link, or a
+-- wire, which joins pins and has no gap
 pub record Arc : Type 0 where
   pub from : ℕ
   pub from_end : ℕ
@@ -25,22 +34,48 @@ pub record Arc : Type 0 where
   pub to_end : ℕ
   pub delay : ℕ
   pub gap : ℕ
+  pub joins : Option Joined
 
 -- from the first end of a link to the second, and back
 abbrev pub forth : LinkPlan → Arc
-forth link = record { from = link.a; from_end = link.a_end; to = link.b; to_end = link.b_end; delay = link.delay; gap = link.gap }
+forth link = record { from = link.a; from_end = link.a_end; to = link.b; to_end = link.b_end; delay = link.delay; gap = link.gap; joins = None }
 
 abbrev pub back : LinkPlan → Arc
-back link = record { from = link.b; from_end = link.b_end; to = link.a; to_end = link.a_end; delay = link.delay; gap = link.gap }
+back link = record { from = link.b; from_end = link.b_end; to = link.a; to_end = link.a_end; delay = link.delay; gap = link.gap; joins = None }
 
 -- the arcs of links by number, two for each: 2k leads from the first to the second end of link k, and 2k + 1 leads back
 abbrev pub link_arcs : List LinkPlan → List Arc
 link_arcs [] = []
 link_arcs (link ∷ links) = forth link ∷ (back link ∷ link_arcs links)
 
--- the arcs of a plan by number, and how many they are
+-- how many of these wires leave a node, and how many come to it
+abbrev pub count_from : ℕ → List WirePlan → ℕ
+count_from node wires = length (filter (λ (wire : WirePlan). wire.a == node) wires)
+
+abbrev pub count_to : ℕ → List WirePlan → ℕ
+count_to node wires = length (filter (λ (wire : WirePlan). wire.b == node) wires)
+
+-- a wire, where these stand before it: the wires that leave a node are its ends from 8 on in their order, and so are those that come to it,
+-- counted apart
+abbrev pub along : List WirePlan → WirePlan → Arc
+along earlier wire = record {
+  from = wire.a;
+  from_end = 8 + count_from wire.a earlier;
+  to = wire.b;
+  to_end = 8 + count_to wire.b earlier;
+  delay = wire.delay;
+  gap = 0;
+  joins = Some (record { from_port = wire.a_port; to_port = wire.b_port });
+}
+
+-- the arcs of wires by number, where these stand before them
+abbrev pub wire_arcs : List WirePlan → List WirePlan → List Arc
+wire_arcs earlier [] = []
+wire_arcs earlier (wire ∷ wires) = along earlier wire ∷ wire_arcs (wire ∷ earlier) wires
+
+-- the arcs of a plan by number, those of its links and then those of its wires, and how many they are
 abbrev pub arcs : PlanRec → List Arc
-arcs plan = link_arcs plan.links
+arcs plan = link_arcs plan.links ++ wire_arcs [] plan.wires
 
 abbrev pub arc_count : PlanRec → ℕ
 arc_count plan = length (arcs plan)
@@ -63,6 +98,17 @@ outgoing plan node end = first_arc (leaves_by node end) 0 (arcs plan)
 abbrev pub incoming : PlanRec → ℕ → ℕ → Option ℕ
 incoming plan node end = first_arc (comes_to node end) 0 (arcs plan)
 
+-- the arc of the wire that comes to the pin of a port of a node, where one does
+abbrev pub joins_to : ℕ → Option Joined → Bool
+joins_to port None = false
+joins_to port (Some joined) = joined.to_port == port
+
+abbrev pub comes_to_pin : ℕ → ℕ → Arc → Bool
+comes_to_pin node port d = (d.to == node) && joins_to port d.joins
+
+abbrev pub wire_to : PlanRec → ℕ → ℕ → Option ℕ
+wire_to plan node port = first_arc (comes_to_pin node port) 0 (arcs plan)
+
 -- the delay and the gap of the arc with a number, in slots
 abbrev pub delay_of : PlanRec → ℕ → ℕ
 delay_of plan link = slice_index (map (λ (d : Arc). d.delay) (arcs plan)) link
@@ -79,12 +125,18 @@ gap_by plan (Some link) = gap_of plan link
 abbrev pub link_ends : List ℕ
 link_ends = 0 ∷ 1 ∷ 2 ∷ 3 ∷ 4 ∷ 5 ∷ 6 ∷ 7 ∷ []
 
--- the numbers of the ends of a node to which arcs may come, and of those by which arcs may leave
+-- so many numbers from one on
+abbrev pub numbers_from : ℕ → ℕ → List ℕ
+numbers_from n zero = []
+numbers_from n (suc count) = n ∷ numbers_from (n + 1) count
+
+-- the numbers of the ends of a node to which arcs may come, and of those by which arcs may leave: its link ends, and one for each wire that
+-- there may be
 abbrev pub ends_in : PlanRec → ℕ → List ℕ
-ends_in plan node = link_ends
+ends_in plan node = link_ends ++ numbers_from 8 32
 
 abbrev pub ends_out : PlanRec → ℕ → List ℕ
-ends_out plan node = link_ends
+ends_out plan node = link_ends ++ numbers_from 8 32
 
 -- the gap of each link end of a node, 0 where no link is
 abbrev pub gaps_of : PlanRec → ℕ → List ℕ
@@ -119,6 +171,21 @@ pub record IsLink (nodes : ℕ) (link : LinkPlan) : Type 0 where
   pub most_gap : link.gap ≤ 1000
   pub most_net : link.net ≤ 3
 
+-- a wire joins pins of two of so many nodes, which are equally many, and its delay is within its range
+pub record IsWire (nodes : ℕ) (wire : WirePlan) : Type 0 where
+  pub a : wire.a < nodes
+  pub b : wire.b < nodes
+  pub apart : wire.a ≢ wire.b
+  pub a_port : wire.a_port < 29
+  pub b_port : wire.b_port < 29
+  pub widths : port_width wire.a_port ≡ port_width wire.b_port
+  pub least_delay : 1 ≤ wire.delay
+  pub most_delay : wire.delay ≤ 1000
+
+-- the pins at the second ends of wires: the node and the port
+abbrev pub targets_of : List WirePlan → List (ℕ × ℕ)
+targets_of wires = map (λ (wire : WirePlan). (wire.b, wire.b_port)) wires
+
 -- each link end that the ways of a node name, for some bit of an id, is there
 abbrev pub WaysLead : PlanRec → ℕ → List ℕ → Type 0
 WaysLead plan node ways = (bit end : ℕ) → bit < 16 → end < 8 → bit_at (slice_index ways bit) end ≡ 1 → IsSome (outgoing plan node end)
@@ -128,7 +195,7 @@ abbrev pub AllWaysLead : PlanRec → ℕ → List NodePlan → Type 0
 AllWaysLead plan n [] = Unit {0}
 AllWaysLead plan n (node ∷ nodes) = WaysLead plan n node.ways × AllWaysLead plan (n + 1) nodes
 
--- a step of a schedule names a node that is there, and a link end of it that has a link
+-- a step of a schedule names a node that is there, and an end of it that has an arc
 abbrev pub NamesWhatIsThere : PlanRec → Step → Type 0
 NamesWhatIsThere plan (Take node end) = (node < length plan.nodes) × IsSome (incoming plan node end)
 NamesWhatIsThere plan (Run node count) = node < length plan.nodes
@@ -183,3 +250,9 @@ pub record IsPlan (plan : PlanRec) : Type 0 where
   -- the script drives pins of nodes that are there
   pub script_nodes : IsOfNodes (node_numbers plan) plan.script
   pub steps : AllByRecursion (NamesWhatIsThere plan) plan.steps
+  pub few_wires : length plan.wires ≤ 32
+  -- in edition 1 there are no wires
+  pub no_wires : edition_of plan.nodes ≡ 1 → plan.wires ≡ []
+  pub wires : AllByRecursion (IsWire (length plan.nodes)) plan.wires
+  -- no pin is the second end of two wires
+  pub targets : AreDistinct (targets_of plan.wires)

@@ -1,5 +1,5 @@
-//! The plan of a system: its nodes, the links between them, the script of its pins, and the steps of its schedule. See
-//! docs/SYSTEM_TEXT.md, docs/PINS.md and docs/LOOKAHEAD.md.
+//! The plan of a system: its nodes, the links and wires between them, the script of its pins, and the steps of its schedule. See
+//! docs/SYSTEM_TEXT.md, docs/PINS.md, docs/WIRES.md and docs/LOOKAHEAD.md.
 #![tactic(auto)]
 
 ghost use Rattle.std.specs.Prelude.{◌≡◌};
@@ -41,7 +41,7 @@ impl NodePlan {
 
 /// A link: it joins link end `a_end` of the node at position `a` to link end `b_end` of the node at position `b`, in
 /// both directions. The delay, 1 to 1,000 slots, is what a token or a credit takes; the gap, 4 to 1,000 slots, is
-/// the least time from one token that a link end sends to the next. See docs/LINKS.md.
+/// the least time from one token that a link end sends to the next. The network is 0 to 3. See docs/LINKS.md.
 #[derive(Clone, Copy)]
 pub struct LinkPlan {
     pub a: u8,
@@ -53,14 +53,29 @@ pub struct LinkPlan {
     pub net: u8,
 }
 
-/// A step of a schedule, in which nodes run one at a time and hand on by hand what their links carry. A node is named by position.
+/// A wire: it joins the pin of port `a_port` of the node at position `a` to the pin of port `b_port` of the node at position `b`, a port
+/// of the same width. What the first port drives, and 0 where it drives nothing, the second pin shows the delay later, 1 to 1,000 slots, where
+/// its own port does not drive it. Ports are 0 to 28. There are at most 32 wires, in edition 2 alone, and no pin is the second end of two.
+/// See docs/WIRES.md.
+#[derive(Clone, Copy)]
+pub struct WirePlan {
+    pub a: u8,
+    pub a_port: u8,
+    pub b: u8,
+    pub b_port: u8,
+    pub delay: u32,
+}
+
+/// A step of a schedule, in which nodes run one at a time and hand on by hand what their links and wires carry. A node is named by position,
+/// and an end by its number: a link end is 0 to 7, and the ends of wires are 8 and so on, counted apart for those that come to a node and
+/// those that leave it.
 /// See docs/LOOKAHEAD.md.
 #[derive(Clone, Copy)]
 pub enum Step {
-    /// The node reads all that is published of the link that comes to a link end, 0 to 7.
+    /// The node reads all that is published of the link or wire that comes to an end.
     Take { node: u8, end: u8 },
     /// The node runs so many slots, or fewer where its horizon stops it.
     Run { node: u8, count: u32 },
-    /// The node publishes what it has sent by a link end, 0 to 7, in all slots that it has run.
+    /// The node publishes what it has sent by an end, in all slots that it has run.
     Send { node: u8, end: u8 },
 }

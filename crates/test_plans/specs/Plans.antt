@@ -23,8 +23,8 @@ link_on first delay = record { a = first; a_end = 7; b = first + 1; b_end = 0; d
 
 -- two nodes with a link between them
 abbrev pub pair : ℕ → PlanRec
-pair delay = record { nodes = bare_node 0 ∷ bare_node 1 ∷ []; links = link_on 0 delay ∷ []; script = []; steps = [] }
+pair delay = record { nodes = bare_node 0 ∷ bare_node 1 ∷ []; links = link_on 0 delay ∷ []; script = []; steps = []; wires = [] }
 
 -- three nodes in a row, with a link from each to the next one
 abbrev pub row_of_three : ℕ → PlanRec
-row_of_three delay = record { nodes = bare_node 0 ∷ bare_node 1 ∷ bare_node 2 ∷ []; links = link_on 0 delay ∷ link_on 1 delay ∷ []; script = []; steps = [] }
+row_of_three delay = record { nodes = bare_node 0 ∷ bare_node 1 ∷ bare_node 2 ∷ []; links = link_on 0 delay ∷ link_on 1 delay ∷ []; script = []; steps = []; wires = [] }

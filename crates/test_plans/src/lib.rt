@@ -71,7 +71,13 @@ pub fn pair(alloc: Global, delay: u32) -> Result<Plan, AllocError>
     nodes.push(bare_node(alloc, 1))?;
     let mut links = Vec::new(alloc);
     links.push(link_on(0, delay))?;
-    Ok(Plan::of(nodes, links, Script::empty(), Vec::new(alloc)))
+    Ok(Plan::of(
+        nodes,
+        links,
+        Script::empty(),
+        Vec::new(alloc),
+        Vec::new(alloc),
+    ))
 }
 
 /// Three bare nodes in a row, and a link from link end 7 of each to link end 0 of the next, with a delay of 1 to 1,000 slots and a gap
@@ -88,5 +94,11 @@ pub fn row_of_three(alloc: Global, delay: u32) -> Result<Plan, AllocError>
     let mut links = Vec::new(alloc);
     links.push(link_on(0, delay))?;
     links.push(link_on(1, delay))?;
-    Ok(Plan::of(nodes, links, Script::empty(), Vec::new(alloc)))
+    Ok(Plan::of(
+        nodes,
+        links,
+        Script::empty(),
+        Vec::new(alloc),
+        Vec::new(alloc),
+    ))
 }

@@ -132,7 +132,8 @@ impl Slots {
         }
     }
 
-    /// The last slot up to which the divider stays free, or stays not free, as it is in this slot. It takes no memory.
+    /// A slot, not before this one, up to which the divider is as it is in this one: the last slot in which it is not free, where it is not
+    /// free now, and else the last of all numbers. It takes no memory.
     #[inline]
     pub fn divider_until(&self, slot: u32) -> u32
         ensures alike { (later : ℕ) → slot ≤ later → later ≤ result → division_is_over self.now.division later ≡ division_is_over self.now.division slot }

@@ -21,7 +21,7 @@ ThreadNumber = ℕ
 abbrev pub ChanNumber : Type 0
 ChanNumber = ℕ
 
--- a link end of a node, 0 to 7
+-- an end of a node: 0 to 7 are its link ends, and from 8 on those of wires that come to it, or, counted apart, that leave it
 abbrev pub EndNumber : Type 0
 EndNumber = ℕ
 
@@ -49,6 +49,6 @@ NodeId = ℕ
 abbrev pub Position : Type 0
 Position = ℕ
 
--- a directed link of a plan
+-- a directed link of a plan, or, after all of these, a wire
 abbrev pub LinkNumber : Type 0
 LinkNumber = ℕ

@@ -1,7 +1,38 @@
-use Rattle.std.proofs.Common.{◌∙◌, length}
-use Rattle.sys_plan.proofs.Past.{leaves_none}
+use Rattle.std.proofs.Common.{List, ◌≡◌, ℕ, ◌+◌, ◌-◌, ◌<◌, ◌≤◌, Option, Some, [], length, ap, sym, subst, ◌∙◌, arith, option_map}
+use Rattle.std.specs.Prelude.{IfSome}
+use Rattle.sys_plan.specs.declared.WirePlan.{WirePlan}
+use Rattle.sys_plan.specs.Plan.{PlanRec, IsPlan, outgoing, first_arc, leaves_by, link_arcs, wire_arcs}
+use Rattle.sys_plan.proofs.Routes.{outgoing-of-link}
+use Rattle.sys_plan.proofs.Told.{arcs-count, leaves-by-wire, none-leaves-past}
 use Rattle.sys_plan.proofs.system_plan.Plan.outgoing.Goals as goal
 
-pub returns-clause-none_past : goal.returns-clause-none_past
-returns-clause-none_past c past =
-    c.first_leaving.ensures.value ∙ rw c.links.ensures.value (leaves_none (length c.args.self.now.nodes) c.args.node c.args.end past c.args.self.now.links 0 c.links.ensures.plan.links)
+pub returns-then-end-lt-FIRST_WIRE_END-clause-value : goal.returns-then-end-lt-FIRST_WIRE_END-clause-value
+returns-then-end-lt-FIRST_WIRE_END-clause-value c =
+    c.first_leaving.ensures.value ∙ ap (λ ls. first_arc (leaves_by c.args.node c.args.end) 0 (link_arcs ls)) c.links.ensures.value
+    ∙ sym (outgoing-of-link c.args.self.now c.args.node c.args.end c.if-end-lt-FIRST_WIRE_END.true)
+
+-- what is found among the wires is found in the plan
+module _ (plan : PlanRec) (is : IsPlan plan) (node end : ℕ) (far : 8 ≤ end) (ws : List WirePlan) (same : ws ≡ plan.wires) (o : Option ℕ)
+    (found : o ≡ first_arc (leaves_by node (8 + (end - 8))) 0 (wire_arcs [] ws)) where
+  by_wire : option_map (λ k. length (link_arcs plan.links) + k) o ≡ outgoing plan node end
+  by_wire = leaves-by-wire plan is node end (end - 8) (omega arith) o (found ∙ ap (λ l. first_arc (leaves_by node (8 + (end - 8))) 0 (wire_arcs [] l)) same)
+
+pub returns-in-None-clause-value : goal.returns-in-None-clause-value
+returns-in-None-clause-value c =
+    ap (option_map (λ k. length (link_arcs c.args.self.now.links) + k)) (sym c.in-None.is)
+    ∙ by_wire c.args.self.now c.wires.ensures.plan c.args.node c.args.end c.if-end-lt-FIRST_WIRE_END.false c.wires.result.now c.wires.ensures.value c.wire_leaving.result c.wire_leaving.ensures.value
+
+pub returns-in-Some-clause-value : goal.returns-in-Some-clause-value
+returns-in-Some-clause-value c =
+    ap (λ n. Some (n + c.in-Some.wire)) c.directed_links.ensures.value
+    ∙ ap (option_map (λ k. length (link_arcs c.args.self.now.links) + k)) (sym c.in-Some.is)
+    ∙ by_wire c.args.self.now c.wires.ensures.plan c.args.node c.args.end c.if-end-lt-FIRST_WIRE_END.false c.wires.result.now c.wires.ensures.value c.wire_leaving.result c.wire_leaving.ensures.value
+
+pub returns-in-Some-clause-none_past : goal.returns-in-Some-clause-none_past
+returns-in-Some-clause-none_past c past =
+    returns-in-Some-clause-value c ∙ none-leaves-past c.args.self.now c.wires.ensures.plan c.args.node c.args.end past
+
+pub returns-in-Some-clause-bound : goal.returns-in-Some-clause-bound
+returns-in-Some-clause-bound c =
+    let below : c.in-Some.wire < length c.wires.result.now = subst (λ o. IfSome o (λ w. w < length c.wires.result.now)) c.in-Some.is c.wire_leaving.ensures.bound in
+    omega (arith, below, c.directed_links.ensures.value, arcs-count c.args.self.now, ap (λ (ws : List WirePlan). length ws) c.wires.ensures.value)

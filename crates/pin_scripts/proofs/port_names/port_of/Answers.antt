@@ -1,7 +1,7 @@
 use Rattle.std.proofs.Common.{bytes_eq, sym, arith}
 use Rattle.pin_scripts.specs.Pins.{port_name, port_of}
 use Rattle.pin_scripts.proofs.Ports.{no-port, first-port}
-use Rattle.pin_scripts.proofs.form.port_of.Goals as goal
+use Rattle.pin_scripts.proofs.port_names.port_of.Goals as goal
 
 pub returns-then-is_name_of-clause-value : goal.returns-then-is_name_of-clause-value
 unfolding port_of
