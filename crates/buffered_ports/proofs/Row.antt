@@ -1,7 +1,8 @@
 -- The ports in their places, beside their masks: one of them is replaced.
-use Rattle.std.proofs.Common.{ℕ, ◌≡◌, ◌≢◌, ◌<◌, ◌≤◌, Bool, true, false, cond, eqb, not, ◌&&◌, List, ◌+◌, ◌++◌, length, get_or, set, map, take, drop, refl, ap, sym, subst, ◌∙◌, inl, inr, arith}
-use Rattle.std.specs.Prelude.{◌==◌, ◌||◌, nat_lt, is_some}
-use Rattle.std.proofs.lemmas.Bool.{cond-true, cond-false, cases_lt, cases_eq, eq-eqb, ne_eqb}
+use Rattle.std.proofs.Common.{ℕ, ◌≡◌, ◌≢◌, ◌<◌, ◌≤◌, Bool, true, false, cond, eqb, not, ◌&&◌, Option, None, ◌^◌, List, ◌+◌, ◌++◌, length, get_or, set, map, take, drop, refl, ap, sym, subst, ◌∙◌, inl, inr, arith}
+use Rattle.std.specs.Prelude.{◌==◌, ◌||◌, nat_lt, is_some, IfSome}
+use mathlib.Core.Logic.{◌⊎◌}
+use Rattle.std.proofs.lemmas.Bool.{cases_Bool, cond-true, cond-false, cases_lt, cases_eq, eq-eqb, ne_eqb}
 use Rattle.std.proofs.lemmas.List.{append-nil, length-append, length-take, length-drop, take_all, drop_all, length-set, length-map, map-set, get_or-map, get_or_past, get_or_default, get_or-set_same, get_or-set_other}
 use Rattle.std.proofs.lemmas.List.Edits.{map_over_more}
 use Rattle.xs_base.specs.Ids.{port_width}
@@ -39,6 +40,20 @@ read_on f places now p r is within placed on =
     let is_on : (place_at places p).port.on ≡ true = ap (λ (q : PortRec). q.on) (sym (ap (λ (that : PortOf). that.port) here) ∙ port) ∙ on in
     let width : (get_or places p r).width ≡ port_width p = ap (λ (that : PortOf). that.width) here ∙ placed is_on in
     ap (λ w. f w (get_or places p r).port) width ∙ ap (f (port_width p)) port
+
+-- what a port drives fits the port of its number, since one that is off drives nothing
+pub drives_here : (driven : Option ℕ) (places : List PortOf) (now : List PortRec) (p : ℕ) (r : PortOf) → p < length places → IsPlaced p (place_at places p)
+    → IfSome driven (λ v. v < 2 ^ (get_or places p r).width) → ((get_or places p r).port.on ≡ false → driven ≡ None) → IfSome driven (λ v. v < 2 ^ port_width p)
+drives_here driven places now p r within placed fits off = by (cases_Bool (get_or places p r).port.on)
+  where
+    here : get_or places p r ≡ place_at places p
+    here = get_or_default places p r no_place within
+
+    by : ((get_or places p r).port.on ≡ true) ⊎ ((get_or places p r).port.on ≡ false) → IfSome driven (λ v. v < 2 ^ port_width p)
+    by (inl on) =
+        let width : (get_or places p r).width ≡ port_width p = ap (λ (that : PortOf). that.width) here ∙ placed (ap (λ (that : PortOf). that.port.on) (sym here) ∙ on) in
+        subst (λ w. IfSome driven (λ v. v < 2 ^ w)) width fits
+    by (inr is) = subst (λ o. IfSome o (λ v. v < 2 ^ port_width p)) (sym (off is)) tt
 
 -- ---- One is replaced
 

@@ -1,5 +1,5 @@
 //! `Ports`, the ports of a core.
-ghost use Rattle.std.specs.Prelude.{ℕ, ◌≡◌, ◌≢◌, ◌<◌, ◌≤◌, ◌^◌, false, true, is_some, length, map, slice_set};
+ghost use Rattle.std.specs.Prelude.{IfSome, ℕ, ◌≡◌, ◌≢◌, ◌<◌, ◌≤◌, ◌^◌, false, true, is_some, length, map, slice_set};
 ghost use Rattle.xs_base.specs.Numbers.{Word, PortNumber};
 ghost use Rattle.xs_base.specs.Ids.{port_width};
 ghost use Rattle.xs_base.specs.declared.numbers.TheConstants.{PORTS};
@@ -198,6 +198,15 @@ impl Ports {
         ensures value { result ≡ level_of (port_at self.now port).driven pin }
     {
         self.ports[port as usize].level(pin)
+    }
+
+    /// What port `port`, 0 to 28, drives, None exactly where it drives nothing.
+    pub fn driven(&self, port: u8) -> Option<u32>
+        requires port { port < PORTS }
+        ensures value { result ≡ (port_at self.now port).driven }
+        ensures fits { IfSome result (λ value. value < 2 ^ port_width port) }
+    {
+        self.ports[port as usize].driven()
     }
 
     /// The clock by whose edges port `port`, 0 to 28, goes.

@@ -1,9 +1,10 @@
 //! `Core`, one node's core.
-ghost use Rattle.std.specs.Prelude.{◌≡◌, ◌<◌, ◌≤◌, ◌+◌, ◌-◌, ◌^◌, ◌↔◌, true, false, List, [], Option, length, IfOk, IsErr};
+ghost use Rattle.std.specs.Prelude.{◌≡◌, ◌<◌, ◌≤◌, ◌+◌, ◌-◌, ◌^◌, ◌↔◌, true, false, List, [], Option, length, IfOk, IfSome, IsErr};
 ghost use Rattle.std.specs.Result.{result_ok};
 ghost use Rattle.xs_base.specs.Numbers.{Slot};
-ghost use Rattle.xs_base.specs.declared.numbers.TheConstants.{MEMORY_BYTES, THREADS};
-ghost use Rattle.xs_model.specs.Record.{NodeRec, LinkRec, thread_of};
+ghost use Rattle.xs_base.specs.declared.numbers.TheConstants.{MEMORY_BYTES, PORTS, THREADS};
+ghost use Rattle.xs_base.specs.Ids.{port_width};
+ghost use Rattle.xs_model.specs.Record.{NodeRec, LinkRec, port_of, thread_of};
 ghost use Rattle.xs_model.specs.Memory.{load_word, is_word_address};
 ghost use Rattle.xs_model.specs.Outside.{LevelsFit, emitted_events};
 ghost use Rattle.step_model.specs.Start.{fixed_of, node_of, WaysHaveGaps};
@@ -93,6 +94,17 @@ impl Core {
         ensures err { IsErr result ↔ is_word_address at ≡ false }
     {
         self.units.word(at)
+    }
+
+    /// What port `port`, 0 to 28, drives, None exactly where it drives nothing: a value below 2^width of the port. It takes no memory. See
+    /// docs/PORTS.md.
+    #[inline]
+    pub fn driven(&self, port: u8) -> Option<u32>
+        requires port { port < PORTS }
+        ensures value { result ≡ (port_of self.now.core port).driven }
+        ensures fits { IfSome result (λ value. value < 2 ^ port_width port) }
+    {
+        self.units.driven(port)
     }
 
     /// One slot of the node: what arrives by the link ends, the edges of the ports' clocks, the switch, and at most

@@ -1,5 +1,8 @@
 //! The ports of a core in slots in which they only count. See docs/QUIET_SLOTS.md.
-ghost use Rattle.std.specs.Prelude.{◌≡◌, ◌-◌, true};
+ghost use Rattle.std.specs.Prelude.{◌≡◌, ◌-◌, ◌^◌, ◌<◌, true, IfSome};
+ghost use Rattle.xs_base.specs.declared.numbers.TheConstants.{PORTS};
+ghost use Rattle.xs_base.specs.Ids.{port_width};
+ghost use Rattle.xs_model.specs.Record.{port_of};
 ghost use Rattle.quiet_model.specs.Slots.{IsFirst, NoneBefore};
 ghost use Rattle.quiet_model.specs.Clocks.{ports_counted};
 ghost use Rattle.quiet_model.specs.Still.{ports_are_still};
@@ -28,6 +31,16 @@ impl Processor {
         next_fall(&self.units, from, bound)
     }
 
+    /// What port `port`, 0 to 28, drives, None exactly where it drives nothing.
+    #[inline]
+    pub fn driven(&self, port: u8) -> Option<u32>
+        requires port { port < PORTS }
+        ensures value { result ≡ (port_of self.now port).driven }
+        ensures fits { IfSome result (λ value. value < 2 ^ port_width port) }
+    {
+        driven(&self.units, port)
+    }
+
     /// The counters of the ports rise as they do in the slots from `from` to `to - 1`. The ports are still, and in none of these
     /// slots a port's next transfer begins.
     pub fn pass(&mut self, from: u32, to: u32)
@@ -37,6 +50,15 @@ impl Processor {
     {
         pass(&mut self.units, from, to);
     }
+}
+
+#[inline]
+fn driven(units: &Units, port: u8) -> Option<u32>
+    requires { port < PORTS }
+    ensures value { result ≡ (port_of units.now port).driven }
+    ensures fits { IfSome result (λ value. value < 2 ^ port_width port) }
+{
+    units.ports.driven(port)
 }
 
 #[inline]

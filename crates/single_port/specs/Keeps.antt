@@ -19,7 +19,7 @@ pub record IsTransfer (transfer_width : ℕ) (t : TransferRec) : Type 0 where
   pub value : t.value < 2 ^ t.bits
 
 -- what a port of this width keeps: where it is on its transfers have at least as many bits as it is wide, and in direction
--- input it drives nothing
+-- input, in which one that is off is, it drives nothing
 pub record IsPort (width : ℕ) (port : PortRec) : Type 0 where
   pub some : 0 < width
   pub narrow : width ≤ 32
@@ -30,6 +30,7 @@ pub record IsPort (width : ℕ) (port : PortRec) : Type 0 where
   pub transfer : IfSome port.transfer (IsTransfer port.transfer_width)
   pub driven : IfSome port.driven (λ value. value < 2 ^ width)
   pub input : port.output ≡ false → port.driven ≡ None
+  pub off_input : port.on ≡ false → port.output ≡ false
   pub clock : IsClock port.clock
   pub strobe : IsStrobe port.strobe
 

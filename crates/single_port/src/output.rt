@@ -47,6 +47,7 @@ impl Port {
     }
 
     fn turned_out(&mut self)
+        requires { self.old.port.on ≡ true }
         ensures { self.new ≡ record self.old { port = turned_out self.old.port } }
     {
         self.output = true;

@@ -1,5 +1,5 @@
 //! `Port`, one port: what it keeps, and what it tells.
-ghost use Rattle.std.specs.Prelude.{◌≡◌, ◌<◌, ◌≤◌, ◌^◌, ◌||◌, ◌&&◌, not, true, false, is_some, nat_lt, length, if◌then◌else◌};
+ghost use Rattle.std.specs.Prelude.{IfSome, None, ◌≡◌, ◌<◌, ◌≤◌, ◌^◌, ◌||◌, ◌&&◌, not, true, false, is_some, nat_lt, length, if◌then◌else◌};
 ghost use Rattle.xs_model.specs.Record.{off_port};
 ghost use Rattle.xs_model.specs.Ports.{level_of};
 ghost use Rattle.xs_model.specs.PortActions.{on_port, has_left, is_idle};
@@ -110,6 +110,16 @@ impl Port {
             Some(driven) => driven,
             None => outside,
         }
+    }
+
+    /// What it drives, None exactly where it drives nothing.
+    #[inline]
+    pub fn driven(&self) -> Option<u32>
+        ensures value { result ≡ self.now.port.driven }
+        ensures fits { IfSome result (λ value. value < 2 ^ self.now.width) }
+        ensures off { self.now.port.on ≡ false → result ≡ None }
+    {
+        self.driven
     }
 
     /// The clock by whose edges it goes.

@@ -22,3 +22,4 @@ pub mod Phases
 pub mod Turn
 pub mod EightSlots
 pub mod SlotEvents
+pub mod Driven

@@ -13,14 +13,14 @@ use Rattle.xs_model.specs.Ports.{pin_happens}
 use Rattle.xs_model.specs.PortActions.{goes_by, restarted}
 use Rattle.xs_model.specs.Events.{NamesWhatIsThere}
 use Rattle.step_laws.proofs.Tells.{Fits, Tells, tells_other, tells_change, change_few, change_not_on}
-use Rattle.step_laws.proofs.PortActs.{LetsGo}
+use Rattle.step_laws.proofs.PortActs.{LetsGo, GoesTo}
 
 pub data PinsAfter (ports : List PortRec) : List PortRec → List Happen → Type 0 where
   pins_stay : PinsAfter ports ports []
   -- a clock block starts
   restart : (n : ℕ) → PinsAfter ports (map (restarted n) ports) []
   -- an instruction acts on a port
-  acts : (p : PortNumber) (port : PortRec) (change : Option PinChange) → p < PORTS → LetsGo (get_or ports p off_port).driven change port.driven → PinsAfter ports (slice_set ports p port) (pin_happens p change)
+  acts : (p : PortNumber) (port : PortRec) (change : Option PinChange) → p < PORTS → GoesTo (get_or ports p off_port) change port → PinsAfter ports (slice_set ports p port) (pin_happens p change)
 
 -- ---- What that tells
 
@@ -55,7 +55,7 @@ after_tells slot p ports after happened (restart n) = (sym (restarted_drives n p
 after_tells slot p ports after happened (acts q port change there well) =
     let was = (get_or ports p off_port).driven in
     elim (cases_eq q p) [
-      | inl same ↦ subst (λ r. Tells slot r (get_or ports r off_port).driven (pin_happens q change) (get_or (slice_set ports q port) r off_port).driven) same (tells_change slot q _ change _ (set_fits ports q port change well))
+      | inl same ↦ subst (λ r. Tells slot r (get_or ports r off_port).driven (pin_happens q change) (get_or (slice_set ports q port) r off_port).driven) same (tells_change slot q _ change _ (set_fits ports q port change well.0))
       | inr other ↦ subst (λ r. Tells slot p was (pin_happens q change) r.driven) (sym (get_or-set_other ports q p port off_port (λ e. other (sym e)))) (tells_other slot p was (pin_happens q change) (change_not_on p q change other))
     ]
 

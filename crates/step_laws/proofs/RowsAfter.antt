@@ -184,25 +184,25 @@ module _ (here : Setting) (core : CoreRec) (k : ThreadNumber) where
 
   -- ---- Rows on a port
 
-  ends_after : (events : EnabledRec) (name : Identifier) (p : PortNumber) (takes : Word → Thread → Thread) (acted : Acted) → p < PORTS → ActsWell (port_of core p).driven acted → EffectAfter core here.slot (ends_at_port (with_enabled core events) k name p takes acted)
+  ends_after : (events : EnabledRec) (name : Identifier) (p : PortNumber) (takes : Word → Thread → Thread) (acted : Acted) → p < PORTS → ActsWell (port_of core p) acted → EffectAfter core here.slot (ends_at_port (with_enabled core events) k name p takes acted)
   ends_after events name p takes (Did port change) there well = (as_before, acts p port change there well)
   ends_after events name p takes (Gives port word) there well = (as_before, acts p port None there well)
   ends_after events name p takes (PausesAt port wait change) there well =
       either (is_waited_at core wait) (Trap RESOURCE_DEPENDENCY name) _ tt (as_before, acts p port change there well)
   ends_after events name p takes Refuses there well = tt
 
-  at_port_after : (name : Identifier) (p : PortNumber) (takes : PortRec → Word → Thread → Thread) (does : PortRec → Acted) → p < PORTS → ActsWell (port_of core p).driven (does (port_of core p)) → EffectAfter core here.slot (at_port core k name p takes does)
+  at_port_after : (name : Identifier) (p : PortNumber) (takes : PortRec → Word → Thread → Thread) (does : PortRec → Acted) → p < PORTS → ActsWell (port_of core p) (does (port_of core p)) → EffectAfter core here.slot (at_port core k name p takes does)
   at_port_after name p takes does there well = ends_after core.enabled name p (takes (port_of core p)) (does (port_of core p)) there well
 
-  at_named_after : (name : Identifier) (takes : PortRec → Word → Thread → Thread) (does : PortNumber → PortRec → Acted) → ((p : PortNumber) (port : PortRec) → ActsWell port.driven (does p port)) → (named : Option PortNumber) → IsPort named → EffectAfter core here.slot (at_named_port core k name takes does named)
+  at_named_after : (name : Identifier) (takes : PortRec → Word → Thread → Thread) (does : PortNumber → PortRec → Acted) → ((p : PortNumber) (port : PortRec) → ActsWell port (does p port)) → (named : Option PortNumber) → IsPort named → EffectAfter core here.slot (at_named_port core k name takes does named)
   at_named_after name takes does well None there = tt
   at_named_after name takes does well (Some p) there = at_port_after name p takes (does p) there (well p (port_of core p))
 
-  on_port_after : (s : Register) (takes : PortRec → Word → Thread → Thread) (does : PortNumber → PortRec → Acted) → ((p : PortNumber) (port : PortRec) → ActsWell port.driven (does p port)) → EffectAfter core here.slot (on_port core k s takes does)
+  on_port_after : (s : Register) (takes : PortRec → Word → Thread → Thread) (does : PortNumber → PortRec → Acted) → ((p : PortNumber) (port : PortRec) → ActsWell port (does p port)) → EffectAfter core here.slot (on_port core k s takes does)
   on_port_after s takes does well = at_named_after (reg core k s) takes does well (port_with (reg core k s)) (port_is_there (reg core k s))
 
   -- a port's clock and its strobe are named by a word
-  sets_well : {A : Type 0} (sets : A → PortRec → Acted) (found : Option A) (port : PortRec) → ((x : A) → ActsWell port.driven (sets x port)) → ActsWell port.driven (sets_where sets found port)
+  sets_well : {A : Type 0} (sets : A → PortRec → Acted) (found : Option A) (port : PortRec) → ((x : A) → ActsWell port (sets x port)) → ActsWell port (sets_where sets found port)
   sets_well sets None port well = tt
   sets_well sets (Some x) port well = well x
 
@@ -249,7 +249,7 @@ module _ (here : Setting) (core : CoreRec) (k : ThreadNumber) where
   events_after : (name : Identifier) (change : EnablingRec → EnablingRec) (named : Option Resource) → EffectAfter core here.slot (sets_events core k name change named)
   events_after name change named = goes_on_after name _ (changed_keeps core change (eventful core named))
 
-  turned_after : (name : Identifier) (p : PortNumber) (is_off : Bool) (acted : Acted) → p < PORTS → ActsWell (port_of core p).driven acted → EffectAfter core here.slot (ends_at_port (if is_off then with_enabled core (forgotten core.enabled (res.Port p)) else core) k name p (takes_no_word (port_of core p)) acted)
+  turned_after : (name : Identifier) (p : PortNumber) (is_off : Bool) (acted : Acted) → p < PORTS → ActsWell (port_of core p) acted → EffectAfter core here.slot (ends_at_port (if is_off then with_enabled core (forgotten core.enabled (res.Port p)) else core) k name p (takes_no_word (port_of core p)) acted)
   turned_after name p true acted there well =
       ends_after (forgotten core.enabled (res.Port p)) name p (takes_no_word (port_of core p)) acted there well
   turned_after name p false acted there well = ends_after core.enabled name p (takes_no_word (port_of core p)) acted there well

@@ -3,6 +3,7 @@
 #![tactic(auto)]
 
 ghost use Rattle.step_laws.specs.EightSlots.{EligibleIssues, FirstHasAllLastIssues, SlotKeepsAllLastIssues};
+ghost use Rattle.step_laws.specs.Driven.{FirstFitsPins, SlotFitsPins};
 ghost use Rattle.step_laws.specs.Pins.{SlotTellsChanges, SlotTellsDriven};
 ghost use Rattle.step_laws.specs.Shape.{FirstHasShape, SlotKeepsShape, SlotMakesFewEvents, SlotNamesWhatIsThere};
 ghost use Rattle.step_laws.specs.StatusBits.{FirstIsKnown, IssueStaysKnown, SlotStaysKnown};
@@ -41,4 +42,11 @@ pub fn slot_has_few_events()
     ensures slot { SlotKeepsShape }
     ensures few { SlotMakesFewEvents }
     ensures within { SlotNamesWhatIsThere }
+{}
+
+/// What a port drives fits its pins: as a core starts it drives nothing, and each slot of a node leaves it so, whatever comes from outside.
+/// Of a port's shift register each bit is 0 or 1. It does nothing. See docs/PORTS.md.
+pub fn ports_drive_what_fits()
+    ensures first { FirstFitsPins }
+    ensures slot { SlotFitsPins }
 {}
