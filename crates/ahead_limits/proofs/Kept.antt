@@ -1,9 +1,9 @@
 -- Each step keeps the bounds of a schedule, and lets no number fall.
-use Rattle.std.proofs.Common.{◌≡◌, ◌⊎◌, ℕ, zero, suc, ◌+◌, ◌<◌, ◌≤◌, Bool, true, false, ◌&&◌, eqb, ltb, cond, Option, Some, None, List, [], ◌∷◌, length, map, replicate, get_or, set, slice_get, refl, sym, ap, ◌∙◌, subst, arith, inl, inr}
+use Rattle.std.proofs.Common.{◌≡◌, ◌⊎◌, ℕ, zero, suc, ◌+◌, ◌<◌, ◌≤◌, true, false, ltb, Option, Some, None, List, [], ◌∷◌, length, replicate, get_or, set, slice_get, refl, sym, ap, ◌∙◌, subst, arith, inl, inr}
 use Rattle.std.specs.Prelude.{option_map}
 use Rattle.std.specs.List.{list_all}
-use Rattle.std.proofs.lemmas.Bool.{and_parts, eqb-true, ltb-true, cases_Bool}
-use Rattle.std.proofs.lemmas.Option.{none-some, same_Some}
+use Rattle.std.proofs.lemmas.Bool.{and_parts, ltb-true, cases_Bool}
+use Rattle.std.proofs.lemmas.Option.{same_Some}
 use Rattle.xs_base.specs.Numbers.{Slot, Position, EndNumber, LinkNumber}
 use Rattle.sys_plan.specs.declared.Step.{Step}
 use Rattle.sys_plan.specs.declared.Step.TheVariants.{Take, Run, Send}

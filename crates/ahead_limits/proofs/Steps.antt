@@ -5,26 +5,28 @@ use Rattle.std.proofs.lemmas.Bool.Decides.{nat_tests}
 use Rattle.std.proofs.lemmas.List.{length-set, length-replicate, take-replicate, at_drop_more, at_drop_all}
 use Rattle.xs_base.specs.Numbers.{Slot}
 use Rattle.sys_plan.specs.declared.LinkPlan.{LinkPlan}
+use Rattle.sys_plan.specs.declared.WirePlan.{WirePlan}
 use Rattle.sys_plan.specs.declared.Step.{Step}
 use Rattle.sys_plan.specs.declared.Step.TheVariants.{Take, Run, Send}
-use Rattle.sys_plan.specs.Plan.{PlanRec, IsPlan, arc_count, link_arcs, incoming, outgoing}
+use Rattle.sys_plan.specs.Plan.{PlanRec, IsPlan, arc_count, incoming, outgoing}
+use Rattle.sys_plan.proofs.Arcs.{arcs_length}
+use Rattle.sys_plan.proofs.Told.{arcs-count}
 use Rattle.ahead_limits.specs.declared.horizon.Seen.{Seen}
 use Rattle.ahead_limits.specs.Horizon.{HorizonRec, may_run}
 use Rattle.ahead_limits.specs.Bound.{nearer, least_bound}
 use Rattle.ahead_limits.specs.Schedule.{ScheduleRec, IsOfPlan, schedule_at_start, clock_after, after_take, after_send, after_step, after_steps}
 use Rattle.ahead_limits.proofs.Bounds.{may_run_is}
 
-pub arcs_twice : (links : List LinkPlan) → length (link_arcs links) ≡ 2 * length links
-arcs_twice [] = refl
-arcs_twice (link ∷ links) = omega (arith, arcs_twice links)
+pub arcs_number : (plan : PlanRec) → arc_count plan ≡ 2 * length plan.links + length plan.wires
+arcs_number plan = omega (arith, arcs-count plan, arcs_length plan.links)
 
 -- no more arcs are there than a plan may have, and of none of them anything was seen
-pub nothing_seen : (plan : PlanRec) → IsPlan plan → (links : List LinkPlan) → links ≡ plan.links
-    → take (2 * length links) (replicate {A = Slot} 96 0) ≡ replicate (arc_count plan) 0
-nothing_seen plan is links same =
-    let twice : 2 * length links ≡ arc_count plan = (λ i. 2 * length (same i)) ∙ sym (arcs_twice plan.links) in
-    let few : 2 * length links ≤ 96 = omega (arith, is.few_links, ap (λ (ls : List LinkPlan). length ls) same) in
-    take-replicate (2 * length links) 96 0 few ∙ ap (λ n. replicate {A = Slot} n 0) twice
+pub nothing_seen : (plan : PlanRec) → IsPlan plan → (links : List LinkPlan) (wires : List WirePlan) → links ≡ plan.links → wires ≡ plan.wires
+    → take (2 * length links + length wires) (replicate {A = Slot} 128 0) ≡ replicate (arc_count plan) 0
+nothing_seen plan is links wires same also =
+    let number : 2 * length links + length wires ≡ arc_count plan = (λ i. 2 * length (same i) + length (also i)) ∙ sym (arcs_number plan) in
+    let few : 2 * length links + length wires ≤ 128 = omega (arith, is.few_links, is.few_wires, ap (λ (ls : List LinkPlan). length ls) same, ap (λ (ws : List WirePlan). length ws) also) in
+    take-replicate (2 * length links + length wires) 128 0 few ∙ ap (λ n. replicate {A = Slot} n 0) number
 
 -- ---- How far a node runs
 

@@ -1,5 +1,5 @@
 -- What every schedule keeps.
-use Rattle.std.specs.Prelude.{◌≡◌, ◌+◌, ◌<◌, ◌≤◌, Option, Some, List, slice_get, slice_index}
+use Rattle.std.specs.Prelude.{◌≡◌, ◌+◌, ◌<◌, ◌≤◌, Some, List, slice_get, slice_index}
 use Rattle.xs_base.specs.Numbers.{Slot, Position, LinkNumber, EndNumber}
 use Rattle.sys_plan.specs.declared.system_plan.TheConstants.{ENDS}
 use Rattle.sys_plan.specs.declared.Step.{Step}
@@ -11,11 +11,11 @@ pub record KeepsBounds (plan : PlanRec) (limit : Slot) (s : ScheduleRec) : Type 
   pub lengths : IsOfPlan plan s
   -- no node has run more than the slots of the run
   pub within : (node : Position) → slice_index s.clocks node ≤ limit
-  -- no more is seen of a link than was published
+  -- no more is seen of an arc than was published
   pub seen : (link : LinkNumber) → slice_index s.seen link ≤ slice_index s.published link
-  -- no more is published of a link than the node has run that it leaves
+  -- no more is published of an arc than the node has run that it leaves
   pub behind : (link : LinkNumber) (d : Arc) → slice_get (arcs plan) link ≡ Some d → slice_index s.published link ≤ slice_index s.clocks d.from
-  -- no node is further than what is seen of a link that comes to it and the delay
+  -- no node is further than what is seen of an arc that comes to it and the delay
   pub ahead : (node : Position) (end : EndNumber) (link : LinkNumber) → end < ENDS → incoming plan node end ≡ Some link
       → slice_index s.clocks node ≤ slice_index s.seen link + delay_of plan link
 

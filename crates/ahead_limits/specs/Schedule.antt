@@ -32,7 +32,7 @@ schedule_at_start plan = record {
 abbrev pub seen_of_link : PlanRec → List Slot → LinkNumber → Seen
 seen_of_link plan seen link = record { delay = delay_of plan link; seen = slice_index seen link }
 
--- how far the node at a position may run in a run of so many slots, by what is seen of the links that come to it
+-- how far the node at a position may run in a run of so many slots, by what is seen of the arcs that come to it
 abbrev pub horizon_of : PlanRec → Slot → List Slot → Position → HorizonRec
 horizon_of plan limit seen n = record { limit = limit; ends = map (λ end. option_map (seen_of_link plan seen) (incoming plan n end)) (ends_in plan n) }
 
@@ -41,23 +41,23 @@ unfoldable pub clock_after : HorizonRec → ℕ → Slot → Slot
 clock_after h zero clock = clock
 clock_after h (suc count) clock = clock_after h count (if may_run h clock then clock + 1 else clock)
 
--- what is published of a link is seen
+-- what is published of an arc is seen
 abbrev pub after_take : Option LinkNumber → ScheduleRec → ScheduleRec
 after_take None s = s
 after_take (Some link) s = record s { seen = slice_set s.seen link (slice_index s.published link) }
 
--- a link is published up to a slot
+-- an arc is published up to a slot
 abbrev pub after_send : Option LinkNumber → Slot → ScheduleRec → ScheduleRec
 after_send None clock s = s
 after_send (Some link) clock s = record s { published = slice_set s.published link clock }
 
--- a node runs so many slots, by what is seen of the links that come to it
+-- a node runs so many slots, by what is seen of the arcs that come to it
 abbrev pub after_run : PlanRec → Slot → Position → ℕ → ScheduleRec → ScheduleRec
 after_run plan limit node count s =
     record s { clocks = slice_set s.clocks node (clock_after (horizon_of plan limit s.seen node) count (slice_index s.clocks node)) }
 
--- one step: a node takes what is published of the link that comes to a link end, runs so many slots, or publishes what it has sent on
--- the link that leaves by a link end
+-- one step: a node takes what is published of the arc that comes to an end, runs so many slots, or publishes what it has sent on the arc
+-- that leaves by an end
 abbrev pub after_step : PlanRec → Slot → ScheduleRec → Step → ScheduleRec
 after_step plan limit s (Take node end) = after_take (incoming plan node end) s
 after_step plan limit s (Run node count) = after_run plan limit node count s

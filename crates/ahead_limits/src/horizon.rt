@@ -3,7 +3,7 @@ ghost use Rattle.std.specs.Prelude.{IfSome, ◌↔◌, true, ◌≡◌, ◌+◌,
 ghost use Rattle.sys_plan.specs.Plan.{arc_count};
 ghost use Rattle.sys_plan.specs.declared.system_plan.TheConstants.{ENDS};
 ghost use Rattle.ahead_limits.specs.Horizon.{no_arcs, seen_to, seen_at, may_run, first_stop, stops_at, horizon_at, IsBelowAll, NoneStopsBelow, StopsAt};
-ghost use Rattle.ahead_limits.specs.Bound.{nearer, least_bound};
+ghost use Rattle.ahead_limits.specs.Bound.{nearer, least_bound, NoneFrom};
 ghost use Rattle.ahead_limits.specs.Schedule.{horizon_of, clock_after};
 
 use crate::plan_horizon::seen_ends;
@@ -36,12 +36,22 @@ fn nearer(bound: u64, s: Option<Seen>) -> u64
     }
 }
 
-// The least of a limit and of the horizon at each end.
+// The least of a limit and of the horizon at each of some ends.
 fn least_bound(limit: u32, ends: &[Option<Seen>]) -> u64
     ensures { result ≡ least_bound limit ends.now }
 {
     ends.iter()
         .fold(u64::from(limit), |bound, s| nearer(bound, *s))
+}
+
+// The same of all ends, where from one on no arc comes: those are not gone over.
+#[tactic(auto, using(crate::proofs::Reached::least_reached))]
+fn bound_of(limit: u32, ends: &[Option<Seen>], reached: u8) -> u64
+    requires reached { reached ≤ length ends.now }
+    requires none_from { NoneFrom reached ends.now }
+    ensures { result ≡ least_bound limit ends.now }
+{
+    least_bound(limit, &ends[..reached as usize])
 }
 
 // What was seen at an end, if it stops a node at its clock.
@@ -54,13 +64,16 @@ fn stops_at(clock: u32, s: Option<Seen>) -> Option<u32>
     }
 }
 
-/// How far a node may run: to the limit of the run, and at each arc that comes to it as far as is known what arrives, which is to
-/// the slot up to which the arc's history was seen, and its delay. Its ends are counted from 0, below `ENDS`. Slots count from 0. Contracts see it as a `HorizonRec` of
-/// `Rattle.ahead_limits.specs.Horizon`. No call takes memory. See docs/LOOKAHEAD.md.
+/// How far a node may run: to the limit of the run, and at each arc that comes to it, of a link or a wire, as far as is known what
+/// arrives, which is to the slot up to which the arc's history was seen, and its delay. Its ends are counted from 0, below `ENDS`: 0 to 7
+/// are of links, and from 8 on of wires. Slots count from 0. Contracts see it as a `HorizonRec` of `Rattle.ahead_limits.specs.Horizon`.
+/// No call takes memory. See docs/LOOKAHEAD.md.
 #[derive(Drop)]
 pub struct Horizon {
     limit: u32,
     ends: [Option<Seen>; ENDS],
+    // From this end on no arc comes, so that a node without wires goes over its link ends alone.
+    reached: u8,
     // The least of the limit and of the horizon at each end. A node asks in every slot, and what was seen changes once a batch.
     bound: u64,
 }
@@ -70,13 +83,13 @@ impl Model for Horizon {
 
     ghost Value = { HorizonRec };
 
-    ghost use Rattle.std.specs.Prelude.{◌≡◌, length};
+    ghost use Rattle.std.specs.Prelude.{◌≡◌, ◌≤◌, length};
     ghost use Rattle.sys_plan.specs.declared.system_plan.TheConstants.{ENDS};
-    ghost use Rattle.ahead_limits.specs.Bound.{least_bound};
+    ghost use Rattle.ahead_limits.specs.Bound.{least_bound, NoneFrom};
 
     ghost view = { λ h. record { limit = h.limit; ends = h.ends } };
 
-    ghost invariant = { λ h. (length h.ends ≡ ENDS) × (h.bound ≡ least_bound h.limit h.ends) };
+    ghost invariant = { λ h. (length h.ends ≡ ENDS) × (h.bound ≡ least_bound h.limit h.ends) × (h.reached ≤ ENDS) × NoneFrom h.reached h.ends };
 }
 
 impl Horizon {
@@ -88,17 +101,20 @@ impl Horizon {
         Horizon {
             limit,
             ends: [None; ENDS],
+            reached: 0,
             bound: u64::from(limit),
         }
     }
 
     /// The horizon of the node at a position of a plan, in a run of so many slots. Nothing was seen yet.
-    #[tactic(auto, using(crate::proofs::Steps::arcs_twice))]
+    #[tactic(auto, using(crate::proofs::Steps::arcs_number))]
     pub fn of(plan: &Plan, node: u8, limit: u32) -> Horizon
         ensures value { result ≡ horizon_of plan.now limit (replicate (arc_count plan.now) 0) node }
     {
-        let nothing = [0; 96];
-        Horizon::as_seen(plan, node, limit, &nothing[..2 * plan.links().len()])
+        // At most 48 links, which are two arcs each, and 32 wires.
+        let nothing = [0; 128];
+        let arcs = 2 * plan.links().len() + plan.wires().len();
+        Horizon::as_seen(plan, node, limit, &nothing[..arcs])
     }
 
     /// The horizon of the node at a position of a plan, by the slot up to which each arc was seen.
@@ -106,11 +122,13 @@ impl Horizon {
         requires links { length seen.now ≡ arc_count plan.now }
         ensures value { result ≡ horizon_of plan.now limit seen.now node }
     {
-        let ends = seen_ends(plan, node, seen);
+        let reached = plan.ends_in(node);
+        let ends = seen_ends(plan, node, seen, reached);
         Horizon {
             limit,
-            bound: least_bound(limit, &ends),
+            bound: bound_of(limit, &ends, reached),
             ends,
+            reached,
         }
     }
 
@@ -120,7 +138,8 @@ impl Horizon {
         ensures ends { self.new ≡ record self.old { ends = slice_set self.old.ends end (Some (record { delay = delay; seen = 0 })) } }
     {
         self.ends[end as usize] = Some(Seen { delay, seen: 0 });
-        self.bound = least_bound(self.limit, &self.ends);
+        self.reached = self.reached.max(end + 1);
+        self.bound = bound_of(self.limit, &self.ends, self.reached);
     }
 
     /// The history of the arc that comes to an end was seen up to a slot.
@@ -131,7 +150,7 @@ impl Horizon {
         if let Some(s) = &mut self.ends[end as usize] {
             s.seen = published;
         }
-        self.bound = least_bound(self.limit, &self.ends);
+        self.bound = bound_of(self.limit, &self.ends, self.reached);
     }
 
     /// The limit of the run, in slots.
@@ -184,7 +203,7 @@ impl Horizon {
     fn first_stop(&self, clock: u32) -> Option<(u8, u32)>
         ensures { result ≡ first_stop clock 0 self.now.ends }
     {
-        for end in 0..ENDS {
+        for end in 0..self.reached as usize {
             if let Some(seen) = stops_at(clock, self.ends[end]) {
                 return Some((end as u8, seen));
             }

@@ -8,8 +8,8 @@ use std::alloc::{AllocError, Global};
 use std::marker::Model;
 use sys_plan::{Plan, Step};
 
-/// How far each node has run, and how much of each arc was seen and published, all in slots from 0 on. Contracts see it as
-/// a `ScheduleRec` of `Rattle.ahead_limits.specs.Schedule`. See docs/LOOKAHEAD.md.
+/// How far each node has run, and how much of each arc, of a link or a wire, was seen and published, all in slots from 0 on. Contracts see
+/// it as a `ScheduleRec` of `Rattle.ahead_limits.specs.Schedule`. See docs/LOOKAHEAD.md.
 #[derive(Drop)]
 pub struct Numbers {
     clocks: Vec<u32>,
@@ -64,11 +64,11 @@ impl Numbers {
     }
 
     // Before the first step.
-    #[tactic(auto, using(crate::proofs::Steps::arcs_twice))]
+    #[tactic(auto, using(crate::proofs::Steps::arcs_number))]
     fn at_start(alloc: Global, plan: &Plan) -> Result<Numbers, AllocError>
         ensures { IfOk result (λ n. n ≡ schedule_at_start plan.now) }
     {
-        let arcs = 2 * plan.links().len();
+        let arcs = 2 * plan.links().len() + plan.wires().len();
         let clocks = vec![in alloc; 0; plan.nodes().len()]?;
         let seen = vec![in alloc; 0; arcs]?;
         let published = vec![in alloc; 0; arcs]?;

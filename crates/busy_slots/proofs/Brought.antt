@@ -1,18 +1,19 @@
 -- What arrives at a node by its link ends, and what waits at them.
-use Rattle.std.proofs.Common.{◌≡◌, ◌≢◌, ℕ, zero, suc, ◌+◌, ◌-◌, ◌<◌, ◌≤◌, ◌⊎◌, inl, inr, Bool, true, false, ◌||◌, eqb, leb, ltb, Option, Some, None, List, [], ◌∷◌, filter, refl, sym, ap, ◌∙◌, arith}
+use Rattle.std.proofs.Common.{◌≡◌, ◌≢◌, ℕ, zero, suc, ◌+◌, ◌-◌, ◌<◌, ◌≤◌, ◌⊎◌, inl, inr, Bool, true, false, ◌||◌, eqb, leb, ltb, Option, Some, None, List, [], ◌∷◌, filter, refl, sym, ap, ◌∙◌, subst, arith}
 use Rattle.std.specs.Prelude.{is_some, if◌then◌else◌}
-use Rattle.std.specs.List.{list_any}
+use Rattle.std.specs.List.{AllByRecursion, list_any}
 use Rattle.std.proofs.lemmas.Bool.{true≢false, cases_Bool, and_parts, or_left, or_right, leb-true, ltb-true, le-leb, lt-ltb}
 use Rattle.xs_base.specs.Numbers.{Slot, Position, LinkNumber, EndNumber}
 use Rattle.xs_base.specs.declared.numbers.TheConstants.{LINK_ENDS}
-use Rattle.xs_base.specs.declared.token.Token.{Token}
 use Rattle.xs_base.specs.declared.entry.Entry.{Entry}
 use Rattle.xs_base.specs.declared.entry.What.{What}
 use Rattle.xs_base.specs.declared.entry.What.TheVariants as what
 use Rattle.sys_plan.specs.Plan.{PlanRec, incoming, delay_of}
-use Rattle.serial_model.specs.Serial.{serial, history, is_sent_within, arriving_by, arrivals_of, token_among, credit_among}
+use Rattle.serial_model.specs.Serial.{IsNoLevel, serial, history, is_sent_within, arriving_by, arrivals_of, token_among, credit_among}
 use Rattle.locality_laws.specs.Horizon.{SeenArrives}
 use Rattle.locality_laws.specs.Locality.{history_in}
+use Rattle.locality_laws.proofs.Levels.{kept_all, links_carry_no_level}
+use Rattle.locality_laws.proofs.Links.{histories_are_whole}
 use Rattle.quiet_model.specs.Slots.{NoneBefore}
 use Rattle.busy_slots.specs.Busy.{brings_something, something_arrives, is_busy, busy_count}
 use Rattle.busy_slots.specs.Arrivals.{brought_by, NothingByAnyEnd, SomethingByOneEnd, WaitingStays, FirstBusyByBoth, BusySlotIsCounted}
@@ -24,14 +25,19 @@ use Rattle.busy_slots.specs.Serial.{FirstBusySlot}
 pub none_brought : (by_end : EndNumber → List Entry) → ((end : EndNumber) → by_end end ≡ []) → brings_something (arrivals_of by_end) ≡ false
 none_brought by_end none = λ i. brings_something (arrivals_of (λ end. none end i))
 
--- an entry is a token or a credit
-entry_brings : (entries : List Entry) → (entries ≡ [] → ⊥) → (is_some (token_among entries) ≡ true) ⊎ (credit_among entries ≡ true)
-entry_brings [] some = absurd (some refl)
-entry_brings (e ∷ entries) some = by_what e.what refl
+-- no level is among some entries
+abbrev NoLevels : List Entry → Type 0
+NoLevels entries = AllByRecursion (λ (e : Entry). IsNoLevel e.what) entries
+
+-- then an entry is a token or a credit
+entry_brings : (entries : List Entry) → NoLevels entries → (entries ≡ [] → ⊥) → (is_some (token_among entries) ≡ true) ⊎ (credit_among entries ≡ true)
+entry_brings [] none some = absurd (some refl)
+entry_brings (e ∷ entries) none some = by_what e.what refl
   where
     by_what : (w : What) → e.what ≡ w → (is_some (token_among (e ∷ entries)) ≡ true) ⊎ (credit_among (e ∷ entries) ≡ true)
     by_what (what.Token t) is = inl (rw is refl)
     by_what what.Credit is = inr (rw is refl)
+    by_what (what.Level level) is = absurd (subst IsNoLevel is none.0)
 
 -- one of the eight settles it
 module _ (h : EndNumber → Bool) where
@@ -48,8 +54,8 @@ module _ (h : EndNumber → Bool) where
   one_of (suc (suc (suc (suc (suc (suc (suc (suc end)))))))) within holds = absurd (omega (arith, within))
 
 -- where something arrives by one of them
-pub one_brought : (by_end : EndNumber → List Entry) (end : EndNumber) → end < 8 → (by_end end ≡ [] → ⊥) → brings_something (arrivals_of by_end) ≡ true
-one_brought by_end end within some = by_entry (entry_brings (by_end end) some)
+pub one_brought : (by_end : EndNumber → List Entry) (end : EndNumber) → end < 8 → NoLevels (by_end end) → (by_end end ≡ [] → ⊥) → brings_something (arrivals_of by_end) ≡ true
+one_brought by_end end within none some = by_entry (entry_brings (by_end end) none some)
   where
     by_entry : (is_some (token_among (by_end end)) ≡ true) ⊎ (credit_among (by_end end) ≡ true) → brings_something (arrivals_of by_end) ≡ true
     by_entry (inl token) = or_left (list_any (λ t. is_some t) (arrivals_of by_end).tokens) _ (one_of (λ k. is_some (token_among (by_end k))) end within token)
@@ -66,9 +72,16 @@ module _ (plan : PlanRec) (n : Position) (slot : Slot) where
   nothing_here : ((end : EndNumber) (link : LinkNumber) → incoming plan n end ≡ Some link → brought_by plan link slot ≡ []) → something_arrives plan n slot ≡ false
   nothing_here none = none_brought by_end (λ end. by_link (incoming plan n end) (none end))
 
+  -- no level arrives by a link end
+  none_arrives : (end : EndNumber) (link : LinkNumber) → end < LINK_ENDS → incoming plan n end ≡ Some link → NoLevels (by_end end)
+  none_arrives end link within comes =
+      let none : NoLevels (history_in (serial plan slot).histories link) = subst NoLevels (histories_are_whole plan link slot) (links_carry_no_level plan n end link 0 slot within comes) in
+      subst NoLevels (sym (ap (arriving_by plan (serial plan slot).histories slot) comes))
+      (kept_all (λ (e : Entry). IsNoLevel e.what) (λ (e : Entry). eqb (e.slot + delay_of plan link) slot) (history_in (serial plan slot).histories link) none)
+
   something_here : (end : EndNumber) (link : LinkNumber) → end < LINK_ENDS → incoming plan n end ≡ Some link → (brought_by plan link slot ≡ [] → ⊥) → something_arrives plan n slot ≡ true
   something_here end link within comes some =
-      one_brought by_end end within (λ none. some (sym (ap (arriving_by plan (serial plan slot).histories slot) comes) ∙ none))
+      one_brought by_end end within (none_arrives end link within comes) (λ none. some (sym (ap (arriving_by plan (serial plan slot).histories slot) comes) ∙ none))
 
 pub nothing_by_any_end : NothingByAnyEnd
 nothing_by_any_end plan n slot none = nothing_here plan n slot none

@@ -12,16 +12,16 @@ use Rattle.step_model.specs.Start.{fixed_of}
 use Rattle.step_model.specs.Step.{Stepped, node_step}
 use Rattle.step_laws.specs.EightSlots.{after_slots}
 use Rattle.step_laws.specs.Shape.{FirstHasShape, SlotKeepsShape}
-use Rattle.serial_model.specs.Serial.{serial, pins_at, sent_by}
+use Rattle.serial_model.specs.Serial.{serial, carried_by}
 use Rattle.locality_laws.specs.Horizon.{HistoriesAreWhole}
-use Rattle.locality_laws.specs.Locality.{node_in, events_in, history_in, Leaves, OutgoingLeaves, IsStep, StepNeedsComing}
+use Rattle.locality_laws.specs.Locality.{node_in, events_in, history_in, shown_in_serial, Leaves, OutgoingLeaves, IsStep, StepNeedsComing}
 use Rattle.quiet_model.specs.Slots.{NoneBefore, FirstAlike}
 use Rattle.quiet_model.specs.Stirs.{stirs}
 use Rattle.quiet_laws.specs.Undisturbed.{no_arrivals, undisturbed_run, undisturbed_until}
 use Rattle.quiet_laws.specs.Quiet.{QuietSlotOnlyCounts}
 use Rattle.busy_slots.specs.Busy.{something_arrives, is_busy, busy_count}
 use Rattle.busy_slots.specs.Serial.{IdleWhereNotBusy, QuietSlotsAreNotCounted, FirstBusySlot}
-use Rattle.busy_slots.proofs.Arriving.{no_coming, nothing_comes, sends_nothing}
+use Rattle.busy_slots.proofs.Arriving.{no_coming, nothing_comes, carries_nothing}
 use Rattle.busy_slots.proofs.Passing.{stays_to, carried_alike}
 use Rattle.busy_slots.proofs.Shape.{nodes_are_whole}
 
@@ -31,7 +31,7 @@ module _ (steps : StepNeedsComing) (plan : PlanRec) (n : Position) (node : NodeP
 
   -- its step in a slot in which nothing arrives
   abbrev idle_step : Slot → NodeRec → Stepped
-  idle_step slot rec = node_step fixed rec slot no_arrivals (pins_at plan n slot)
+  idle_step slot rec = node_step fixed rec slot no_arrivals (shown_in_serial plan n slot)
 
   idle_step_is : (slot : Slot) → something_arrives plan n slot ≡ false → IsStep plan n slot (idle_step slot (node_in (serial plan slot) n))
   idle_step_is slot none = steps plan n node slot (no_coming plan n slot) here (sym (nothing_comes plan n slot none))
@@ -40,7 +40,7 @@ module _ (steps : StepNeedsComing) (plan : PlanRec) (n : Position) (node : NodeP
 
   module _ (from : Slot) where
     idle_after : (count : ℕ) → NoneBefore (something_arrives plan n) from (from + count)
-        → node_in (serial plan (from + count)) n ≡ after_slots (undisturbed_run fixed (node_in (serial plan from) n) from (pins_at plan n)) count
+        → node_in (serial plan (from + count)) n ≡ after_slots (undisturbed_run fixed (node_in (serial plan from) n) from (shown_in_serial plan n)) count
     unfolding after_slots
     idle_after zero none = let same : from + 0 ≡ from = omega arith in ap (λ t. node_in (serial plan t) n) same
     idle_after (suc count) none =
@@ -50,7 +50,7 @@ module _ (steps : StepNeedsComing) (plan : PlanRec) (n : Position) (node : NodeP
         ∙ (idle_step_is slot (none slot (omega arith) (omega arith))).rec
         ∙ ap (λ rec. (idle_step slot rec).rec) (idle_after count (λ t first later. none t first (omega (arith, later))))
 
-    pub was_idle : (to : Slot) → from ≤ to → NoneBefore (something_arrives plan n) from to → node_in (serial plan to) n ≡ undisturbed_until fixed (node_in (serial plan from) n) from (pins_at plan n) to
+    pub was_idle : (to : Slot) → from ≤ to → NoneBefore (something_arrives plan n) from to → node_in (serial plan to) n ≡ undisturbed_until fixed (node_in (serial plan from) n) from (shown_in_serial plan n) to
     was_idle to later none =
         let there : to ≡ from + (to - from) = omega arith in
         ap (λ t. node_in (serial plan t) n) there ∙ idle_after (to - from) (λ t first before. none t first (omega (arith, before, there)))
@@ -68,7 +68,7 @@ module _ (steps : StepNeedsComing) (plan : PlanRec) (n : Position) (node : NodeP
         let rec = node_in (serial plan slot) n in
         let parts = or_parts (something_arrives plan n slot) (stirs rec slot) idle in
         let step = idle_step_is slot parts.0 in
-        let counts = quiet fixed rec slot (pins_at plan n slot) (nodes_are_whole first keeps plan slot n) refl parts.1 in
+        let counts = quiet fixed rec slot (shown_in_serial plan n slot) (nodes_are_whole first keeps plan slot n) refl parts.1 in
         let nothing : (idle_step slot rec).emitted ≡ emitted_events [] = ap (λ (s : Stepped). s.emitted) counts in
         record {
           events =
@@ -77,7 +77,8 @@ module _ (steps : StepNeedsComing) (plan : PlanRec) (n : Position) (node : NodeP
               ∙ append-nil (events_in (serial plan slot) n);
           sent = λ end link leaves.
               step.sent end link leaves
-              ∙ ap (λ entries. history_in (serial plan slot).histories link ++ entries) (ap (λ (e : Emitted). sent_by slot e end) nothing ∙ sends_nothing slot end)
+              ∙ ap (λ entries. history_in (serial plan slot).histories link ++ entries)
+              ((λ i. carried_by slot rec (counts i).rec (counts i).emitted end leaves.arc.joins) ∙ carries_nothing slot slot 1 (shown_in_serial plan n slot) rec end leaves.arc.joins)
               ∙ append-nil (history_in (serial plan slot).histories link);
         }
 

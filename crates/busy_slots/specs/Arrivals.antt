@@ -6,8 +6,8 @@ use Rattle.xs_base.specs.declared.entry.Entry.{Entry}
 use Rattle.sys_plan.specs.declared.NodePlan.{NodePlan}
 use Rattle.sys_plan.specs.Plan.{PlanRec, incoming, delay_of, gaps_of}
 use Rattle.step_model.specs.Start.{fixed_of}
-use Rattle.serial_model.specs.Serial.{serial, pins_at, history, arriving}
-use Rattle.locality_laws.specs.Locality.{node_in, history_in}
+use Rattle.serial_model.specs.Serial.{serial, history, arriving}
+use Rattle.locality_laws.specs.Locality.{node_in, history_in, shown_in_serial}
 use Rattle.quiet_model.specs.Slots.{NoneBefore, IsFirst}
 use Rattle.quiet_laws.specs.Quiet.{StirsFirst}
 use Rattle.busy_slots.specs.Busy.{something_arrives, is_busy, busy_count}
@@ -38,7 +38,7 @@ WaitingStays = (plan : PlanRec) (n : Position) (end : EndNumber) (link : LinkNum
 abbrev pub FirstBusyByBoth : Type 0
 FirstBusyByBoth = (plan : PlanRec) (n : Position) (node : NodePlan) (from bound arrival result : Slot) →
     slice_get plan.nodes n ≡ Some node → IsFirst (something_arrives plan n) from bound arrival →
-    StirsFirst (fixed_of node (gaps_of plan n)) (node_in (serial plan from) n) from (pins_at plan n) arrival result →
+    StirsFirst (fixed_of node (gaps_of plan n)) (node_in (serial plan from) n) from (shown_in_serial plan n) arrival result →
     IsFirst (is_busy plan n) from bound result
 
 -- no slot is counted before the first one

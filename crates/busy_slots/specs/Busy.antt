@@ -8,7 +8,7 @@ use Rattle.serial_model.specs.Serial.{serial, arrivals_at}
 use Rattle.locality_laws.specs.Locality.{node_in}
 use Rattle.quiet_model.specs.Stirs.{stirs}
 
--- a token or a credit comes by some link end, whether there is room for it or not
+-- a token or a credit comes by some link end, whether there is room for it or not; a level, which comes by a wire, is neither
 abbrev pub brings_something : Arrivals → Bool
 brings_something arrivals = list_any (λ token. is_some token) arrivals.tokens || list_any (λ (credit : Bool). credit) arrivals.credits
 

@@ -4,8 +4,8 @@ use Rattle.xs_base.specs.Numbers.{Slot, Position, LinkNumber, EndNumber}
 use Rattle.sys_plan.specs.declared.NodePlan.{NodePlan}
 use Rattle.sys_plan.specs.Plan.{PlanRec, gaps_of, outgoing}
 use Rattle.step_model.specs.Start.{fixed_of}
-use Rattle.serial_model.specs.Serial.{serial, pins_at, history}
-use Rattle.locality_laws.specs.Locality.{node_in, events_in}
+use Rattle.serial_model.specs.Serial.{serial, history}
+use Rattle.locality_laws.specs.Locality.{node_in, events_in, shown_in_serial}
 use Rattle.quiet_model.specs.Slots.{NoneBefore, IsFirst}
 use Rattle.quiet_laws.specs.Undisturbed.{undisturbed_until, IsWhole}
 use Rattle.quiet_laws.specs.Quiet.{StirsFirst}
@@ -17,7 +17,7 @@ NodesAreWhole = (plan : PlanRec) (n : Position) (slot : Slot) → IsWhole (node_
 
 -- the node at a position went from one slot to another as one at which nothing arrives, nothing happened, and it sent nothing
 pub record WasIdle (plan : PlanRec) (n : Position) (node : NodePlan) (from to : Slot) : Type 0 where
-  pub rec : node_in (serial plan to) n ≡ undisturbed_until (fixed_of node (gaps_of plan n)) (node_in (serial plan from) n) from (pins_at plan n) to
+  pub rec : node_in (serial plan to) n ≡ undisturbed_until (fixed_of node (gaps_of plan n)) (node_in (serial plan from) n) from (shown_in_serial plan n) to
   pub events : events_in (serial plan to) n ≡ events_in (serial plan from) n
   pub sent : (end : EndNumber) (link : LinkNumber) (since : Slot) → outgoing plan n end ≡ Some link →
       history plan link since to ≡ history plan link since from
@@ -37,5 +37,5 @@ QuietSlotsAreNotCounted = (plan : PlanRec) (n : Position) (from to : Slot) →
 abbrev pub FirstBusySlot : Type 0
 FirstBusySlot = (plan : PlanRec) (n : Position) (node : NodePlan) (from bound result : Slot) →
     slice_get plan.nodes n ≡ Some node → NoneBefore (something_arrives plan n) from bound →
-    StirsFirst (fixed_of node (gaps_of plan n)) (node_in (serial plan from) n) from (pins_at plan n) bound result →
+    StirsFirst (fixed_of node (gaps_of plan n)) (node_in (serial plan from) n) from (shown_in_serial plan n) bound result →
     IsFirst (is_busy plan n) from bound result

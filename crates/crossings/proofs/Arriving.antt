@@ -9,9 +9,9 @@ use Rattle.xs_base.specs.declared.token.Token.{Token}
 use Rattle.xs_base.specs.declared.entry.Entry.{Entry}
 use Rattle.xs_base.specs.declared.entry.What.{What}
 use Rattle.xs_base.specs.declared.entry.What.TheVariants as what
-use Rattle.serial_model.specs.Serial.{arriving, is_credit, token_entries, credit_entries}
+use Rattle.serial_model.specs.Serial.{IsNoLevel, arriving, is_credit, token_entries, credit_entries}
 use Rattle.crossings.specs.declared.crossing.Crossing.{Crossing}
-use Rattle.crossings.specs.Crossings.{ArrivesOf, crossing_of, MayFollow, Later, Beside, AreInSendingOrder, IsDueFrom, due_of, seen_of, one_if, entry_count}
+use Rattle.crossings.specs.Crossings.{ArrivesOf, crossing_of, MayFollow, Later, Beside, AreInSendingOrder, HaveNoLevel, IsDueFrom, due_of, seen_of, one_if, entry_count}
 
 zero-sum : (n : ℕ) → 0 + n ≡ n
 zero-sum n = omega arith
@@ -71,34 +71,36 @@ module _ (slot delay : ℕ) where
       let eq_f : eqb (f.slot + delay) slot ≡ true = eq-eqb (f.slot + delay) slot (omega (arith, same)) in
       rw (eq, eq_f, credit) refl
 
-  seen-now : (s : ℕ) (w : What) (es : List Entry) → s + delay ≡ slot → AllByRecursion (MayFollow (at s w)) es → AreInSendingOrder es
+  seen-now : (s : ℕ) (w : What) (es : List Entry) → s + delay ≡ slot → AllByRecursion (MayFollow (at s w)) es → AreInSendingOrder es → IsNoLevel w
       → crossing_of (arriving slot delay (at s w ∷ es)) ≡ seen_of (due_of slot delay (Some (at s w))) (due_of slot delay (slice_get es 0))
-  seen-now s what.Credit es now follow order =
+  seen-now s what.Credit es now follow order is =
       let eq : eqb (s + delay) slot ≡ true = eq-eqb (s + delay) slot now in
       let none = none-later es (after-credit (at s what.Credit) es (omega arith) refl follow) in
       rw (eq, none) refl
-  seen-now s (what.Token t) [] now follow order =
+  seen-now s (what.Token t) [] now follow order is =
       let eq : eqb (s + delay) slot ≡ true = eq-eqb (s + delay) slot now in
       rw eq refl
-  seen-now s (what.Token t) (f ∷ fs) now follow order = seen-beside t s f fs now follow.0 order.0
+  seen-now s (what.Token t) (f ∷ fs) now follow order is = seen-beside t s f fs now follow.0 order.0
+  seen-now s (what.Level level) es now follow order is = absurd is
 
-  seen-first : (s : ℕ) (w : What) (es : List Entry) → slot ≤ s + delay → AllByRecursion (MayFollow (at s w)) es → AreInSendingOrder es → (slot < s + delay) ⊎ (s + delay ≤ slot)
+  seen-first : (s : ℕ) (w : What) (es : List Entry) → slot ≤ s + delay → AllByRecursion (MayFollow (at s w)) es → AreInSendingOrder es → IsNoLevel w → (slot < s + delay) ⊎ (s + delay ≤ slot)
       → crossing_of (arriving slot delay (at s w ∷ es)) ≡ seen_of (due_of slot delay (Some (at s w))) (due_of slot delay (slice_get es 0))
-  seen-first s w es h follow order (inl later) =
+  seen-first s w es h follow order is (inl later) =
       let ne : eqb (s + delay) slot ≡ false = ne_eqb (s + delay) slot (λ same. omega arith) in
       let none = none-later es (after-later (at s w) es later follow) in
       rw (ne, none) refl
-  seen-first s w es h follow order (inr now) = seen-now s w es (omega arith) follow order
+  seen-first s w es h follow order is (inr now) = seen-now s w es (omega arith) follow order is
 
-  pub seen-at : (first : ℕ) (es : List Entry) → IsDueFrom slot delay first es → AreInSendingOrder es
+  -- what arrives of a directed link's history
+  pub seen-at : (first : ℕ) (es : List Entry) → IsDueFrom slot delay first es → AreInSendingOrder es → HaveNoLevel es
       → crossing_of (arriving slot delay es) ≡ seen_of (due_of slot delay (slice_get es first)) (due_of slot delay (slice_get es (first + 1)))
-  seen-at zero [] due order = refl
-  seen-at zero (e ∷ es) due order = seen-first e.slot e.what es due.0 order.0 order.1 (cases_lt slot (e.slot + delay))
-  seen-at (suc k) [] due order = absurd due
-  seen-at (suc k) (e ∷ es) due order =
+  seen-at zero [] due order are = refl
+  seen-at zero (e ∷ es) due order are = seen-first e.slot e.what es due.0 order.0 order.1 are.0 (cases_lt slot (e.slot + delay))
+  seen-at (suc k) [] due order are = absurd due
+  seen-at (suc k) (e ∷ es) due order are =
       let ne : eqb (e.slot + delay) slot ≡ false = ne_eqb (e.slot + delay) slot (λ same. omega (arith, due.0)) in
       let p : suc k + 1 ≡ suc (k + 1) = omega arith in
-      rw (ne, p) (seen-at k es due.1 order.1)
+      rw (ne, p) (seen-at k es due.1 order.1 are.1)
 
   later-due : (es : List Entry) → AllByRecursion IsLater es → AllByRecursion (λ (e : Entry). slot + 1 ≤ e.slot + delay) es
   later-due es h = all-map IsLater (λ (e : Entry). slot + 1 ≤ e.slot + delay) (λ e l. omega (arith, l)) es h
@@ -116,33 +118,34 @@ module _ (slot delay : ℕ) where
       let rest = later-due fs (after-credit f fs (omega (arith, same)) credit order) in
       rw (eq, eq_f) (omega arith, (omega (arith, same), rest))
 
-  next-now : (s : ℕ) (w : What) (es : List Entry) → s + delay ≡ slot → AllByRecursion (MayFollow (at s w)) es → AreInSendingOrder es
+  next-now : (s : ℕ) (w : What) (es : List Entry) → s + delay ≡ slot → AllByRecursion (MayFollow (at s w)) es → AreInSendingOrder es → IsNoLevel w
       → IsDueFrom (slot + 1) delay (entry_count (seen_of (due_of slot delay (Some (at s w))) (due_of slot delay (slice_get es 0)))) (at s w ∷ es)
-  next-now s what.Credit es now follow order =
+  next-now s what.Credit es now follow order is =
       let eq : eqb (s + delay) slot ≡ true = eq-eqb (s + delay) slot now in
       let rest = later-due es (after-credit (at s what.Credit) es (omega arith) refl follow) in
       rw eq (omega arith, rest)
-  next-now s (what.Token t) [] now follow order =
+  next-now s (what.Token t) [] now follow order is =
       let eq : eqb (s + delay) slot ≡ true = eq-eqb (s + delay) slot now in
       rw eq (omega arith, tt)
-  next-now s (what.Token t) (f ∷ fs) now follow order = next-beside t s f fs now follow.0 order.0
+  next-now s (what.Token t) (f ∷ fs) now follow order is = next-beside t s f fs now follow.0 order.0
+  next-now s (what.Level level) es now follow order is = absurd is
 
-  next-first : (s : ℕ) (w : What) (es : List Entry) → slot ≤ s + delay → AllByRecursion (MayFollow (at s w)) es → AreInSendingOrder es → (slot < s + delay) ⊎ (s + delay ≤ slot)
+  next-first : (s : ℕ) (w : What) (es : List Entry) → slot ≤ s + delay → AllByRecursion (MayFollow (at s w)) es → AreInSendingOrder es → IsNoLevel w → (slot < s + delay) ⊎ (s + delay ≤ slot)
       → IsDueFrom (slot + 1) delay (entry_count (seen_of (due_of slot delay (Some (at s w))) (due_of slot delay (slice_get es 0)))) (at s w ∷ es)
-  next-first s w es h follow order (inl later) =
+  next-first s w es h follow order is (inl later) =
       let ne : eqb (s + delay) slot ≡ false = ne_eqb (s + delay) slot (λ same. omega arith) in
       let rest = later-due es (after-later (at s w) es later follow) in
       rw ne (omega arith, rest)
-  next-first s w es h follow order (inr now) = next-now s w es (omega arith) follow order
+  next-first s w es h follow order is (inr now) = next-now s w es (omega arith) follow order is
 
-  pub next-at : (first : ℕ) (es : List Entry) → IsDueFrom slot delay first es → AreInSendingOrder es
+  pub next-at : (first : ℕ) (es : List Entry) → IsDueFrom slot delay first es → AreInSendingOrder es → HaveNoLevel es
       → IsDueFrom (slot + 1) delay (first + entry_count (seen_of (due_of slot delay (slice_get es first)) (due_of slot delay (slice_get es (first + 1))))) es
-  next-at zero [] due order = tt
-  next-at zero (e ∷ es) due order = rw zero-sum (next-first e.slot e.what es due.0 order.0 order.1 (cases_lt slot (e.slot + delay)))
-  next-at (suc k) [] due order = absurd due
-  next-at (suc k) (e ∷ es) due order =
+  next-at zero [] due order are = tt
+  next-at zero (e ∷ es) due order are = rw zero-sum (next-first e.slot e.what es due.0 order.0 order.1 are.0 (cases_lt slot (e.slot + delay)))
+  next-at (suc k) [] due order are = absurd due
+  next-at (suc k) (e ∷ es) due order are =
       let p : suc k + 1 ≡ suc (k + 1) = omega arith in
-      rw (p, suc-sum) (omega (arith, due.0), next-at k es due.1 order.1)
+      rw (p, suc-sum) (omega (arith, due.0), next-at k es due.1 order.1 are.1)
 
 pub due-append : (slot delay first : ℕ) (es new : List Entry) → IsDueFrom slot delay first es → AllByRecursion (λ (e : Entry). slot ≤ e.slot + delay) new → IsDueFrom slot delay first (es ++ new)
 due-append slot delay zero es new h k = all-append (λ (e : Entry). slot ≤ e.slot + delay) es new h k
@@ -169,6 +172,16 @@ sent-at slot None true = (refl, tt)
 sent-at slot (Some t) false = (refl, tt)
 sent-at slot (Some t) true = (refl, (refl, tt))
 
+-- and it has no level
+pub sent-no-level : (slot : ℕ) (token : Option Token) (credit : Bool) → HaveNoLevel (token_entries slot token ++ credit_entries slot credit)
+sent-no-level slot None false = tt
+sent-no-level slot None true = (tt, tt)
+sent-no-level slot (Some t) false = (tt, tt)
+sent-no-level slot (Some t) true = (tt, (tt, tt))
+
+pub no-level-append : (es new : List Entry) → HaveNoLevel es → HaveNoLevel new → HaveNoLevel (es ++ new)
+no-level-append es new are are_new = all-append (λ (e : Entry). IsNoLevel e.what) es new are are_new
+
 one_if-most : (b : Bool) → one_if b ≤ 1
 one_if-most false = omega arith
 one_if-most true = omega arith
@@ -182,6 +195,11 @@ pub order-drop : (k : ℕ) (es : List Entry) → AreInSendingOrder es → AreInS
 order-drop zero es order = order
 order-drop (suc k) [] order = tt
 order-drop (suc k) (e ∷ es) order = order-drop k es order.1
+
+no-level-drop : (k : ℕ) (es : List Entry) → HaveNoLevel es → HaveNoLevel (drop k es)
+no-level-drop zero es are = are
+no-level-drop (suc k) [] are = tt
+no-level-drop (suc k) (e ∷ es) are = no-level-drop k es are.1
 
 module _ (slot delay : ℕ) where
   abbrev arrives_later : Entry → Bool
@@ -211,16 +229,17 @@ module _ (slot delay : ℕ) where
   due-count (suc k) [] due = absurd due
   due-count (suc k) (e ∷ es) due = omega (arith, due-count k es due.1)
 
-  -- its first two entries tell what arrives
-  pub arrives-of : (queue : List Entry) → AllByRecursion (λ (e : Entry). slot ≤ e.slot + delay) queue → AreInSendingOrder queue
+  -- of a link, its first two entries tell what arrives
+  pub arrives-of : (queue : List Entry) → AllByRecursion (λ (e : Entry). slot ≤ e.slot + delay) queue → AreInSendingOrder queue → HaveNoLevel queue
       → ArrivesOf slot delay queue (seen_of (due_of slot delay (slice_get queue 0)) (due_of slot delay (slice_get queue 1)))
-  arrives-of queue due order =
+  arrives-of queue due order are =
       let c : Crossing = seen_of (due_of slot delay (slice_get queue 0)) (due_of slot delay (slice_get queue 1)) in
-      let next : IsDueFrom (slot + 1) delay (entry_count c) queue = subst (λ (n : ℕ). IsDueFrom (slot + 1) delay n queue) (zero-sum (entry_count c)) (next-at slot delay 0 queue due order) in
+      let next : IsDueFrom (slot + 1) delay (entry_count c) queue = subst (λ (n : ℕ). IsDueFrom (slot + 1) delay n queue) (zero-sum (entry_count c)) (next-at slot delay 0 queue due order are) in
       record {
-        arrives = seen-at slot delay 0 queue due order;
+        arrives = seen-at slot delay 0 queue due order are;
         there = due-count (entry_count c) queue next;
         rest = due-drop (entry_count c) queue next;
         later = due-rest (entry_count c) queue next;
         in_order = order-drop (entry_count c) queue order;
+        no_level = no-level-drop (entry_count c) queue are;
       }

@@ -6,7 +6,7 @@ ghost use Rattle.crossings.specs.Crossings.{no_crossing, entry_count, entries_of
 use trace_lines::Emissions;
 use xs_base::{Batch, Entry, Token, What};
 
-/// What an arc carries in one slot: a token at most, and a credit at most.
+/// What a directed link carries in one slot: a token at most, and a credit at most.
 #[derive(Clone, Copy)]
 pub struct Crossing {
     pub token: Option<Token>,
@@ -72,7 +72,8 @@ impl Crossing {
     }
 }
 
-/// What arrives in a slot by an arc with a delay in slots, of the first two entries that did not arrive before it.
+/// What arrives in a slot by a directed link with a delay in slots, of the first two entries that did not arrive before it. A level is none
+/// of a link's, and gives nothing.
 pub fn due(slot: u32, delay: u32, first: Option<Entry>, second: Option<Entry>) -> Crossing
     ensures { result ≡ seen_of (due_of slot delay first) (due_of slot delay second) }
 {
@@ -86,6 +87,7 @@ pub fn due(slot: u32, delay: u32, first: Option<Entry>, second: Option<Entry>) -
             token: None,
             credit: true,
         },
+        Some(What::Level(_)) => Crossing::none(),
     }
 }
 

@@ -11,7 +11,7 @@ use Rattle.link_laws.specs.Travel.{opposite}
 -- ---- The directed link that goes back
 
 abbrev pub turned : Arc → Arc
-turned d = record { from = d.to; from_end = d.to_end; to = d.from; to_end = d.from_end; delay = d.delay; gap = d.gap }
+turned d = record { from = d.to; from_end = d.to_end; to = d.from; to_end = d.from_end; delay = d.delay; gap = d.gap; joins = d.joins }
 
 opposite-even : (l : ℕ) → l % 2 ≡ 0 → opposite l ≡ l + 1
 opposite-even l e = rw (eq-eqb (l % 2) 0 e) refl

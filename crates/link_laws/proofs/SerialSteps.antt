@@ -13,10 +13,10 @@ use Rattle.sys_plan.specs.declared.NodePlan.{NodePlan}
 use Rattle.sys_plan.specs.Plan.{PlanRec, Arc, IsPlan, link_arcs, incoming, gaps_of}
 use Rattle.step_model.specs.Start.{fixed_of, node_of, link_with_gap}
 use Rattle.step_model.specs.Step.{Stepped, node_step}
-use Rattle.serial_model.specs.Serial.{nodes_at_start, arriving, arriving_by, token_among, credit_among, arrivals_at, pins_at, steps_from, sent_by, emitted_by, longer_histories}
+use Rattle.serial_model.specs.Serial.{nodes_at_start, arriving, arriving_by, token_among, credit_among, arrivals_at, pins_at, steps_from, sent_by, emitted_by, carried, longer_histories}
 use Rattle.link_laws.specs.LinkSlot.{LinkSlot, LinkSlotAt, arrived_at, SlotAtLinkEnd}
 use Rattle.link_laws.proofs.TravelEnds.{arrived}
-use Rattle.sys_plan.proofs.Routes.{at-link-end, incoming-is, delay-is}
+use Rattle.sys_plan.proofs.Routes.{at-link-end, link-arc, incoming-is, delay-is}
 
 -- what stands at a place within a list
 pub found : {X : Type 0} (xs : List X) (k : ℕ) → k < length xs → (x : X) × (slice_get xs k ≡ Some x)
@@ -55,7 +55,7 @@ link-at-start plan n end node e h =
 
 module _ (plan : PlanRec) (histories : List (List Entry)) (slot : ℕ) where
   abbrev pub step_at : ℕ → NodePlan → NodeRec → Stepped
-  step_at n node rec = node_step (fixed_of node (gaps_of plan n)) rec slot (arrivals_at plan histories slot n) (pins_at plan n slot)
+  step_at n node rec = node_step (fixed_of node (gaps_of plan n)) rec slot (arrivals_at plan histories slot n) (pins_at plan histories n slot)
 
   pub steps-at : (n : ℕ) (nodes : List NodePlan) (recs : List NodeRec) (k m : ℕ) (node : NodePlan) (rec : NodeRec) → m ≡ n + k → slice_get nodes k ≡ Some node → slice_get recs k ≡ Some rec
       → slice_get (steps_from plan histories slot n nodes recs) k ≡ Some (step_at m node rec)
@@ -94,7 +94,7 @@ module _ (plan : PlanRec) (histories : List (List Entry)) (slot : ℕ) where
         → (after : LinkRec) × (link_at step.rec end ≡ Some after)
         × LinkSlot gap slot (arrived slot token credit before) after (slice_index_or step.emitted.tokens end None) (slice_index_or step.emitted.credits end false)
     end-slot inside has_gap is is_token is_credit =
-        let does = at_end (fixed_of node (gaps_of plan n)) rec slot (arrivals_at plan histories slot n) (pins_at plan n slot) end inside has_gap in
+        let does = at_end (fixed_of node (gaps_of plan n)) rec slot (arrivals_at plan histories slot n) (pins_at plan histories n slot) end inside has_gap in
         let now : arrived_at rec slot (arrivals_at plan histories slot n) end ≡ Some (arrived slot token credit before) = λ i. link_after_arrivals slot (is_token i) (is_credit i) (is i) in
         end-slot-of gap (arrived slot token credit before) (link_at step.rec end) _ _ (subst (λ (o : Option LinkRec). DoesSo o (link_at step.rec end)) now does)
 
@@ -102,13 +102,18 @@ module _ (plan : PlanRec) (histories : List (List Entry)) (slot : ℕ) where
 pub emitted-at : (steps : List Stepped) (k : ℕ) (s : Stepped) → slice_get steps k ≡ Some s → emitted_by steps k ≡ s.emitted
 emitted-at steps k s h = get_or_from_slice_get (map (λ (s : Stepped). s.emitted) steps) k s.emitted (emitted_events []) (map-at (λ (s : Stepped). s.emitted) steps k s h)
 
-pub history-at : (slot : ℕ) (steps : List Stepped) (ds : List Arc) (histories : List (List Entry)) (l : ℕ) (d : Arc) (history : List Entry)
-    → slice_get ds l ≡ Some d → slice_get histories l ≡ Some history → slice_get (longer_histories slot steps ds histories) l ≡ Some (history ++ sent_by slot (emitted_by steps d.from) d.from_end)
-history-at slot steps [] histories l d history h g = absurd (none-some d h)
-history-at slot steps (x ∷ ds) [] l d history h g = absurd (none-some history g)
-history-at slot steps (x ∷ ds) (y ∷ histories) zero d history h g =
-    λ i. Some (same_Some y history g i ++ sent_by slot (emitted_by steps (same_Some x d h i).from) (same_Some x d h i).from_end)
-history-at slot steps (x ∷ ds) (y ∷ histories) (suc l) d history h g = history-at slot steps ds histories l d history h g
+-- what an arc that joins no pins carries
+carried-is : (slot : ℕ) (nodes : List NodeRec) (steps : List Stepped) (d : Arc) → d.joins ≡ None → carried slot nodes steps d ≡ sent_by slot (emitted_by steps d.from) d.from_end
+carried-is slot nodes steps d none = rw none refl
+
+pub history-at : (slot : ℕ) (nodes : List NodeRec) (steps : List Stepped) (ds : List Arc) (histories : List (List Entry)) (l : ℕ) (d : Arc) (history : List Entry)
+    → d.joins ≡ None → slice_get ds l ≡ Some d → slice_get histories l ≡ Some history
+    → slice_get (longer_histories slot nodes steps ds histories) l ≡ Some (history ++ sent_by slot (emitted_by steps d.from) d.from_end)
+history-at slot nodes steps [] histories l d history none h g = absurd (none-some d h)
+history-at slot nodes steps (x ∷ ds) [] l d history none h g = absurd (none-some history g)
+history-at slot nodes steps (x ∷ ds) (y ∷ histories) zero d history none h g =
+    (λ i. Some (same_Some y history g i ++ carried slot nodes steps (same_Some x d h i))) ∙ (λ i. Some (history ++ carried-is slot nodes steps d none i))
+history-at slot nodes steps (x ∷ ds) (y ∷ histories) (suc l) d history none h g = history-at slot nodes steps ds histories l d history none h g
 
 -- ---- What arrives at the link end that a directed link comes to
 
@@ -122,8 +127,9 @@ module _ (plan : PlanRec) (histories : List (List Entry)) (slot l : ℕ) (d : Ar
 
   arriving-is : IsHistory → arriving_by plan histories slot (incoming plan d.to d.to_end) ≡ arriving slot d.delay history
   arriving-is is =
-      ap (arriving_by plan histories slot) (incoming-is plan is.plan_is l d is.here)
-      ∙ (λ i. arriving slot (delay-is plan is.plan_is l d is.here i) (get_or_from_slice_get histories l history [] is.history_is i))
+      let arc = link-arc plan is.plan_is l d is.here in
+      ap (arriving_by plan histories slot) (incoming-is plan is.plan_is l d arc)
+      ∙ (λ i. arriving slot (delay-is plan is.plan_is l d arc i) (get_or_from_slice_get histories l history [] is.history_is i))
 
   pub token-at : IsHistory → token_to plan histories slot d.to d.to_end ≡ token_among (arriving slot d.delay history)
   token-at is = at-link-end (λ end. token_among (arriving_by plan histories slot (incoming plan d.to end))) None d.to_end is.inside ∙ ap token_among (arriving-is is)

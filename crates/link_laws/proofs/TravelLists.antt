@@ -26,6 +26,7 @@ all-append P (x ∷ xs) ys h k = (h.0, all-append P xs ys h.1 k)
 tokens-step : (w : What) (xs ys : List Token) → token_of w ++ (xs ++ ys) ≡ (token_of w ++ xs) ++ ys
 tokens-step (what.Token t) xs ys = refl
 tokens-step what.Credit xs ys = refl
+tokens-step (what.Level level) xs ys = refl
 
 pub tokens-append : (xs ys : List Entry) → tokens_of (xs ++ ys) ≡ tokens_of xs ++ tokens_of ys
 tokens-append [] ys = refl
@@ -44,6 +45,7 @@ first-step : (w : What) (es : List Entry) → (length (tokens_of es) ≤ 1 → t
     → token_of w ++ tokens_of es ≡ option_to_list (token_or w (token_among es))
 first-step (what.Token t) es rest h = ap (λ l. t ∷ l) (none-of-length (tokens_of es) (omega arith))
 first-step what.Credit es rest h = rest h
+first-step (what.Level level) es rest h = rest h
 
 pub first-token : (es : List Entry) → length (tokens_of es) ≤ 1 → tokens_of es ≡ option_to_list (token_among es)
 first-token [] h = refl
@@ -58,6 +60,7 @@ credit-step : (w : What) (es : List Entry) → (credits_of es ≤ 1 → credits_
     → count_credit w + credits_of es ≡ one_if (is_credit w || credit_among es)
 credit-step (what.Token t) es rest h = omega (arith, rest (omega arith))
 credit-step what.Credit es rest h = omega arith
+credit-step (what.Level level) es rest h = omega (arith, rest (omega arith))
 
 pub one-credit : (es : List Entry) → credits_of es ≤ 1 → credits_of es ≡ one_if (credit_among es)
 one-credit [] h = refl

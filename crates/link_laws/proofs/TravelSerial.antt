@@ -7,7 +7,7 @@ use Rattle.xs_base.specs.declared.entry.Entry.{Entry}
 use Rattle.xs_model.specs.Record.{NodeRec, LinkRec, first_node}
 use Rattle.net_model.specs.Links.{fresh_link}
 use Rattle.net_model.specs.Switch.{link_at}
-use Rattle.sys_plan.specs.Plan.{PlanRec, Arc, IsPlan, link_arcs, gaps_of}
+use Rattle.sys_plan.specs.Plan.{PlanRec, Arc, IsPlan, link_arcs, arcs, gaps_of}
 use Rattle.step_model.specs.Start.{node_of}
 use Rattle.step_model.specs.Step.{Stepped}
 use Rattle.serial_model.specs.Serial.{SystemRec, system_at_start, system_step, steps_of, serial, sent_by, arriving, token_among, credit_among}
@@ -16,7 +16,7 @@ use Rattle.link_laws.specs.Travel.{Travel, travel_of, link_end, opposite, OfEnds
 use Rattle.link_laws.proofs.TravelLists.{tokens-arrive, credits-arrive}
 use Rattle.link_laws.proofs.TravelEnds.{token-buffer, credit-credited, counted, counted-length}
 use Rattle.link_laws.proofs.TravelKept.{Kept, kept-at-start, sent-parts, token-fits, credit-is-due, arrive-keeps, leave-keeps}
-use Rattle.sys_plan.proofs.Routes.{IsDirected, directed, gap-at}
+use Rattle.sys_plan.proofs.Routes.{IsDirected, directed, link-arc, gap-at}
 use Rattle.link_laws.proofs.SerialPlan.{turned, opposite-at}
 use Rattle.link_laws.proofs.SerialSteps.{found, map-at, node-at-start, link-at-start, step_at, steps-at, end-slot, emitted-at, history-at, IsHistory, token-at, credit-at}
 
@@ -44,6 +44,13 @@ module _ (plan : PlanRec) (is : IsPlan plan) (l : ℕ) (d : Arc) (here : slice_g
   abbrev within : IsDirected (length plan.nodes) d
   within = directed plan is l d here
 
+  -- their places among all arcs
+  forth_arc : slice_get (arcs plan) l ≡ Some d
+  forth_arc = link-arc plan is l d here
+
+  back_arc : slice_get (arcs plan) (opposite l) ≡ Some (turned d)
+  back_arc = link-arc plan is (opposite l) (turned d) there
+
   from_gap : 1 ≤ slice_index (gaps_of plan d.from) d.from_end
   from_gap = omega (arith, gap-at plan is l d here, within.gap)
 
@@ -66,8 +73,8 @@ module _ (plan : PlanRec) (is : IsPlan plan) (l : ℕ) (d : Arc) (here : slice_g
         to_is = node-at-start plan 0 plan.nodes d.to d.to to.0 (omega arith) to.1;
         sender_is = link-at-start plan d.from d.from_end from.0 within.from_end from_gap;
         receiver_is = link-at-start plan d.to d.to_end to.0 within.to_end to_gap;
-        forth_is = map-at (λ (d : Arc). []) (link_arcs plan.links) l d here;
-        back_is = map-at (λ (d : Arc). []) (link_arcs plan.links) (opposite l) (turned d) there;
+        forth_is = map-at (λ (d : Arc). []) (arcs plan) l d forth_arc;
+        back_is = map-at (λ (d : Arc). []) (arcs plan) (opposite l) (turned d) back_arc;
         kept = kept-at-start d.delay;
       }
 
@@ -110,8 +117,8 @@ module _ (plan : PlanRec) (is : IsPlan plan) (l : ℕ) (d : Arc) (here : slice_g
         let receiver_slot = end-slot plan system.histories slot at_end d.to d.to_end to.0 j.to_node j.receiver forth_token forth_credit in
         let sends = sender_slot within.from_end from_gap j.sender_is token_back credit_back in
         let receives = receiver_slot within.to_end to_gap j.receiver_is token_forth credit_forth in
-        let forth_at = history-at slot steps (link_arcs plan.links) system.histories l d j.forth here j.forth_is in
-        let back_at = history-at slot steps (link_arcs plan.links) system.histories (opposite l) (turned d) j.back there j.back_is in
+        let forth_at = history-at slot system.nodes steps (arcs plan) system.histories l d j.forth within.joins forth_arc j.forth_is in
+        let back_at = history-at slot system.nodes steps (arcs plan) system.histories (opposite l) (turned d) j.back within.joins back_arc j.back_is in
         let arrived = arrive-keeps slot d.delay j.sender j.receiver j.forth j.back j.taken j.kept back_token forth_credit in
         record {
           from_node = from_step.rec;

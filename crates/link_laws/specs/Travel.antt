@@ -22,7 +22,7 @@ link_end system node end = link_at (slice_index_or system.nodes node (first_node
 
 abbrev pub token_of : What → List Token
 token_of (what.Token t) = t ∷ []
-token_of what.Credit = []
+token_of _ = []
 
 -- the tokens among entries, in their order
 abbrev pub tokens_of : List Entry → List Token
@@ -30,8 +30,8 @@ tokens_of [] = []
 tokens_of (e ∷ es) = token_of e.what ++ tokens_of es
 
 abbrev pub count_credit : What → ℕ
-count_credit (what.Token t) = 0
 count_credit what.Credit = 1
+count_credit _ = 0
 
 -- how many of the entries are credits
 abbrev pub credits_of : List Entry → ℕ

@@ -1,13 +1,16 @@
 -- Entries of a history by their slots, and which of them a test lets through.
-use Rattle.std.proofs.Common.{◌≡◌, ℕ, zero, suc, ◌+◌, ◌<◌, ◌≤◌, Bool, true, false, cond, Option, Some, None, List, slice_index_or, [], ◌∷◌, ◌++◌, refl, sym, ap, ◌∙◌, arith, inl, inr}
+use Rattle.std.proofs.Common.{◌≡◌, ℕ, ◌<◌, ◌≤◌, Bool, true, false, eqb, cond, Option, Some, None, List, slice_index_or, [], ◌∷◌, ◌++◌, refl, sym, ap, ◌∙◌, inl, inr}
 use mathlib.Core.Logic.{◌⊎◌}
 use Rattle.std.specs.List.{AllByRecursion, filter}
 use Rattle.std.proofs.lemmas.Bool.{cases_Bool}
 use Rattle.xs_base.specs.Numbers.{Slot}
 use Rattle.xs_base.specs.declared.token.Token.{Token}
 use Rattle.xs_base.specs.declared.entry.Entry.{Entry}
+use Rattle.xs_base.specs.declared.entry.What.TheVariants as what
+use Rattle.xs_model.specs.Record.{NodeRec}
 use Rattle.xs_model.specs.Outside.{Emitted}
-use Rattle.serial_model.specs.Serial.{token_entries, credit_entries, sent_by}
+use Rattle.sys_plan.specs.Plan.{Joined}
+use Rattle.serial_model.specs.Serial.{token_entries, credit_entries, sent_by, driven_level, level_entries, carried_by}
 
 -- ---- Slots
 
@@ -38,12 +41,24 @@ credit_in : (slot : Slot) (credit : Bool) → AllIn slot (credit_entries slot cr
 credit_in slot false = tt
 credit_in slot true = (refl, tt)
 
+level_in : (slot before after : ℕ) → AllIn slot (level_entries slot before after)
+level_in slot before after = by_same (eqb after before)
+  where
+    by_same : (same : Bool) → AllIn slot (cond same [] (record { slot = slot; what = what.Level after } ∷ []))
+    by_same true = tt
+    by_same false = (refl, tt)
+
 -- what a slot sends has that slot
-pub sent_in : (slot : Slot) (emitted : Emitted) (end : ℕ) → AllIn slot (sent_by slot emitted end)
+sent_in : (slot : Slot) (emitted : Emitted) (end : ℕ) → AllIn slot (sent_by slot emitted end)
 sent_in slot emitted end =
     let token = slice_index_or emitted.tokens end None in
     let credit = slice_index_or emitted.credits end false in
     both_all (λ (e : Entry). e.slot ≡ slot) (token_entries slot token) (credit_entries slot credit) (token_in slot token) (credit_in slot credit)
+
+-- and so has what an arc carries of it
+pub carried_has : (slot : Slot) (before after : NodeRec) (emitted : Emitted) (end : ℕ) (joins : Option Joined) → AllIn slot (carried_by slot before after emitted end joins)
+carried_has slot before after emitted end None = sent_in slot emitted end
+carried_has slot before after emitted end (Some joined) = level_in slot (driven_level before joined.from_port) (driven_level after joined.from_port)
 
 -- ---- Tests
 

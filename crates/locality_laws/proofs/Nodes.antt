@@ -1,39 +1,65 @@
 -- A node alone goes the way that it goes in the serial machine.
-use Rattle.std.proofs.Common.{◌≡◌, ℕ, zero, suc, ◌+◌, ◌<◌, ◌≤◌, Bool, true, false, eqb, ltb, cond, Option, Some, None, List, [], ◌∷◌, ◌++◌, length, map, get_or, slice_get, slice_index_or, filter, refl, sym, ap, ◌∙◌, subst, arith, inl, inr}
+use Rattle.std.proofs.Common.{◌≡◌, ℕ, zero, suc, ◌+◌, ◌-◌, ◌<◌, ◌≤◌, Bool, true, false, eqb, leb, ltb, Option, Some, None, List, [], ◌∷◌, ◌++◌, map, slice_get, slice_index_or, filter, refl, sym, ap, ◌∙◌, arith, inl, inr}
 use mathlib.Core.Logic.{◌⊎◌}
 use Rattle.std.specs.List.{AllByRecursion}
-use Rattle.std.proofs.lemmas.Bool.{and_parts, eq-eqb, eqb-true, ne_eqb, lt-ltb, ltb-true, le-ltb, cases_Bool, cases_lt}
+use Rattle.std.proofs.lemmas.Bool.{eqb-true, lt-ltb, leb-true, cases_Bool}
 use Rattle.std.proofs.lemmas.List.{append-nil}
 use Rattle.std.proofs.lemmas.List.Elements.{filter-append}
-use Rattle.std.proofs.lemmas.Option.{none-some, same_Some, get_or_from_slice_get}
+use Rattle.std.proofs.lemmas.Option.{get_or_from_slice_get}
 use Rattle.xs_base.specs.Numbers.{Slot}
+use Rattle.xs_base.specs.declared.numbers.TheConstants.{LINK_ENDS}
 use Rattle.xs_base.specs.declared.entry.Entry.{Entry}
 use Rattle.xs_model.specs.Record.{NodeRec, first_node}
-use Rattle.xs_model.specs.Outside.{Emitted}
 use Rattle.sys_plan.specs.declared.NodePlan.{NodePlan}
-use Rattle.sys_plan.specs.declared.LinkPlan.{LinkPlan}
-use Rattle.sys_plan.specs.Plan.{PlanRec, Arc, IsPlan, IsLink, arcs, link_arcs, first_arc, leaves_by, comes_to, incoming, delay_of, ends_out}
-use Rattle.sys_plan.proofs.Routes.{leads-from, incoming-delay}
+use Rattle.sys_plan.specs.Plan.{PlanRec, Arc, IsPlan, arcs, incoming, wire_to, delay_of, link_ends, ends_out}
+use Rattle.sys_plan.proofs.Routes.{leads-from, at-end-out, incoming-delay}
 use Rattle.step_model.specs.Step.{Stepped}
-use Rattle.serial_model.specs.Serial.{Coming, coming_at, step_by, serial, arriving, arriving_by, arrivals_of, pins_at, sent_by, steps_of, emitted_by}
-use Rattle.locality_laws.specs.Alone.{AloneRec, alone, heard_by}
-use Rattle.locality_laws.specs.Locality.{node_in, events_in, history_in, Leaves, arriving_before, ArriveAlike, ArriveAlikeBefore, comes_in_serial, ArrivalsTell, ArrivalsTellBefore, IsStep, StepNeedsComing, OutgoingLeaves, IsInSerial, Locality}
-use Rattle.locality_laws.proofs.Entries.{filter_through, AllIn, all_weaker, filter_none}
+use Rattle.serial_model.specs.Serial.{Coming, coming_at, step_by, serial, arriving_by, token_among, credit_among, level_after, pin_level, steps_of, node_by, emitted_by, carried_by}
+use Rattle.pin_scripts.specs.Script.{port_numbers}
+use Rattle.locality_laws.specs.Alone.{joins_of, joins_by, alone}
+use Rattle.locality_laws.specs.Locality.{node_in, events_in, history_in, Leaves, arriving_before, ArriveAlike, ShowAlike, ArriveAlikeBefore, comes_in_serial, ArrivalsTell, ArrivalsTellBefore, carries_of, IsStep, StepNeedsComing, OutgoingLeaves, IsInSerial, Locality}
+use Rattle.locality_laws.proofs.Entries.{AllFrom, filter_through, all_weaker, filter_none}
 use Rattle.locality_laws.proofs.Links.{carried_in}
-use Rattle.locality_laws.proofs.Serial.{Stands, own_step, stands, stands_next, emitted_is, added, upto, upto_none, new_in, new_are_in, goes_on}
+use Rattle.locality_laws.proofs.Ends.{wire_comes, gives_leaving, end_leaves}
+use Rattle.locality_laws.proofs.Serial.{map_at, own_step, stands, stands_next, emitted_is, stepped_is, added, upto, upto_none, new_in, goes_on, grown}
 
 -- ---- What comes
 
-module _ (plan : PlanRec) (n : ℕ) (slot : Slot) (one other : List (List Entry)) (alike : ArriveAlike plan n slot one other) where
-  by_incoming : (end : ℕ) (link : Option ℕ) → incoming plan n end ≡ link → arriving_by plan one slot link ≡ arriving_by plan other slot link
-  by_incoming end None is = refl
-  by_incoming end (Some link) is = alike end link is
+map_alike : {X : Type 0} (f g : ℕ → X) (ns : List ℕ) → AllByRecursion (λ n. f n ≡ g n) ns → map f ns ≡ map g ns
+map_alike f g [] h = refl
+map_alike f g (n ∷ ns) h = λ i. h.0 i ∷ map_alike f g ns h.1 i
+
+module _ (plan : PlanRec) (n : ℕ) (slot : Slot) (one other : List (List Entry)) (alike : ArriveAlike plan n slot one other) (shows : ShowAlike plan n slot one other) where
+  abbrev by_one : ℕ → List Entry
+  by_one end = arriving_by plan one slot (incoming plan n end)
+
+  abbrev by_other : ℕ → List Entry
+  by_other end = arriving_by plan other slot (incoming plan n end)
+
+  by_incoming : (end : ℕ) (link : Option ℕ) → end < LINK_ENDS → incoming plan n end ≡ link → arriving_by plan one slot link ≡ arriving_by plan other slot link
+  by_incoming end None within is = refl
+  by_incoming end (Some link) within is = alike end link within is
+
+  by_end : (end : ℕ) → end < LINK_ENDS → by_one end ≡ by_other end
+  by_end end within = by_incoming end (incoming plan n end) within refl
+
+  by_ends : map by_one link_ends ≡ map by_other link_ends
+  by_ends =
+      map_alike by_one by_other link_ends
+      (by_end 0 (omega arith), (by_end 1 (omega arith), (by_end 2 (omega arith), (by_end 3 (omega arith), (by_end 4 (omega arith), (by_end 5 (omega arith), (by_end 6 (omega arith), (by_end 7 (omega arith), tt))))))))
+
+  by_wire : (port : ℕ) (wire : Option ℕ) → wire_to plan n port ≡ wire → pin_level plan one n slot port wire ≡ pin_level plan other n slot port wire
+  by_wire port None is = refl
+  by_wire port (Some wire) is = shows port wire is
 
   pub comes_alike : coming_at plan one slot n ≡ coming_at plan other slot n
-  comes_alike = λ i. record { arrivals = arrivals_of (λ end. by_incoming end (incoming plan n end) refl i); pins = pins_at plan n slot }
+  comes_alike = λ i. record {
+    arrivals = record { tokens = map token_among (by_ends i); credits = map credit_among (by_ends i) };
+    pins = record { level = map (λ port. by_wire port (wire_to plan n port) refl i) port_numbers };
+  }
 
 pub arrivals_tell : ArrivalsTell
-arrivals_tell plan n slot heard alike = comes_alike plan n slot heard (serial plan slot).histories alike
+arrivals_tell plan n slot heard alike shows = comes_alike plan n slot heard (serial plan slot).histories alike shows
 
 -- ---- One slot
 
@@ -42,8 +68,13 @@ module _ (plan : PlanRec) (n : ℕ) (slot : Slot) (end link : ℕ) (l : Leaves p
   abbrev steps : List Stepped
   steps = steps_of plan slot (serial plan slot)
 
-  pub new_by : new_in plan link slot ≡ sent_by slot (emitted_by steps n) end
-  new_by = ap (added slot steps) l.here ∙ (λ i. sent_by slot (emitted_by steps (l.from i)) (l.from_end i))
+  abbrev recs : List NodeRec
+  recs = map (λ (s : Stepped). s.rec) steps
+
+  pub new_by : new_in plan link slot ≡ carried_by slot (node_in (serial plan slot) n) (node_by recs n) (emitted_by steps n) end l.arc.joins
+  new_by =
+      ap (added slot (serial plan slot).nodes steps) l.here
+      ∙ (λ i. carried_by slot (node_in (serial plan slot) (l.from i)) (node_by recs (l.from i)) (emitted_by steps (l.from i)) (l.from_end i) l.arc.joins)
 
 module _ (plan : PlanRec) (n : ℕ) (node : NodePlan) (here : slice_get plan.nodes n ≡ Some node) where
   node_is : (slot : Slot) → node_in (serial plan slot) n ≡ (stands plan n node here slot).rec
@@ -65,122 +96,91 @@ module _ (plan : PlanRec) (n : ℕ) (node : NodePlan) (here : slice_get plan.nod
         let s = stands plan n node here slot in
         let next = stands_next plan n node here slot s in
         let emits : emitted_by (steps_of plan slot (serial plan slot)) n ≡ step.emitted = emitted_is plan n node here slot s ∙ ap (λ (x : Stepped). x.emitted) own_is in
+        let becomes : node_by (map (λ (x : Stepped). x.rec) (steps_of plan slot (serial plan slot))) n ≡ step.rec = stepped_is plan n node here slot s ∙ ap (λ (x : Stepped). x.rec) own_is in
+        let carries : (end link : ℕ) (l : Leaves plan n end link) → new_in plan link slot ≡ carries_of plan n slot step end l.arc.joins =
+        λ end link l. new_by plan n slot end link l ∙ (λ i. carried_by slot (node_in (serial plan slot) n) (becomes i) (emits i) end l.arc.joins) in
         record {
           rec = get_or_from_slice_get (serial plan (suc slot)).nodes n next.rec (first_node 0 0 []) next.rec_is ∙ ap (λ (x : Stepped). x.rec) own_is;
           events = get_or_from_slice_get (serial plan (suc slot)).events n next.events [] next.events_is
               ∙ (λ i. sym (events_are slot) i ++ (own_is i).emitted.events);
           sent = λ end link l.
-              goes_on plan link slot
-              ∙ ap (λ h. upto plan link slot ++ h) (new_by plan n slot end link l)
-              ∙ (λ i. upto plan link slot ++ sent_by slot (emits i) end);
-          carried = λ end link l.
-              carried_in plan link slot
-              ∙ new_by plan n slot end link l
-              ∙ (λ i. sent_by slot (emits i) end);
+              goes_on plan link slot ∙ ap (λ h. upto plan link slot ++ h) (carries end link l);
+          carried = λ end link l. carried_in plan link slot ∙ carries end link l;
         }
 
 pub step_needs_coming : StepNeedsComing
 step_needs_coming plan n node slot coming here comes = is_step plan n node here slot coming comes
 
--- ---- The link that leaves by a link end
+-- ---- The arc that leaves by an end
 
 pub outgoing_leaves : OutgoingLeaves
 outgoing_leaves plan n end link h =
     let l = leads-from plan n end link h in
     record { arc = l.arc; here = l.here; from = l.from; from_end = l.from_end }
 
--- ---- What arrives before a slot tells what arrives in the one before it
+-- ---- What arrives before some slots tells what arrives in each of them, and what wires show in it
 
-module _ (slot delay : ℕ) where
-  abbrev in_it : Entry → Bool
-  in_it e = eqb (e.slot + delay) slot
+-- where two histories tell alike of what arrives before some slots, and the second one is what was sent before one of them, and from there on
+module _ (slots slot delay : ℕ) (within : slot < slots) (least : 1 ≤ delay) (test : Entry → Bool) (passes : (e : Entry) → test e ≡ true → e.slot + delay ≤ slot) where
+  abbrev before_them : Entry → Bool
+  before_them e = ltb (e.slot + delay) slots
 
-  abbrev before_it : Entry → Bool
-  before_it e = ltb (e.slot + delay) slot
+  passes_before : (e : Entry) → test e ≡ true → before_them e ≡ true
+  passes_before e h = lt-ltb (e.slot + delay) slots (omega (arith, passes e h, within))
 
-  abbrev up_to_it : Entry → Bool
-  up_to_it e = ltb (e.slot + delay) (suc slot)
+  fails_later : (e : Entry) → slot ≤ e.slot → test e ≡ false
+  fails_later e later = by_test (cases_Bool (test e))
+    where
+      by_test : (test e ≡ true) ⊎ (test e ≡ false) → test e ≡ false
+      by_test (inl is) = absurd (omega (arith, passes e is, later, least))
+      by_test (inr not) = not
 
-  in_up_to : (e : Entry) → in_it e ≡ true → up_to_it e ≡ true
-  in_up_to e h = lt-ltb (e.slot + delay) (suc slot) (omega (arith, eqb-true (e.slot + delay) slot h))
+  pub same_of : (one whole before more : List Entry) → arriving_before slots delay one ≡ arriving_before slots delay whole → whole ≡ before ++ more → AllFrom slot more → filter test one ≡ filter test before
+  same_of one whole before more alike is from =
+      let none = all_weaker (λ (e : Entry). slot ≤ e.slot) (λ (e : Entry). test e ≡ false) fails_later more from in
+      sym (filter_through test before_them passes_before one)
+      ∙ ap (filter test) alike
+      ∙ filter_through test before_them passes_before whole
+      ∙ ap (filter test) is
+      ∙ filter-append test before more
+      ∙ ap (λ h. filter test before ++ h) (filter_none test more none)
+      ∙ append-nil (filter test before)
 
-  before_up_to : (e : Entry) → before_it e ≡ true → up_to_it e ≡ true
-  before_up_to e h = lt-ltb (e.slot + delay) (suc slot) (omega (arith, ltb-true (e.slot + delay) slot h))
+module _ (plan : PlanRec) (is : IsPlan plan) (n slots slot : ℕ) (heard : List (List Entry)) (alike : ArriveAlikeBefore plan n slots heard (serial plan slots).histories) (within : slot < slots) where
+  same_by : (end link : ℕ) → incoming plan n end ≡ Some link → (test : Entry → Bool) → ((e : Entry) → test e ≡ true → e.slot + delay_of plan link ≤ slot)
+      → filter test (history_in heard link) ≡ filter test (upto plan link slot)
+  same_by end link h test passes =
+      let g = grown plan link slot (slots - slot) slots (omega (arith, within)) in
+      same_of slots slot (delay_of plan link) within (incoming-delay plan is n end link h) test passes (history_in heard link) (upto plan link slots) (upto plan link slot) g.more (alike end link h) g.all g.from
 
-  -- what is sent in a slot arrives after it
-  sent_later : (xs : List Entry) → 1 ≤ delay → AllIn slot xs → AllByRecursion (λ (e : Entry). in_it e ≡ false) xs × AllByRecursion (λ (e : Entry). before_it e ≡ false) xs
-  sent_later xs least h = (
-    all_weaker (λ (e : Entry). e.slot ≡ slot) (λ (e : Entry). in_it e ≡ false) (λ e is. ne_eqb (e.slot + delay) slot (λ same. omega (arith, is, same, least))) xs h,
-    all_weaker (λ (e : Entry). e.slot ≡ slot) (λ (e : Entry). before_it e ≡ false) (λ e is. le-ltb (e.slot + delay) slot (omega (arith, is, least))) xs h,
-  )
-
-  -- where two histories tell alike of what arrives before the next slot, and the second is what was sent before this one, and in it
-  module _ (test : Entry → Bool) (passes : (e : Entry) → test e ≡ true → up_to_it e ≡ true) where
-    pub same_of : (one whole before new : List Entry) → arriving_before (suc slot) delay one ≡ arriving_before (suc slot) delay whole → whole ≡ before ++ new
-        → AllByRecursion (λ (e : Entry). test e ≡ false) new → filter test one ≡ filter test before
-    same_of one whole before new alike is none =
-        sym (filter_through test up_to_it passes one)
-        ∙ ap (filter test) alike
-        ∙ filter_through test up_to_it passes whole
-        ∙ ap (filter test) is
-        ∙ filter-append test before new
-        ∙ ap (λ h. filter test before ++ h) (filter_none test new none)
-        ∙ append-nil (filter test before)
-
-module _ (plan : PlanRec) (is : IsPlan plan) (n : ℕ) (slot : Slot) (heard : List (List Entry)) (alike : ArriveAlikeBefore plan n (suc slot) heard (serial plan (suc slot)).histories) where
-  in_slot : ArriveAlike plan n slot heard (serial plan slot).histories
-  in_slot end link h =
+  arrive_in_it : ArriveAlike plan n slot heard (serial plan slot).histories
+  arrive_in_it end link _ h =
       let delay = delay_of plan link in
-      let later = sent_later slot delay (new_in plan link slot) (incoming-delay plan is n end link h) (new_are_in plan link slot) in
-      same_of slot delay (in_it slot delay) (in_up_to slot delay) (history_in heard link) (upto plan link (suc slot)) (upto plan link slot) (new_in plan link slot) (alike end link h) (goes_on plan link slot) later.0
+      same_by end link h (λ (e : Entry). eqb (e.slot + delay) slot) (λ e same. omega (arith, eqb-true (e.slot + delay) slot same))
 
-  before_slot : ArriveAlikeBefore plan n slot heard (serial plan slot).histories
-  before_slot end link h =
-      let delay = delay_of plan link in
-      let later = sent_later slot delay (new_in plan link slot) (incoming-delay plan is n end link h) (new_are_in plan link slot) in
-      same_of slot delay (before_it slot delay) (before_up_to slot delay) (history_in heard link) (upto plan link (suc slot)) (upto plan link slot) (new_in plan link slot) (alike end link h) (goes_on plan link slot) later.1
-
--- by what is told of the arrivals before a slot all is known that comes before it
-told_before : (plan : PlanRec) → IsPlan plan → (n : ℕ) (slots slot : Slot) (heard : List (List Entry)) → ArriveAlikeBefore plan n slots heard (serial plan slots).histories → slot < slots
-    → heard_by plan heard n slot ≡ comes_in_serial plan n slot
-told_before plan is n zero slot heard alike within = absurd (omega arith)
-told_before plan is n (suc slots) slot heard alike within =
-    by_last (λ earlier. told_before plan is n slots slot heard (before_slot plan is n slots heard alike) earlier) (cases_lt slot slots)
-  where
-    by_last : (slot < slots → heard_by plan heard n slot ≡ comes_in_serial plan n slot) → (slot < slots) ⊎ (slots ≤ slot) → heard_by plan heard n slot ≡ comes_in_serial plan n slot
-    by_last rest (inl earlier) = rest earlier
-    by_last rest (inr last) =
-        let same : slots ≡ slot = omega arith in
-        subst (λ (t : Slot). heard_by plan heard n t ≡ comes_in_serial plan n t) same (arrivals_tell plan n slots heard (in_slot plan is n slots heard alike))
+  show_in_it : ShowAlike plan n slot heard (serial plan slot).histories
+  show_in_it port wire h =
+      let delay = delay_of plan wire in
+      let comes = wire_comes plan is n port wire h in
+      ap (level_after 0) (same_by comes.0 wire comes.1 (λ (e : Entry). leb (e.slot + delay) slot) (λ e by_now. leb-true (e.slot + delay) slot by_now))
 
 pub arrivals_tell_before : ArrivalsTellBefore
-arrivals_tell_before plan n slots slot heard is alike within = told_before plan is n slots slot heard alike within
+arrivals_tell_before plan n slots slot heard is alike within =
+    arrivals_tell plan n slot heard (arrive_in_it plan is n slots slot heard alike within) (show_in_it plan is n slots slot heard alike within)
 
 -- ---- All slots
 
-at_end : (plan : PlanRec) (n : ℕ) (f : ℕ → List Entry) (end : ℕ) → end < 8 → slice_index_or (map f (ends_out plan n)) end [] ≡ f end
-at_end plan n f zero h = refl
-at_end plan n f (suc zero) h = refl
-at_end plan n f (suc (suc zero)) h = refl
-at_end plan n f (suc (suc (suc zero))) h = refl
-at_end plan n f (suc (suc (suc (suc zero)))) h = refl
-at_end plan n f (suc (suc (suc (suc (suc zero))))) h = refl
-at_end plan n f (suc (suc (suc (suc (suc (suc zero)))))) h = refl
-at_end plan n f (suc (suc (suc (suc (suc (suc (suc zero))))))) h = refl
-at_end plan n f (suc (suc (suc (suc (suc (suc (suc (suc end)))))))) h = absurd (omega arith)
+-- what a list tells of each end by which arcs may leave it tells of one by which an arc leaves
+at_end : (plan : PlanRec) → IsPlan plan → (n : ℕ) (f : ℕ → List Entry) (end link : ℕ) → Leaves plan n end link → slice_index_or (map f (ends_out plan n)) end [] ≡ f end
+at_end plan is n f end link l = at-end-out plan n f [] end (end_leaves plan is n end link l)
 
-all_ends : (nodes : ℕ) (links : List LinkPlan) → AllByRecursion (IsLink nodes) links → AllByRecursion (λ (d : Arc). d.from_end < 8) (link_arcs links)
-all_ends nodes [] h = tt
-all_ends nodes (link ∷ links) h = (h.0.a_end, (h.0.b_end, all_ends nodes links h.1))
+-- and the ports that the arc by that end joins are those that it joins
+pub joins_is : (plan : PlanRec) (n end link : ℕ) (l : Leaves plan n end link) → joins_of plan (Some link) ≡ l.arc.joins
+joins_is plan n end link l = get_or_from_slice_get (map (λ (d : Arc). d.joins) (arcs plan)) link l.arc.joins None (map_at (λ (d : Arc). d.joins) (arcs plan) link l.arc l.here)
 
-end_at : (ds : List Arc) (l : ℕ) (d : Arc) → AllByRecursion (λ (d : Arc). d.from_end < 8) ds → slice_get ds l ≡ Some d → d.from_end < 8
-end_at [] l d all h = absurd (none-some d h)
-end_at (x ∷ ds) zero d all h = subst (λ (d : Arc). d.from_end < 8) (same_Some x d h) all.0
-end_at (x ∷ ds) (suc l) d all h = end_at ds l d all.1 h
-
-leaves_end : (plan : PlanRec) → IsPlan plan → (n end link : ℕ) → Leaves plan n end link → end < 8
-leaves_end plan is n end link l =
-    subst (λ e. e < 8) l.from_end (end_at (arcs plan) link l.arc (all_ends (length plan.nodes) plan.links is.links) l.here)
+joins_by_is : (plan : PlanRec) → IsPlan plan → (n end link : ℕ) (l : Leaves plan n end link) → joins_by plan n end ≡ l.arc.joins
+joins_by_is plan is n end link l =
+    ap (joins_of plan) (gives_leaving plan is n end link l) ∙ joins_is plan n end link l
 
 module _ (plan : PlanRec) (is : IsPlan plan) (n : ℕ) (node : NodePlan) (here : slice_get plan.nodes n ≡ Some node) (comes : Slot → Coming) where
   abbrev Reached : Slot → Type 0
@@ -191,7 +191,7 @@ module _ (plan : PlanRec) (is : IsPlan plan) (n : ℕ) (node : NodePlan) (here :
   reached_start = record {
     rec = sym (node_is plan n node here 0);
     events = sym (events_are plan n node here 0);
-    sent = λ end link l. at_end plan n (λ end. []) end (leaves_end plan is n end link l) ∙ sym (upto_none plan link);
+    sent = λ end link l. at_end plan is n (λ end. []) end link l ∙ sym (upto_none plan link);
   }
 
   reached_next : (slot : Slot) → comes slot ≡ comes_in_serial plan n slot → Reached slot → Reached (suc slot)
@@ -204,8 +204,9 @@ module _ (plan : PlanRec) (is : IsPlan plan) (n : ℕ) (node : NodePlan) (here :
         rec = ap (λ (x : Stepped). x.rec) same ∙ sym step.rec;
         events = (λ i. r.events i ++ (same i).emitted.events) ∙ sym step.events;
         sent = λ end link l.
-            at_end plan n (λ end. slice_index_or before.sent end [] ++ sent_by slot (step_by plan n node slot (comes slot) before.rec).emitted end) end (leaves_end plan is n end link l)
-            ∙ (λ i. r.sent end link l i ++ sent_by slot (same i).emitted end)
+            let after = step_by plan n node slot (comes slot) before.rec in
+            at_end plan is n (λ end. slice_index_or before.sent end [] ++ carried_by slot before.rec after.rec after.emitted end (joins_by plan n end)) end link l
+            ∙ (λ i. r.sent end link l i ++ carried_by slot (r.rec i) (same i).rec (same i).emitted end (joins_by_is plan is n end link l i))
             ∙ sym (step.sent end link l);
       }
 

@@ -1,21 +1,19 @@
 -- The lists of the serial machine: nodes and events by position, histories by the number of the arc.
-use Rattle.std.proofs.Common.{◌≡◌, ℕ, zero, suc, ◌+◌, ◌<◌, ◌≤◌, Option, Some, None, List, [], ◌∷◌, ◌++◌, length, map, get_or, slice_get, option_map, refl, sym, ap, ◌∙◌, arith}
+use Rattle.std.proofs.Common.{◌≡◌, ℕ, zero, suc, ◌+◌, ◌<◌, ◌≤◌, Option, Some, None, List, [], ◌∷◌, ◌++◌, length, map, slice_get, option_map, refl, sym, ap, ◌∙◌, arith}
 use Rattle.std.proofs.lemmas.Option.{none-some, same_Some, slice_get-map, get_or_from_slice_get}
-use Rattle.std.proofs.lemmas.Bool.{cases_lt}
 use Rattle.std.proofs.lemmas.List.{length-map, append-nil, append_assoc}
-use mathlib.Core.Logic.{◌⊎◌}
 use Rattle.xs_base.specs.Numbers.{Slot}
 use Rattle.xs_base.specs.declared.entry.Entry.{Entry}
 use Rattle.xs_model.specs.declared.event.Event.{Event}
-use Rattle.xs_model.specs.Record.{NodeRec}
+use Rattle.xs_model.specs.Record.{NodeRec, first_node}
 use Rattle.xs_model.specs.Outside.{emitted_events}
 use Rattle.sys_plan.specs.declared.NodePlan.{NodePlan}
 use Rattle.sys_plan.specs.Plan.{PlanRec, Arc, arcs, arc_count, gaps_of}
 use Rattle.step_model.specs.Start.{node_of}
 use Rattle.step_model.specs.Step.{Stepped}
-use Rattle.serial_model.specs.Serial.{SystemRec, nodes_at_start, serial, steps_from, steps_of, coming_at, step_by, sent_by, emitted_by, longer_histories, longer_events}
+use Rattle.serial_model.specs.Serial.{SystemRec, nodes_at_start, serial, steps_from, steps_of, coming_at, step_by, node_by, emitted_by, carried, longer_histories, longer_events}
 use Rattle.locality_laws.specs.Locality.{history_in, comes_in_serial}
-use Rattle.locality_laws.proofs.Entries.{AllIn, AllFrom, AllBefore, both_all, all_weaker, sent_in}
+use Rattle.locality_laws.proofs.Entries.{AllIn, AllFrom, AllBefore, both_all, all_weaker, carried_has}
 
 pub map_at : {X Y : Type 0} (f : X → Y) (xs : List X) (k : ℕ) (x : X) → slice_get xs k ≡ Some x → slice_get (map f xs) k ≡ Some (f x)
 map_at f xs k x h = slice_get-map f xs k ∙ ap (option_map f) h
@@ -90,29 +88,36 @@ module _ (plan : PlanRec) (n : ℕ) (node : NodePlan) (here : slice_get plan.nod
       let steps = steps_of plan slot (serial plan slot) in
       get_or_from_slice_get (map (λ (x : Stepped). x.emitted) steps) n (own_step slot s).emitted (emitted_events []) (map_at (λ (x : Stepped). x.emitted) steps n (own_step slot s) (stepped slot s))
 
+  -- and what it is after it
+  pub stepped_is : (slot : Slot) (s : Stands (serial plan slot) n) → node_by (map (λ (x : Stepped). x.rec) (steps_of plan slot (serial plan slot))) n ≡ (own_step slot s).rec
+  stepped_is slot s =
+      let steps = steps_of plan slot (serial plan slot) in
+      get_or_from_slice_get (map (λ (x : Stepped). x.rec) steps) n (own_step slot s).rec (first_node 0 0 []) (map_at (λ (x : Stepped). x.rec) steps n (own_step slot s) (stepped slot s))
+
 -- ---- Arcs
 
--- what a slot puts after the history of the arc with a number
-abbrev pub added : Slot → List Stepped → Option Arc → List Entry
-added slot steps None = []
-added slot steps (Some d) = sent_by slot (emitted_by steps d.from) d.from_end
+module _ (slot : Slot) (nodes : List NodeRec) (steps : List Stepped) where
+  -- what a slot puts after the history of the arc with a number
+  abbrev pub added : Option Arc → List Entry
+  added None = []
+  added (Some d) = carried slot nodes steps d
 
-pub added_in : (slot : Slot) (steps : List Stepped) (d : Option Arc) → AllIn slot (added slot steps d)
-added_in slot steps None = tt
-added_in slot steps (Some d) = sent_in slot (emitted_by steps d.from) d.from_end
+  pub added_in : (d : Option Arc) → AllIn slot (added d)
+  added_in None = tt
+  added_in (Some d) = carried_has slot (node_by nodes d.from) (node_by (map (λ (s : Stepped). s.rec) steps) d.from) (emitted_by steps d.from) d.from_end d.joins
 
-longer_count : (slot : Slot) (steps : List Stepped) (ds : List Arc) (histories : List (List Entry)) → length histories ≡ length ds → length (longer_histories slot steps ds histories) ≡ length ds
-longer_count slot steps [] histories e = refl
-longer_count slot steps (d ∷ ds) [] e = absurd (omega (arith, e))
-longer_count slot steps (d ∷ ds) (h ∷ histories) e = ap suc (longer_count slot steps ds histories (omega (arith, e)))
+  longer_count : (ds : List Arc) (histories : List (List Entry)) → length histories ≡ length ds → length (longer_histories slot nodes steps ds histories) ≡ length ds
+  longer_count [] histories e = refl
+  longer_count (d ∷ ds) [] e = absurd (omega (arith, e))
+  longer_count (d ∷ ds) (h ∷ histories) e = ap suc (longer_count ds histories (omega (arith, e)))
 
-longer_at : (slot : Slot) (steps : List Stepped) (ds : List Arc) (histories : List (List Entry)) (l : ℕ) → length histories ≡ length ds
-    → history_in (longer_histories slot steps ds histories) l ≡ history_in histories l ++ added slot steps (slice_get ds l)
-longer_at slot steps [] [] l e = refl
-longer_at slot steps [] (h ∷ histories) l e = absurd (omega (arith, e))
-longer_at slot steps (d ∷ ds) [] l e = absurd (omega (arith, e))
-longer_at slot steps (d ∷ ds) (h ∷ histories) zero e = refl
-longer_at slot steps (d ∷ ds) (h ∷ histories) (suc l) e = longer_at slot steps ds histories l (omega (arith, e))
+  longer_at : (ds : List Arc) (histories : List (List Entry)) (l : ℕ) → length histories ≡ length ds
+      → history_in (longer_histories slot nodes steps ds histories) l ≡ history_in histories l ++ added (slice_get ds l)
+  longer_at [] [] l e = refl
+  longer_at [] (h ∷ histories) l e = absurd (omega (arith, e))
+  longer_at (d ∷ ds) [] l e = absurd (omega (arith, e))
+  longer_at (d ∷ ds) (h ∷ histories) zero e = refl
+  longer_at (d ∷ ds) (h ∷ histories) (suc l) e = longer_at ds histories l (omega (arith, e))
 
 none_sent : (ds : List Arc) (l : ℕ) → history_in (map (λ (d : Arc). []) ds) l ≡ []
 none_sent [] l = refl
@@ -123,7 +128,7 @@ none_sent (d ∷ ds) (suc l) = none_sent ds l
 count : (plan : PlanRec) (slot : Slot) → length (serial plan slot).histories ≡ arc_count plan
 unfolding serial
 count plan zero = length-map (arcs plan) (λ (d : Arc). [])
-count plan (suc slot) = longer_count slot (steps_of plan slot (serial plan slot)) (arcs plan) (serial plan slot).histories (count plan slot)
+count plan (suc slot) = longer_count slot (serial plan slot).nodes (steps_of plan slot (serial plan slot)) (arcs plan) (serial plan slot).histories (count plan slot)
 
 module _ (plan : PlanRec) (l : ℕ) where
   -- the history of the arc before a slot
@@ -132,14 +137,14 @@ module _ (plan : PlanRec) (l : ℕ) where
 
   -- what is put after it in a slot
   abbrev pub new_in : Slot → List Entry
-  new_in slot = added slot (steps_of plan slot (serial plan slot)) (slice_get (arcs plan) l)
+  new_in slot = added slot (serial plan slot).nodes (steps_of plan slot (serial plan slot)) (slice_get (arcs plan) l)
 
   pub goes_on : (slot : Slot) → upto (suc slot) ≡ upto slot ++ new_in slot
   unfolding serial
-  goes_on slot = longer_at slot (steps_of plan slot (serial plan slot)) (arcs plan) (serial plan slot).histories l (count plan slot)
+  goes_on slot = longer_at slot (serial plan slot).nodes (steps_of plan slot (serial plan slot)) (arcs plan) (serial plan slot).histories l (count plan slot)
 
   pub new_are_in : (slot : Slot) → AllIn slot (new_in slot)
-  new_are_in slot = added_in slot (steps_of plan slot (serial plan slot)) (slice_get (arcs plan) l)
+  new_are_in slot = added_in slot (serial plan slot).nodes (steps_of plan slot (serial plan slot)) (slice_get (arcs plan) l)
 
   pub upto_none : upto 0 ≡ []
   unfolding serial

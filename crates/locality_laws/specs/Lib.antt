@@ -1,3 +1,4 @@
 pub mod Alone
 pub mod Locality
 pub mod Horizon
+pub mod Levels

@@ -24,8 +24,8 @@ pub fn history_in(log: &Log<PlanStory>) -> &[Entry]
     log.entries()
 }
 
-/// How many tokens and how many credits the arc of a log carried: those of its history in the serial machine, from slot 0 on and before
-/// the slot up to which the log is published, read or not. It takes no memory.
+/// How many tokens, or levels of a wire, and how many credits the arc of a log carried: those of its history in the serial machine, from
+/// slot 0 on and before the slot up to which the log is published, read or not. It takes no memory.
 pub fn totals_in(log: &Log<PlanStory>) -> (u64, u64)
     ensures tokens { result.0 ≡ tokens_in (history log.now.run log.now.number 0 log.now.published) }
     ensures credits { result.1 ≡ credits_in (history log.now.run log.now.number 0 log.now.published) }

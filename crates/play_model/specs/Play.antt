@@ -24,7 +24,7 @@ number_after plan (Take node end) after = number_by after.seen (incoming plan no
 number_after plan (Run node count) after = slice_index after.clocks node
 number_after plan (Send node end) after = number_by after.published (outgoing plan node end)
 
--- what a link carried from its old published slot on and before the new one
+-- what an arc carried from its old published slot on and before the new one
 abbrev pub sent_between : PlanRec → ScheduleRec → ScheduleRec → Option LinkNumber → List Entry
 sent_between plan before after None = []
 sent_between plan before after (Some link) = history plan link (slice_index before.published link) (slice_index after.published link)

@@ -1,24 +1,29 @@
 -- The text that a play writes.
 use Rattle.std.specs.Prelude.{ℕ, List, [], ◌∷◌, ◌++◌, codes, decimal}
 use Rattle.std.specs.List.{flat_map}
-use Rattle.xs_base.specs.Numbers.{Slot}
+use Rattle.xs_base.specs.Numbers.{Slot, Word}
 use Rattle.xs_base.specs.declared.entry.Entry.{Entry}
 use Rattle.xs_base.specs.declared.entry.What.{What}
-use Rattle.xs_base.specs.declared.entry.What.TheVariants.{Token, Credit}
+use Rattle.xs_base.specs.declared.entry.What.TheVariants.{Token, Credit, Level}
 use Rattle.sys_plan.specs.declared.NodePlan.{NodePlan}
 use Rattle.sys_plan.specs.declared.Step.{Step}
 use Rattle.sys_plan.specs.declared.Step.TheVariants.{Take, Run, Send}
 use Rattle.sys_plan.specs.Plan.{PlanRec}
-use Rattle.trace_model.specs.EventLines.{token_text}
+use Rattle.trace_model.specs.EventLines.{hex_word, token_text}
 use Rattle.trace_model.specs.Trace.{number_at, link_end_text}
 use Rattle.play_model.specs.Play.{PlayedStep, played}
 
--- `dt V`, `ct V` or `credit`
+-- `level V`
+abbrev pub level_text : Word → List ℕ
+level_text level = codes "level " ++ hex_word level
+
+-- `dt V`, `ct V` or `credit`, and of a wire `level V`
 abbrev pub carried_text : What → List ℕ
 carried_text (Token token) = token_text token
 carried_text Credit = codes "credit"
+carried_text (Level level) = level_text level
 
--- `entry N:E SLOT WHAT`, by the number of the node and the link end by which it left
+-- `entry N:E SLOT WHAT`, by the number of the node and the end by which it left
 abbrev pub entry_line : ℕ → ℕ → Entry → List ℕ
 entry_line node end e = codes "entry " ++ (link_end_text node end ++ (codes " " ++ (decimal e.slot ++ (codes " " ++ (carried_text e.what ++ (10 ∷ []))))))
 

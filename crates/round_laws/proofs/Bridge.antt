@@ -6,7 +6,7 @@ use Rattle.std.proofs.lemmas.Option.{none-some, same_Some, slice_get_past, slice
 use Rattle.xs_base.specs.Numbers.{Slot, Position, EndNumber, LinkNumber}
 use Rattle.sys_plan.specs.Plan.{PlanRec, IsPlan, Arc, arcs, incoming}
 use Rattle.sys_plan.specs.declared.system_plan.TheConstants.{ENDS}
-use Rattle.sys_plan.proofs.Routes.{leads-to, directed, incoming-is, delay-is, found-at-end-in}
+use Rattle.sys_plan.proofs.Routes.{leads-to, within, incoming-is, delay-is, found-at-end-in}
 use Rattle.ahead_limits.specs.declared.horizon.Seen.{Seen}
 use Rattle.ahead_limits.specs.Horizon.{HorizonRec, Sees, horizon_at}
 use Rattle.ahead_limits.specs.Bound.{nearer, least_bound}
@@ -107,7 +107,7 @@ module _ (plan : PlanRec) (limit : Slot) (n : Position) (k : ℕ) (is : IsPlan p
   sees_it : (link : LinkNumber) (d : Arc) → slice_get (arcs plan) link ≡ Some d → d.to ≡ n → Sees h d.to_end (by_arc plan limit n k d)
   sees_it link d at to =
       let there : incoming plan n d.to_end ≡ Some link = subst (λ m. incoming plan m d.to_end ≡ Some link) to (incoming-is plan is link d at) in
-      link_at_end plan limit seen n d.to_end link (directed plan is link d at).to_end there ∙ ap (λ (s : Seen). Some (Some s)) (seen_of link d at)
+      link_at_end plan limit seen n d.to_end link (within plan is link d at).to_end there ∙ ap (λ (s : Seen). Some (Some s)) (seen_of link d at)
 
   only : (o : Option LinkNumber) (s : Seen) → option_map (seen_of_link plan seen) o ≡ Some s → (link : LinkNumber) × (o ≡ Some link)
   only None s is = absurd (none-some s is)

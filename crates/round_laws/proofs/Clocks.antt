@@ -1,13 +1,11 @@
 -- How clocks rise from round to round.
-use Rattle.std.proofs.Common.{◌≡◌, ◌⊎◌, ℕ, zero, suc, ◌+◌, ◌*◌, ◌<◌, ◌≤◌, min, eqb, Option, Some, None, List, [], ◌∷◌, length, map, slice_get, refl, sym, ap, ◌∙◌, subst, arith, add-one, inl, inr}
+use Rattle.std.proofs.Common.{◌≡◌, ◌⊎◌, ℕ, zero, suc, ◌+◌, ◌*◌, ◌<◌, ◌≤◌, min, eqb, Option, Some, None, List, [], ◌∷◌, length, map, refl, sym, ap, ◌∙◌, subst, arith, add-one, inl, inr}
 use Rattle.std.specs.List.{AllByRecursion}
 use Rattle.std.proofs.lemmas.Bool.{cases_lt}
 use Rattle.std.proofs.lemmas.List.{length-replicate}
-use Rattle.std.proofs.lemmas.Option.{none-some, same_Some}
 use Rattle.xs_base.specs.Numbers.{Slot, Position}
-use Rattle.sys_plan.specs.declared.LinkPlan.{LinkPlan}
-use Rattle.sys_plan.specs.Plan.{PlanRec, IsPlan, IsLink, Arc, arcs, link_arcs, forth, back}
-use Rattle.sys_plan.proofs.Routes.{directed}
+use Rattle.sys_plan.specs.Plan.{PlanRec, IsPlan, Arc, arcs}
+use Rattle.sys_plan.proofs.Routes.{IsWithin, within, within-all, all-get}
 use Rattle.round_laws.specs.Rounds.{least, reach, arcs_to, next_clock, positions_from, round_clocks, round_clock, lesser, least_delay}
 use Rattle.round_laws.specs.Laws.{AllHaveRun, ClocksStartAtZero, ClocksGoByRounds, NoRoundFalls, ClocksStayWithin, RoundGoesOn, RoundsGoOn, IsLeastOf, IsLeastDelay, LeastDelayIsLeast}
 use Rattle.round_laws.proofs.Leasts.{least_within, least_rises, from_each}
@@ -58,53 +56,49 @@ clocks_stay_within plan limit n k = stay_within plan limit k n
 
 -- ---- By delays
 
--- no delay of these links is below this
-abbrev pub NoneBelow : Slot → List LinkPlan → Type 0
-NoneBelow delay links = AllByRecursion (λ (link : LinkPlan). delay ≤ link.delay) links
+-- no delay of these arcs is below this
+abbrev pub NoneBelow : Slot → List Arc → Type 0
+NoneBelow delay ds = AllByRecursion (λ (d : Arc). delay ≤ d.delay) ds
 
-module _ (delay : Slot) where
-  pub arcs_too : (links : List LinkPlan) (l : ℕ) (d : Arc) → NoneBelow delay links → slice_get (link_arcs links) l ≡ Some d → delay ≤ d.delay
-  arcs_too [] l d all at = absurd (none-some d at)
-  arcs_too (link ∷ links) zero d all at = subst (λ (e : Arc). delay ≤ e.delay) (same_Some (forth link) d at) all.0
-  arcs_too (link ∷ links) (suc zero) d all at = subst (λ (e : Arc). delay ≤ e.delay) (same_Some (back link) d at) all.0
-  arcs_too (link ∷ links) (suc (suc l)) d all at = arcs_too links l d all.1 at
+less_too : (delay most : Slot) → delay ≤ most → (ds : List Arc) → NoneBelow most ds → NoneBelow delay ds
+less_too delay most less [] all = tt
+less_too delay most less (d ∷ ds) all = (omega (arith, less, all.0), less_too delay most less ds all.1)
 
-  less_too : (most : Slot) → delay ≤ most → (links : List LinkPlan) → NoneBelow most links → NoneBelow delay links
-  less_too most less [] all = tt
-  less_too most less (link ∷ links) all = (omega (arith, less, all.0), less_too most less links all.1)
-
-least_of_more : (o : Option Slot) (link : LinkPlan) (links : List LinkPlan) → IsLeastDelay links o → IsLeastOf (link ∷ links) (lesser link.delay o)
-least_of_more None link links none = record { none_below = (omega arith, subst (NoneBelow link.delay) (sym none) tt); place = 0; link = link; there = refl; is_it = refl }
-least_of_more (Some delay) link links is = by_case (cases_lt delay link.delay)
+least_of_more : (o : Option Slot) (d : Arc) (ds : List Arc) → IsLeastDelay ds o → IsLeastOf (d ∷ ds) (lesser d.delay o)
+least_of_more None d ds none = record { none_below = (omega arith, subst (NoneBelow d.delay) (sym none) tt); place = 0; arc = d; there = refl; is_it = refl }
+least_of_more (Some delay) d ds is = by_case (cases_lt delay d.delay)
   where
-    both : NoneBelow (min link.delay delay) (link ∷ links)
-    both = (omega arith, less_too (min link.delay delay) delay (omega arith) links is.none_below)
+    both : NoneBelow (min d.delay delay) (d ∷ ds)
+    both = (omega arith, less_too (min d.delay delay) delay (omega arith) ds is.none_below)
 
-    by_case : (delay < link.delay) ⊎ (link.delay ≤ delay) → IsLeastOf (link ∷ links) (min link.delay delay)
-    by_case (inl less) = record { none_below = both; place = suc is.place; link = is.link; there = is.there; is_it = omega (arith, is.is_it, less) }
-    by_case (inr more) = record { none_below = both; place = 0; link = link; there = refl; is_it = omega (arith, more) }
+    by_case : (delay < d.delay) ⊎ (d.delay ≤ delay) → IsLeastOf (d ∷ ds) (min d.delay delay)
+    by_case (inl less) = record { none_below = both; place = suc is.place; arc = is.arc; there = is.there; is_it = omega (arith, is.is_it, less) }
+    by_case (inr more) = record { none_below = both; place = 0; arc = d; there = refl; is_it = omega (arith, more) }
 
 pub least_delay_is_least : LeastDelayIsLeast
 least_delay_is_least [] = refl
-least_delay_is_least (link ∷ links) = least_of_more (least_delay links) link links (least_delay_is_least links)
+least_delay_is_least (d ∷ ds) = least_of_more (least_delay ds) d ds (least_delay_is_least ds)
 
-pub least_of : (links : List LinkPlan) (delay : Slot) → least_delay links ≡ Some delay → IsLeastOf links delay
-least_of links delay is = subst (IsLeastDelay links) is (least_delay_is_least links)
+pub least_of : (ds : List Arc) (delay : Slot) → least_delay ds ≡ Some delay → IsLeastOf ds delay
+least_of ds delay is = subst (IsLeastDelay ds) is (least_delay_is_least ds)
 
-pub below_none : (links : List LinkPlan) (delay : Slot) → least_delay links ≡ Some delay → NoneBelow delay links
-below_none links delay is = (least_of links delay is).none_below
+pub below_none : (ds : List Arc) (delay : Slot) → least_delay ds ≡ Some delay → NoneBelow delay ds
+below_none ds delay is = (least_of ds delay is).none_below
 
 -- a slot at least
-pub one_below_none : (nodes : ℕ) (links : List LinkPlan) → AllByRecursion (IsLink nodes) links → NoneBelow 1 links
-one_below_none nodes [] all = tt
-one_below_none nodes (link ∷ links) all = (all.0.least_delay, one_below_none nodes links all.1)
+one_each : (nodes : ℕ) (ds : List Arc) → AllByRecursion (IsWithin nodes) ds → NoneBelow 1 ds
+one_each nodes [] all = tt
+one_each nodes (d ∷ ds) all = (all.0.delay, one_each nodes ds all.1)
 
-module _ (plan : PlanRec) (limit delay : Slot) (is : IsPlan plan) (all : NoneBelow delay plan.links) where
+pub one_below_none : (plan : PlanRec) → IsPlan plan → NoneBelow 1 (arcs plan)
+one_below_none plan is = one_each (length plan.nodes) (arcs plan) (within-all plan is)
+
+module _ (plan : PlanRec) (limit delay : Slot) (is : IsPlan plan) (all : NoneBelow delay (arcs plan)) where
   further : (m : Slot) (k : ℕ) → AllHaveRun plan limit k m → AllHaveRun plan limit (suc k) (min limit (m + delay))
   further m k run n less =
       subst (λ (clock : Slot). min limit (m + delay) ≤ clock) (sym (after_one_more plan limit n k less))
       (from_each limit (reach (round_clocks plan limit k)) (λ d. eqb d.to n) (min limit (m + delay)) (omega arith) (arcs plan)
-      (λ l d at hit. omega (arith, run d.from (directed plan is l d at).from, arcs_too delay plan.links l d all at)))
+      (λ l d at hit. omega (arith, run d.from (within plan is l d at).from, all-get (λ (e : Arc). delay ≤ e.delay) (arcs plan) l d all at)))
 
   pub by_delays : (k : ℕ) → AllHaveRun plan limit k (min limit (k * delay))
   by_delays zero n less = omega arith
@@ -112,7 +106,7 @@ module _ (plan : PlanRec) (limit delay : Slot) (is : IsPlan plan) (all : NoneBel
 
 pub round_goes_on : RoundGoesOn
 round_goes_on plan limit delay m k is least run =
-    one_on (λ j. AllHaveRun plan limit j (min limit (m + delay))) k (further plan limit delay is (below_none plan.links delay least) m k run)
+    one_on (λ j. AllHaveRun plan limit j (min limit (m + delay))) k (further plan limit delay is (below_none (arcs plan) delay least) m k run)
 
 pub rounds_go_on : RoundsGoOn
-rounds_go_on plan limit delay k is least = by_delays plan limit delay is (below_none plan.links delay least) k
+rounds_go_on plan limit delay k is least = by_delays plan limit delay is (below_none (arcs plan) delay least) k

@@ -1,15 +1,14 @@
 -- How many rounds a run takes.
-use Rattle.std.proofs.Common.{◌≡◌, ◌⊎◌, ℕ, zero, suc, ◌+◌, ◌-◌, ◌*◌, ◌/◌, ◌<◌, ◌≤◌, Bool, true, false, eqb, Some, List, [], ◌∷◌}
+use Rattle.std.proofs.Common.{◌≡◌, ◌⊎◌, ℕ, zero, suc, ◌+◌, ◌-◌, ◌*◌, ◌/◌, ◌<◌, ◌≤◌, Bool, true, false, eqb, Some, [], ◌++◌}
 use Rattle.std.proofs.Common.{length, slice_get, refl, sym, ap, ◌∙◌, subst, arith, inl, inr, div-add-mod'}
-use Rattle.std.specs.List.{AllByRecursion}
 use Rattle.std.proofs.lemmas.Bool.{cases_lt, both_ways}
 use Rattle.std.proofs.lemmas.Nat.{mod_below}
-use Rattle.std.proofs.lemmas.Option.{none-some, same_Some}
+use Rattle.std.proofs.lemmas.Option.{none-some}
 use Rattle.xs_base.specs.Numbers.{Slot, Position}
-use Rattle.sys_plan.specs.declared.LinkPlan.{LinkPlan}
-use Rattle.sys_plan.specs.Plan.{PlanRec, IsPlan, arcs, link_arcs}
+use Rattle.sys_plan.specs.Plan.{PlanRec, IsPlan, Arc, arcs, link_arcs, wire_arcs}
+use Rattle.sys_plan.proofs.Routes.{all-get}
 use Rattle.round_laws.specs.Rounds.{reach, round_clocks, round_clock, all_at_limit, rounds_from, rounds, least_delay}
-use Rattle.round_laws.specs.Laws.{RoundsByDelay, RoundsWithinSlots, RoundsWithoutLinks, NoRoundsForNoSlots, IsLeastOf}
+use Rattle.round_laws.specs.Laws.{RoundsByDelay, RoundsWithinSlots, RoundsWithoutArcs, NoRoundsForNoSlots, IsLeastOf}
 use Rattle.round_laws.specs.Laws.{TestIsOfEach, AllFromThenOn, NotAllBefore, MoreWhereNotAll, NoneIfAllAtStart, CountIfFirst}
 use Rattle.round_laws.proofs.Leasts.{from_each}
 use Rattle.round_laws.proofs.Positions.{test_of_each, each_to_test}
@@ -102,7 +101,7 @@ module _ (plan : PlanRec) (limit : Slot) where
   -- a slot a round at least
   pub all_in_time : IsPlan plan → all_at_limit plan limit limit ≡ true
   all_in_time is =
-      from_run plan limit limit (λ n less. omega (arith, by_delays plan limit 1 is (one_below_none (length plan.nodes) plan.links is.links) limit n less))
+      from_run plan limit limit (λ n less. omega (arith, by_delays plan limit 1 is (one_below_none plan is) limit n less))
 
   pub all_after : IsPlan plan → all_at_limit plan limit (rounds plan limit) ≡ true
   all_after is = passes limit limit 0 (test 0) refl (omega arith) (omega arith) (all_in_time is)
@@ -136,34 +135,31 @@ rounded_up limit delay least =
     let n : ℕ = limit + delay - 1 in
     omega (arith, least, div-add-mod' n delay, mod_below n delay (omega (arith, least)))
 
--- what holds of each holds of the one at a place
-at_place : {X : Type 0} (P : X → Type 0) (xs : List X) (k : ℕ) (x : X) → AllByRecursion P xs → slice_get xs k ≡ Some x → P x
-at_place P [] k x all at = absurd (none-some x at)
-at_place P (y ∷ xs) zero x all at = subst P (same_Some y x at) all.0
-at_place P (y ∷ xs) (suc k) x all at = at_place P xs k x all.1 at
-
-least_is_one : (plan : PlanRec) (delay : Slot) → IsPlan plan → least_delay plan.links ≡ Some delay → 1 ≤ delay
+least_is_one : (plan : PlanRec) (delay : Slot) → IsPlan plan → least_delay (arcs plan) ≡ Some delay → 1 ≤ delay
 least_is_one plan delay is least =
-    let it : IsLeastOf plan.links delay = least_of plan.links delay least in
-    omega (arith, it.is_it, at_place (λ (link : LinkPlan). 1 ≤ link.delay) plan.links it.place it.link (one_below_none (length plan.nodes) plan.links is.links) it.there)
+    let it : IsLeastOf (arcs plan) delay = least_of (arcs plan) delay least in
+    omega (arith, it.is_it, all-get (λ (d : Arc). 1 ≤ d.delay) (arcs plan) it.place it.arc (one_below_none plan is) it.there)
 
 pub rounds_by_delay : RoundsByDelay
 rounds_by_delay plan limit delay is least =
     let k : ℕ = (limit + delay - 1) / delay in
     let enough : limit ≤ k * delay = rounded_up limit delay (least_is_one plan delay is least) in
-    at_most plan limit k (from_run plan limit k (λ n less. omega (arith, by_delays plan limit delay is (below_none plan.links delay least) k n less, enough)))
+    at_most plan limit k (from_run plan limit k (λ n less. omega (arith, by_delays plan limit delay is (below_none (arcs plan) delay least) k n less, enough)))
 
 pub rounds_within_slots : RoundsWithinSlots
 rounds_within_slots plan limit is = at_most plan limit limit (all_in_time plan limit is)
 
-pub rounds_without_links : RoundsWithoutLinks
-rounds_without_links plan limit none = at_most plan limit 1 (from_run plan limit 1 to_limit)
+pub rounds_without_arcs : RoundsWithoutArcs
+rounds_without_arcs plan limit no_links no_wires = at_most plan limit 1 (from_run plan limit 1 to_limit)
   where
+    none : arcs plan ≡ []
+    none = λ i. link_arcs (no_links i) ++ wire_arcs [] (no_wires i)
+
     to_limit : (n : Position) → n < length plan.nodes → limit ≤ round_clock plan limit n 1
     to_limit n less =
         subst (λ (clock : Slot). limit ≤ clock) (sym (after_one_more plan limit n 0 less))
         (from_each limit (reach (round_clocks plan limit 0)) (λ d. eqb d.to n) limit (omega arith) (arcs plan)
-        (λ l d at hit. absurd (none-some d (ap (λ ls. slice_get (link_arcs ls) l) (sym none) ∙ at))))
+        (λ l d at hit. absurd (none-some d (ap (λ ds. slice_get ds l) (sym none) ∙ at))))
 
 pub no_rounds_for_no_slots : NoRoundsForNoSlots
 no_rounds_for_no_slots plan = none_if_all_at_start plan 0 (from_each_node plan 0 0 (λ n less. start_at_zero plan 0 n))

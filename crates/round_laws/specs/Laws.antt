@@ -2,7 +2,6 @@
 use Rattle.std.specs.Prelude.{ℕ, ◌≡◌, ◌+◌, ◌-◌, ◌*◌, ◌/◌, ◌<◌, ◌≤◌, min, true, false, ◌↔◌, nat_lt, Option, Some, None, List, [], length, map, slice_get}
 use Rattle.std.specs.List.{AllByRecursion}
 use Rattle.xs_base.specs.Numbers.{Slot, Position, EndNumber, LinkNumber}
-use Rattle.sys_plan.specs.declared.LinkPlan.{LinkPlan}
 use Rattle.sys_plan.specs.Plan.{PlanRec, IsPlan, Arc, arcs, incoming}
 use Rattle.ahead_limits.specs.declared.horizon.Seen.{Seen}
 use Rattle.ahead_limits.specs.Horizon.{HorizonRec, Sees, may_run}
@@ -37,38 +36,38 @@ AllHaveRun plan limit k least = (n : Position) → n < length plan.nodes → lea
 
 -- a round takes the least clock further by the least delay at least, or to the limit
 abbrev pub RoundGoesOn : Type 0
-RoundGoesOn = (plan : PlanRec) (limit delay least : Slot) (k : ℕ) → IsPlan plan → least_delay plan.links ≡ Some delay
+RoundGoesOn = (plan : PlanRec) (limit delay least : Slot) (k : ℕ) → IsPlan plan → least_delay (arcs plan) ≡ Some delay
     → AllHaveRun plan limit k least → AllHaveRun plan limit (k + 1) (min limit (least + delay))
 
 -- so after any rounds every clock is at least that many least delays, or the limit
 abbrev pub RoundsGoOn : Type 0
-RoundsGoOn = (plan : PlanRec) (limit delay : Slot) (k : ℕ) → IsPlan plan → least_delay plan.links ≡ Some delay → AllHaveRun plan limit k (min limit (k * delay))
+RoundsGoOn = (plan : PlanRec) (limit delay : Slot) (k : ℕ) → IsPlan plan → least_delay (arcs plan) ≡ Some delay → AllHaveRun plan limit k (min limit (k * delay))
 
 -- ---- How many rounds
 
--- no delay of these links is below this one, and one of them has it
-pub record IsLeastOf (links : List LinkPlan) (delay : Slot) : Type 0 where
-  pub none_below : AllByRecursion (λ (link : LinkPlan). delay ≤ link.delay) links
+-- no delay of these arcs is below this one, and one of them has it
+pub record IsLeastOf (ds : List Arc) (delay : Slot) : Type 0 where
+  pub none_below : AllByRecursion (λ (d : Arc). delay ≤ d.delay) ds
   pub place : ℕ
-  pub link : LinkPlan
-  pub there : slice_get links place ≡ Some link
-  pub is_it : link.delay ≡ delay
+  pub arc : Arc
+  pub there : slice_get ds place ≡ Some arc
+  pub is_it : arc.delay ≡ delay
 
-abbrev pub IsLeastDelay : List LinkPlan → Option Slot → Type 0
-IsLeastDelay links None = links ≡ []
-IsLeastDelay links (Some delay) = IsLeastOf links delay
+abbrev pub IsLeastDelay : List Arc → Option Slot → Type 0
+IsLeastDelay ds None = ds ≡ []
+IsLeastDelay ds (Some delay) = IsLeastOf ds delay
 
 -- the least delay is one of the delays, and none is below it
 abbrev pub LeastDelayIsLeast : Type 0
-LeastDelayIsLeast = (links : List LinkPlan) → IsLeastDelay links (least_delay links)
+LeastDelayIsLeast = (ds : List Arc) → IsLeastDelay ds (least_delay ds)
 
 -- they are at most the limit over the least delay, rounded up
 abbrev pub RoundsByDelay : Type 0
-RoundsByDelay = (plan : PlanRec) (limit delay : Slot) → IsPlan plan → least_delay plan.links ≡ Some delay → rounds plan limit ≤ (limit + delay - 1) / delay
+RoundsByDelay = (plan : PlanRec) (limit delay : Slot) → IsPlan plan → least_delay (arcs plan) ≡ Some delay → rounds plan limit ≤ (limit + delay - 1) / delay
 
--- at most one where there is no link
-abbrev pub RoundsWithoutLinks : Type 0
-RoundsWithoutLinks = (plan : PlanRec) (limit : Slot) → plan.links ≡ [] → rounds plan limit ≤ 1
+-- at most one where there is neither a link nor a wire
+abbrev pub RoundsWithoutArcs : Type 0
+RoundsWithoutArcs = (plan : PlanRec) (limit : Slot) → plan.links ≡ [] → plan.wires ≡ [] → rounds plan limit ≤ 1
 
 -- never more than the run has slots, for a delay is a slot at least
 abbrev pub RoundsWithinSlots : Type 0

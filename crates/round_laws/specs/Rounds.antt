@@ -3,7 +3,6 @@ use Rattle.std.specs.Prelude.{ℕ, zero, suc, ◌+◌, min, Bool, true, false, �
 use Rattle.std.specs.List.{list_all}
 use Rattle.xs_base.specs.Numbers.{Slot, Position}
 use Rattle.sys_plan.specs.declared.NodePlan.{NodePlan}
-use Rattle.sys_plan.specs.declared.LinkPlan.{LinkPlan}
 use Rattle.sys_plan.specs.Plan.{PlanRec, Arc, arcs}
 
 -- how far an arc lets its receiver run, where all is known that its sender has run: the sender's clock and the delay
@@ -59,7 +58,7 @@ abbrev pub lesser : Slot → Option Slot → Slot
 lesser delay None = delay
 lesser delay (Some other) = min delay other
 
--- the least delay of some links, where there is a link
-abbrev pub least_delay : List LinkPlan → Option Slot
+-- the least delay of some arcs, where there is one
+abbrev pub least_delay : List Arc → Option Slot
 least_delay [] = None
-least_delay (link ∷ links) = Some (lesser link.delay (least_delay links))
+least_delay (d ∷ ds) = Some (lesser d.delay (least_delay ds))

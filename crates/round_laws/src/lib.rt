@@ -3,14 +3,14 @@
 #![tactic(auto)]
 
 ghost use Rattle.round_laws.specs.Laws.{ClocksStartAtZero, ClocksGoByRounds, NoRoundFalls, ClocksStayWithin, RoundGoesOn, RoundsGoOn};
-ghost use Rattle.round_laws.specs.Laws.{RoundsByDelay, RoundsWithoutLinks, NoRoundsForNoSlots, RoundsWithinSlots, LeastDelayIsLeast};
+ghost use Rattle.round_laws.specs.Laws.{RoundsByDelay, RoundsWithoutArcs, NoRoundsForNoSlots, RoundsWithinSlots, LeastDelayIsLeast};
 ghost use Rattle.round_laws.specs.Laws.{TestIsOfEach, AllFromThenOn, NotAllBefore, MoreWhereNotAll, NoneIfAllAtStart, CountIfFirst};
 ghost use Rattle.round_laws.specs.Laws.{RoundRunsBelow, RoundMayRun, RoundRunsTo, HorizonSeesRound};
 
 /// The clock of a node after some rounds is 0 before the first, and after a round more the least of the limit and, over the arcs that
-/// come to the node, the sender's clock and the delay. A round lets no clock fall, and none passes the limit. It takes the least
-/// clock further by the least delay at least, or to the limit; so after any rounds every clock is at least that many least delays, or
-/// the limit. It does nothing. See docs/LOOKAHEAD.md.
+/// come to the node, of links and of wires, the sender's clock and the delay. A round lets no clock fall, and none passes the limit. It
+/// takes the least clock further by the least delay of all links and wires at least, or to the limit; so after any rounds every clock is
+/// at least that many least delays, or the limit. It does nothing. See docs/LOOKAHEAD.md.
 pub fn round_clocks_rise()
     ensures start { ClocksStartAtZero }
     ensures round { ClocksGoByRounds }
@@ -20,12 +20,12 @@ pub fn round_clocks_rise()
     ensures go_on { RoundsGoOn }
 {}
 
-/// A run takes at most as many rounds as its slots over the least delay, rounded up; without a link at most one, and none where it
-/// has no slots. It never takes more than it has slots. The least delay is one of the delays, and none is below it. It does nothing. See
-/// docs/LOOKAHEAD.md.
+/// A run takes at most as many rounds as its slots over the least delay of all links and wires, rounded up; with neither at most one, and
+/// none where it has no slots. It never takes more than it has slots. The least delay is one of the delays, and none is below it. It does
+/// nothing. See docs/LOOKAHEAD.md.
 pub fn rounds_are_few()
     ensures by_delay { RoundsByDelay }
-    ensures without_links { RoundsWithoutLinks }
+    ensures without_arcs { RoundsWithoutArcs }
     ensures no_slots { NoRoundsForNoSlots }
     ensures within { RoundsWithinSlots }
     ensures least { LeastDelayIsLeast }

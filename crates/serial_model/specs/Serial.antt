@@ -1,7 +1,7 @@
 -- The serial machine: all nodes of a system stepped together, slot by slot.
-use Rattle.std.specs.Prelude.{ℕ, zero, suc, ◌+◌, Bool, true, false, ◌&&◌, ◌==◌, nat_le, nat_lt, Option, Some, None, List, [], ◌∷◌, ◌++◌, map, filter, slice_index, slice_index_or}
+use Rattle.std.specs.Prelude.{ℕ, zero, suc, ◌+◌, Bool, true, false, ◌&&◌, ◌==◌, nat_le, nat_lt, if◌then◌else◌, Option, Some, None, List, [], ◌∷◌, ◌++◌, map, filter, slice_index, slice_index_or}
 use Rattle.std.specs.List.{list_any}
-use Rattle.xs_base.specs.Numbers.{Slot, Position, LinkNumber, EndNumber}
+use Rattle.xs_base.specs.Numbers.{Slot, Word, Position, LinkNumber, EndNumber, PortNumber}
 use Rattle.xs_base.specs.declared.token.Token.{Token}
 use Rattle.xs_base.specs.declared.entry.Entry.{Entry}
 use Rattle.xs_base.specs.declared.entry.What.{What}
@@ -9,15 +9,16 @@ use Rattle.xs_base.specs.declared.entry.What.TheVariants as what
 use Rattle.xs_model.specs.declared.event.Event.{Event}
 use Rattle.xs_model.specs.declared.outside.Arrivals.{Arrivals}
 use Rattle.xs_model.specs.declared.outside.PinView.{PinView}
-use Rattle.xs_model.specs.Record.{NodeRec}
+use Rattle.xs_model.specs.Record.{NodeRec, first_node, port_of}
+use Rattle.xs_model.specs.Ports.{level_of}
 use Rattle.xs_model.specs.Outside.{Emitted, emitted_events}
-use Rattle.pin_scripts.specs.Script.{view_at}
+use Rattle.pin_scripts.specs.Script.{pin_at, port_numbers}
 use Rattle.sys_plan.specs.declared.NodePlan.{NodePlan}
-use Rattle.sys_plan.specs.Plan.{PlanRec, Arc, arcs, incoming, delay_of, gaps_of, link_ends, node_numbers}
+use Rattle.sys_plan.specs.Plan.{PlanRec, Arc, Joined, arcs, incoming, wire_to, delay_of, gaps_of, link_ends, node_numbers}
 use Rattle.step_model.specs.Start.{fixed_of, node_of}
 use Rattle.step_model.specs.Step.{Stepped, node_step}
 
--- a system after some slots: nodes and their events by position, histories by the number of the arc
+-- a system after some slots: nodes and their events by position, histories by the number of the arc, which is a directed link or a wire
 pub record SystemRec : Type 0 where
   pub nodes : List NodeRec
   pub histories : List (List Entry)
@@ -47,16 +48,21 @@ arriving_by plan histories slot (Some link) = arriving slot (delay_of plan link)
 
 abbrev pub token_or : What → Option Token → Option Token
 token_or (what.Token t) other = Some t
-token_or what.Credit other = other
+token_or _ other = other
 
 -- the first token among entries
 abbrev pub token_among : List Entry → Option Token
 token_among [] = None
 token_among (e ∷ es) = token_or e.what (token_among es)
 
+-- a token or a credit, as a directed link carries, and no level of a wire
+abbrev pub IsNoLevel : What → Type 0
+IsNoLevel (what.Level level) = ⊥
+IsNoLevel _ = Unit {0}
+
 abbrev pub is_credit : What → Bool
-is_credit (what.Token t) = false
 is_credit what.Credit = true
+is_credit _ = false
 
 -- whether a credit is among entries
 abbrev pub credit_among : List Entry → Bool
@@ -70,18 +76,42 @@ arrivals_of by_end = record { tokens = map token_among (map by_end link_ends); c
 abbrev pub arrivals_at : PlanRec → List (List Entry) → Slot → Position → Arrivals
 arrivals_at plan histories slot node = arrivals_of (λ end. arriving_by plan histories slot (incoming plan node end))
 
--- what the pins of the node at a position show in a slot, where its ports do not drive them
-abbrev pub pins_at : PlanRec → Position → Slot → PinView
-pins_at plan node slot = view_at plan.script (slice_index (node_numbers plan) node) slot
+abbrev pub level_or : What → Word → Word
+level_or (what.Level level) before = level
+level_or _ before = before
 
--- what comes to a node in a slot: what arrives by its link ends, and what its pins show from outside
+-- the level that the last of some entries leaves, where it was this before them
+abbrev pub level_after : Word → List Entry → Word
+level_after level [] = level
+level_after level (e ∷ es) = level_after (level_or e.what level) es
+
+-- the entries of an arc that have arrived by the end of a delay: those that were sent a delay before a slot, or earlier
+abbrev pub arrived_by : Slot → ℕ → List Entry → List Entry
+arrived_by slot delay history = filter (λ (e : Entry). nat_le (e.slot + delay) slot) history
+
+-- what a wire with this history shows at its second end in a slot: the level that the last entry that has arrived leaves, else 0
+abbrev pub wire_level : Slot → ℕ → List Entry → Word
+wire_level slot delay history = level_after 0 (arrived_by slot delay history)
+
+-- what a pin of a node of a plan shows in a slot, where its port does not drive it: by the wire that comes to it, where one does, and
+-- then no line of the script tells; else by the script
+abbrev pub pin_level : PlanRec → List (List Entry) → Position → Slot → PortNumber → Option LinkNumber → Word
+pin_level plan histories node slot port None = pin_at plan.script (slice_index (node_numbers plan) node) port slot
+pin_level plan histories node slot port (Some wire) = wire_level slot (delay_of plan wire) (slice_index_or histories wire [])
+
+-- what the pins of the node at a position show in a slot, where its ports do not drive them, when the arcs have these histories
+abbrev pub pins_at : PlanRec → List (List Entry) → Position → Slot → PinView
+pins_at plan histories node slot =
+    record { level = map (λ port. pin_level plan histories node slot port (wire_to plan node port)) port_numbers }
+
+-- what comes to a node in a slot: what arrives by its link ends, and what its pins show from outside, by the script and by wires
 pub record Coming : Type 0 where
   pub arrivals : Arrivals
   pub pins : PinView
 
 -- what comes in a slot to the node at a position, when the arcs have these histories
 abbrev pub coming_at : PlanRec → List (List Entry) → Slot → Position → Coming
-coming_at plan histories slot node = record { arrivals = arrivals_at plan histories slot node; pins = pins_at plan node slot }
+coming_at plan histories slot node = record { arrivals = arrivals_at plan histories slot node; pins = pins_at plan histories node slot }
 
 -- the step of a node of a plan, at a position, in a slot in which this comes to it
 abbrev pub step_by : PlanRec → Position → NodePlan → Slot → Coming → NodeRec → Stepped
@@ -111,15 +141,38 @@ abbrev pub sent_by : Slot → Emitted → EndNumber → List Entry
 sent_by slot emitted end =
     token_entries slot (slice_index_or emitted.tokens end None) ++ credit_entries slot (slice_index_or emitted.credits end false)
 
--- what the node at a position emitted
+-- the level that a port drives, 0 where it drives none
+abbrev pub driven_level : NodeRec → PortNumber → Word
+driven_level rec port = level_of (port_of rec.core port).driven 0
+
+-- what a wire is told of a slot, of the level before it and after it
+abbrev pub level_entries : Slot → Word → Word → List Entry
+level_entries slot before after = if after == before then [] else record { slot = slot; what = what.Level after } ∷ []
+
+-- what an arc that leaves by an end carries of a slot that made this of its node, and in which the node emitted this: of a link, what its
+-- link end sent; of a wire, the level that its first pin drives after the slot, where that is another than before it
+abbrev pub carried_by : Slot → NodeRec → NodeRec → Emitted → EndNumber → Option Joined → List Entry
+carried_by slot before after emitted end None = sent_by slot emitted end
+carried_by slot before after emitted end (Some joined) =
+    level_entries slot (driven_level before joined.from_port) (driven_level after joined.from_port)
+
+-- the node at a position, and what it emitted
+abbrev pub node_by : List NodeRec → Position → NodeRec
+node_by nodes node = slice_index_or nodes node (first_node 0 0 [])
+
 abbrev pub emitted_by : List Stepped → Position → Emitted
 emitted_by steps node = slice_index_or (map (λ (s : Stepped). s.emitted) steps) node (emitted_events [])
 
--- each history goes on with what its sender's link end sent
-abbrev pub longer_histories : Slot → List Stepped → List Arc → List (List Entry) → List (List Entry)
-longer_histories slot steps (d ∷ ds) (history ∷ histories) =
-    (history ++ sent_by slot (emitted_by steps d.from) d.from_end) ∷ longer_histories slot steps ds histories
-longer_histories slot steps _ _ = []
+-- what an arc carries of the steps that these nodes made in a slot
+abbrev pub carried : Slot → List NodeRec → List Stepped → Arc → List Entry
+carried slot nodes steps d =
+    carried_by slot (node_by nodes d.from) (node_by (map (λ (s : Stepped). s.rec) steps) d.from) (emitted_by steps d.from) d.from_end d.joins
+
+-- each history goes on with what its arc carries
+abbrev pub longer_histories : Slot → List NodeRec → List Stepped → List Arc → List (List Entry) → List (List Entry)
+longer_histories slot nodes steps (d ∷ ds) (history ∷ histories) =
+    (history ++ carried slot nodes steps d) ∷ longer_histories slot nodes steps ds histories
+longer_histories slot nodes steps _ _ = []
 
 -- the events of each node go on with those of its slot
 abbrev pub longer_events : List Stepped → List (List Event) → List (List Event)
@@ -130,7 +183,7 @@ longer_events _ _ = []
 abbrev pub system_after : PlanRec → Slot → SystemRec → List Stepped → SystemRec
 system_after plan slot system steps = record {
   nodes = map (λ (s : Stepped). s.rec) steps;
-  histories = longer_histories slot steps (arcs plan) system.histories;
+  histories = longer_histories slot system.nodes steps (arcs plan) system.histories;
   events = longer_events steps system.events;
 }
 

@@ -1,19 +1,19 @@
 -- The text that a run writes.
-use Rattle.std.specs.Prelude.{ℕ, ◌+◌, Bool, true, false, ◌==◌, if◌then◌else◌, List, [], ◌∷◌, ◌++◌, length, map, filter, slice_index, slice_index_or, codes, decimal}
+use Rattle.std.specs.Prelude.{ℕ, ◌+◌, Bool, true, false, not, ◌==◌, if◌then◌else◌, List, [], ◌∷◌, ◌++◌, length, map, filter, slice_index, slice_index_or, codes, decimal}
 use Rattle.std.specs.List.{flat_map}
 use Rattle.xs_base.specs.declared.numbers.TheConstants.{MEMORY_START}
 use Rattle.xs_base.specs.declared.entry.Entry.{Entry}
 use Rattle.xs_base.specs.declared.entry.What.{What}
-use Rattle.xs_base.specs.declared.entry.What.TheVariants.{Token, Credit}
 use Rattle.xs_model.specs.declared.thread.Run.{Run}
 use Rattle.xs_model.specs.declared.thread.Run.TheVariants.{Halted}
 use Rattle.xs_model.specs.declared.thread.Thread.{Thread}
 use Rattle.xs_model.specs.declared.event.Event.{Event}
 use Rattle.xs_model.specs.Memory.{words_of}
 use Rattle.xs_model.specs.Record.{NodeRec, first_node}
-use Rattle.trace_model.specs.EventLines.{event_line, hex_word}
+use Rattle.trace_model.specs.EventLines.{event_line, hex_word, port_name}
 use Rattle.xs_model.specs.FirstEvents.{first_events, left_out}
 use Rattle.sys_plan.specs.declared.NodePlan.{NodePlan}
+use Rattle.sys_plan.specs.declared.WirePlan.{WirePlan}
 use Rattle.sys_plan.specs.Plan.{PlanRec, Arc, link_arcs}
 use Rattle.serial_model.specs.Serial.{SystemRec, serial, is_credit}
 use Rattle.trace_model.specs.EventOrder.{Placed, merged}
@@ -32,11 +32,11 @@ more_line node count =
     if count == 0 then []
     else codes "n" ++ (decimal node ++ (codes " more " ++ (decimal count ++ (10 ∷ []))))
 
+-- what carries something: a token, or a level of a wire
 abbrev pub is_token : What → Bool
-is_token (Token token) = true
-is_token Credit = false
+is_token what = not (is_credit what)
 
--- how many tokens a directed link's history has, and how many credits
+-- how many tokens a history has, or levels of a wire, and how many credits
 abbrev pub tokens_sent : List Entry → ℕ
 tokens_sent history = length (filter (λ (e : Entry). is_token e.what) history)
 
@@ -56,6 +56,16 @@ counts_text history =
 abbrev pub traffic_line : ℕ → ℕ → ℕ → ℕ → List Entry → List ℕ
 traffic_line from from_end to to_end history =
     codes "link " ++ (link_end_text from from_end ++ (codes ">" ++ (link_end_text to to_end ++ counts_text history)))
+
+-- `N:P`, a pin of a node, by the name of its port
+abbrev pub pin_text : ℕ → ℕ → List ℕ
+pin_text node port = decimal node ++ (codes ":" ++ port_name port)
+
+-- `wire N:P>M:Q changes C`
+abbrev pub changes_line : ℕ → ℕ → ℕ → ℕ → List Entry → List ℕ
+changes_line from from_port to to_port history =
+    codes "wire " ++ (pin_text from from_port ++ (codes ">" ++ (pin_text to to_port
+    ++ (codes " changes " ++ (decimal (length history) ++ (10 ∷ []))))))
 
 abbrev pub is_halted : Run → Bool
 is_halted Halted = true
@@ -91,7 +101,7 @@ unfoldable pub by_position : {A : Type 0} → (ℕ → A → List ℕ) → ℕ �
 by_position piece k [] = []
 by_position piece k (x ∷ xs) = piece k x ++ by_position piece (k + 1) xs
 
--- the node at a position, the history of the directed link with a number, and the events of the node at a position
+-- the node at a position, the history of the arc with a number, and the events of the node at a position
 abbrev pub node_at : SystemRec → ℕ → NodeRec
 node_at system k = slice_index_or system.nodes k (first_node 0 0 [])
 
@@ -114,6 +124,11 @@ abbrev pub traffic_at : List NodePlan → SystemRec → ℕ → Arc → List ℕ
 traffic_at nodes system k d =
     traffic_line (number_at nodes d.from) d.from_end (number_at nodes d.to) d.to_end (history_at system k)
 
+-- the line that tells how often the level changed that wire w carries, where the arc of the first wire has this number
+abbrev pub changes_at : List NodePlan → ℕ → SystemRec → ℕ → WirePlan → List ℕ
+changes_at nodes first system w wire =
+    changes_line (number_at nodes wire.a) wire.a_port (number_at nodes wire.b) wire.b_port (history_at system (first + w))
+
 -- the lines of the halted threads of the node at position k
 abbrev pub halted_at : SystemRec → ℕ → NodePlan → List ℕ
 halted_at system k node = halted_lines node.number 0 (node_at system k).core.threads
@@ -122,14 +137,15 @@ halted_at system k node = halted_lines node.number 0 (node_at system k).core.thr
 abbrev pub memory_at : SystemRec → ℕ → NodePlan → List ℕ
 memory_at system k node = memory_lines node.number MEMORY_START (words_of (node_at system k).core.memory)
 
--- the lines between those of the events and the last: what of the events was left out, what was sent on each directed
--- link, the halted threads, and the words of the memories that aren't 0
+-- the lines between those of the events and the last: what of the events was left out, what was sent on each directed link, how often the
+-- level of each wire changed, the halted threads, and the words of the memories that aren't 0
 abbrev pub lines_after_events : PlanRec → SystemRec → List ℕ
 lines_after_events plan system =
     by_position (more_at system) 0 plan.nodes
     ++ (by_position (traffic_at plan.nodes system) 0 (link_arcs plan.links)
+    ++ (by_position (changes_at plan.nodes (length (link_arcs plan.links)) system) 0 plan.wires
     ++ (by_position (halted_at system) 0 plan.nodes
-    ++ by_position (memory_at system) 0 plan.nodes))
+    ++ by_position (memory_at system) 0 plan.nodes)))
 
 -- the trace of a run of so many slots: the events in order, those lines, and the last
 unfoldable pub trace_text : PlanRec → ℕ → List ℕ

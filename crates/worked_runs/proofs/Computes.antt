@@ -1,5 +1,7 @@
 -- The definitions by which a run computes, and what is written of it. A proof that runs them names `computes` alone.
 use Rattle.std.specs.Fmt.{digits}
+use Rattle.xs_base.specs.Ids.{port_among}
+use Rattle.xs_model.specs.Bits.{bits_of, value_of}
 use Rattle.xs_model.specs.Memory.{words_of}
 use Rattle.xs_model.specs.Picks.{best_from}
 use Rattle.xs_model.specs.Ports.{edges_from}
@@ -22,5 +24,5 @@ use Rattle.busy_slots.specs.Busy.{busy_count}
 
 -- names them all on its own line, so that they unfold where it does
 unfoldable pub computes : Type 0
-unfolding digits words_of best_from edges_from lowest_free first_difference links_after_arrivals moves_from free_end node_step serial alone clock_after after_steps round_clocks rounds_from hex_word by_slot halted_lines memory_lines by_position trace_text played_from play_text load_text busy_count
+unfolding digits port_among bits_of value_of words_of best_from edges_from lowest_free first_difference links_after_arrivals moves_from free_end node_step serial alone clock_after after_steps round_clocks rounds_from hex_word by_slot halted_lines memory_lines by_position trace_text played_from play_text load_text busy_count
 computes = Unit {0}

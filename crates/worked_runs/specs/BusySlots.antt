@@ -22,6 +22,7 @@ five_instructions = record {
   links = [];
   script = [];
   steps = [];
+  wires = [];
 }
 
 -- a node that never had a thread, whose port 1A is this

@@ -13,10 +13,10 @@ second_link_plan = record { a = 0; a_end = 0; b = 2; b_end = 1; delay = 9; gap =
 
 -- links alone matter here
 abbrev pub one_link : PlanRec
-one_link = record { nodes = []; links = first_link_plan ∷ []; script = []; steps = [] }
+one_link = record { nodes = []; links = first_link_plan ∷ []; script = []; steps = []; wires = [] }
 
 abbrev pub two_links : PlanRec
-two_links = record { nodes = []; links = first_link_plan ∷ second_link_plan ∷ []; script = []; steps = [] }
+two_links = record { nodes = []; links = first_link_plan ∷ second_link_plan ∷ []; script = []; steps = []; wires = [] }
 
 pub record WorkedDirections : Type 0 where
   -- a link's first end is where arc 0 leaves, and where arc 1 comes to
@@ -34,10 +34,10 @@ pub record WorkedDirections : Type 0 where
   pub gaps_of_third : gaps_of one_link 2 ≡ replicate 8 0
   -- the second link's arcs have the numbers 2 and 3, and those of the first one stay
   pub all : arcs two_links
-      ≡ record { from = 1; from_end = 2; to = 0; to_end = 7; delay = 5; gap = 4 }
-      ∷ record { from = 0; from_end = 7; to = 1; to_end = 2; delay = 5; gap = 4 }
-      ∷ record { from = 0; from_end = 0; to = 2; to_end = 1; delay = 9; gap = 6 }
-      ∷ record { from = 2; from_end = 1; to = 0; to_end = 0; delay = 9; gap = 6 }
+      ≡ record { from = 1; from_end = 2; to = 0; to_end = 7; delay = 5; gap = 4; joins = None }
+      ∷ record { from = 0; from_end = 7; to = 1; to_end = 2; delay = 5; gap = 4; joins = None }
+      ∷ record { from = 0; from_end = 0; to = 2; to_end = 1; delay = 9; gap = 6; joins = None }
+      ∷ record { from = 2; from_end = 1; to = 0; to_end = 0; delay = 9; gap = 6; joins = None }
       ∷ []
   pub second_forth_leaves : outgoing two_links 0 0 ≡ Some 2
   pub second_forth_comes : incoming two_links 2 1 ≡ Some 2

@@ -9,3 +9,5 @@ pub mod Traces
 pub mod LinkLines
 pub mod Plays
 pub mod Loads
+pub mod Wires
+pub mod WireRuns

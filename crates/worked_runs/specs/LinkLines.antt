@@ -26,6 +26,7 @@ three_and_seven = record {
   links = record { a = 1; a_end = 2; b = 0; b_end = 6; delay = 5; gap = 4; net = 0 } ∷ [];
   script = [];
   steps = [];
+  wires = [];
 }
 
 -- node 0 sends one byte after the other to channel end 0 of node 1, from which none is taken
@@ -41,6 +42,7 @@ flooded_pair = record {
   links = record { a = 0; a_end = 0; b = 1; b_end = 0; delay = 5; gap = 4; net = 0 } ∷ [];
   script = [];
   steps = [];
+  wires = [];
 }
 
 pub record WorkedLinks : Type 0 where

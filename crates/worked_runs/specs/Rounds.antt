@@ -4,14 +4,14 @@ use Rattle.sys_plan.specs.declared.NodePlan.{NodePlan}
 use Rattle.sys_plan.specs.declared.LinkPlan.{LinkPlan}
 use Rattle.sys_plan.specs.declared.Step.{Step}
 use Rattle.sys_plan.specs.declared.Step.TheVariants.{Take, Run, Send}
-use Rattle.sys_plan.specs.Plan.{PlanRec}
+use Rattle.sys_plan.specs.Plan.{PlanRec, arcs}
 use Rattle.ahead_limits.specs.Schedule.{numbers}
 use Rattle.round_laws.specs.Rounds.{round_clocks, rounds, least_delay}
 use Rattle.worked_runs.specs.Schedules.{idle_node, pair}
 
 -- nodes without code, and links between them
 abbrev pub of_nodes : List NodePlan → List LinkPlan → PlanRec
-of_nodes nodes links = record { nodes = nodes; links = links; script = []; steps = [] }
+of_nodes nodes links = record { nodes = nodes; links = links; script = []; steps = []; wires = [] }
 
 -- nothing comes to a node without links, and so it runs to the limit at once
 pub record LoneRounds : Type 0 where
@@ -68,7 +68,7 @@ pub record RingRounds : Type 0 where
   pub to_20 : rounds slow_third 20 ≡ 7
   pub to_21 : rounds slow_third 21 ≡ 7
   pub to_22 : rounds slow_third 22 ≡ 8
-  pub least : least_delay slow_third.links ≡ Some 3
+  pub least : least_delay (arcs slow_third) ≡ Some 3
 
 -- Nodes 0 and 1 with a delay of 6, two links between 1 and 2 with delays of 4 and 9, and node 3 alone. The shorter of the two links counts.
 abbrev pub two_ways : PlanRec

@@ -20,6 +20,7 @@ pair steps = record {
   links = record { a = 0; a_end = 0; b = 1; b_end = 0; delay = 5; gap = 4; net = 0 } ∷ [];
   script = [];
   steps = steps;
+  wires = [];
 }
 
 -- Nothing is known of what comes to node 0 before slot 5, and so it runs 5 slots. Node 1 sees these, and runs to slot 10. Node 0 sees
@@ -53,6 +54,7 @@ ring steps = record {
       ∷ [];
   script = [];
   steps = steps;
+  wires = [];
 }
 
 -- The count stops node 0 at slot 3. The link from node 2 stops node 1 at slot 2, and the link from node 1 then node 2 at slot 4.

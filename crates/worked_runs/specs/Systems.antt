@@ -34,6 +34,7 @@ two_alone = record {
   links = [];
   script = [];
   steps = [];
+  wires = [];
 }
 
 -- the same two with a link, by which nothing is sent
@@ -43,6 +44,7 @@ two_joined = record {
   links = record { a = 1; a_end = 2; b = 0; b_end = 7; delay = 5; gap = 4; net = 0 } ∷ [];
   script = [];
   steps = [];
+  wires = [];
 }
 
 -- Node 0 issues in slots 0 and 4 and is done; node 1 traps in slot 0, and its thread halts where its trap led.
@@ -71,6 +73,7 @@ talking_pair = record {
   links = record { a = 0; a_end = 0; b = 1; b_end = 0; delay = 5; gap = 4; net = 0 } ∷ [];
   script = [];
   steps = [];
+  wires = [];
 }
 
 abbrev pub token_sent : ℕ → Token → Entry
@@ -149,6 +152,7 @@ line_of_three = record {
   links = record { a = 0; a_end = 0; b = 1; b_end = 0; delay = 5; gap = 4; net = 0 } ∷ record { a = 1; a_end = 1; b = 2; b_end = 0; delay = 5; gap = 4; net = 0 } ∷ [];
   script = [];
   steps = [];
+  wires = [];
 }
 
 -- The node between passes the packet on from slot 27 to slot 39. Its own waits from slot 29 on and goes out from slot 43 to slot
@@ -172,11 +176,12 @@ driven_pair = record {
   links = [];
   script = record { slot = 5; node = 7; port = 16; value = 9 } ∷ [];
   steps = [];
+  wires = [];
 }
 
 -- Port 16 shows the value from the line's own slot on, at the second node alone.
 pub record DrivenPins : Type 0 where
-  pub before : get_or (pins_at driven_pair 1 4).level 16 77 ≡ 0
-  pub at : get_or (pins_at driven_pair 1 5).level 16 77 ≡ 9
-  pub next_port : get_or (pins_at driven_pair 1 5).level 17 77 ≡ 0
-  pub first_node : get_or (pins_at driven_pair 0 5).level 16 77 ≡ 0
+  pub before : get_or (pins_at driven_pair [] 1 4).level 16 77 ≡ 0
+  pub at : get_or (pins_at driven_pair [] 1 5).level 16 77 ≡ 9
+  pub next_port : get_or (pins_at driven_pair [] 1 5).level 17 77 ≡ 0
+  pub first_node : get_or (pins_at driven_pair [] 0 5).level 16 77 ≡ 0

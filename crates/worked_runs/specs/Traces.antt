@@ -14,7 +14,7 @@ pair_counts = codes "link 0:0>1:0 tokens 4 credits 0\nlink 1:0>0:0 tokens 0 cred
 
 -- two nodes without code, whose memories begin with 1 and with 2
 abbrev pub both_halt : PlanRec
-both_halt = record { nodes = plain_node 3 [] (1 ∷ []) ∷ plain_node 7 [] (2 ∷ []) ∷ []; links = []; script = []; steps = [] }
+both_halt = record { nodes = plain_node 3 [] (1 ∷ []) ∷ plain_node 7 [] (2 ∷ []) ∷ []; links = []; script = []; steps = []; wires = [] }
 
 pub record WorkedTraces : Type 0 where
   pub delivered : trace_text talking_pair 40 ≡ codes "30 n1 chan 0 ct 1\n" ++ pair_counts

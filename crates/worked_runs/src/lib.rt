@@ -1,5 +1,5 @@
-//! Facts of whole systems that were worked out by hand, which the definitions give: directed links, runs of two and three nodes, a
-//! node that is stepped alone, schedules, rounds, and the texts that are written of runs. Nothing stands on this crate.
+//! Facts of whole systems that were worked out by hand, which the definitions give: directed links and wires, runs of two and three nodes,
+//! a node that is stepped alone, schedules, rounds, and the texts that are written of runs. Nothing stands on this crate.
 #![tactic(auto)]
 
 mod busy;
@@ -13,6 +13,8 @@ mod rounds;
 mod schedules;
 mod systems;
 mod traces;
+mod wire_runs;
+mod wires;
 
 pub use busy::worked_busy_slots;
 pub use directions::worked_directions;
@@ -25,3 +27,5 @@ pub use rounds::worked_rounds;
 pub use schedules::worked_schedules;
 pub use systems::worked_systems;
 pub use traces::worked_traces;
+pub use wire_runs::worked_wire_runs;
+pub use wires::worked_wires;

@@ -9,7 +9,7 @@ use Rattle.ahead_limits.proofs.horizon.Horizon.of.Goals as goal
 
 pub as_seen-requires : goal.as_seen-requires
 as_seen-requires c = record {
-  links = ap (λ (xs : List Slot). length xs) (nothing_seen c.args.plan.now c.links.ensures.plan c.links.result.now c.links.ensures.value)
+  links = ap (λ (xs : List Slot). length xs) (nothing_seen c.args.plan.now c.links.ensures.plan c.links.result.now c.wires.result.now c.links.ensures.value c.wires.ensures.value)
       ∙ length-replicate (arc_count c.args.plan.now) 0;
 }
 
@@ -17,5 +17,5 @@ pub returns : goal.returns
 returns c = record {
   value = c.as_seen.ensures.value
       ∙ ap (λ (seen : List Slot). horizon_of c.args.plan.now c.args.limit seen c.args.node)
-      (nothing_seen c.args.plan.now c.links.ensures.plan c.links.result.now c.links.ensures.value);
+      (nothing_seen c.args.plan.now c.links.ensures.plan c.links.result.now c.wires.result.now c.links.ensures.value c.wires.ensures.value);
 }
