@@ -1,2 +1,3 @@
+pub mod Wired
 pub mod Shown
 pub mod Seats

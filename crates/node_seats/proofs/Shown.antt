@@ -1,15 +1,13 @@
 -- What pins show from slot to slot.
-use Rattle.std.proofs.Common.{◌≡◌, ℕ, ◌+◌, ◌-◌, ◌^◌, ◌<◌, ◌≤◌, false, Option, Some, None, List, ◌∙◌, arith}
+use Rattle.std.proofs.Common.{◌≡◌, ℕ, ◌+◌, ◌-◌, ◌^◌, ◌<◌, ◌≤◌, false, Option, Some, None, List, sym, ◌∙◌, subst, arith}
 use Rattle.std.specs.Prelude.{nat_le}
 use Rattle.std.proofs.lemmas.Bool.Decides.{nat_tests}
 use Rattle.xs_base.specs.Numbers.{Slot}
 use Rattle.pin_scripts.specs.declared.line.PinLine.{PinLine}
 use Rattle.pin_scripts.specs.Script.{IsBefore, IsNextChange}
-use Rattle.pin_scripts.specs.Script.{view_at}
-use Rattle.sys_plan.specs.Plan.{PlanRec, node_numbers}
+use Rattle.sys_plan.specs.Plan.{PlanRec}
 use Rattle.node_seats.specs.declared.pins.Pins.{Pins}
-use Rattle.node_seats.specs.Shown.{IsSteady, IsShown, ArePins, shown_by, slot_or_never}
-use Rattle.std.specs.Prelude.{slice_index}
+use Rattle.node_seats.specs.Shown.{IsSteady, IsShown, ArePins, AreWired, slot_or_never}
 
 pub next-after : (script : List PinLine) (number slot : ℕ) (next : Option Slot) → slot < 2 ^ 32 - 1 → IsNextChange script number slot next → slot + 1 ≤ slot_or_never next
 next-after script number slot None below h = omega (arith, below)
@@ -26,9 +24,7 @@ not-due slot next e = grind (arith, nat_tests)
 pub steady-later : (from slot : Slot) (pins : Pins) → from ≤ slot → IsSteady from pins → IsSteady slot pins
 steady-later from slot pins on is = record { until_change = λ later l before. is.until_change later (omega (arith, on, l)) before; levels = is.levels }
 
--- what the pins of a plan's node show is what its script says
-pub shows : (plan : PlanRec) (n slot : ℕ) (pins : Pins) → ArePins plan n slot pins → shown_by pins slot ≡ view_at plan.script (slice_index (node_numbers plan) n) slot
-shows plan n slot pins are = λ i. view_at (are.script i) (are.number i) slot
-
-pub pins-next : (plan : PlanRec) (n slot : ℕ) (pins after : Pins) → ArePins plan n slot pins → after.script ≡ pins.script → after.number ≡ pins.number → IsShown (slot + 1) after → ArePins plan n (slot + 1) after
-pins-next plan n slot pins after are script number shown = record { script = script ∙ are.script; number = number ∙ are.number; shown = shown }
+pub pins-next : (plan : PlanRec) (n slot : ℕ) (pins after : Pins) → ArePins plan n slot pins → after.script ≡ pins.script → after.number ≡ pins.number → after.wired ≡ pins.wired → IsShown (slot + 1) after
+    → ArePins plan n (slot + 1) after
+pins-next plan n slot pins after are script number wired shown =
+    record { script = script ∙ are.script; number = number ∙ are.number; wired = subst (AreWired plan n) (sym wired) are.wired; shown = shown }

@@ -1,10 +1,11 @@
 //! `Seat`, one node of a system: its core and its events.
-ghost use Rattle.std.specs.Prelude.{ℕ, ◌≡◌, ◌+◌, ◌-◌, ◌*◌, ◌^◌, ◌<◌, ◌≤◌, List, [], ◌++◌, length, slice_get, Some, false, IfOk, OnOk, OnErr, All};
+ghost use Rattle.std.specs.Prelude.{ℕ, ◌≡◌, ◌+◌, ◌-◌, ◌*◌, ◌^◌, ◌<◌, ◌≤◌, List, [], ◌++◌, length, slice_get, Some, false, IfOk, IfSome, OnOk, OnErr, All};
 ghost use Rattle.xs_base.specs.Numbers.{Slot};
-ghost use Rattle.xs_base.specs.declared.numbers.TheConstants.{EVENT_ROOM};
+ghost use Rattle.xs_base.specs.Ids.{port_width};
+ghost use Rattle.xs_base.specs.declared.numbers.TheConstants.{EVENT_ROOM, PORTS};
 ghost use Rattle.xs_model.specs.declared.event.Event.{Event};
 ghost use Rattle.xs_model.specs.declared.outside.PinView.{PinView};
-ghost use Rattle.xs_model.specs.Record.{NodeRec};
+ghost use Rattle.xs_model.specs.Record.{NodeRec, port_of};
 ghost use Rattle.xs_model.specs.Events.{IsWithinCounts};
 ghost use Rattle.xs_model.specs.Outside.{LevelsFit};
 ghost use Rattle.sys_plan.specs.declared.NodePlan.{NodePlan};
@@ -118,6 +119,18 @@ impl Seat {
         ensures within { result ≤ bound }
     {
         self.core.quiet_to(from, bound)
+    }
+
+    /// What a port, 0 to 28, of the node drives, None exactly where it drives nothing: a value below 2^width of the port. It takes no
+    /// memory. See docs/PORTS.md.
+    #[inline]
+    pub fn driven(&self, port: u8) -> Option<u32>
+        requires port { port < PORTS }
+        ensures value { result ≡ (port_of self.now.core.core port).driven }
+        ensures stands { (rec : NodeRec) (slot : Slot) → StandsAt self.now.core rec slot → result ≡ (port_of rec.core port).driven }
+        ensures fits { IfSome result (λ value. value < 2 ^ port_width port) }
+    {
+        self.core.driven(port)
     }
 
     /// Goes over the slots from `from` on and before `to` at once: nothing arrives in them, and none of them is one in which the node

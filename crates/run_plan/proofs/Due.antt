@@ -6,8 +6,7 @@ use Rattle.std.proofs.lemmas.Option.{same_Some}
 use Rattle.xs_base.specs.declared.entry.Entry.{Entry}
 use Rattle.node_seats.specs.declared.seat.Seat.{Seat}
 use Rattle.serial_model.specs.Serial.{sent_by}
-use Rattle.sys_plan.specs.Plan.{PlanRec, Arc, arcs, incoming, link_ends}
-use Rattle.sys_plan.proofs.Routes.{leads-to}
+use Rattle.sys_plan.specs.Plan.{PlanRec, Arc, link_arcs, incoming, link_ends}
 use Rattle.crossings.specs.declared.crossing.Crossing.{Crossing}
 use Rattle.crossings.specs.Crossings.{no_crossing}
 use Rattle.run_plan.specs.declared.track.Track.{Track}
@@ -19,12 +18,9 @@ use Rattle.run_plan.specs.Tracks.{GoesOn}
 use Rattle.run_plan.specs.Passes.{Through, Advances, SameStation, SameTrack, SameButDue, given_at, due_at, IsHeeded}
 use Rattle.run_plan.specs.Run.{AllCarry}
 use Rattle.run_plan.proofs.Through.{all-zip, through-to, through-more}
+use Rattle.run_plan.proofs.Ends.{link-leads, map-ends}
 
-pub map-same : {X Y : Type 0} (f g : X → Y) → ((x : X) → f x ≡ g x) → (xs : List X) → map f xs ≡ map g xs
-map-same f g h [] = refl
-map-same f g h (x ∷ xs) = λ i. h x i ∷ map-same f g h xs i
-
--- what arrives by an arc makes the node that it leads to due
+-- what arrives by a directed link makes the node that it leads to due
 heeded-at : (stations : List Station) (ds : List Arc) (tracks : List Track) (histories : List (List Entry)) (k : ℕ) (d : Arc) → AllCarry ds tracks histories → AllByRecursion (IsHeeded stations) tracks
     → slice_get ds k ≡ Some d → due_at stations d.to ≡ false → get_or (arrived_of tracks) k no_crossing ≡ no_crossing
 heeded-at stations [] [] [] k d carry all h not = refl
@@ -36,7 +32,7 @@ heeded-at stations _ _ _ k d carry all h not = absurd carry
 module _ (plan : PlanRec) (tracks : List Track) where
   -- nothing arrives at the node at a position
   abbrev pub IsQuiet : ℕ → Type 0
-  IsQuiet n = (end : ℕ) → arrived_by tracks (incoming plan n end) ≡ no_crossing
+  IsQuiet n = (end : ℕ) → end < 8 → arrived_by tracks (incoming plan n end) ≡ no_crossing
 
   -- that is so of those of these nodes that are not due, the first of which stands at position n
   abbrev pub AllQuiet : ℕ → List Station → Type 0
@@ -45,8 +41,8 @@ module _ (plan : PlanRec) (tracks : List Track) where
 
   quiet-takes : (n : ℕ) → IsQuiet n → arrivals_by tracks (incoming_of plan n) ≡ NOTHING
   quiet-takes n quiet =
-      let tokens = map-same (λ end. (arrived_by tracks (incoming plan n end)).token) (λ end. None) (λ end. ap (λ (c : Crossing). c.token) (quiet end)) link_ends in
-      let credits = map-same (λ end. (arrived_by tracks (incoming plan n end)).credit) (λ end. false) (λ end. ap (λ (c : Crossing). c.credit) (quiet end)) link_ends in
+      let tokens = map-ends (λ end. (arrived_by tracks (incoming plan n end)).token) (λ end. None) (λ end below. ap (λ (c : Crossing). c.token) (quiet end below)) in
+      let credits = map-ends (λ end. (arrived_by tracks (incoming plan n end)).credit) (λ end. false) (λ end below. ap (λ (c : Crossing). c.credit) (quiet end below)) in
       λ i. record { tokens = tokens i; credits = credits i }
 
   -- a node takes what arrives at it
@@ -65,15 +61,15 @@ module _ (plan : PlanRec) (tracks : List Track) where
         all-quiet-from (n + 1) stations (λ k not. let next : n + suc k ≡ n + 1 + k = omega arith in subst IsQuiet next (h (suc k) not)),
       )
 
-  module _ (stations : List Station) (histories : List (List Entry)) (carry : AllCarry (arcs plan) tracks histories) (heeded : AllByRecursion (IsHeeded stations) tracks) where
+  module _ (stations : List Station) (histories : List (List Entry)) (carry : AllCarry (link_arcs plan.links) tracks histories) (heeded : AllByRecursion (IsHeeded stations) tracks) where
     quiet-at : (n : ℕ) → due_at stations n ≡ false → IsQuiet n
-    quiet-at n not = λ end. by_link end (incoming plan n end) refl
+    quiet-at n not = λ end below. by_link end below (incoming plan n end) refl
       where
-        by_link : (end : ℕ) (link : Option ℕ) → incoming plan n end ≡ link → arrived_by tracks link ≡ no_crossing
-        by_link end None e = refl
-        by_link end (Some k) e =
-            let leads = leads-to plan n end k e in
-            heeded-at stations (arcs plan) tracks histories k leads.arc carry heeded leads.here (ap (due_at stations) leads.to ∙ not)
+        by_link : (end : ℕ) → end < 8 → (link : Option ℕ) → incoming plan n end ≡ link → arrived_by tracks link ≡ no_crossing
+        by_link end below None e = refl
+        by_link end below (Some k) e =
+            let leads = link-leads plan n end below k e in
+            heeded-at stations (link_arcs plan.links) tracks histories k leads.0 carry heeded leads.1 (ap (due_at stations) leads.2 ∙ not)
 
     pub all-quiet : AllQuiet 0 stations
     all-quiet = all-quiet-from 0 stations (λ k not. let here : k ≡ 0 + k = omega arith in subst IsQuiet here (quiet-at k not))
@@ -129,7 +125,7 @@ sender-gave (x ∷ nodes) [] n d zip h = absurd zip
 sender-gave (x ∷ nodes) (s ∷ stations) zero d zip h = ap (λ (seat : Seat). seat.given) zip.0.seat
 sender-gave (x ∷ nodes) (s ∷ stations) (suc n) d zip h = sender-gave nodes stations n d zip.1 (omega arith)
 
--- one more arc goes on, with something that arrives by it then or not
+-- one more directed link goes on, with something that arrives by it then or not
 module _ (slot : ℕ) (nodes stations : List Station) (i : ℕ) (tracks now : List Track) (d after : Track) (so_far : Through (Advances slot nodes stations) i tracks now) (inside : i < length now)
     (on : GoesOn slot (sent_by slot (given_at nodes (get_or now i d).from) (get_or now i d).from_end) (get_or now i d) after) where
   pub on-with-nothing : after.arrived ≡ no_crossing → Through (Advances slot nodes stations) (i + 1) tracks (slice_set now i after)

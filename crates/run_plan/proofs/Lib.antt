@@ -1,6 +1,9 @@
 pub mod Tracks
 pub mod Through
+pub mod Ends
 pub mod Due
+pub mod Come
+pub mod Told
 pub mod Systems
 pub mod Steps
 pub mod Starts
@@ -8,4 +11,5 @@ pub mod Arrivals
 pub mod Stations
 pub mod Rested
 pub mod Waiting
+pub mod Wires
 pub mod Skipped

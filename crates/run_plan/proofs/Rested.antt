@@ -1,23 +1,27 @@
 -- The system over slots in which nothing arrives anywhere and no node stirs.
-use Rattle.std.proofs.Common.{◌≡◌, ℕ, zero, suc, ◌+◌, ◌-◌, ◌<◌, ◌≤◌, false, Option, None, List, [], ◌∷◌, ◌++◌, length, map, get_or, replicate, refl, sym, ap, ap₂, ◌∙◌, subst, arith}
+use Rattle.std.proofs.Common.{◌≡◌, ℕ, zero, suc, ◌+◌, ◌-◌, ◌<◌, ◌≤◌, true, false, eqb, Option, Some, None, List, [], ◌∷◌, ◌++◌, length, map, get_or, replicate, refl, sym, ap, ap₂, ◌∙◌, subst, arith}
+use Rattle.std.proofs.lemmas.Bool.{eq-eqb}
 use Rattle.std.proofs.lemmas.List.{append-nil}
-use Rattle.xs_base.specs.Numbers.{Slot, Position, EndNumber}
+use Rattle.xs_base.specs.Numbers.{Slot, Word, Position, EndNumber, PortNumber}
 use Rattle.xs_base.specs.declared.token.Token.{Token}
 use Rattle.xs_base.specs.declared.entry.Entry.{Entry}
 use Rattle.xs_model.specs.declared.event.Event.{Event}
 use Rattle.xs_model.specs.declared.outside.Arrivals.{Arrivals}
-use Rattle.xs_model.specs.Record.{NodeRec, first_node}
+use Rattle.xs_model.specs.Record.{NodeRec, first_node, port_of}
+use Rattle.xs_model.specs.Ports.{level_of}
 use Rattle.xs_model.specs.Outside.{Emitted, emitted_events}
 use Rattle.sys_plan.specs.declared.NodePlan.{NodePlan}
-use Rattle.sys_plan.specs.Plan.{PlanRec, Arc, arcs, gaps_of}
+use Rattle.sys_plan.specs.Plan.{PlanRec, Arc, Joined, arcs, gaps_of}
 use Rattle.step_model.specs.Start.{fixed_of}
 use Rattle.step_model.specs.Step.{Stepped, node_step}
 use Rattle.step_laws.specs.EightSlots.{after_slots}
+use Rattle.step_laws.specs.Pins.{SlotTellsDriven, driven_after}
 use Rattle.quiet_model.specs.Stirs.{stirs}
 use Rattle.quiet_laws.specs.Undisturbed.{no_arrivals, undisturbed_run, undisturbed_until, IsWhole}
 use Rattle.quiet_laws.specs.Quiet.{QuietSlotOnlyCounts, IsQuietUntil}
 use Rattle.busy_slots.specs.Serial.{NodesAreWhole}
 use Rattle.serial_model.specs.Serial.{SystemRec, serial, system_step, system_after, steps_from, sent_by, token_entries, credit_entries, longer_histories, longer_events, pins_at, arrivals_at}
+use Rattle.serial_model.specs.Serial.{carried_by, level_entries, driven_level, node_by}
 use Rattle.run_plan.proofs.Steps.{serial_next}
 
 -- ---- Steps that give nothing
@@ -43,22 +47,39 @@ sends_nothing : (slot : Slot) (end : EndNumber) → sent_by slot (emitted_events
 sends_nothing slot end =
     ap₂ (λ token credit. token_entries slot token ++ credit_entries slot credit) (all_default {A = Option Token} 8 None end) (all_default 8 false end)
 
+-- no level is told where what is driven stays
+no-level-told : (slot : Slot) (before after : Word) → after ≡ before → level_entries slot before after ≡ []
+no-level-told slot before after same = let is : eqb after before ≡ true = eq-eqb after before same in rw is refl
+
+nothing-carried : (slot : Slot) (before after : NodeRec) (end : EndNumber) (joins : Option Joined) → ((p : PortNumber) → driven_level after p ≡ driven_level before p)
+    → carried_by slot before after (emitted_events []) end joins ≡ []
+nothing-carried slot before after end None same = sends_nothing slot end
+nothing-carried slot before after end (Some joined) same = no-level-told slot (driven_level before joined.from_port) (driven_level after joined.from_port) (same joined.from_port)
+
+-- each port drives what it drove
+abbrev pub DriveTheSame : List NodeRec → List NodeRec → Type 0
+DriveTheSame nodes later = (n : Position) (p : PortNumber) → driven_level (node_by later n) p ≡ driven_level (node_by nodes n) p
+
 -- no history goes on
-histories_stay : (slot : Slot) (recs : List NodeRec) (ds : List Arc) (histories : List (List Entry)) → length histories ≡ length ds → longer_histories slot (map given_nothing recs) ds histories ≡ histories
-histories_stay slot recs [] [] same = refl
-histories_stay slot recs [] (h ∷ hs) same = absurd (omega (arith, same))
-histories_stay slot recs (d ∷ ds) [] same = absurd (omega (arith, same))
-histories_stay slot recs (d ∷ ds) (h ∷ hs) same =
-    let here = ap (λ (e : Emitted). h ++ sent_by slot e d.from_end) (emitted_of recs d.from) ∙ ap (λ sent. h ++ sent) (sends_nothing slot d.from_end) ∙ append-nil h in
-    let rest = histories_stay slot recs ds hs (omega (arith, same)) in
+histories_stay : (slot : Slot) (nodes recs : List NodeRec) → DriveTheSame nodes recs → (ds : List Arc) (histories : List (List Entry)) → length histories ≡ length ds
+    → longer_histories slot nodes (map given_nothing recs) ds histories ≡ histories
+histories_stay slot nodes recs drive [] [] same = refl
+histories_stay slot nodes recs drive [] (h ∷ hs) same = absurd (omega (arith, same))
+histories_stay slot nodes recs drive (d ∷ ds) [] same = absurd (omega (arith, same))
+histories_stay slot nodes recs drive (d ∷ ds) (h ∷ hs) same =
+    let before = node_by nodes d.from in
+    let here =
+    (λ i. h ++ carried_by slot before (node_by (recs_of recs i) d.from) (emitted_of recs d.from i) d.from_end d.joins)
+    ∙ ap (λ sent. h ++ sent) (nothing-carried slot before (node_by recs d.from) d.from_end d.joins (drive d.from)) ∙ append-nil h in
+    let rest = histories_stay slot nodes recs drive ds hs (omega (arith, same)) in
     λ i. here i ∷ rest i
 
-module _ (plan : PlanRec) (from : Slot) where
+module _ (plan : PlanRec) (from : Slot) (histories : List (List Entry)) where
   -- ---- Nodes at which nothing arrives
 
   -- a node, at a position, before a later slot
   abbrev pub rested : Slot → Position → NodePlan → NodeRec → NodeRec
-  rested slot n node rec = undisturbed_until (fixed_of node (gaps_of plan n)) rec from (pins_at plan n) slot
+  rested slot n node rec = undisturbed_until (fixed_of node (gaps_of plan n)) rec from (pins_at plan histories n) slot
 
   -- these nodes, the first of which stands at position n
   abbrev pub all_rested : Slot → Position → List NodePlan → List NodeRec → List NodeRec
@@ -73,12 +94,12 @@ module _ (plan : PlanRec) (from : Slot) where
   abbrev pub AllQuietUntil : Slot → Position → List NodePlan → List NodeRec → List (List Event) → Type 0
   AllQuietUntil to n [] [] [] = Unit {0}
   AllQuietUntil to n (node ∷ nodes) (rec ∷ recs) (es ∷ events) =
-      IsQuietUntil (fixed_of node (gaps_of plan n)) rec from (pins_at plan n) to × AllQuietUntil to (n + 1) nodes recs events
+      IsQuietUntil (fixed_of node (gaps_of plan n)) rec from (pins_at plan histories n) to × AllQuietUntil to (n + 1) nodes recs events
   AllQuietUntil to n _ _ _ = ⊥
 
   none_yet : (n : Position) (node : NodePlan) (rec : NodeRec) → rested from n node rec ≡ rec
   unfolding after_slots
-  none_yet n node rec = let none : from - from ≡ 0 = omega arith in ap (after_slots (undisturbed_run (fixed_of node (gaps_of plan n)) rec from (pins_at plan n))) none
+  none_yet n node rec = let none : from - from ≡ 0 = omega arith in ap (after_slots (undisturbed_run (fixed_of node (gaps_of plan n)) rec from (pins_at plan histories n))) none
 
   all_not_yet : (to : Slot) (n : Position) (nodes : List NodePlan) (recs : List NodeRec) (events : List (List Event)) → AllQuietUntil to n nodes recs events → all_rested from n nodes recs ≡ recs
   all_not_yet to n [] [] [] quiet = refl
@@ -89,29 +110,29 @@ module _ (plan : PlanRec) (from : Slot) where
   all_not_yet to n _ _ _ quiet = absurd quiet
 
   next_rested : (slot : Slot) (n : Position) (node : NodePlan) (rec : NodeRec) → from ≤ slot
-      → (node_step (fixed_of node (gaps_of plan n)) (rested slot n node rec) slot no_arrivals (pins_at plan n slot)).rec ≡ rested (suc slot) n node rec
+      → (node_step (fixed_of node (gaps_of plan n)) (rested slot n node rec) slot no_arrivals (pins_at plan histories n slot)).rec ≡ rested (suc slot) n node rec
   unfolding after_slots
   next_rested slot n node rec on =
       let fixed = fixed_of node (gaps_of plan n) in
-      let run = undisturbed_run fixed rec from (pins_at plan n) in
+      let run = undisturbed_run fixed rec from (pins_at plan histories n) in
       let more : suc (slot - from) ≡ suc slot - from = omega (arith, on) in
       let here : slot ≡ from + (slot - from) = omega (arith, on) in
-      ap (λ s. (node_step fixed (rested slot n node rec) s no_arrivals (pins_at plan n s)).rec) here ∙ ap (after_slots run) more
+      ap (λ s. (node_step fixed (rested slot n node rec) s no_arrivals (pins_at plan histories n s)).rec) here ∙ ap (after_slots run) more
 
   -- ---- One slot
 
   module _ (counts : QuietSlotOnlyCounts) (slot : Slot) (on : from ≤ slot) where
     rests_one : (n : Position) (node : NodePlan) (rec : NodeRec) (arrivals : Arrivals) → IsWhole (rested slot n node rec).core → stirs (rested slot n node rec) slot ≡ false → arrivals ≡ no_arrivals
-        → node_step (fixed_of node (gaps_of plan n)) (rested slot n node rec) slot arrivals (pins_at plan n slot) ≡ given_nothing (rested (suc slot) n node rec)
+        → node_step (fixed_of node (gaps_of plan n)) (rested slot n node rec) slot arrivals (pins_at plan histories n slot) ≡ given_nothing (rested (suc slot) n node rec)
     rests_one n node rec arrivals whole calm nothing =
         let fixed = fixed_of node (gaps_of plan n) in
         let now = rested slot n node rec in
-        let alike = ap (λ a. node_step fixed now slot a (pins_at plan n slot)) nothing in
+        let alike = ap (λ a. node_step fixed now slot a (pins_at plan histories n slot)) nothing in
         let next = ap (λ (s : Stepped). s.rec) alike ∙ next_rested slot n node rec on in
-        let none = ap (λ (s : Stepped). s.emitted) alike ∙ ap (λ (s : Stepped). s.emitted) (counts fixed now slot (pins_at plan n slot) whole refl calm) in
+        let none = ap (λ (s : Stepped). s.emitted) alike ∙ ap (λ (s : Stepped). s.emitted) (counts fixed now slot (pins_at plan histories n slot) whole refl calm) in
         λ i. record { rec = next i; emitted = none i }
 
-    module _ (to : Slot) (before : slot < to) (histories : List (List Entry)) (nothing : (n : Position) → arrivals_at plan histories slot n ≡ no_arrivals) where
+    module _ (to : Slot) (before : slot < to) (nothing : (n : Position) → arrivals_at plan histories slot n ≡ no_arrivals) where
       all_step : (n : Position) (nodes : List NodePlan) (recs : List NodeRec) (events : List (List Event)) → AllQuietUntil to n nodes recs events
           → ((k : ℕ) → IsWhole (get_or (all_rested slot n nodes recs) k (first_node 0 0 [])).core)
           → steps_from plan histories slot n nodes (all_rested slot n nodes recs) ≡ map given_nothing (all_rested (suc slot) n nodes recs)
@@ -131,38 +152,91 @@ module _ (plan : PlanRec) (from : Slot) where
           λ i. here i ∷ rest i
       events_stay n _ _ _ quiet = absurd quiet
 
-    system_rests : (to : Slot) (system : SystemRec) → slot < to → length system.histories ≡ length (arcs plan) → ((n : Position) → arrivals_at plan system.histories slot n ≡ no_arrivals)
-        → AllQuietUntil to 0 plan.nodes system.nodes system.events → ((k : ℕ) → IsWhole (get_or (all_rested slot 0 plan.nodes system.nodes) k (first_node 0 0 [])).core)
-        → system_step plan slot (system_rested slot system) ≡ system_rested (suc slot) system
-    system_rests to system before same nothing quiet whole =
-        let next = all_rested (suc slot) 0 plan.nodes system.nodes in
-        let steps = all_step to before system.histories nothing 0 plan.nodes system.nodes system.events quiet whole in
-        let nodes = recs_of next in
-        let histories = histories_stay slot next (arcs plan) system.histories same in
-        let events = events_stay to before system.histories nothing 0 plan.nodes system.nodes system.events quiet in
-        ap (system_after plan slot (system_rested slot system)) steps ∙ (λ i. record { nodes = nodes i; histories = histories i; events = events i })
+      -- each port drives what it drove, as no event tells of another level
+      module _ (tells : SlotTellsDriven) where
+        drives-one : (n : Position) (node : NodePlan) (rec : NodeRec) → IsWhole (rested slot n node rec).core → stirs (rested slot n node rec) slot ≡ false → (p : PortNumber)
+            → driven_level (rested (suc slot) n node rec) p ≡ driven_level (rested slot n node rec) p
+        drives-one n node rec whole calm p =
+            let fixed = fixed_of node (gaps_of plan n) in
+            let now = rested slot n node rec in
+            let arrivals = arrivals_at plan histories slot n in
+            let step = rests_one n node rec arrivals whole calm (nothing n) in
+            ap (λ (driven : Option Word). level_of driven 0)
+            (ap (λ (s : Stepped). (port_of s.rec.core p).driven) (sym step)
+            ∙ tells fixed now slot arrivals (pins_at plan histories n slot) p
+            ∙ ap (λ (s : Stepped). driven_after p (port_of now.core p).driven s.emitted.events) step)
 
-  -- ---- All the slots
+        drives-all : (n : Position) (nodes : List NodePlan) (recs : List NodeRec) (events : List (List Event)) → AllQuietUntil to n nodes recs events
+            → ((k : ℕ) → IsWhole (get_or (all_rested slot n nodes recs) k (first_node 0 0 [])).core) → DriveTheSame (all_rested slot n nodes recs) (all_rested (suc slot) n nodes recs)
+        drives-all n [] [] [] quiet whole k p = refl
+        drives-all n (node ∷ nodes) (rec ∷ recs) (es ∷ events) quiet whole zero p = drives-one n node rec (whole 0) (quiet.0 slot on before) p
+        drives-all n (node ∷ nodes) (rec ∷ recs) (es ∷ events) quiet whole (suc k) p = drives-all (n + 1) nodes recs events quiet.1 (λ j. whole (suc j)) k p
+        drives-all n _ _ _ quiet whole k p = absurd quiet
 
-  module _ (counts : QuietSlotOnlyCounts) (whole : NodesAreWhole) (to : Slot) (same : length (serial plan from).histories ≡ length (arcs plan))
-      (nothing : (slot : Slot) → from ≤ slot → slot < to → (n : Position) → arrivals_at plan (serial plan from).histories slot n ≡ no_arrivals)
-      (quiet : AllQuietUntil to 0 plan.nodes (serial plan from).nodes (serial plan from).events) where
-    after_some : (count : ℕ) → from + count ≤ to → serial plan (from + count) ≡ system_rested (from + count) (serial plan from)
-    after_some zero within =
-        let none : from + 0 ≡ from = omega arith in
-        let yet = all_not_yet to 0 plan.nodes (serial plan from).nodes (serial plan from).events quiet in
-        let here : serial plan from ≡ system_rested from (serial plan from) = λ i. record (serial plan from) { nodes = sym yet i } in
-        subst (λ slot. serial plan slot ≡ system_rested slot (serial plan from)) (sym none) here
-    after_some (suc count) within =
-        let slot = from + count in
-        let next : slot + 1 ≡ from + suc count = omega arith in
-        let one : suc slot ≡ from + suc count = omega arith in
-        let so_far = after_some count (omega (arith, within)) in
-        let all = λ (k : ℕ). subst (λ (s : SystemRec). IsWhole (get_or s.nodes k (first_node 0 0 [])).core) so_far (whole plan k slot) in
-        let step = system_rests counts slot (omega arith) to (serial plan from) (omega (arith, within)) same (nothing slot (omega arith) (omega (arith, within))) quiet all in
-        ap (serial plan) (sym next) ∙ (sym (serial_next plan slot) ∙ (ap (system_step plan slot) so_far ∙ (step ∙ ap (λ s. system_rested s (serial plan from)) one)))
+    module _ (tells : SlotTellsDriven) (to : Slot) (system : SystemRec) (here : system.histories ≡ histories) (before : slot < to) (same : length histories ≡ length (arcs plan))
+        (nothing : (n : Position) → arrivals_at plan histories slot n ≡ no_arrivals) (quiet : AllQuietUntil to 0 plan.nodes system.nodes system.events)
+        (whole : (k : ℕ) → IsWhole (get_or (all_rested slot 0 plan.nodes system.nodes) k (first_node 0 0 [])).core) where
+      drive_rests : DriveTheSame (all_rested slot 0 plan.nodes system.nodes) (all_rested (suc slot) 0 plan.nodes system.nodes)
+      drive_rests = drives-all to before nothing tells 0 plan.nodes system.nodes system.events quiet whole
 
-    pub after_all : from ≤ to → serial plan to ≡ system_rested to (serial plan from)
-    after_all on =
-        let there : from + (to - from) ≡ to = omega (arith, on) in
-        subst (λ slot. serial plan slot ≡ system_rested slot (serial plan from)) there (after_some (to - from) (omega (arith, there)))
+      system_rests : system_step plan slot (system_rested slot system) ≡ system_rested (suc slot) system
+      system_rests =
+          let now = all_rested slot 0 plan.nodes system.nodes in
+          let next = all_rested (suc slot) 0 plan.nodes system.nodes in
+          let steps =
+          ap (λ hs. steps_from plan hs slot 0 plan.nodes now) here ∙ all_step to before nothing 0 plan.nodes system.nodes system.events quiet whole in
+          let nodes = recs_of next in
+          let stay = ap (longer_histories slot now (map given_nothing next) (arcs plan)) here ∙ histories_stay slot now next drive_rests (arcs plan) histories same ∙ sym here in
+          let events = events_stay to before nothing 0 plan.nodes system.nodes system.events quiet in
+          ap (system_after plan slot (system_rested slot system)) steps ∙ (λ i. record { nodes = nodes i; histories = stay i; events = events i })
+
+-- ---- All the slots
+
+-- where a system has gone over some slots in which nothing happened: to what, and what its ports then drive
+record HasRested (plan : PlanRec) (from slot : Slot) : Type 0 where
+  system : serial plan slot ≡ system_rested plan from (serial plan from).histories slot (serial plan from)
+  drive : DriveTheSame (serial plan from).nodes (all_rested plan from (serial plan from).histories slot 0 plan.nodes (serial plan from).nodes)
+
+module _ (plan : PlanRec) (from : Slot) (counts : QuietSlotOnlyCounts) (tells : SlotTellsDriven) (whole : NodesAreWhole) (to : Slot) (same : length (serial plan from).histories ≡ length (arcs plan))
+    (nothing : (slot : Slot) → from ≤ slot → slot < to → (n : Position) → arrivals_at plan (serial plan from).histories slot n ≡ no_arrivals)
+    (quiet : AllQuietUntil plan from (serial plan from).histories to 0 plan.nodes (serial plan from).nodes (serial plan from).events) where
+  abbrev start : SystemRec
+  start = serial plan from
+
+  abbrev later : Slot → SystemRec
+  later slot = system_rested plan from start.histories slot start
+
+  after_some : (count : ℕ) → from + count ≤ to → HasRested plan from (from + count)
+  after_some zero within =
+      let none : from + 0 ≡ from = omega arith in
+      let yet = all_not_yet plan from start.histories to 0 plan.nodes start.nodes start.events quiet in
+      subst (HasRested plan from) (sym none) (record {
+        system = λ i. record start { nodes = sym yet i };
+        drive = λ n p. ap (λ (nodes : List NodeRec). driven_level (node_by nodes n) p) yet;
+      })
+  after_some (suc count) within =
+      let slot = from + count in
+      let one : suc slot ≡ from + suc count = omega arith in
+      let up : suc slot ≡ slot + 1 = omega arith in
+      let so_far = after_some count (omega (arith, within)) in
+      let all = λ (k : ℕ). subst (λ (s : SystemRec). IsWhole (get_or s.nodes k (first_node 0 0 [])).core) so_far.system (whole plan k slot) in
+      let before : slot < to = omega (arith, within) in
+      let on : from ≤ slot = omega arith in
+      let step = system_rests plan from start.histories counts slot on tells to start refl before same (nothing slot on before) quiet all in
+      let drive = drive_rests plan from start.histories counts slot on tells to start refl before same (nothing slot on before) quiet all in
+      subst (HasRested plan from) one (record {
+        system =
+            ap (serial plan) up ∙ (sym (serial_next plan slot) ∙ (ap (system_step plan slot) so_far.system ∙ step));
+        drive = λ n p. drive n p ∙ so_far.drive n p;
+      })
+
+  after_all : from ≤ to → HasRested plan from to
+  after_all on =
+      let there : from + (to - from) ≡ to = omega (arith, on) in
+      subst (HasRested plan from) there (after_some (to - from) (omega (arith, there)))
+
+  pub all_after : from ≤ to → serial plan to ≡ later to
+  all_after on = (after_all on).system
+
+  pub drive_after : from ≤ to → DriveTheSame start.nodes (all_rested plan from start.histories to 0 plan.nodes start.nodes)
+  drive_after on = (after_all on).drive

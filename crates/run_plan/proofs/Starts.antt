@@ -1,18 +1,26 @@
 -- A run as it starts.
-use Rattle.std.proofs.Common.{◌≡◌, ℕ, zero, suc, ◌+◌, ◌<◌, Some, List, [], ◌∷◌, ◌++◌, length, map, take, get_or, refl, sym, ap, ◌∙◌, subst, arith}
+use Rattle.std.proofs.Common.{◌≡◌, ℕ, zero, suc, ◌+◌, ◌<◌, Some, List, [], ◌∷◌, ◌++◌, length, map, replicate, take, get_or, refl, sym, ap, ◌∙◌, subst, arith}
 use Rattle.std.specs.Prelude.{slice_get}
 use Rattle.std.specs.List.{AllByRecursion}
-use Rattle.std.proofs.lemmas.List.{take_more}
+use Rattle.std.proofs.lemmas.List.{take_more, length-map}
+use Rattle.std.proofs.lemmas.Nat.{pow_pos}
+use Rattle.xs_base.specs.Ids.{port_width}
+use Rattle.xs_base.specs.Numbers.{Word}
+use Rattle.xs_model.specs.Record.{NodeRec, PortRec, off_port}
+use Rattle.xs_model.specs.Ports.{level_of}
 use Rattle.sys_plan.specs.declared.NodePlan.{NodePlan}
 use Rattle.sys_plan.specs.declared.LinkPlan.{LinkPlan}
-use Rattle.sys_plan.specs.Plan.{PlanRec, Arc, IsPlan, IsLink, arcs, arc_count, link_arcs}
-use Rattle.serial_model.specs.Serial.{system_at_start, nodes_at_start}
+use Rattle.sys_plan.specs.declared.WirePlan.{WirePlan}
+use Rattle.sys_plan.specs.Plan.{PlanRec, Arc, IsPlan, IsLink, IsWire as IsWirePlan, AreDistinct, link_arcs, wire_arcs, targets_of}
+use Rattle.serial_model.specs.Serial.{system_at_start, nodes_at_start, node_by, driven_level}
 use Rattle.run_plan.specs.declared.track.Track.{Track}
+use Rattle.run_plan.specs.declared.wire.Wire.{Wire}
 use Rattle.run_plan.specs.declared.station.Station.{Station}
 use Rattle.run_plan.specs.Stations.{IsStation}
-use Rattle.run_plan.specs.Passes.{IsReadyTrack, IsHeeded}
-use Rattle.run_plan.specs.Run.{AllServe, AllCarry, AreReady}
-use Rattle.run_plan.specs.Starts.{StartsHere, AllStart, track_at_start, tracks_at_start}
+use Rattle.run_plan.specs.Passes.{IsReadyTrack, IsHeeded, levels_of}
+use Rattle.run_plan.specs.Wires.{IsReadyWire, HasCome, targets}
+use Rattle.run_plan.specs.Run.{AllServe, AllCarry, AllTell, AreReady}
+use Rattle.run_plan.specs.Starts.{StartsHere, AllStart, track_at_start, tracks_at_start, wire_at_start, wires_at_start}
 use Rattle.run_plan.proofs.Systems.{play-length, carry-length}
 
 -- the first nodes and the next one
@@ -52,11 +60,35 @@ start-play plan n [] (x ∷ xs) all = absurd all
 start-play plan n (y ∷ ys) [] all = absurd all
 start-play plan n (y ∷ ys) (x ∷ xs) all = (all.0.serves, start-play plan (n + 1) ys xs all.1)
 
-start-carry : (ds : List Arc) → AllCarry ds (tracks_at_start ds) (map (λ (d : Arc). []) ds)
+start-carry : (links : List LinkPlan) → AllCarry (link_arcs links) (tracks_at_start (link_arcs links)) (map (λ (d : Arc). []) (link_arcs links))
 start-carry [] = tt
-start-carry (d ∷ ds) = (record { from = refl; from_end = refl; to = refl; delay = refl; entries = refl }, start-carry ds)
+start-carry (link ∷ links) = (
+  record { from = refl; from_end = refl; to = refl; delay = refl; joins = refl; entries = refl },
+  (record { from = refl; from_end = refl; to = refl; delay = refl; joins = refl; entries = refl }, start-carry links),
+)
 
-start-stations : (plan : PlanRec) (n links : ℕ) (nodes : List NodePlan) (stations : List Station) → arc_count plan ≡ links → AllStart plan n nodes stations → AllByRecursion (IsStation 0 links) stations
+-- nothing is driven
+all-same : {X : Type 0} (count k : ℕ) (x : X) → get_or (replicate count x) k x ≡ x
+all-same zero k x = refl
+all-same (suc count) zero x = refl
+all-same (suc count) (suc k) x = all-same count k x
+
+start-low : (plan : PlanRec) (n : ℕ) (nodes : List NodePlan) (k p : ℕ) → driven_level (node_by (nodes_at_start plan n nodes) k) p ≡ 0
+start-low plan n [] k p = ap (λ (port : PortRec). level_of port.driven 0) (all-same 29 p off_port)
+start-low plan n (node ∷ nodes) zero p = ap (λ (port : PortRec). level_of port.driven 0) (all-same 29 p off_port)
+start-low plan n (node ∷ nodes) (suc k) p = start-low plan (n + 1) nodes k p
+
+start-tell : (nodes : List NodeRec) → ((k p : ℕ) → driven_level (node_by nodes k) p ≡ 0) → (earlier wires : List WirePlan)
+    → AllTell nodes (wire_arcs earlier wires) (wires_at_start wires) (map (λ (d : Arc). []) (wire_arcs earlier wires))
+start-tell nodes low earlier [] = tt
+start-tell nodes low earlier (w ∷ wires) =
+    (record { from = refl; to = refl; delay = refl; joins = refl; entries = refl; sent = sym (low w.a w.a_port) }, start-tell nodes low (w ∷ earlier) wires)
+
+map-both : {X Y : Type 0} (f : X → Y) (xs ys : List X) → map f (xs ++ ys) ≡ map f xs ++ map f ys
+map-both f [] ys = refl
+map-both f (x ∷ xs) ys = ap (λ all. f x ∷ all) (map-both f xs ys)
+
+start-stations : (plan : PlanRec) (n links : ℕ) (nodes : List NodePlan) (stations : List Station) → length (link_arcs plan.links) ≡ links → AllStart plan n nodes stations → AllByRecursion (IsStation 0 links) stations
 start-stations plan n links [] [] e all = tt
 start-stations plan n links [] (x ∷ xs) e all = absurd all
 start-stations plan n links (y ∷ ys) [] e all = absurd all
@@ -65,9 +97,9 @@ start-stations plan n links (y ∷ ys) (x ∷ xs) e all = (subst (λ (m : ℕ). 
 start-tracks : (count : ℕ) (links : List LinkPlan) → AllByRecursion (IsLink count) links → AllByRecursion (IsReadyTrack 0 count) (tracks_at_start (link_arcs links))
 start-tracks count [] all = tt
 start-tracks count (l ∷ links) all = (
-  record { from = all.0.a; to = all.0.b; here = record { from_end = all.0.a_end; delayed = all.0.least_delay; in_order = tt; before = tt; few = omega arith; due = tt; arrived = refl } },
+  record { from = all.0.a; to = all.0.b; here = record { from_end = all.0.a_end; delayed = all.0.least_delay; in_order = tt; no_level = tt; before = tt; few = omega arith; due = tt; arrived = refl } },
   (
-    record { from = all.0.b; to = all.0.a; here = record { from_end = all.0.b_end; delayed = all.0.least_delay; in_order = tt; before = tt; few = omega arith; due = tt; arrived = refl } },
+    record { from = all.0.b; to = all.0.a; here = record { from_end = all.0.b_end; delayed = all.0.least_delay; in_order = tt; no_level = tt; before = tt; few = omega arith; due = tt; arrived = refl } },
     start-tracks count links all.1,
   ),
 )
@@ -77,15 +109,78 @@ start-heeded : (stations : List Station) (ds : List Arc) → AllByRecursion (IsH
 start-heeded stations [] = tt
 start-heeded stations (d ∷ ds) = (λ _. refl, start-heeded stations ds)
 
-pub run-start : (plan : PlanRec) (stations : List Station) (tracks : List Track) → IsPlan plan → AllStart plan 0 plan.nodes stations → tracks ≡ tracks_at_start (arcs plan) → AreReady plan 0 (system_at_start plan) stations tracks
-run-start plan stations tracks is all e =
-    let ds = arcs plan in
+-- the levels that came to pins are 0
+start-levels : (plan : PlanRec) (n : ℕ) (nodes : List NodePlan) (stations : List Station) → AllStart plan n nodes stations → (k p : ℕ) → get_or (get_or (levels_of stations) k []) p 0 ≡ 0
+start-levels plan n [] [] all k p = refl
+start-levels plan n [] (x ∷ xs) all k p = absurd all
+start-levels plan n (y ∷ ys) [] all k p = absurd all
+start-levels plan n (y ∷ ys) (x ∷ xs) all zero p = ap (λ (levels : List Word). get_or levels p 0) all.0.low ∙ all-same 29 p 0
+start-levels plan n (y ∷ ys) (x ∷ xs) all (suc k) p = start-levels plan (n + 1) ys xs all.1 k p
+
+start-wires : (count : ℕ) (wires : List WirePlan) → AllByRecursion (IsWirePlan count) wires → AllByRecursion (IsReadyWire 0 count) (wires_at_start wires)
+start-wires count [] all = tt
+start-wires count (w ∷ wires) all = (
+  record {
+    from = all.0.a;
+    to = all.0.b;
+    here = record {
+      from_port = all.0.a_port;
+      to_port = all.0.b_port;
+      widths = all.0.widths;
+      delayed = all.0.least_delay;
+      in_order = tt;
+      levels = tt;
+      before = tt;
+      few = omega arith;
+      due = tt;
+      level = refl;
+      narrow = pow_pos (port_width w.b_port);
+    };
+  },
+  start-wires count wires all.1,
+)
+
+start-targets : (wires : List WirePlan) → targets (wires_at_start wires) ≡ targets_of wires
+start-targets [] = refl
+start-targets (w ∷ wires) = ap (λ all. (w.b, w.b_port) ∷ all) (start-targets wires)
+
+start-come : (levels : List (List Word)) → ((k p : ℕ) → get_or (get_or levels k []) p 0 ≡ 0) → (wires : List WirePlan) → AllByRecursion (HasCome levels) (wires_at_start wires)
+start-come levels low [] = tt
+start-come levels low (w ∷ wires) = (low w.b w.b_port, start-come levels low wires)
+
+pub run-start : (plan : PlanRec) (stations : List Station) (tracks : List Track) (wires : List Wire) → IsPlan plan → AllStart plan 0 plan.nodes stations
+    → tracks ≡ tracks_at_start (link_arcs plan.links) → wires ≡ wires_at_start plan.wires → AreReady plan 0 (system_at_start plan) stations tracks wires
+run-start plan stations tracks wires is all e f =
+    let ds = link_arcs plan.links in
+    let ws = wire_arcs [] plan.wires in
+    let nodes = nodes_at_start plan 0 plan.nodes in
     let play = start-play plan 0 plan.nodes stations all in
-    let count = play-length plan 0 0 plan.nodes stations (nodes_at_start plan 0 plan.nodes) (map (λ (node : NodePlan). []) plan.nodes) play in
-    let links = carry-length ds (tracks_at_start ds) (map (λ (d : Arc). []) ds) (start-carry ds) in
-    subst (AreReady plan 0 (system_at_start plan) stations) (sym e) (record {
-      system = record { serve = play; carry = start-carry ds };
+    let count = play-length plan 0 0 plan.nodes stations nodes (map (λ (node : NodePlan). []) plan.nodes) play in
+    let links = carry-length ds (tracks_at_start ds) (map (λ (d : Arc). []) ds) (start-carry plan.links) in
+    let levels : length (levels_of stations) ≡ length plan.nodes = length-map stations (λ (s : Station). s.pins.levels) ∙ count in
+    subst (λ (ts : List Track). AreReady plan 0 (system_at_start plan) stations ts wires) (sym e)
+    (subst (AreReady plan 0 (system_at_start plan) stations (tracks_at_start ds)) (sym f) (record {
+      system = record {
+        serve = play;
+        link_histories = map (λ (d : Arc). []) ds;
+        wire_histories = map (λ (d : Arc). []) ws;
+        histories = map-both (λ (d : Arc). []) ds ws;
+        carry = start-carry plan.links;
+        tell = start-tell nodes (start-low plan 0 plan.nodes) [] plan.wires;
+      };
       stations = start-stations plan 0 (length (tracks_at_start ds)) plan.nodes stations (sym links) all;
       tracks = subst (λ (m : ℕ). AllByRecursion (IsReadyTrack 0 m) (tracks_at_start ds)) (sym count) (start-tracks (length plan.nodes) plan.links is.links);
       heeded = start-heeded stations ds;
-    })
+      wires = record {
+        each = subst (λ (m : ℕ). AllByRecursion (IsReadyWire 0 m) (wires_at_start plan.wires)) (sym levels) (start-wires (length plan.nodes) plan.wires is.wires);
+        apart = subst AreDistinct (sym (start-targets plan.wires)) is.targets;
+        come = start-come (levels_of stations) (start-levels plan 0 plan.nodes stations all) plan.wires;
+      };
+    }))
+
+-- one more wire
+pub wires-more : (wires : List WirePlan) (i : ℕ) (d wire : WirePlan) → i < length wires → get_or wires i d ≡ wire
+    → wires_at_start (take (i + 1) wires) ≡ wires_at_start (take i wires) ++ wire_at_start wire.a wire.a_port wire.b wire.b_port wire.delay ∷ []
+wires-more wires i d wire h e =
+    ap wires_at_start (take_more wires i d h ∙ ap (λ (w : WirePlan). take i wires ++ w ∷ []) e)
+    ∙ map-both (λ (w : WirePlan). wire_at_start w.a w.a_port w.b w.b_port w.delay) (take i wires) (wire ∷ [])

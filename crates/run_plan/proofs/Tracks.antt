@@ -1,4 +1,4 @@
--- An arc from slot to slot.
+-- A directed link from slot to slot.
 use Rattle.std.proofs.Common.{◌≡◌, ℕ, ◌+◌, ◌<◌, ◌≤◌, Bool, Option, List, ◌++◌, sym, ◌∙◌, subst, arith}
 use Rattle.std.specs.Prelude.{slice_get}
 use Rattle.std.specs.List.{AllByRecursion}
@@ -6,12 +6,12 @@ use Rattle.xs_base.specs.declared.token.Token.{Token}
 use Rattle.xs_base.specs.declared.entry.Entry.{Entry}
 use Rattle.serial_model.specs.Serial.{arriving, token_entries, credit_entries}
 use Rattle.crossings.specs.declared.crossing.Crossing.{Crossing}
-use Rattle.crossings.specs.Crossings.{crossing_of, AreInSendingOrder, IsDueFrom, due_of, seen_of, entry_count}
-use Rattle.crossings.proofs.Arriving.{all-map, all-append, seen-at, next-at, due-append, order-append, sent-order, sent-at, count-most}
+use Rattle.crossings.specs.Crossings.{crossing_of, AreInSendingOrder, HaveNoLevel, IsDueFrom, due_of, seen_of, entry_count}
+use Rattle.crossings.proofs.Arriving.{all-map, all-append, seen-at, next-at, due-append, order-append, sent-order, sent-at, sent-no-level, no-level-append, count-most}
 use Rattle.run_plan.specs.declared.track.Track.{Track}
 use Rattle.run_plan.specs.Tracks.{IsTrack, GoesOn}
 
--- an arc that goes on to the next slot
+-- a directed link that goes on to the next slot
 module _ (slot : ℕ) (track : Track) (is : IsTrack slot track) (token : Option Token) (credit : Bool) where
   abbrev sent : List Entry
   sent = token_entries slot token ++ credit_entries slot credit
@@ -27,9 +27,9 @@ module _ (slot : ℕ) (track : Track) (is : IsTrack slot track) (token : Option 
 
   due_next : IsDueFrom (slot + 1) track.delay first track.history.entries
   due_next =
-      let e = is.arrived ∙ seen-at slot track.delay track.first track.history.entries is.due is.in_order in
+      let e = is.arrived ∙ seen-at slot track.delay track.first track.history.entries is.due is.in_order is.no_level in
       subst (λ (c : Crossing). IsDueFrom (slot + 1) track.delay (track.first + entry_count c) track.history.entries) (sym e)
-      (next-at slot track.delay track.first track.history.entries is.due is.in_order)
+      (next-at slot track.delay track.first track.history.entries is.due is.in_order is.no_level)
 
   due_all : IsDueFrom (slot + 1) track.delay first entries
   due_all =
@@ -38,6 +38,9 @@ module _ (slot : ℕ) (track : Track) (is : IsTrack slot track) (token : Option 
 
   order_all : AreInSendingOrder entries
   order_all = order-append slot track.history.entries sent is.in_order is.before at_sent (sent-order slot token credit)
+
+  no_level_all : HaveNoLevel entries
+  no_level_all = no-level-append track.history.entries sent is.no_level (sent-no-level slot token credit)
 
   before_all : AllByRecursion (λ (e : Entry). e.slot < slot + 1) entries
   before_all =
@@ -49,7 +52,7 @@ module _ (slot : ℕ) (track : Track) (is : IsTrack slot track) (token : Option 
       → after.arrived ≡ seen_of (due_of (slot + 1) track.delay (slice_get entries first)) (due_of (slot + 1) track.delay (slice_get entries (first + 1)))
       → GoesOn slot sent track after
   goes-on after from from_end to delay is_entries is_first is_arrived =
-      let seen : after.arrived ≡ crossing_of (arriving (slot + 1) track.delay entries) = is_arrived ∙ sym (seen-at (slot + 1) track.delay first entries due_all order_all) in
+      let seen : after.arrived ≡ crossing_of (arriving (slot + 1) track.delay entries) = is_arrived ∙ sym (seen-at (slot + 1) track.delay first entries due_all order_all no_level_all) in
       record {
         from = from;
         from_end = from_end;
@@ -60,6 +63,7 @@ module _ (slot : ℕ) (track : Track) (is : IsTrack slot track) (token : Option 
           from_end = omega (arith, from_end, is.from_end);
           delayed = omega (arith, delay, is.delayed);
           in_order = subst AreInSendingOrder (sym is_entries) order_all;
+          no_level = subst HaveNoLevel (sym is_entries) no_level_all;
           before = subst (AllByRecursion (λ (e : Entry). e.slot < slot + 1)) (sym is_entries) before_all;
           few = omega (arith, is_first, is.few, count-most track.arrived);
           due =

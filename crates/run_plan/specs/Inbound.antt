@@ -1,4 +1,4 @@
--- The arcs that come to a node, and what arrives by them.
+-- The directed links that come to a node, and what arrives by them.
 use Rattle.std.specs.Prelude.{ℕ, zero, suc, ◌≡◌, ◌<◌, ◌≤◌, Bool, false, Option, Some, None, List, [], ◌∷◌, length, drop, map, slice_index_or, IfSome}
 use Rattle.std.specs.List.{AllByRecursion}
 use Rattle.xs_base.specs.Numbers.{Position, LinkNumber, EndNumber}

@@ -1,4 +1,5 @@
 pub mod Tracks
+pub mod Wires
 pub mod Inbound
 pub mod Stations
 pub mod Passes

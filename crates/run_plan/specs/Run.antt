@@ -1,20 +1,22 @@
--- What nodes and arcs at work have to do with the serial machine.
-use Rattle.std.specs.Prelude.{◌≡◌, ◌+◌, List, [], ◌∷◌, length}
+-- What nodes, directed links and wires at work have to do with the serial machine.
+use Rattle.std.specs.Prelude.{◌≡◌, ◌+◌, Some, None, List, [], ◌∷◌, ◌++◌, length}
 use Rattle.std.specs.List.{AllByRecursion}
 use Rattle.xs_base.specs.Numbers.{Slot, Position}
 use Rattle.xs_base.specs.declared.entry.Entry.{Entry}
 use Rattle.xs_model.specs.declared.event.Event.{Event}
 use Rattle.xs_model.specs.Record.{NodeRec}
 use Rattle.sys_plan.specs.declared.NodePlan.{NodePlan}
-use Rattle.sys_plan.specs.Plan.{PlanRec, Arc, arcs}
-use Rattle.serial_model.specs.Serial.{SystemRec}
+use Rattle.sys_plan.specs.Plan.{PlanRec, Arc, link_arcs, wire_arcs}
+use Rattle.serial_model.specs.Serial.{SystemRec, node_by, driven_level}
 use Rattle.node_seats.specs.Seats.{Plays}
 use Rattle.node_seats.specs.Shown.{ArePins}
 use Rattle.run_plan.specs.declared.track.Track.{Track}
+use Rattle.run_plan.specs.declared.wire.Wire.{Wire}
 use Rattle.run_plan.specs.declared.station.Station.{Station}
 use Rattle.run_plan.specs.Inbound.{incoming_of}
 use Rattle.run_plan.specs.Stations.{IsStation}
-use Rattle.run_plan.specs.Passes.{IsReadyTrack, IsHeeded}
+use Rattle.run_plan.specs.Passes.{IsReadyTrack, IsHeeded, levels_of}
+use Rattle.run_plan.specs.Wires.{AreReadyWires}
 
 -- a node of a plan, at a position, plays its part there, with its pins and the arcs that come to it
 pub record Serves (plan : PlanRec) (slot : Slot) (n : Position) (node : NodePlan) (station : Station) (rec : NodeRec) (events : List Event) : Type 0 where
@@ -29,12 +31,13 @@ AllServe plan slot n (node ∷ nodes) (station ∷ stations) (rec ∷ recs) (eve
     Serves plan slot n node station rec events × AllServe plan slot (n + 1) nodes stations recs all
 AllServe plan slot n _ _ _ _ = ⊥
 
--- an arc has this history
+-- the arc of a directed link has this history
 pub record Carries (d : Arc) (track : Track) (history : List Entry) : Type 0 where
   pub from : track.from ≡ d.from
   pub from_end : track.from_end ≡ d.from_end
   pub to : track.to ≡ d.to
   pub delay : track.delay ≡ d.delay
+  pub joins : d.joins ≡ None
   pub entries : track.history.entries ≡ history
 
 abbrev pub AllCarry : List Arc → List Track → List (List Entry) → Type 0
@@ -42,14 +45,33 @@ AllCarry [] [] [] = Unit {0}
 AllCarry (d ∷ ds) (track ∷ tracks) (history ∷ histories) = Carries d track history × AllCarry ds tracks histories
 AllCarry _ _ _ = ⊥
 
--- the nodes and arcs of a plan before a slot, when the system is this
-pub record IsSystem (plan : PlanRec) (slot : Slot) (stations : List Station) (tracks : List Track) (system : SystemRec) : Type 0 where
+-- the arc of a wire has this history, and what was told last is the level that its first port drives, when these are the nodes
+pub record Tells (nodes : List NodeRec) (d : Arc) (wire : Wire) (history : List Entry) : Type 0 where
+  pub from : wire.from ≡ d.from
+  pub to : wire.to ≡ d.to
+  pub delay : wire.delay ≡ d.delay
+  pub joins : d.joins ≡ Some (record { from_port = wire.from_port; to_port = wire.to_port })
+  pub entries : wire.history.entries ≡ history
+  pub sent : wire.sent ≡ driven_level (node_by nodes wire.from) wire.from_port
+
+abbrev pub AllTell : List NodeRec → List Arc → List Wire → List (List Entry) → Type 0
+AllTell nodes [] [] [] = Unit {0}
+AllTell nodes (d ∷ ds) (wire ∷ wires) (history ∷ histories) = Tells nodes d wire history × AllTell nodes ds wires histories
+AllTell nodes _ _ _ = ⊥
+
+-- the nodes and arcs of a plan before a slot, when the system is this: histories of directed links, and then of wires
+pub record IsSystem (plan : PlanRec) (slot : Slot) (stations : List Station) (tracks : List Track) (wires : List Wire) (system : SystemRec) : Type 0 where
   pub serve : AllServe plan slot 0 plan.nodes stations system.nodes system.events
-  pub carry : AllCarry (arcs plan) tracks system.histories
+  pub link_histories : List (List Entry)
+  pub wire_histories : List (List Entry)
+  pub histories : system.histories ≡ link_histories ++ wire_histories
+  pub carry : AllCarry (link_arcs plan.links) tracks link_histories
+  pub tell : AllTell system.nodes (wire_arcs [] plan.wires) wires wire_histories
 
 -- the nodes and arcs of a plan are ready for a slot, when the system is this
-pub record AreReady (plan : PlanRec) (slot : Slot) (whole : SystemRec) (all_stations : List Station) (all_tracks : List Track) : Type 0 where
-  pub system : IsSystem plan slot all_stations all_tracks whole
+pub record AreReady (plan : PlanRec) (slot : Slot) (whole : SystemRec) (all_stations : List Station) (all_tracks : List Track) (all_wires : List Wire) : Type 0 where
+  pub system : IsSystem plan slot all_stations all_tracks all_wires whole
   pub stations : AllByRecursion (IsStation slot (length all_tracks)) all_stations
   pub tracks : AllByRecursion (IsReadyTrack slot (length all_stations)) all_tracks
   pub heeded : AllByRecursion (IsHeeded all_stations) all_tracks
+  pub wires : AreReadyWires slot (levels_of all_stations) all_wires

@@ -26,6 +26,8 @@ pub record StationSteps (slot : Slot) (tracks : List Track) (before after : Stat
   pub incoming : after.incoming.links ≡ before.incoming.links
   pub script : after.pins.script ≡ before.pins.script
   pub number : after.pins.number ≡ before.pins.number
+  pub wired : after.pins.wired ≡ before.pins.wired
+  pub levels : after.pins.levels ≡ before.pins.levels
   pub shown : IsShown (slot + 1) after.pins
   pub noted : HasNoted (slot + 1) after.pins after.seat
   pub steps : StepsOn slot (taken_by tracks before) (shown_by before.pins slot) before.seat after.seat

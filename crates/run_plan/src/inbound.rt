@@ -1,8 +1,8 @@
 //! `Inbound`, the arcs that come to a node's link ends, and what arrives by them.
-ghost use Rattle.std.specs.Prelude.{◌≡◌, ◌≤◌, length, drop};
+ghost use Rattle.std.specs.Prelude.{◌≡◌, ◌<◌, ◌≤◌, length, drop};
 ghost use Rattle.std.specs.List.{AllByRecursion};
 ghost use Rattle.xs_base.specs.declared.numbers.TheConstants.{LINK_ENDS};
-ghost use Rattle.sys_plan.specs.Plan.{arc_count};
+ghost use Rattle.sys_plan.specs.Plan.{incoming, link_arcs};
 ghost use Rattle.run_plan.specs.Inbound.{arrivals_by, arrived_by, incoming_of, IsBelow, IsNowhere};
 
 use crate::track::Track;
@@ -45,7 +45,7 @@ impl Inbound {
     /// The arcs that come to the link ends of the node at a position.
     pub(crate) fn of(plan: &Plan, n: u8) -> Inbound
         ensures links { result.links ≡ incoming_of plan.now n }
-        ensures below { AllByRecursion (IsBelow (arc_count plan.now)) result.links }
+        ensures below { AllByRecursion (IsBelow (length (link_arcs plan.now.links))) result.links }
     {
         let links = links_to(plan, n);
         Inbound {
@@ -82,18 +82,27 @@ impl Inbound {
 // The arcs that come to the link ends of the node at a position.
 fn links_to(plan: &Plan, n: u8) -> [Option<u32>; 8]
     ensures value { result ≡ incoming_of plan.now n }
-    ensures below { AllByRecursion (IsBelow (arc_count plan.now)) result }
+    ensures below { AllByRecursion (IsBelow (length (link_arcs plan.now.links))) result }
 {
     [
-        plan.incoming(n, 0),
-        plan.incoming(n, 1),
-        plan.incoming(n, 2),
-        plan.incoming(n, 3),
-        plan.incoming(n, 4),
-        plan.incoming(n, 5),
-        plan.incoming(n, 6),
-        plan.incoming(n, 7),
+        link_to(plan, n, 0),
+        link_to(plan, n, 1),
+        link_to(plan, n, 2),
+        link_to(plan, n, 3),
+        link_to(plan, n, 4),
+        link_to(plan, n, 5),
+        link_to(plan, n, 6),
+        link_to(plan, n, 7),
     ]
+}
+
+// The directed link that comes to a link end of the node at a position, where one does.
+fn link_to(plan: &Plan, n: u8, end: u8) -> Option<u32>
+    requires end { end < LINK_ENDS }
+    ensures value { result ≡ incoming plan.now n end }
+    ensures below { IsBelow (length (link_arcs plan.now.links)) result }
+{
+    plan.incoming(n, end)
 }
 
 // The least link end such that none from it on is reached.

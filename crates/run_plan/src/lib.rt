@@ -7,6 +7,7 @@ mod passes;
 mod quiet;
 mod station;
 mod track;
+mod wire;
 mod wiring;
 
 pub use machine::SerialMachine;

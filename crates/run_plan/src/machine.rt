@@ -11,7 +11,8 @@ use crate::passes::pass_slot;
 use crate::quiet::pass_quiet;
 use crate::station::Station;
 use crate::track::Track;
-use crate::wiring::{stations_of, tracks_of};
+use crate::wire::Wire;
+use crate::wiring::{stations_of, tracks_of, wires_of};
 use core_step::Core;
 use known_value::Known;
 use std::alloc::{AllocError, Global};
@@ -28,6 +29,7 @@ pub struct SerialMachine {
     clock: u32,
     stations: Vec<Station>,
     tracks: Vec<Track>,
+    wires: Vec<Wire>,
 }
 
 impl Model for SerialMachine {
@@ -50,11 +52,13 @@ impl SerialMachine {
     {
         let stations = stations_of(alloc, plan)?;
         let tracks = tracks_of(alloc, plan)?;
+        let wires = wires_of(alloc, plan)?;
         Ok(SerialMachine {
             plan: Known::of(plan),
             clock: 0,
             stations,
             tracks,
+            wires,
         })
     }
 
@@ -65,7 +69,12 @@ impl SerialMachine {
         ensures passed { OnOk result (self.new.now ≡ self.old.now + 1) }
         ensures err { OnErr result (self.new ≡ self.old) }
     {
-        pass_slot(&mut self.stations, &mut self.tracks, self.clock)?;
+        pass_slot(
+            &mut self.stations,
+            &mut self.tracks,
+            &mut self.wires,
+            self.clock,
+        )?;
         self.clock += 1;
         Ok(())
     }
@@ -101,7 +110,13 @@ impl SerialMachine {
         ensures on { self.old.now ≤ self.new.now }
         ensures within { self.new.now ≤ limit }
     {
-        self.clock = pass_quiet(&mut self.stations, &self.tracks, self.clock, limit);
+        self.clock = pass_quiet(
+            &mut self.stations,
+            &self.tracks,
+            &self.wires,
+            self.clock,
+            limit,
+        );
     }
 
     /// How many slots have passed.
@@ -125,8 +140,14 @@ impl SerialMachine {
         requires link { link < arc_count self.now.plan }
         ensures value { result.now ≡ slice_index_or (serial self.now.plan self.now.now).histories link [] }
     {
-        let track = &self.tracks[link as usize];
-        track.history.entries()
+        let directed = self.tracks.len();
+        if (link as usize) < directed {
+            let track = &self.tracks[link as usize];
+            track.history.entries()
+        } else {
+            let wire = &self.wires[link as usize - directed];
+            wire.history.entries()
+        }
     }
 
     /// What is kept of the events of the node at a position.

@@ -5,50 +5,63 @@ ghost use Rattle.sys_plan.specs.Plan.{PlanRec};
 ghost use Rattle.serial_model.specs.Serial.{serial};
 ghost use Rattle.run_plan.specs.Stations.{IsStation};
 ghost use Rattle.run_plan.specs.Tracks.{IsTrack};
-ghost use Rattle.run_plan.specs.Passes.{IsReadyTrack};
-ghost use Rattle.run_plan.specs.Quiet.{RestsTo, ArrivesAfter, IsQuietSystem, MaySkip, StationSkips};
+ghost use Rattle.run_plan.specs.Passes.{IsReadyTrack, levels_of};
+ghost use Rattle.run_plan.specs.Wires.{IsWire, AreReadyWires};
+ghost use Rattle.run_plan.specs.Quiet.{RestsTo, ArrivesAfter, ComesAfter, IsQuietSystem, MaySkip, StationSkips};
 ghost use Rattle.run_plan.specs.Run.{AreReady};
 
 use crate::station::Station;
 use crate::track::Track;
+use crate::wire::Wire;
 use busy_slots::nodes_are_whole;
 use quiet_laws::{first_stirring_slot, quiet_slots_only_count};
+use step_laws::slot_tells_pins;
 
 /// Goes over the slots from one on and before a limit in which nothing happens anywhere, as far as that is known. The answer is the
 /// slot before which all then stand, which may be the first. It takes no more than to come to a node that may do something in that slot,
 /// which in most busy slots is the first node.
 #[inline]
-pub(crate) fn pass_quiet(stations: &mut [Station], tracks: &[Track], from: u32, limit: u32) -> u32
+pub(crate) fn pass_quiet(
+    stations: &mut [Station],
+    tracks: &[Track],
+    wires: &[Wire],
+    from: u32,
+    limit: u32,
+) -> u32
     requires before { from ≤ limit }
     requires stations { AllByRecursion (IsStation from (length tracks.now)) stations.old }
     requires tracks { AllByRecursion (IsReadyTrack from (length stations.old)) tracks.now }
+    requires wires { AreReadyWires from (levels_of stations.old) wires.now }
     ensures on { from ≤ result }
     ensures within { result ≤ limit }
-    ensures ready { (plan : PlanRec) → AreReady plan from (serial plan from) stations.old tracks.now → AreReady plan result (serial plan result) stations.new tracks.now }
+    ensures ready { (plan : PlanRec) → AreReady plan from (serial plan from) stations.old tracks.now wires.now → AreReady plan result (serial plan result) stations.new tracks.now wires.now }
 {
-    let to = quiet_to(stations, tracks, from, limit);
+    let to = quiet_to(stations, tracks, wires, from, limit);
     if to <= from {
         return from;
     }
     nodes_are_whole();
     first_stirring_slot();
     quiet_slots_only_count();
+    slot_tells_pins();
     skip_all(stations, from, to);
     to
 }
 
 // The slot up to which nothing happens anywhere from a slot on, as far as that is known. It is not after that slot where nothing is.
 #[inline]
-fn quiet_to(stations: &[Station], tracks: &[Track], from: u32, limit: u32) -> u32
+fn quiet_to(stations: &[Station], tracks: &[Track], wires: &[Wire], from: u32, limit: u32) -> u32
     requires tracks { AllByRecursion (IsTrack from) tracks.now }
+    requires wires { AllByRecursion (IsWire from) wires.now }
     ensures within { result ≤ limit }
-    ensures quiet { from < result → IsQuietSystem from result stations.now tracks.now }
+    ensures quiet { from < result → IsQuietSystem from result stations.now tracks.now wires.now }
 {
     let to = nodes_rest_to(stations, from, limit);
     if to <= from {
         return to;
     }
-    nothing_arrives_to(tracks, from, to)
+    let to = nothing_arrives_to(tracks, from, to);
+    nothing_comes_to(wires, from, to)
 }
 
 // The slot up to which every node is quiet from a slot on, as far as that is known, and up to a limit. It is not after that slot where
@@ -68,7 +81,7 @@ fn nodes_rest_to(stations: &[Station], from: u32, limit: u32) -> u32
     to
 }
 
-// The last slot up to a limit in which, and before which from a slot on, nothing arrives by any arc. It is not after that slot where
+// The last slot up to a limit in which, and before which from a slot on, nothing arrives by any directed link. It is not after that slot where
 // something arrives in it or in the next.
 fn nothing_arrives_to(tracks: &[Track], from: u32, limit: u32) -> u32
     requires tracks { AllByRecursion (IsTrack from) tracks.now }
@@ -78,6 +91,23 @@ fn nothing_arrives_to(tracks: &[Track], from: u32, limit: u32) -> u32
     let mut to = limit;
     for track in tracks {
         to = track.nothing_arrives_to(from, to);
+        if to <= from {
+            return to;
+        }
+    }
+    to
+}
+
+// The last slot up to a limit in which, and before which from a slot on, no level comes by any wire. It is not after that slot where one
+// comes in the next.
+fn nothing_comes_to(wires: &[Wire], from: u32, limit: u32) -> u32
+    requires wires { AllByRecursion (IsWire from) wires.now }
+    ensures within { result ≤ limit }
+    ensures quiet { from < result → AllByRecursion (ComesAfter result) wires.now }
+{
+    let mut to = limit;
+    for wire in wires {
+        to = wire.nothing_comes_to(from, to);
         if to <= from {
             return to;
         }

@@ -1,4 +1,4 @@
-//! `Track`, one arc: its history, and what of it arrives. See docs/LINKS.md.
+//! `Track`, one directed link: its history, and what of it arrives. See docs/LINKS.md.
 ghost use Rattle.std.specs.Prelude.{◌≡◌, ◌+◌, ◌-◌, ◌^◌, ◌<◌, ◌≤◌, ◌++◌, false, slice_get};
 ghost use Rattle.xs_base.specs.declared.numbers.TheConstants.{LINK_ENDS};
 ghost use Rattle.serial_model.specs.Serial.{sent_by};
@@ -10,7 +10,7 @@ use crossings::{Crossing, due};
 use trace_lines::Emissions;
 use xs_base::{Batch, Entry};
 
-/// An arc: it leads from a link end of the node at a position to the node at another, with a delay in slots.
+/// A directed link: it leads from a link end of the node at a position to the node at another, with a delay in slots.
 #[derive(Drop)]
 pub(crate) struct Track {
     pub(crate) from: u8,
@@ -119,7 +119,7 @@ impl Track {
 }
 
 // The last slot before another, and up to a limit.
-fn before(slot: u64, limit: u32) -> u32
+pub(crate) fn before(slot: u64, limit: u32) -> u32
     requires some { 1 ≤ slot }
     ensures within { result ≤ limit }
     ensures before { result < slot }

@@ -1,15 +1,16 @@
-//! The nodes and the arcs of a plan as they start.
+//! The nodes, the directed links and the wires of a plan as they start.
 ghost use Rattle.std.specs.Prelude.{◌≡◌, ◌<◌, length, IfOk};
-ghost use Rattle.sys_plan.specs.Plan.{arcs, IsPlan};
-ghost use Rattle.run_plan.specs.Starts.{StartsAs, AllStart, track_at_start, tracks_at_start};
+ghost use Rattle.sys_plan.specs.Plan.{link_arcs, IsPlan};
+ghost use Rattle.run_plan.specs.Starts.{StartsAs, AllStart, track_at_start, tracks_at_start, wire_at_start, wires_at_start};
 
 use crate::inbound::Inbound;
 use crate::station::Station;
 use crate::track::Track;
+use crate::wire::Wire;
 use crossings::Crossing;
 use node_seats::{Pins, Seat};
 use std::alloc::{AllocError, Global};
-use sys_plan::Plan;
+use sys_plan::{Plan, WirePlan};
 use xs_base::Batch;
 
 /// The nodes of a plan as they start. The error is want of memory.
@@ -39,9 +40,9 @@ fn station_of(alloc: Global, plan: &Plan, n: u8) -> Result<Station, AllocError>
     })
 }
 
-/// The arcs of a plan as they start. The error is want of memory.
+/// The directed links of a plan as they start. The error is want of memory.
 pub(crate) fn tracks_of(alloc: Global, plan: &Plan) -> Result<Vec<Track>, AllocError>
-    ensures start { IfOk result (λ v. v.items ≡ tracks_at_start (arcs plan.now)) }
+    ensures start { IfOk result (λ v. v.items ≡ tracks_at_start (link_arcs plan.now.links)) }
     ensures plan { IsPlan plan.now }
 {
     let mut tracks = Vec::new(alloc);
@@ -52,7 +53,7 @@ pub(crate) fn tracks_of(alloc: Global, plan: &Plan) -> Result<Vec<Track>, AllocE
     Ok(tracks)
 }
 
-// An arc as it starts.
+// A directed link as it starts.
 fn track_of(alloc: Global, from: u8, from_end: u8, to: u8, delay: u32) -> Track
     ensures { result ≡ track_at_start from from_end to delay }
 {
@@ -64,5 +65,33 @@ fn track_of(alloc: Global, from: u8, from_end: u8, to: u8, delay: u32) -> Track
         history: Batch::new(alloc),
         first: 0,
         arrived: Crossing::none(),
+    }
+}
+
+/// The wires of a plan as they start. The error is want of memory.
+pub(crate) fn wires_of(alloc: Global, plan: &Plan) -> Result<Vec<Wire>, AllocError>
+    ensures start { IfOk result (λ v. v.items ≡ wires_at_start plan.now.wires) }
+{
+    let mut wires = Vec::new(alloc);
+    for wire in plan.wires() {
+        wires.push(wire_of(alloc, wire))?;
+    }
+    Ok(wires)
+}
+
+// A wire as it starts.
+fn wire_of(alloc: Global, wire: &WirePlan) -> Wire
+    ensures { result ≡ wire_at_start wire.now.a wire.now.a_port wire.now.b wire.now.b_port wire.now.delay }
+{
+    Wire {
+        from: wire.a,
+        from_port: wire.a_port,
+        to: wire.b,
+        to_port: wire.b_port,
+        delay: wire.delay,
+        history: Batch::new(alloc),
+        first: 0,
+        sent: 0,
+        level: 0,
     }
 }

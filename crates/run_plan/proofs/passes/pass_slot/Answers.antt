@@ -4,10 +4,11 @@ use Rattle.std.specs.List.{AllByRecursion}
 use Rattle.serial_model.specs.Serial.{SystemRec, serial}
 use Rattle.run_plan.specs.Run.{AreReady}
 use Rattle.run_plan.specs.Stations.{IsStation, StationSteps}
-use Rattle.run_plan.specs.Passes.{SameStation, SameTrack, IsReadyTrack}
-use Rattle.run_plan.proofs.Through.{zip-refl, zip-length}
+use Rattle.run_plan.specs.Passes.{SameStation, SameTrack, SameWire, SameButDue, IsReadyTrack, IsShownAt, levels_of}
+use Rattle.node_seats.specs.Shown.{IsShown}
+use Rattle.run_plan.proofs.Through.{all-zip, zip-refl, zip-second, zip-length}
 use Rattle.run_plan.proofs.Steps.{serial_next}
-use Rattle.run_plan.proofs.Systems.{stations-same, tracks-same, ready-same, ready-next}
+use Rattle.run_plan.proofs.Systems.{stations-same, tracks-same, wires-same, levels-roomy, levels-stepped, levels-due, ready-same, ready-next}
 use Rattle.run_plan.proofs.passes.pass_slot.Goals as goal
 
 on_err : {T E P : Type 0} (r : Result T E) → P → OnErr r P
@@ -17,12 +18,19 @@ on_err (Err e) p = p
 pub returns-in_err-make_event_room-clause-err : goal.returns-in_err-make_event_room-clause-err
 returns-in_err-make_event_room-clause-err c =
     on_err c.from_residual.result
-    (λ plan ready. ready-same plan c.args.slot (serial plan c.args.slot) _ _ _ _ ready c.make_event_room.ensures.same (zip-refl SameTrack (λ x. refl) c.args.tracks.now))
+    (λ plan ready. ready-same plan c.args.slot (serial plan c.args.slot) _ _ _ _ _ _ ready c.make_event_room.ensures.same
+    (zip-refl SameTrack (λ x. refl) c.args.tracks.now) (zip-refl SameWire (λ x. refl) c.args.wires.now))
 
 pub returns-in_err-make_entry_room-clause-err : goal.returns-in_err-make_entry_room-clause-err
 returns-in_err-make_entry_room-clause-err c =
     on_err c.from_residual-in_err-make_entry_room.result
-    (λ plan ready. ready-same plan c.args.slot (serial plan c.args.slot) _ _ _ _ ready c.make_event_room.ensures.same c.make_entry_room.ensures.same)
+    (λ plan ready. ready-same plan c.args.slot (serial plan c.args.slot) _ _ _ _ _ _ ready c.make_event_room.ensures.same c.make_entry_room.ensures.same
+    (zip-refl SameWire (λ x. refl) c.args.wires.now))
+
+pub returns-in_err-make_level_room-clause-err : goal.returns-in_err-make_level_room-clause-err
+returns-in_err-make_level_room-clause-err c =
+    on_err c.from_residual-in_err-make_level_room.result
+    (λ plan ready. ready-same plan c.args.slot (serial plan c.args.slot) _ _ _ _ _ _ ready c.make_event_room.ensures.same c.make_entry_room.ensures.same c.make_level_room.ensures.same)
 
 pub step_all-requires-clause-stations : goal.step_all-requires-clause-stations
 step_all-requires-clause-stations c =
@@ -39,9 +47,29 @@ advance_all-requires-clause-tracks c =
     subst (λ n. AllByRecursion (IsReadyTrack c.args.slot n) tracks) (sym (stepped ∙ roomy))
     (tracks-same c.args.slot (length c.args.stations.now) c.args.tracks.now tracks c.make_entry_room.ensures.same c.requires.tracks)
 
+pub tell_all-requires-clause-wires : goal.tell_all-requires-clause-wires
+tell_all-requires-clause-wires c =
+    let roomy = c.make_event_room.new.stations in
+    let stepped = c.step_all.new.stations in
+    let marked = c.advance_all.new.stations in
+    let tracks = c.make_entry_room.new.tracks in
+    let same =
+    levels-due stepped marked c.advance_all.ensures.same
+    ∙ levels-stepped c.args.slot tracks roomy stepped c.step_all.ensures.steps
+    ∙ levels-roomy c.args.stations.now roomy c.make_event_room.ensures.same in
+    wires-same c.args.slot (levels_of c.args.stations.now) (levels_of marked) c.args.wires.now c.make_level_room.new.wires same c.make_level_room.ensures.same c.requires.wires
+
+pub tell_all-requires-clause-shown : goal.tell_all-requires-clause-shown
+tell_all-requires-clause-shown c =
+    let stepped = c.step_all.new.stations in
+    let tracks = c.make_entry_room.new.tracks in
+    all-zip SameButDue (IsShownAt (c.args.slot + 1)) (IsShownAt (c.args.slot + 1)) (λ x y s h. subst (IsShown (c.args.slot + 1)) (sym s.pins) h) stepped c.advance_all.new.stations c.advance_all.ensures.same
+    (zip-second (StationSteps c.args.slot tracks) (IsShownAt (c.args.slot + 1)) (λ x y s. s.shown) c.make_event_room.new.stations stepped c.step_all.ensures.steps)
+
 pub returns-clause-ok : goal.returns-clause-ok
 returns-clause-ok c = λ plan ready.
     let before = serial plan c.args.slot in
-    subst (λ (whole : SystemRec). AreReady plan (c.args.slot + 1) whole c.advance_all.new.stations c.advance_all.new.tracks) (serial_next plan c.args.slot)
-    (ready-next plan c.args.slot before _ _ _ _ _ (ready-same plan c.args.slot before _ _ _ _ ready c.make_event_room.ensures.same c.make_entry_room.ensures.same)
-    c.step_all.ensures.steps c.advance_all.ensures.same c.advance_all.ensures.advances)
+    subst (λ (whole : SystemRec). AreReady plan (c.args.slot + 1) whole c.tell_all.new.stations c.advance_all.new.tracks c.tell_all.new.wires) (serial_next plan c.args.slot)
+    (ready-next plan c.args.slot before _ _ _ _ _ _ _ _
+    (ready-same plan c.args.slot before _ _ _ _ _ _ ready c.make_event_room.ensures.same c.make_entry_room.ensures.same c.make_level_room.ensures.same)
+    c.step_all.ensures.steps c.advance_all.ensures.same c.tell_all.ensures.same c.advance_all.ensures.advances c.tell_all.ensures.advances)

@@ -1,27 +1,66 @@
-use Rattle.std.proofs.Common.{◌<◌, ap, ◌∙◌, arith, []}
+use Rattle.std.proofs.Common.{◌≡◌, ◌+◌, ◌-◌, ◌<◌, List, [], length, ap, sym, ◌∙◌, arith}
 use Rattle.std.specs.Prelude.{slice_index_or}
-use Rattle.sys_plan.specs.Plan.{arcs, arc_count}
+use Rattle.xs_base.specs.declared.entry.Entry.{Entry}
+use Rattle.sys_plan.specs.Plan.{arc_count, link_arcs, wire_arcs}
+use Rattle.sys_plan.proofs.Told.{arcs-count}
+use Rattle.sys_plan.proofs.Wires.{wires_length}
 use Rattle.serial_model.specs.Serial.{serial}
 use Rattle.run_plan.specs.declared.track.Track.{Track}
+use Rattle.run_plan.specs.declared.wire.Wire.{Wire}
 use Rattle.run_plan.specs.Machine.{MachineRec}
-use Rattle.run_plan.proofs.Systems.{carry-at, carry-length}
+use Rattle.run_plan.proofs.Ends.{front-at, back-at}
+use Rattle.run_plan.proofs.Systems.{carry-at, carry-length, histories-length, tell-at, tell-length}
 use Rattle.run_plan.proofs.machine.SerialMachine.history.Goals as goal
 
-pub index-track-requires : goal.index-track-requires
-index-track-requires c =
+pub index-wire-requires : goal.index-wire-requires
+index-wire-requires c =
     let plan = c.self.inside.plan.value in
-    let system = serial plan c.self.inside.clock in
-    omega (arith, carry-length (arcs plan) c.self.inside.tracks.items system.histories c.self.invariant.system.carry, ap (λ (m : MachineRec). arc_count m.plan) c.self.view_is)
+    let s = c.self.invariant.system in
+    omega (
+      arith,
+      tell-length (serial plan c.self.inside.clock).nodes (wire_arcs [] plan.wires) c.self.inside.wires.items s.wire_histories s.tell,
+      carry-length (link_arcs plan.links) c.self.inside.tracks.items s.link_histories s.carry,
+      arcs-count plan,
+      wires_length [] plan.wires,
+      ap (λ (m : MachineRec). arc_count m.plan) c.self.view_is,
+      c.requires.link,
+      c.if-link-directed.false,
+      c.len-directed.ensures,
+    )
 
-pub returns : goal.returns
-returns c =
+pub returns-then-link-directed : goal.returns-then-link-directed
+returns-then-link-directed c =
     let plan = c.self.inside.plan.value in
-    let system = serial plan c.self.inside.clock in
-    let inside : c.args.link < arc_count plan = omega (arith, ap (λ (m : MachineRec). arc_count m.plan) c.self.view_is) in
-    let at = carry-at (arcs plan) c.self.inside.tracks.items system.histories c.args.link c.index-track.result.now c.self.invariant.system.carry inside in
+    let s = c.self.invariant.system in
+    let many = carry-length (link_arcs plan.links) c.self.inside.tracks.items s.link_histories s.carry in
+    let long = histories-length (link_arcs plan.links) c.self.inside.tracks.items s.link_histories s.carry in
+    let at = carry-at (link_arcs plan.links) c.self.inside.tracks.items s.link_histories c.args.link c.index-track.result.now s.carry (omega (arith, many, c.if-link-directed.true, c.len-directed.ensures)) in
     record {
       value =
           c.entries.ensures.value
-          ∙ (ap (λ (t : Track). t.history.entries) c.index-track.ensures
-          ∙ (at ∙ ap (λ (m : MachineRec). slice_index_or (serial m.plan m.now).histories c.args.link []) c.self.view_is));
+          ∙ ap (λ (t : Track). t.history.entries) c.index-track.ensures
+          ∙ at
+          ∙ sym (front-at s.link_histories s.wire_histories c.args.link [] (omega (arith, many, long, c.if-link-directed.true, c.len-directed.ensures)))
+          ∙ ap (λ (hs : List (List Entry)). slice_index_or hs c.args.link []) (sym s.histories)
+          ∙ ap (λ (m : MachineRec). slice_index_or (serial m.plan m.now).histories c.args.link []) c.self.view_is;
+    }
+
+pub returns-else-link-directed : goal.returns-else-link-directed
+returns-else-link-directed c =
+    let plan = c.self.inside.plan.value in
+    let s = c.self.invariant.system in
+    let k = c.args.link - c.len-directed.result in
+    let many = carry-length (link_arcs plan.links) c.self.inside.tracks.items s.link_histories s.carry in
+    let long = histories-length (link_arcs plan.links) c.self.inside.tracks.items s.link_histories s.carry in
+    let inside : k < length (wire_arcs [] plan.wires) =
+    omega (arith, many, arcs-count plan, wires_length [] plan.wires, ap (λ (m : MachineRec). arc_count m.plan) c.self.view_is, c.requires.link, c.if-link-directed.false, c.len-directed.ensures) in
+    let at = tell-at (serial plan c.self.inside.clock).nodes (wire_arcs [] plan.wires) c.self.inside.wires.items s.wire_histories k c.index-wire.result.now s.tell inside in
+    record {
+      value =
+          c.entries-else-link-directed.ensures.value
+          ∙ ap (λ (w : Wire). w.history.entries) c.index-wire.ensures
+          ∙ at
+          ∙ sym (back-at s.link_histories s.wire_histories c.args.link k [] (omega (arith, many, long, c.if-link-directed.false, c.len-directed.ensures)))
+          ∙ ap (λ (hs : List (List Entry)). slice_index_or hs c.args.link []) (sym s.histories)
+          ∙ ap (λ (m : MachineRec). slice_index_or (serial m.plan m.now).histories c.args.link []) c.self.view_is;
     }

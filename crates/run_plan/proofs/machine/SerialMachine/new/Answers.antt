@@ -10,6 +10,7 @@ pub invariant_of-result : goal.invariant_of-result
 invariant_of-result c =
     let stations = c.in_ok-stations.stations.items in
     let tracks = c.in_ok-tracks.tracks.items in
-    subst (λ (p : PlanRec). AreReady p 0 (serial p 0) stations tracks) (sym c.of.ensures)
-    (subst (λ (whole : SystemRec). AreReady c.args.plan.now 0 whole stations tracks) (serial_start c.args.plan.now)
-    (run-start c.args.plan.now stations tracks c.tracks_of.ensures.plan c.in_ok-stations.ensures.start c.in_ok-tracks.ensures.start))
+    let wires = c.in_ok-wires.wires.items in
+    subst (λ (p : PlanRec). AreReady p 0 (serial p 0) stations tracks wires) (sym c.of.ensures)
+    (subst (λ (whole : SystemRec). AreReady c.args.plan.now 0 whole stations tracks wires) (serial_start c.args.plan.now)
+    (run-start c.args.plan.now stations tracks wires c.tracks_of.ensures.plan c.in_ok-stations.ensures.start c.in_ok-tracks.ensures.start c.in_ok-wires.ensures.start))

@@ -22,4 +22,4 @@ returns-else-self c =
     let taken = c.nothing-nothing.ensures ∙ ap (λ (due : Bool). cond due (arrivals_by c.args.tracks.now before.incoming.links) NOTHING) (sym c.if-self.false) in
     let look = c.look-changed.ensures in
     let steps = subst (StepsOn c.args.slot c.nothing-nothing.result.now c.view.result.now before.seat) (sym c.find_rest.ensures.unchanged) c.step.ensures.steps in
-    record { steps = station_steps c.args.slot c.args.tracks.now before _ _ c.view.result.now refl look.script look.number look.shown taken c.view.ensures look.view steps }
+    record { steps = station_steps c.args.slot c.args.tracks.now before _ _ c.view.result.now refl look.script look.number look.wired look.wires look.shown taken c.view.ensures look.view steps }

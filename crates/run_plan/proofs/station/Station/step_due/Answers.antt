@@ -17,4 +17,4 @@ returns c =
     let taken = c.arrivals-arrivals.ensures ∙ ap (λ (due : Bool). cond due (arrivals_by c.args.tracks.now before.incoming.links) NOTHING) (sym c.requires.due) in
     let look = c.look-changed.ensures in
     let steps = subst (StepsOn c.args.slot c.arrivals-arrivals.result c.view.result.now before.seat) (sym c.find_rest.ensures.unchanged) c.step.ensures.steps in
-    record { steps = station_steps c.args.slot c.args.tracks.now before _ _ c.view.result.now refl look.script look.number look.shown taken c.view.ensures look.view steps }
+    record { steps = station_steps c.args.slot c.args.tracks.now before _ _ c.view.result.now refl look.script look.number look.wired look.wires look.shown taken c.view.ensures look.view steps }
