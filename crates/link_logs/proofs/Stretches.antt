@@ -1,13 +1,11 @@
 -- The entries of one stretch of slots and of the next, how many there are, and how many tokens and credits are among them.
-use Rattle.std.proofs.Common.{◌≡◌, ℕ, zero, suc, ◌+◌, ◌*◌, ◌-◌, ◌<◌, ◌^◌, ◌≤◌, List, ◌++◌, length, refl, sym, ap, ◌∙◌, arith, not, length-append}
+use Rattle.std.proofs.Common.{◌≡◌, ℕ, zero, suc, ◌+◌, ◌*◌, ◌-◌, ◌<◌, ◌^◌, ◌≤◌, Bool, true, false, List, ◌++◌, length, refl, sym, ap, ◌∙◌, arith, not, length-append}
 use Rattle.std.specs.Prelude.{filter}
 use Rattle.std.proofs.lemmas.List.{append-nil, append_assoc}
 use Rattle.std.proofs.lemmas.List.Elements.{filter-append}
 use Rattle.std.proofs.lemmas.List.Filters.{length-filter_both}
 use Rattle.xs_base.specs.Numbers.{Slot}
 use Rattle.xs_base.specs.declared.entry.Entry.{Entry}
-use Rattle.xs_base.specs.declared.entry.What.{What}
-use Rattle.xs_base.specs.declared.entry.What.TheVariants.{Token, Credit}
 use Rattle.link_logs.specs.Entries.{entries_over, between, is_token, is_credit, tokens_in, credits_in}
 use Rattle.link_logs.specs.Logs.{IsWhole}
 
@@ -23,13 +21,13 @@ credits_on xs ys =
     let test = λ (e : Entry). is_credit e.what in
     ap (length {A = Entry}) (filter-append test xs ys) ∙ length-append (filter test xs) (filter test ys)
 
-either_way : (w : What) → is_credit w ≡ not (is_token w)
-either_way (Token t) = refl
-either_way Credit = refl
+either_way : (b : Bool) → b ≡ not (not b)
+either_way true = refl
+either_way false = refl
 
 -- each entry is one of the two
 all_counted : (es : List Entry) → tokens_in es + credits_in es ≡ length es
-all_counted es = length-filter_both (λ (e : Entry). is_token e.what) (λ (e : Entry). is_credit e.what) (λ (e : Entry). either_way e.what) es
+all_counted es = length-filter_both (λ (e : Entry). is_token e.what) (λ (e : Entry). is_credit e.what) (λ (e : Entry). either_way (is_credit e.what)) es
 
 module _ (at : Slot → List Entry) where
   -- ---- One stretch and the next

@@ -1,4 +1,4 @@
--- A log of what a directed link carries in a run, and its two ends.
+-- A log of what a directed link or a wire carries in a run, and its two ends.
 use Rattle.std.specs.Prelude.{ℕ, ◌≡◌, ◌<◌, ◌≤◌, ◌+◌, min, Bool, true, false, ◌||◌, Option, None, IsSome, List, []}
 use Rattle.xs_base.specs.Numbers.{Slot, LinkNumber}
 use Rattle.xs_base.specs.declared.entry.Entry.{Entry}
@@ -7,7 +7,7 @@ use Rattle.link_logs.specs.declared.answers.Got.{Got}
 use Rattle.link_logs.specs.declared.answers.Got.TheVariants.{Entries, Nothing, Closed}
 use Rattle.link_logs.specs.Entries.{between, tokens_in, credits_in}
 
--- a log: of which run and directed link, the entries from one slot on and before another, and, where it is closed, the cause
+-- a log: of which run and directed link or wire, the entries from one slot on and before another, and, where it is closed, the cause
 pub record LogRec (Run : Type 0) : Type 0 where
   pub run : Run
   pub number : LinkNumber
@@ -16,8 +16,8 @@ pub record LogRec (Run : Type 0) : Type 0 where
   pub entries : List Entry
   pub cause : Option Cause
 
--- what a log has of a link: its entries from its base on and before the published slot, and how many tokens and credits the link carried before
--- the published slot, from slot 0 on
+-- what a log has of a link or a wire: its entries from its base on and before the published slot, and how many tokens, or levels of a wire,
+-- and credits that carried before the published slot, from slot 0 on
 pub record IsWhole (at : Slot → List Entry) (base published : Slot) (entries : List Entry) (tokens credits : ℕ) : Type 0 where
   pub on : base ≤ published
   pub own : entries ≡ between at base published

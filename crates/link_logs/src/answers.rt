@@ -6,7 +6,7 @@ use xs_base::Batch;
 pub enum Cause {
     /// Memory was wanting.
     Memory,
-    /// A neighbour had closed the log of this directed link.
+    /// A neighbour had closed the log of the directed link or wire with this number.
     Neighbour { link: u32 },
 }
 

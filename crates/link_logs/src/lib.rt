@@ -1,5 +1,5 @@
-//! Logs of what directed links carry, with an end that writes and an end that reads. A log has the entries of its
-//! link, and no others. See docs/LOOKAHEAD.md.
+//! Logs of what directed links and wires carry, with an end that writes and an end that reads. A log has the entries of its
+//! link or wire, and no others. See docs/LOOKAHEAD.md.
 #![tactic(auto)]
 
 mod answers;

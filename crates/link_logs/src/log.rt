@@ -1,4 +1,4 @@
-//! `Log`, what a directed link carries, and its two ends.
+//! `Log`, what a directed link or a wire carries, and its two ends.
 ghost use Rattle.std.specs.Prelude.{◌≡◌, ◌≢◌, ◌-◌, ◌*◌, ◌≤◌, Some, None, [], ◌++◌, length, IfOk, IsErr, OnOk, OnErr};
 ghost use Rattle.link_logs.specs.Entries.{between, tokens_in, credits_in};
 ghost use Rattle.link_logs.specs.Logs.{Writes, Reads, Finds, emptied, looked, new_log, new_write_end, new_read_end};
@@ -11,15 +11,16 @@ use std::marker::Model;
 use std::mem;
 use xs_base::{Batch, Entry, What};
 
-/// What a directed link has carried and its end that reads has not read: the entries from slot `base` on and before the published
-/// slot, and how many tokens and credits it has carried from slot 0 on. Contracts see a `LogRec` of `Rattle.link_logs.specs.Logs`.
-/// It is used by turns by the end that writes and the end that reads. See docs/inside/LOOKAHEAD_INSIDE.md.
+/// What a directed link or a wire has carried and its end that reads has not read: the entries from slot `base` on and before the
+/// published slot, and how many tokens, or levels of a wire, and credits it has carried from slot 0 on. Contracts see a `LogRec` of
+/// `Rattle.link_logs.specs.Logs`. It is used by turns by the end that writes and the end that reads. See docs/inside/LOOKAHEAD_INSIDE.md.
 #[derive(Drop)]
 pub struct Log<S: Story> {
     story: S,
     base: u32,
     published: u32,
     entries: Batch,
+    // Tokens, or levels of a wire.
     tokens: u64,
     credits: u64,
     cause: Option<Cause>,
@@ -156,8 +157,8 @@ impl<S: Story> Log<S> {
         self.entries.entries().len()
     }
 
-    /// How many tokens and how many credits the link carried, from slot 0 on and before the published slot, read or not. It takes no
-    /// memory.
+    /// How many tokens, or levels of a wire, and how many credits it carried, from slot 0 on and before the published slot, read or not.
+    /// Of a wire the first is the number of its entries, and the second 0. It takes no memory.
     pub fn totals(&self) -> (u64, u64)
         ensures tokens { result.0 ≡ tokens_in (between (S.entries_at self.now.run self.now.number) 0 self.now.published) }
         ensures credits { result.1 ≡ credits_in (between (S.entries_at self.now.run self.now.number) 0 self.now.published) }
@@ -165,7 +166,7 @@ impl<S: Story> Log<S> {
         (self.tokens, self.credits)
     }
 
-    /// Publishes the link's entries up to a slot, `upto`, which is not before the published one: those of `batch`, which are the link's from
+    /// Publishes the entries up to a slot, `upto`, which is not before the published one: those of `batch`, which are the link's or wire's from
     /// the published slot on and before `upto`. The batch is empty then: where nothing was here the two are exchanged, and no memory is taken.
     /// The end has to be this log's, and the log not closed. The error is want of memory, and changes nothing.
     pub fn append(
@@ -195,7 +196,7 @@ impl<S: Story> Log<S> {
         Ok(())
     }
 
-    // The totals as they are once the link's entries up to a slot, `upto`, are published, which the batch has.
+    // The totals as they are once the entries up to a slot, `upto`, are published, which the batch has.
     fn totals_at(&self, upto: u32, batch: &Batch) -> (u64, u64)
         requires on { self.now.published ≤ upto }
         requires own { batch.now.entries ≡ between (S.entries_at self.now.run self.now.number) self.now.published upto }
@@ -296,7 +297,7 @@ fn put_after(held: &mut Batch, batch: &mut Batch) -> Result<(), AllocError>
     Ok(())
 }
 
-// How many of the entries are tokens, and how many are credits.
+// How many of the entries are tokens, or levels of a wire, and how many are credits.
 fn count(entries: &[Entry]) -> (u64, u64)
     ensures tokens { result.0 ≡ tokens_in entries.now }
     ensures credits { result.1 ≡ credits_in entries.now }
@@ -305,14 +306,14 @@ fn count(entries: &[Entry]) -> (u64, u64)
     let mut credits = 0;
     for e in entries {
         match e.what {
-            What::Token(_) => tokens += 1,
+            What::Token(_) | What::Level(_) => tokens += 1,
             What::Credit => credits += 1,
         }
     }
     (tokens, credits)
 }
 
-/// A log of the link that a story names, with nothing in it, and its two ends. The error is want of memory.
+/// A log of the link or wire that a story names, with nothing in it, and its two ends. The error is want of memory.
 pub fn make_log<S: Story>(
     alloc: Global,
     story: S,

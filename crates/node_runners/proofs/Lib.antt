@@ -5,9 +5,16 @@ pub mod Whole
 pub mod Slots
 pub mod Takes
 pub mod Stops
+pub mod Wiring
 pub mod Begins
 pub mod Sends
 pub mod Nearest
+pub mod Levels
+pub mod Told
+pub mod Ends
+pub mod Gots
+pub mod Driven
+pub mod Coming
 pub mod Ahead
 pub mod Skips
 pub mod Counting

@@ -6,8 +6,9 @@ use Rattle.std.proofs.lemmas.Bool.{cases_lt, ne_eqb, eq-eqb, lt-ltb}
 use Rattle.std.proofs.lemmas.Option.{none-some, same_Some}
 use Rattle.xs_base.specs.Numbers.{Slot, EndNumber}
 use Rattle.xs_base.specs.declared.entry.Entry.{Entry}
-use Rattle.serial_model.specs.Serial.{arriving, arrivals_of}
+use Rattle.serial_model.specs.Serial.{IsNoLevel, arriving, arrivals_of}
 use Rattle.locality_laws.proofs.Entries.{all_weaker, filter_none}
+use Rattle.locality_laws.proofs.Levels.{kept_all}
 use Rattle.crossings.specs.Crossings.{MayFollow, AreInSendingOrder, Later, Beside}
 use Rattle.quiet_model.specs.Slots.{IsFirst}
 use Rattle.busy_slots.proofs.Brought.{none_brought, one_brought}
@@ -28,11 +29,11 @@ pub record IsNearest (bound : Slot) (inlets : List InletRec) (result : Slot) : T
   pub least : AwaitsUntil result inlets
   pub one : (result ≡ bound) ⊎ ArrivesFirst inlets result
 
-nearer_within : (bound delay : ℕ) (o : Option Entry) → arrival_of bound delay o ≤ bound
+pub nearer_within : (bound delay : ℕ) (o : Option Entry) → arrival_of bound delay o ≤ bound
 nearer_within bound delay None = omega arith
 nearer_within bound delay (Some e) = omega arith
 
-nearer_least : (bound delay : ℕ) (o : Option Entry) (e : Entry) → o ≡ Some e → arrival_of bound delay o ≤ e.slot + delay
+pub nearer_least : (bound delay : ℕ) (o : Option Entry) (e : Entry) → o ≡ Some e → arrival_of bound delay o ≤ e.slot + delay
 nearer_least bound delay o e is = subst (λ (x : Option Entry). arrival_of bound delay x ≤ e.slot + delay) (sym is) (omega arith)
 
 -- it is the bound, or there is an entry that arrives in this slot
@@ -106,7 +107,7 @@ past [] end h = refl
 past (x ∷ inlets) zero h = absurd (omega (arith, h))
 past (x ∷ inlets) (suc end) h = past inlets end (omega (arith, h))
 
-first_of_all : (P : Entry → Type 0) (queue : List Entry) (e : Entry) → AllByRecursion P queue → slice_get queue 0 ≡ Some e → P e
+pub first_of_all : (P : Entry → Type 0) (queue : List Entry) (e : Entry) → AllByRecursion P queue → slice_get queue 0 ≡ Some e → P e
 first_of_all P [] e all is = absurd (none-some e is)
 first_of_all P (f ∷ queue) e all is = subst P (same_Some f e is) all.0
 
@@ -128,7 +129,7 @@ module _ (from slot next : Slot) (before : slot < next) where
     pub nothing_comes : arrivals_by slot inlets ≡ no_arrivals
     nothing_comes = λ k. arrivals_of (λ end. none_at end k)
 
-  all_stay : (delay : ℕ) (queue : List Entry) → AreInSendingOrder queue → ((e : Entry) → slice_get queue 0 ≡ Some e → next ≤ e.slot + delay) → arriving_after slot delay queue ≡ queue
+  pub all_stay : (delay : ℕ) (queue : List Entry) → AreInSendingOrder queue → ((e : Entry) → slice_get queue 0 ≡ Some e → next ≤ e.slot + delay) → arriving_after slot delay queue ≡ queue
   all_stay delay [] order until = refl
   all_stay delay (e ∷ queue) order until =
       let here : next ≤ e.slot + delay = until e refl in
@@ -168,7 +169,9 @@ module _ (inlets : List InletRec) (few : length inlets ≤ 8) (bound from : Slot
           inl (
             omega (arith, due, first.at),
             less,
-            one_brought (arriving_at result inlets) first.end (omega (arith, few, first.there)) (one_arrives result i.delay i.queue first.entry first.first first.at),
+            one_brought (arriving_at result inlets) first.end (omega (arith, few, first.there))
+                (kept_all (λ (f : Entry). IsNoLevel f.what) (λ (f : Entry). eqb (f.slot + i.delay) result) i.queue (wait first.end first.there).no_level)
+                (one_arrives result i.delay i.queue first.entry first.first first.at),
           )
 
 pub nearest_is_first : (inlets : List InletRec) → length inlets ≤ 8 → (bound from : Slot) → AllWait from inlets → IsFirst (some_arrive inlets) from bound (fold nearer_arrival bound inlets)

@@ -1,24 +1,28 @@
--- A node's links where the batch of a link end by which a link leaves is another, from another published slot on.
-use Rattle.std.proofs.Common.{◌≡◌, Bool, true, false, eqb, ◌<◌, ◌≤◌, Option, Some, None, IsSome, List, [], ◌∷◌, length, refl, sym, ap, ◌∙◌, subst, arith, inl, inr}
+-- A node's arcs where the batch of an end by which an arc leaves is another, from another published slot on.
+use Rattle.std.proofs.Common.{◌≡◌, ℕ, ◌+◌, Bool, true, false, eqb, ◌<◌, ◌≤◌, Option, Some, None, IsSome, List, [], ◌∷◌, length, refl, sym, ap, ◌∙◌, subst, arith, inl, inr}
 use Rattle.std.specs.Prelude.{slice_set, slice_index}
 use Rattle.std.proofs.lemmas.Bool.{cases_eq, eqb-true}
-use Rattle.std.proofs.lemmas.List.{get_or-set_same, get_or-set_other, set-get_or}
+use Rattle.std.proofs.lemmas.List.{get_or-set_same, get_or-set_other}
 use Rattle.std.proofs.Math.ListN.{length-set}
 use Rattle.xs_base.specs.Numbers.{Slot, Position, LinkNumber, EndNumber}
 use Rattle.xs_base.specs.Batch.{BatchRec}
 use Rattle.xs_base.specs.declared.entry.Entry.{Entry}
 use Rattle.sys_plan.specs.Plan.{PlanRec, outgoing}
-use Rattle.serial_model.specs.Serial.{history}
+use Rattle.serial_model.specs.Serial.{serial, history, driven_level}
+use Rattle.locality_laws.specs.Locality.{node_in}
 use Rattle.locality_laws.proofs.Links.{none_carried}
 use Rattle.ahead_limits.specs.Horizon.{HorizonRec}
 use Rattle.node_seats.specs.declared.pins.Pins.{Pins}
 use Rattle.node_seats.specs.declared.seat.Seat.{Seat}
-use Rattle.node_runners.specs.Queue.{InletRec}
+use Rattle.node_runners.specs.declared.inlets.Inlets.{Inlets}
 use Rattle.node_runners.specs.Runner.{RunnerRec}
-use Rattle.node_runners.specs.Sent.{no_batch, batch_at}
+use Rattle.node_runners.specs.Ends.{IsThere}
+use Rattle.node_runners.specs.Sent.{WireOutRec, OutletsRec, wire_out, batch_by, with_batch}
+use Rattle.node_runners.specs.Joins.{LeavesFrom}
 use Rattle.node_runners.specs.Inside.{IsRunner, Tells}
-use Rattle.node_runners.proofs.Batches.{here, there}
+use Rattle.node_runners.proofs.Ends.{with-here, with-other, with-links, with-wires, with-kept, with-same}
 use Rattle.sys_plan.proofs.Routes.{outgoing-end}
+use Rattle.sys_plan.specs.declared.system_plan.TheConstants.{ENDS}
 
 some_is : (o : Option LinkNumber) → IsSome o → (link : LinkNumber) × (o ≡ Some link)
 some_is (Some link) h = (link, refl)
@@ -27,39 +31,42 @@ some_is None h = absurd (apart h)
     apart : false ≡ true → ⊥
     apart e = cc
 
-module _ (plan : PlanRec) (n : Position) (clock : Slot) (horizon : HorizonRec) (seat : Seat) (pins : Pins) (inlets : List InletRec) (batches : List BatchRec) (published : List Slot)
-    (is : IsRunner plan n clock horizon seat pins inlets batches published) (end : EndNumber) (leaves : IsSome (outgoing plan n end)) where
+module _ (plan : PlanRec) (n : Position) (clock : Slot) (horizon : HorizonRec) (seat : Seat) (pins : Pins) (inlets : Inlets) (outlets : OutletsRec) (published : List Slot)
+    (is : IsRunner plan n clock horizon seat pins inlets outlets published) (end : EndNumber) (leaves : IsSome (outgoing plan n end)) where
   link_is : (link : LinkNumber) × (outgoing plan n end ≡ Some link)
   link_is = some_is (outgoing plan n end) leaves
 
-  pub has_batch : end < length batches
+  pub has_batch : IsThere end (length outlets.links) (length outlets.wires)
   has_batch = (is.links.tells end link_is.0 link_is.1).there
 
-  pub is_end : end < 8
+  pub is_end : end < ENDS
   is_end = outgoing-end plan is.plan_is n end link_is.0 link_is.1
 
   has_place : end < length published
   has_place = omega (arith, is_end, is.links.all_published)
 
   module _ (b : BatchRec) (slot : Slot) (behind : slot ≤ clock) (own : (link : LinkNumber) → outgoing plan n end ≡ Some link → b.entries ≡ history plan link slot clock) where
-    abbrev batches' : List BatchRec
-    batches' = slice_set batches end b
+    abbrev outlets' : OutletsRec
+    outlets' = with_batch end b outlets
 
     abbrev published' : List Slot
     published' = slice_set published end slot
 
-    tells_at : (e : EndNumber) (link : LinkNumber) → outgoing plan n e ≡ Some link → Tells plan clock link e batches' published'
+    is-there : (e : EndNumber) → IsThere e (length outlets.links) (length outlets.wires) → IsThere e (length outlets'.links) (length outlets'.wires)
+    is-there e t = record { link = λ l. omega (arith, t.link l, with-links outlets end b); wire = λ l. omega (arith, t.wire l, with-wires outlets end b) }
+
+    tells_at : (e : EndNumber) (link : LinkNumber) → outgoing plan n e ≡ Some link → Tells plan clock link e outlets' published'
     tells_at e link at = elim (cases_eq e end) [
-      | inl same ↦ subst (λ k. Tells plan clock link k batches' published') (sym same) (record {
-        there = omega (arith, has_batch, length-set batches end b);
+      | inl same ↦ subst (λ k. Tells plan clock link k outlets' published') (sym same) (record {
+        there = is-there end has_batch;
         batch =
-            ap (λ (x : BatchRec). x.entries) (here batches batches end b has_batch) ∙ own link (ap (outgoing plan n) (sym same) ∙ at)
+            ap (λ (x : BatchRec). x.entries) (with-here outlets end b has_batch) ∙ own link (ap (outgoing plan n) (sym same) ∙ at)
             ∙ ap (λ s. history plan link s clock) (sym (get_or-set_same published end slot 0 has_place));
       })
       | inr ne ↦ let old = is.links.tells e link at in record {
-        there = omega (arith, old.there, length-set batches end b);
+        there = is-there e old.there;
         batch =
-            ap (λ (x : BatchRec). x.entries) (there batches batches end b has_batch e ne) ∙ old.batch
+            ap (λ (x : BatchRec). x.entries) (with-other outlets end b e ne) ∙ old.batch
             ∙ ap (λ s. history plan link s clock) (sym (get_or-set_other published end e slot 0 ne));
       }
     ]
@@ -70,7 +77,13 @@ module _ (plan : PlanRec) (n : Position) (clock : Slot) (horizon : HorizonRec) (
       | inr ne ↦ subst (λ s. s ≤ clock) (sym (get_or-set_other published end e slot 0 ne)) (is.links.behind e)
     ]
 
-    pub publishes : IsRunner plan n clock horizon seat pins inlets batches' published'
+    same_port : (k : ℕ) → (wire_out outlets'.wires k).port ≡ (wire_out outlets.wires k).port
+    same_port = with-kept outlets end b (λ (w : WireOutRec). w.port) (λ w. refl) has_batch
+
+    same_sent : (k : ℕ) → (wire_out outlets'.wires k).sent ≡ (wire_out outlets.wires k).sent
+    same_sent = with-kept outlets end b (λ (w : WireOutRec). w.sent) (λ w. refl) has_batch
+
+    pub publishes : IsRunner plan n clock horizon seat pins inlets outlets' published'
     publishes = record {
       plan_is = is.plan_is;
       within = is.within;
@@ -81,31 +94,38 @@ module _ (plan : PlanRec) (n : Position) (clock : Slot) (horizon : HorizonRec) (
       links = record {
         all_ends = is.links.all_ends;
         few_inlets = is.links.few_inlets;
-        few_batches = omega (arith, is.links.few_batches, length-set batches end b);
+        few_batches = omega (arith, is.links.few_batches, with-links outlets end b);
         all_published = length-set published end slot ∙ is.links.all_published;
         hears = is.links.hears;
         reached = is.links.reached;
         tells = tells_at;
         behind = behind_at;
       };
+      wires = record {
+        come = is.wires.come;
+        came = is.wires.came;
+        leave = λ k within. subst (LeavesFrom plan n (8 + k)) (sym (same_port k)) (is.wires.leave k (omega (arith, within, with-wires outlets end b)));
+        told = λ k within.
+            same_sent k ∙ is.wires.told k (omega (arith, within, with-wires outlets end b)) ∙ ap (driven_level (node_in (serial plan clock) n)) (sym (same_port k));
+      };
     }
 
   -- where it has no entries it is published up to the clock, and stays as it is
-  module _ (none : (batch_at batches end).entries ≡ []) where
+  module _ (none : (batch_by outlets end).entries ≡ []) where
     pub nothing_carried : (link : LinkNumber) → outgoing plan n end ≡ Some link → [] ≡ history plan link (slice_index published end) clock
     nothing_carried link at = sym none ∙ (is.links.tells end link at).batch
 
-    pub publishes_nothing : IsRunner plan n clock horizon seat pins inlets batches (slice_set published end clock)
+    pub publishes_nothing : IsRunner plan n clock horizon seat pins inlets outlets (slice_set published end clock)
     publishes_nothing =
-        subst (λ (bs : List BatchRec). IsRunner plan n clock horizon seat pins inlets bs (slice_set published end clock)) (set-get_or batches end no_batch)
-        (publishes (batch_at batches end) clock (omega arith) (λ link at. none ∙ sym (none_carried plan link clock)))
+        subst (λ (o : OutletsRec). IsRunner plan n clock horizon seat pins inlets o (slice_set published end clock)) (with-same outlets end)
+        (publishes (batch_by outlets end) clock (omega arith) (λ link at. none ∙ sym (none_carried plan link clock)))
 
   -- where it is published up to the clock and a batch without entries is taken back, it stays as it is too
   module _ (last : slice_index published end ≡ clock) (b : BatchRec) (slot : Slot) (behind : slot ≤ clock) (own : (link : LinkNumber) → outgoing plan n end ≡ Some link → b.entries ≡ history plan link slot clock) (none : b.entries ≡ []) where
-    pub takes_back_nothing : IsRunner plan n clock horizon seat pins inlets batches (slice_set published end slot)
+    pub takes_back_nothing : IsRunner plan n clock horizon seat pins inlets outlets (slice_set published end slot)
     takes_back_nothing =
-        subst (λ (bs : List BatchRec). IsRunner plan n clock horizon seat pins inlets bs (slice_set published end slot)) (set-get_or batches end no_batch)
-        (publishes (batch_at batches end) slot behind
+        subst (λ (o : OutletsRec). IsRunner plan n clock horizon seat pins inlets o (slice_set published end slot)) (with-same outlets end)
+        (publishes (batch_by outlets end) slot behind
         (λ link at. (is.links.tells end link at).batch ∙ ap (λ s. history plan link s clock) last ∙ none_carried plan link clock ∙ sym none ∙ own link at))
 
 -- what a link carried from where it is published up to the clock on is nothing

@@ -1,6 +1,9 @@
 pub mod Queue
+pub mod Wires
+pub mod Ends
 pub mod Sent
 pub mod Runner
+pub mod Joins
 pub mod Inside
 pub mod Starts
 pub mod Busy

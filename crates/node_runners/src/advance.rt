@@ -10,7 +10,7 @@ use busy_slots::{busy_slots_are_counted, idle_where_not_busy};
 use std::alloc::AllocError;
 
 impl NodeRunner {
-    /// Runs slots of the node until a link end stops it or it is at the limit, and tells which: it goes over quiet slots at once and steps
+    /// Runs slots of the node until an end stops it or it is at the limit, and tells which: it goes over quiet slots at once and steps
     /// the busy ones. Where all that it stepped before were the busy ones below its clock, they are so after it. The error is want of
     /// memory: it has run on as far as it came.
     pub fn run_on(&mut self) -> Result<Ran, AllocError>

@@ -1,9 +1,9 @@
-//! `Inlet`, what comes to a link end and has not arrived yet. See docs/LOOKAHEAD.md.
+//! `Inlet`, what comes to an end and has not arrived yet. See docs/LOOKAHEAD.md.
 ghost use Rattle.std.specs.Prelude.{◌≡◌, ◌+◌, ◌≤◌, [], ◌++◌, length, map, fold, slice_get, IfErr, OnOk, OnErr};
 ghost use Rattle.std.specs.VecDeque.{deque_len, deque_capacity};
 ghost use Rattle.crossings.specs.Crossings.{crossing_of};
 ghost use Rattle.serial_model.specs.Serial.{arriving};
-ghost use Rattle.node_runners.specs.Queue.{AreWaiting, AllWait, after_slot, arrivals_by, longer, nearer_arrival};
+ghost use Rattle.node_runners.specs.Queue.{AreWaiting, AllWait, TakesNext, after_slot, arrivals_by, longer, nearer_arrival};
 
 use crossings::{Crossing, due};
 use std::alloc::Global;
@@ -13,8 +13,8 @@ use std::mem;
 use xs_base::{Batch, Entry};
 use xs_model::Arrivals;
 
-/// What was seen of the link that comes to a link end, and has not arrived yet. Contracts see it as an `InletRec` of
-/// `Rattle.node_runners.specs.Queue`. Where no link comes the delay is 0, and nothing waits.
+/// What was seen of the arc that comes to an end, and has not arrived yet. Contracts see it as an `InletRec` of
+/// `Rattle.node_runners.specs.Queue`. Where no arc comes the delay is 0, and nothing waits.
 #[derive(Drop)]
 pub(crate) struct Inlet {
     delay: u32,
@@ -38,7 +38,7 @@ impl Model for Inlet {
 }
 
 impl Inlet {
-    /// A link end to which a link with this delay comes, of which nothing was seen.
+    /// An end to which an arc with this delay comes, of which nothing was seen.
     pub(crate) fn new(alloc: Global, delay: u32) -> Inlet
         ensures { result ≡ record { delay = delay; queue = [] } }
     {
@@ -103,8 +103,24 @@ impl Inlet {
         crossing
     }
 
-    // The slot in which the first entry that waits arrives, if that is before a bound, and else the bound.
-    fn nearer_arrival(&self, bound: u32) -> u32
+    /// The first entry of what waits, if it has arrived by a slot: it then leaves the queue.
+    pub(crate) fn next_by(&mut self, slot: u32) -> Option<Entry>
+        ensures { TakesNext slot self.old result self.new }
+    {
+        match self.at(0) {
+            None => None,
+            Some(e) => {
+                if u64::from(e.slot) + u64::from(self.delay) > u64::from(slot) {
+                    return None;
+                }
+                let _ = self.queue.pop_front();
+                Some(e)
+            }
+        }
+    }
+
+    /// The slot in which the first entry that waits arrives, if that is before a bound, and else the bound.
+    pub(crate) fn nearer_arrival(&self, bound: u32) -> u32
         ensures { result ≡ nearer_arrival bound self.now }
     {
         match self.at(0) {

@@ -14,8 +14,10 @@ ghost use Rattle.ahead_limits.specs.Horizon.{seen_at, seen_to, Sees, horizon_at,
 ghost use Rattle.node_runners.specs.Runner.{new_runner, Runs, Stops};
 
 use crate::inlets::Inlets;
-use crate::outlet::{make_room, put_all};
-use crate::starts::{batches_of, inlets_of};
+use crate::link_inlets::LinkInlets;
+use crate::outlets::Outlets;
+use crate::starts::{batches_of, inlets_of, wires_in_of, wires_out_of};
+use crate::wire_inlets::WireInlets;
 use ahead_limits::Horizon;
 use busy_slots::{arrivals_by_link_ends, first_busy_by_both, idle_where_not_busy};
 use core_step::Core;
@@ -23,24 +25,25 @@ use known_value::Known;
 use node_seats::{Pins, Seat};
 use std::alloc::{AllocError, Global};
 use std::marker::Model;
-use std::mem;
 use sys_plan::{ENDS, Plan};
 use trace_lines::NodeEvents;
 use xs_base::Batch;
+use xs_base::numbers::LINK_ENDS;
 
 /// What came of a call to run a slot.
 #[derive(Clone, Copy, PartialEq, Eq, Debug)]
 pub enum Ran {
     /// The node has run the slot of its clock.
     Slot,
-    /// The link that comes to a link end, 0 to 7, stops it: this much of it was seen, in slots. The node is as it was.
+    /// The arc that comes to an end, 0 to 39, stops it: this much of it was seen, in slots. The node is as it was.
     Blocked { end: u8, seen: u32 },
     /// It has run all slots of the run.
     AtLimit,
 }
 
-/// One node of a plan that is stepped alone, as far ahead of the others as what it has seen of its links lets it: it is then what it is in
-/// the serial machine. Its clock is the number of slots that it has run, of which it went over quiet ones at once and has stepped the others. Contracts see it as a `RunnerRec` of
+/// One node of a plan that is stepped alone, as far ahead of the others as what it has seen of its links and wires lets it: it is then what
+/// it is in the serial machine. Its ends are counted from 0, below `ENDS`: 0 to 7 are of links, and from 8 on of wires. Its clock is the number
+/// of slots that it has run, of which it went over quiet ones at once and has stepped the others. Contracts see it as a `RunnerRec` of
 /// `Rattle.node_runners.specs.Runner`. See docs/LOOKAHEAD.md.
 #[derive(Drop)]
 pub struct NodeRunner {
@@ -54,8 +57,7 @@ pub struct NodeRunner {
     seat: Seat,
     pins: Pins,
     inlets: Inlets,
-    // What was sent and not published, by link end, as far as the last by which a link leaves.
-    batches: Vec<Batch>,
+    outlets: Outlets,
     published: [u32; ENDS],
 }
 
@@ -69,12 +71,12 @@ impl Model for NodeRunner {
 
     ghost view = { λ r. record { plan = r.plan.value; node = r.node; clock = r.clock; stepped = r.stepped; horizon = r.horizon; published = r.published } };
 
-    ghost invariant = { λ r. (r.stepped ≤ r.clock) × IsRunner r.plan.value r.node r.clock r.horizon r.seat r.pins r.inlets.ends r.batches.items r.published };
+    ghost invariant = { λ r. (r.stepped ≤ r.clock) × IsRunner r.plan.value r.node r.clock r.horizon r.seat r.pins r.inlets r.outlets r.published };
 }
 
 impl NodeRunner {
-    /// The node of a plan at a position before its first slot, in a run of so many slots. Nothing of its links was seen. The error is want
-    /// of memory.
+    /// The node of a plan at a position before its first slot, in a run of so many slots. Nothing of its links and wires was seen. The error
+    /// is want of memory.
     pub fn new(alloc: Global, plan: &Plan, node: u8, limit: u32) -> Result<NodeRunner, AllocError>
         requires node { node < length plan.now.nodes }
         ensures new { IfOk result (λ r. r ≡ new_runner plan.now limit node) }
@@ -83,7 +85,9 @@ impl NodeRunner {
         let seat = Seat::of(alloc, plan, node)?;
         let pins = Pins::of(plan, node)?;
         let ends = inlets_of(alloc, plan, node)?;
+        let wires = wires_in_of(alloc, plan, node)?;
         let batches = batches_of(alloc, plan, node)?;
+        let wires_out = wires_out_of(alloc, plan, node)?;
         Ok(NodeRunner {
             plan: Known::of(plan),
             node,
@@ -93,20 +97,24 @@ impl NodeRunner {
             horizon,
             seat,
             pins,
-            inlets: Inlets::of(ends),
-            batches,
+            inlets: Inlets {
+                links: LinkInlets::of(ends),
+                wires: WireInlets::of(wires),
+            },
+            outlets: Outlets::of(batches, wires_out),
             published: [0; ENDS],
         })
     }
 
-    /// The link that comes to a link end, 0 to 7, was seen up to a slot, `to`, which is not before the one up to which it was seen: `batch` has
+    /// The arc that comes to an end was seen up to a slot, `to`, which is not before the one up to which it was seen: `batch` has
     /// its entries from there on. Its buffer is kept, for `spare` to give away. The error is want of memory: it changes nothing, and has
     /// the batch.
     pub fn take(&mut self, end: u8, batch: Batch, to: u32) -> Result<(), Batch>
         requires there { IsSome (incoming self.old.plan self.old.node end) }
         requires on { seen_at self.old.horizon end ≤ to }
         requires own { (link : LinkNumber) → incoming self.old.plan self.old.node end ≡ Some link → batch.entries ≡ history self.old.plan link (seen_at self.old.horizon end) to }
-        ensures taken { OnOk result (self.new ≡ record self.old { horizon = record self.old.horizon { ends = slice_set self.old.horizon.ends end (seen_to to (slice_index_or self.old.horizon.ends end None)) } }) }
+        ensures taken { OnOk result (self.new ≡
+            record self.old { horizon = record self.old.horizon { ends = slice_set self.old.horizon.ends end (seen_to to (slice_index_or self.old.horizon.ends end None)) } }) }
         ensures err { OnErr result (self.new ≡ self.old) }
         ensures batch { IfErr result (λ b. b.entries ≡ batch.entries) }
     {
@@ -115,7 +123,7 @@ impl NodeRunner {
         Ok(())
     }
 
-    /// A batch with no entries, and the buffer of the one that was taken last at a link end, unless that was given away. It takes no memory.
+    /// A batch with no entries, and the buffer of the one that was taken last at an end, unless that was given away. It takes no memory.
     pub fn spare(&mut self, end: u8) -> Batch
         ensures empty { result.entries ≡ [] }
         ensures same { self.new ≡ self.old }
@@ -124,7 +132,7 @@ impl NodeRunner {
     }
 
     /// Runs the slot of its clock, where its horizon lets it: exactly then the answer is `Slot`. It is `AtLimit` exactly at the limit, and else
-    /// `Blocked`, with the least link end that stops the node. The error is want of memory, and leaves the node before the slot.
+    /// `Blocked`, with the least end that stops the node. The error is want of memory, and leaves the node before the slot.
     pub fn run_slot(&mut self) -> Result<Ran, AllocError>
         ensures ran { IfOk result (λ ran. Runs self.old ran self.new) }
         ensures err { OnErr result (self.new ≡ self.old) }
@@ -133,17 +141,18 @@ impl NodeRunner {
             return Ok(stopped(&self.horizon, self.clock));
         }
         self.seat.reserve()?;
-        make_room(&mut self.batches)?;
-        let arrives = self.inlets.arrive(self.clock);
+        self.outlets.make_room()?;
+        let arrives = self.inlets.links.arrive(self.clock);
+        self.inlets.wires.come(self.clock, &mut self.pins);
         let changed = self.pins.look(self.clock);
         self.seat.step(
             self.clock,
             arrives,
-            self.inlets.arrived(),
+            self.inlets.links.arrived(),
             changed,
             self.pins.view(),
         );
-        put_all(&mut self.batches, self.clock, &self.seat.given);
+        self.outlets.put_all(self.clock, &self.seat);
         self.clock += 1;
         self.stepped += 1;
         Ok(Ran::Slot)
@@ -165,18 +174,20 @@ impl NodeRunner {
             return 0;
         }
         let stop = self.horizon.clock_after(from, u32::MAX);
-        let arrival = self.inlets.first_arrival(stop);
+        let arrival = self.inlets.links.first_arrival(stop);
         let to = self.seat.quiet_to(from, arrival);
         if to <= from {
             return 0;
         }
+        // A level that comes makes no slot busy: those of these slots show in the last one.
+        self.inlets.wires.come(to - 1, &mut self.pins);
         self.pins.look(to - 1);
         self.seat.skip(from, to, self.pins.view());
         self.clock = to;
         to - from
     }
 
-    /// Publishes the link that leaves by a link end, 0 to 7, up to the clock: what it has carried from the published slot on and before the
+    /// Publishes the arc that leaves by an end up to the clock: what it has carried from the published slot on and before the
     /// clock, which may be nothing. It takes no memory.
     pub fn send(&mut self, end: u8) -> Batch
         requires there { IsSome (outgoing self.old.plan self.old.node end) }
@@ -184,16 +195,16 @@ impl NodeRunner {
         ensures rest { self.new ≡ record self.old { published = slice_set self.old.published end self.old.clock } }
     {
         let clock = self.clock;
-        if self.batches[end as usize].entries().is_empty() {
+        if self.outlets.sent(end).is_empty() {
             // A buffer goes only with entries.
             self.published[end as usize] = clock;
             return Batch::new(self.alloc);
         }
-        let none = self.inlets.spare(self.alloc, end);
+        let none = self.buffer(end);
         self.exchange(end, none, clock)
     }
 
-    /// Takes back what `send` gave last for a link end, and that nobody else has: it is published up to the slot `from` again. It takes no
+    /// Takes back what `send` gave last for an end, and that nobody else has: it is published up to the slot `from` again. It takes no
     /// memory.
     pub fn unsend(&mut self, end: u8, batch: Batch, from: u32)
         requires there { IsSome (outgoing self.old.plan self.old.node end) }
@@ -211,16 +222,32 @@ impl NodeRunner {
         }
     }
 
-    /// Keeps the buffer of a batch that `send` gave for a link end and that has no entries any more, for what is sent by it later. It takes no
+    /// Keeps the buffer of a batch that `send` gave for an end and that has no entries any more, for what is sent by it later. It takes no
     /// memory.
     pub fn keep(&mut self, end: u8, batch: Batch)
         requires empty { batch.entries ≡ [] }
         ensures same { self.new ≡ self.old }
     {
-        self.inlets.keep(end, batch);
+        if end < LINK_ENDS {
+            self.inlets.links.keep(end, batch);
+        } else {
+            self.outlets.keep(end - LINK_ENDS, batch);
+        }
     }
 
-    // What is sent by the link end of a link and not published is this batch, and begins at this slot. The answer is what it was.
+    // A batch with no entries, and the buffer that was kept for an end, if one was. It takes no memory.
+    fn buffer(&mut self, end: u8) -> Batch
+        ensures empty { result.entries ≡ [] }
+        ensures same { self.new ≡ self.old }
+    {
+        if end < LINK_ENDS {
+            self.inlets.links.spare(self.alloc, end)
+        } else {
+            self.outlets.spare(self.alloc, end - LINK_ENDS)
+        }
+    }
+
+    // What is sent by an end and not published is this batch, and begins at this slot. The answer is what it was.
     fn exchange(&mut self, end: u8, batch: Batch, from: u32) -> Batch
         requires there { IsSome (outgoing self.old.plan self.old.node end) }
         requires before { from ≤ self.old.clock }
@@ -228,7 +255,7 @@ impl NodeRunner {
         ensures own { (link : LinkNumber) → outgoing self.old.plan self.old.node end ≡ Some link → result.entries ≡ history self.old.plan link (slice_index self.old.published end) self.old.clock }
         ensures rest { self.new ≡ record self.old { published = slice_set self.old.published end from } }
     {
-        let before = mem::replace(&mut self.batches[end as usize], batch);
+        let before = self.outlets.exchange(end, batch);
         self.published[end as usize] = from;
         before
     }

@@ -1,11 +1,15 @@
-//! The links of a node before its first slot.
-ghost use Rattle.std.specs.Prelude.{ℕ, ◌≡◌, ◌<◌, ◌≤◌, None, [], IfOk, IfSome, length};
-ghost use Rattle.sys_plan.specs.Plan.{IsPlan, arc_count, incoming, outgoing};
+//! The ends of a node before its first slot.
+ghost use Rattle.std.specs.Prelude.{ℕ, ◌≡◌, ◌+◌, ◌<◌, ◌≤◌, None, [], IfOk, IfSome, length};
+ghost use Rattle.xs_base.specs.declared.numbers.TheConstants.{LINK_ENDS};
+ghost use Rattle.sys_plan.specs.Plan.{IsPlan, arc_count, count_from, count_to, incoming, outgoing};
 ghost use Rattle.node_runners.specs.Queue.{inlet_at};
-ghost use Rattle.node_runners.specs.Sent.{batch_at};
-ghost use Rattle.node_runners.specs.Starts.{first_inlet};
+ghost use Rattle.node_runners.specs.Wires.{wire_in};
+ghost use Rattle.node_runners.specs.Sent.{batch_at, wire_out};
+ghost use Rattle.node_runners.specs.Starts.{first_inlet, FirstIn, FirstOut};
 
 use crate::inlet::Inlet;
+use crate::wire_inlets::WireInlet;
+use crate::wire_outlets::WireOutlet;
 use std::alloc::{AllocError, Global};
 use sys_plan::Plan;
 use xs_base::Batch;
@@ -75,4 +79,35 @@ fn leaving_of(plan: &Plan, n: u8) -> u8
         reached -= 1;
     }
     reached
+}
+
+/// The wires that come to the node at a position, in the order of their ends. Nothing was seen yet. The error is want of memory.
+pub(crate) fn wires_in_of(alloc: Global, plan: &Plan, n: u8) -> Result<Vec<WireInlet>, AllocError>
+    ensures all { IfOk result (λ v. length v.items ≡ count_to n plan.now.wires) }
+    ensures fresh { IfOk result (λ v. (k : ℕ) → k < length v.items → FirstIn plan.now n (LINK_ENDS + k) (wire_in v.items k)) }
+{
+    let mut ends = Vec::new(alloc);
+    for wire in plan.wires() {
+        if wire.b == n {
+            ends.push(WireInlet {
+                port: wire.b_port,
+                inlet: Inlet::new(alloc, wire.delay),
+            })?;
+        }
+    }
+    Ok(ends)
+}
+
+/// The wires that leave the node at a position, in the order of their ends. They were told nothing yet. The error is want of memory.
+pub(crate) fn wires_out_of(alloc: Global, plan: &Plan, n: u8) -> Result<Vec<WireOutlet>, AllocError>
+    ensures all { IfOk result (λ v. length v.items ≡ count_from n plan.now.wires) }
+    ensures fresh { IfOk result (λ v. (k : ℕ) → k < length v.items → FirstOut plan.now n (LINK_ENDS + k) (wire_out v.items k)) }
+{
+    let mut ends = Vec::new(alloc);
+    for wire in plan.wires() {
+        if wire.a == n {
+            ends.push(WireOutlet::new(alloc, wire.a_port))?;
+        }
+    }
+    Ok(ends)
 }

@@ -1,9 +1,9 @@
 use Rattle.std.proofs.Common.{◌≡◌, ℕ, List, map, fold, sym, ap, ◌∙◌, subst}
 use Rattle.core_step.specs.Core.{NothingArrives}
-use Rattle.node_runners.specs.Queue.{InletRec, InletsRec, AllWait, AwaitsUntil, after_slot, arrivals_by, nearer_arrival}
+use Rattle.node_runners.specs.Queue.{InletRec, LinkInletsRec, AllWait, AwaitsUntil, after_slot, arrivals_by, nearer_arrival}
 use Rattle.node_runners.proofs.Gathers.{nothing-arrives}
 use Rattle.node_runners.proofs.Nearest.{nothing_comes, nothing_leaves, nearest_awaits}
-use Rattle.node_runners.proofs.inlets.Inlets.gather.Goals as goal
+use Rattle.node_runners.proofs.link_inlets.LinkInlets.gather.Goals as goal
 
 -- it is looked for in these link ends
 awaits : (bound next : ℕ) (ends lent : List InletRec) → lent ≡ ends → next ≡ fold nearer_arrival bound lent → AwaitsUntil next ends
@@ -20,7 +20,7 @@ returns-then-slot-next c =
     let slot = c.args.slot in
     let i = c.self.inside in
     let next = c.nearest_arrival-next.result in
-    let ends = ap (λ (x : InletsRec). x.ends) c.self.view_is in
+    let ends = ap (λ (x : LinkInletsRec). x.ends) c.self.view_is in
     let wait = subst (AllWait slot) (sym ends) c.requires.waits in
     let until = awaits 4294967295 next i.ends.items c.deref.result.now c.deref.ensures.value c.nearest_arrival-next.ensures in
     record {
