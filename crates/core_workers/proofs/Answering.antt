@@ -65,7 +65,7 @@ module _ (slot : Slot) where
       let none = none_untold os (recursion_from_All (λ (o : Outgoing). o.w.end.published ≡ slot) os all) in
       absurd (omega (arith, some.1, ap (length {A = EndNumber}) none))
 
--- not all is published where this is the least link end of what is not
+-- not all is published where this is the least end of what is not
 pub not_all_done : (clock limit : Slot) (os xs : List Outgoing) (end : EndNumber) → xs ≡ os → IsLeast end (untold_ends clock xs) → (clock ≡ limit) × All (λ (o : Outgoing). o.w.end.published ≡ limit) os → ⊥
 not_all_done clock limit os xs end same least done =
     not_all_told clock xs end least.0

@@ -1,4 +1,4 @@
--- The logs of the links that leave a node are closed: what holds of its ends goes on to hold.
+-- The logs of the arcs that leave a node are closed: what holds of its ends goes on to hold.
 use Rattle.std.proofs.Common.{◌≡◌, List, [], ◌∷◌, map, slice_index, refl, sym, ap, ◌∙◌, subst}
 use Rattle.std.specs.List.{All, AllByRecursion, AllZip}
 use Rattle.std.proofs.lemmas.List.Elements.{All-from_recursion, recursion_from_All}

@@ -52,7 +52,7 @@ seen_of_none : (plan : PlanRec) (link : LinkNumber) (seen got : Slot) (hand : Op
 seen_of_none plan link seen got hand none is = subst (λ (h : Option Hand). IsInHand plan link seen got h) none is
 
 module _ (cells : CellsRec) (is : IsPlan cells.plan) (runner : RunnerRec) (ends : List Incoming) (listens : Listens cells runner ends) (none_in_hand : All (λ (i : Incoming). i.hand ≡ None) ends) where
-  -- what was seen of a link is what was read of it
+  -- what was seen of an arc is what was read of it
   seen_is_read : (k : ℕ) (i : Incoming) → slice_get ends k ≡ Some i → Sees runner.horizon i.end (record { delay = delay_of cells.plan i.link; seen = i.r.end.got })
   seen_is_read k i at =
       let heard = fits_at (IsHeard cells.plan runner.horizon) ends k i at listens.heard in
@@ -61,7 +61,7 @@ module _ (cells : CellsRec) (is : IsPlan cells.plan) (runner : RunnerRec) (ends 
       let all : heard.seen ≡ record { delay = delay_of cells.plan i.link; seen = i.r.end.got } = λ j. record { delay = heard.delay j; seen = seen j } in
       heard.there ∙ ap (λ (s : Seen). Some (Some s)) all
 
-  -- the end that reads the link that comes to a link end, of which this much was seen
+  -- the end that reads the arc that comes to an end, of which this much was seen
   pub record ReadsThere (end : EndNumber) (s : Seen) : Type 0 where
     pub place : ℕ
     pub reader : Incoming
@@ -96,7 +96,7 @@ module _ (cells : CellsRec) (is : IsPlan cells.plan) (runner : RunnerRec) (ends 
 abbrev pub worker : CellsRec → RunnerRec → Ends → WorkerRec
 worker cells runner ends = record { cells = cells; runner = runner; ends = ends }
 
--- the logs were looked at: what the node has seen of its links changes, and the ends that read
+-- the logs were looked at: what the node has seen of its arcs changes, and the ends that read
 pub record Heard (before : WorkerRec) (runner : RunnerRec) (ends : Ends) : Type 0 where
   pub listens : Listens before.cells runner ends.incoming.items
   pub rest : runner ≡ record before.runner { horizon = record before.runner.horizon { ends = runner.horizon.ends } }

@@ -68,7 +68,7 @@ module _ (cells : CellsRec) (limit : Slot) (parts : List WorkerRec)
   pub all_ends : length (map ends_of parts) ≡ length cells.plan.nodes
   all_ends = length-map parts ends_of ∙ nodes
 
-  -- so is the log of each arc, since it is as the end has left it by which the link leaves its node
+  -- so is the log of each arc, since it is as the end has left it by which the arc leaves its node
   module _ (is : IsPlan cells.plan) (logs : List (LogRec PlanRec))
       (links : length logs ≡ arc_count cells.plan)
       (own : (link : LinkNumber) (log : LogRec PlanRec) → slice_get logs link ≡ Some log → IsLogOf cells.plan link log)

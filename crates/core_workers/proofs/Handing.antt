@@ -18,7 +18,7 @@ use Rattle.core_workers.specs.Worker.{IsInHand, IsHeard, StaysIncoming}
 use Rattle.core_workers.specs.Steps.{HearsAt}
 use Rattle.core_workers.proofs.Passes.{slice_get-set_same, slice_get-set_other}
 
--- ---- The node hears at one link end
+-- ---- The node hears at one end
 
 pub at_hand : (plan : PlanRec) (link : LinkNumber) (seen got : Slot) (o : Option Hand) (hand : Hand) → o ≡ Some hand → IsInHand plan link seen got o → IsInHand plan link seen got (Some hand)
 at_hand plan link seen got o hand is h = subst (λ (x : Option Hand). IsInHand plan link seen got x) is h
@@ -81,7 +81,7 @@ stays_unread old new end link table same = record {
   shut = λ was. ap (λ (r : ReadRec PlanRec). r.shut) same ∙ was;
 }
 
--- what was found is what the link carried from what was seen on
+-- what was found is what the arc carried from what was seen on
 pub found_is : (plan run : PlanRec) (link number : LinkNumber) (seen from to : Slot) (entries : List Entry) → run ≡ plan → number ≡ link → from ≡ seen → from ≤ to
     → entries ≡ between (carried_at run number) from to → entries ≡ history plan link seen to
 found_is plan run link number seen from to entries p l s on is = is ∙ between_is_history run number from to on ∙ (λ i. history (p i) (l i) (s i) to)

@@ -1,4 +1,4 @@
--- A node hears at one link end: what holds of all its ends goes on to hold.
+-- A node hears at one end: what holds of all its ends goes on to hold.
 use Rattle.std.proofs.Common.{◌≡◌, ◌≢◌, ℕ, Some, List, map, set, slice_get, sym, ap, ◌∙◌, subst, inl, inr}
 use mathlib.Core.Logic.{◌⊎◌}
 use Rattle.std.specs.List.{All}

@@ -50,7 +50,7 @@ alone n = (Contains-push [] n, All-push (λ k. n ≤ k) [] n (λ k d below. absu
 pub least_push : (a : Option ℕ) (xs : List ℕ) (n : ℕ) → IsLeastOf a xs → IsLeastOf (least_of a (Some n)) (xs ++ n ∷ [])
 least_push a xs n least = least_join a (Some n) xs (n ∷ []) least (alone n)
 
--- ---- The least link end that stops a node
+-- ---- The least end that stops a node
 
 module _ (plan : PlanRec) (clock : Slot) (xs : List Incoming) (x : Incoming) where
   abbrev now : List Incoming

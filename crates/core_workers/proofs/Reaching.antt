@@ -1,4 +1,4 @@
--- How far a node has run that a link end stops, or that is at the limit.
+-- How far a node has run that an end stops, or that is at the limit.
 use Rattle.std.proofs.Common.{◌≡◌, ℕ, zero, suc, ◌+◌, ◌≤◌, Some, List, [], ◌∷◌, slice_get, refl, subst, arith}
 use Rattle.std.proofs.lemmas.Option.{none-some, same_Some}
 use Rattle.xs_base.specs.Numbers.{Slot}

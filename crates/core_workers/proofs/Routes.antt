@@ -1,7 +1,8 @@
--- Where the ends of a node are: each at the link end of its link, and no two at one.
+-- Where the ends of a node are: each at the end of its arc, and no two at one.
 use Rattle.std.proofs.Common.{◌≡◌, ◌≢◌, ℕ, ◌<◌, Option, Some, None, option_map, List, map, slice_get, refl, sym, ap, ◌∙◌}
 use Rattle.std.proofs.lemmas.Option.{none-some, same_Some, slice_get-map}
 use Rattle.xs_base.specs.Numbers.{Position, EndNumber, LinkNumber}
+use Rattle.sys_plan.specs.declared.system_plan.TheConstants.{ENDS}
 use Rattle.sys_plan.specs.Plan.{PlanRec, IsPlan, outgoing, incoming}
 use Rattle.sys_plan.proofs.Routes.{outgoing-end}
 use Rattle.plan_cells.specs.declared.ends.Outgoing.{Outgoing}
@@ -28,7 +29,7 @@ module _ (plan : PlanRec) (is : IsPlan plan) (n : Position) where
         let here : slice_get (coming plan n) j ≡ Some (b.end, a.link) = at_place comes_at ends (coming plan n) places j a first ∙ ap (λ (e : EndNumber). Some (e, a.link)) same in
         apart (coming_once plan n is j k b.end a.link b.link here (at_place comes_at ends (coming plan n) places k b second))
 
-    -- the end at which a link comes to the node
+    -- the end at which an arc comes to the node
     pub record ComesTo (end : EndNumber) (link : LinkNumber) : Type 0 where
       pub place : ℕ
       pub reader : Incoming
@@ -46,7 +47,7 @@ module _ (plan : PlanRec) (is : IsPlan plan) (n : Position) where
     pub leaves_by : (k : ℕ) (o : Outgoing) → slice_get ends k ≡ Some o → outgoing plan n o.end ≡ Some o.link
     leaves_by k o at = leaving_is plan n is k o.end o.link (at_place leaves_at ends (leaving plan n) places k o at)
 
-    pub leaves_end : (k : ℕ) (o : Outgoing) → slice_get ends k ≡ Some o → o.end < 8
+    pub leaves_end : (k : ℕ) (o : Outgoing) → slice_get ends k ≡ Some o → o.end < ENDS
     leaves_end k o at = outgoing-end plan is n o.end o.link (leaves_by k o at)
 
     pub leaves_apart : (j k : ℕ) (a b : Outgoing) → slice_get ends j ≡ Some a → slice_get ends k ≡ Some b → j ≢ k → a.end ≢ b.end

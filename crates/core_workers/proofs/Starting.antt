@@ -3,6 +3,7 @@ use Rattle.std.proofs.Common.{◌≡◌, ℕ, zero, suc, ◌<◌, Option, Some, 
 use Rattle.std.proofs.lemmas.List.Elements.{All-from_recursion}
 use Rattle.std.proofs.lemmas.Option.{none-some, same_Some, slice_get-get_or, slice_get_within}
 use Rattle.xs_base.specs.Numbers.{Slot, Position, EndNumber, LinkNumber}
+use Rattle.sys_plan.specs.declared.system_plan.TheConstants.{ENDS}
 use Rattle.sys_plan.specs.Plan.{PlanRec, IsPlan, arc_count, incoming, delay_of}
 use Rattle.sys_plan.proofs.Routes.{found-at-end-in, incoming-end}
 use Rattle.link_logs.specs.Logs.{WriteRec, ReadRec}
@@ -54,7 +55,7 @@ module _ (plan : PlanRec) (is : IsPlan plan) (limit : Slot) (n : Position) where
 
   no_others_at_start : (end : EndNumber) (s : Seen) → Sees start end s → (link : LinkNumber) × (incoming plan n end ≡ Some link)
   no_others_at_start end s sees =
-      let within : end < 8 = slice_get_within start.ends end (Some s) sees in
+      let within : end < ENDS = slice_get_within start.ends end (Some s) sees in
       mapped_there (seen_of_link plan none_seen) (incoming plan n end) s
       (same_Some (option_map (seen_of_link plan none_seen) (incoming plan n end)) (Some s)
       (sym (found-at-end-in plan n (λ e. option_map (seen_of_link plan none_seen) (incoming plan n e)) end within) ∙ sees))
@@ -79,7 +80,7 @@ module _ (cells : CellsRec) (is : IsPlan cells.plan) (limit : Slot) (n : Positio
       fit = new.are_ends.outgoing_fit;
       told = λ k d within.
           let o = get_or ends.outgoing.items k d in
-          none_counted 8 o.end ∙ sym (ap (λ (w : WriteRec PlanRec). w.published) (All-from_recursion (IsNewOutgoing cells.plan) ends.outgoing.items new.outgoing_new k d within));
+          none_counted ENDS o.end ∙ sym (ap (λ (w : WriteRec PlanRec). w.published) (All-from_recursion (IsNewOutgoing cells.plan) ends.outgoing.items new.outgoing_new k d within));
       all_ends = refl;
     };
     busy = sym (none_at_start cells.plan n);

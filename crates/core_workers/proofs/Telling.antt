@@ -1,4 +1,4 @@
--- A node publishes by one link end: what holds of all its ends goes on to hold.
+-- A node publishes by one end: what holds of all its ends goes on to hold.
 use Rattle.std.proofs.Common.{◌≡◌, ℕ, ◌≤◌, Some, List, set, slice_get, sym, ap, ◌∙◌, arith}
 use Rattle.std.proofs.lemmas.List.Elements.{All-from_recursion, recursion_from_All, All-set}
 use Rattle.std.proofs.lemmas.Option.{slice_get_within}
@@ -48,7 +48,7 @@ module _ (cells : CellsRec) (is : IsPlan cells.plan) (before after : RunnerRec) 
     all_ends = publishes.all_ends ∙ tells.all_ends;
   }
 
--- ---- A node publishes by one link end
+-- ---- A node publishes by one end
 
 pub stays_published : (old new : Outgoing) (slot : Slot) → new.end ≡ old.end → new.link ≡ old.link → new.w.table ≡ old.w.table → new.w.end ≡ record old.w.end { published = slot }
     → old.w.end.published ≤ slot → StaysOutgoing old new
@@ -66,7 +66,7 @@ stays_published old new slot end link table is on =
 pub stays_unpublished : (old new : Outgoing) → new.end ≡ old.end → new.link ≡ old.link → new.w.table ≡ old.w.table → new.w.end ≡ old.w.end → StaysOutgoing old new
 stays_unpublished old new end link table same = stays_published old new old.w.end.published end link table same (omega arith)
 
--- what a node sent is what the link carried from what was published on
+-- what a node sent is what the arc carried from what was published on
 pub sent_is : (plan run : PlanRec) (link number : LinkNumber) (from since upto clock : Slot) (entries : List Entry) → plan ≡ run → link ≡ number → from ≡ since → clock ≡ upto → since ≤ upto
     → entries ≡ history plan link from clock → entries ≡ between (carried_at run number) since upto
 sent_is plan run link number from since upto clock entries p l f c on is = is ∙ (λ i. history (p i) (l i) (f i) (c i)) ∙ sym (between_is_history run number since upto on)

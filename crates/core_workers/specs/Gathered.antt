@@ -8,11 +8,11 @@ use Rattle.link_logs.specs.Logs.{LogRec}
 use Rattle.plan_cells.specs.Ends.{IsLogOf}
 use Rattle.finished_runs.specs.Limit.{Totals}
 
--- the log of an arc of a plan, to which all was published that the link carries below a slot
+-- the log of an arc of a plan, to which all was published that the arc carries below a slot
 pub record IsFull (plan : PlanRec) (limit : Slot) (link : LinkNumber) (log : LogRec PlanRec) : Type 0 where
   pub log_of : IsLogOf plan link log
   pub published : log.published ≡ limit
 
--- how many tokens, and how many credits, the link of a log has carried before the published slot, whatever the log still holds
+-- how many tokens, or levels of a wire, and how many credits, the arc of a log has carried before the published slot, whatever the log still holds
 abbrev pub sent_in : LogRec PlanRec → Totals
 sent_in log = (tokens_sent (history log.run log.number 0 log.published), credits_sent (history log.run log.number 0 log.published))

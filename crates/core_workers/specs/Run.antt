@@ -10,7 +10,7 @@ use Rattle.core_workers.specs.declared.ended.Ended.{Ended}
 use Rattle.core_workers.specs.declared.ended.Ended.TheVariants.{Finished, Stopped, Memory}
 use Rattle.core_workers.specs.Worker.{WorkerRec, IsOpen, IsLeast, StaysIncoming, shut_links}
 
--- an end is that of the same link and cell, and has published no less
+-- an end is that of the same arc and cell, and has published no less
 pub record KeepsOutgoing (before after : Outgoing) : Type 0 where
   pub end : after.end ≡ before.end
   pub link : after.link ≡ before.link
@@ -29,7 +29,7 @@ pub record Keeps (before after : WorkerRec) : Type 0 where
   pub incoming : AllZip StaysIncoming before.ends.incoming.items after.ends.incoming.items
   pub outgoing : AllZip KeepsOutgoing before.ends.outgoing.items after.ends.outgoing.items
 
--- the log of a link that leaves the node is published up to a slot
+-- the log of an arc that leaves the node is published up to a slot
 abbrev pub IsToldTo : Slot → Outgoing → Type 0
 IsToldTo slot o = o.w.end.published ≡ slot
 
@@ -43,7 +43,7 @@ pub record IsOver (w : WorkerRec) : Type 0 where
   pub told : All (IsToldTo w.runner.horizon.limit) w.ends.outgoing.items
   pub still_open : All IsOpen w.ends.outgoing.items
 
--- the node is stopped before the limit by the log of a link that was found closed, the least such link, and the logs of all links
+-- the node is stopped before the limit by the log of an arc that was found closed, the least such arc, and the logs of all arcs
 -- that leave it are closed for that
 pub record IsStopped (w : WorkerRec) : Type 0 where
   pub link : LinkNumber
@@ -56,7 +56,7 @@ EndsWith Finished after = IsOver after
 EndsWith Stopped after = IsStopped after
 EndsWith Memory after = All (IsClosedFor cause.Memory) after.ends.outgoing.items
 
--- what is left of the node at a position, where it has run so many slots and published each link that leaves it up to there, in these
+-- what is left of the node at a position, where it has run so many slots and published each arc that leaves it up to there, in these
 -- cells
 pub record IsLeftAt (cells : CellsRec) (slot : Slot) (n : Position) (w : WorkerRec) : Type 0 where
   pub cells_are : w.cells ≡ cells

@@ -1,4 +1,4 @@
--- The parts of a worker's turn, link by link.
+-- The parts of a worker's turn, arc by arc.
 use Rattle.std.specs.Prelude.{ℕ, ◌≡◌, ◌≢◌, ◌<◌, min, nat_lt, if◌then◌else◌, Option, Some, None, List, [], length, slice_get, slice_index}
 use Rattle.std.specs.List.{AllByRecursion}
 use Rattle.xs_base.specs.Numbers.{Slot, EndNumber, LinkNumber}
@@ -9,12 +9,12 @@ use Rattle.core_workers.specs.declared.turn.Turn.{Turn}
 use Rattle.core_workers.specs.declared.turn.Turn.TheVariants.{Ran, Blocked, Busy, Finished, Stopped, Memory}
 use Rattle.core_workers.specs.Worker.{IsLeast, IsReadTo, shut_links, stopping_ends}
 
--- what a node has heard at one link end changes, and nothing else of it
+-- what a node has heard at one end changes, and nothing else of it
 pub record HearsAt (end : EndNumber) (before after : RunnerRec) : Type 0 where
   pub rest : after ≡ record before { horizon = record before.horizon { ends = after.horizon.ends } }
   pub others : (k : EndNumber) → k ≢ end → slice_get after.horizon.ends k ≡ slice_get before.horizon.ends k
 
--- what a node has published by one link end changes, and nothing else of it
+-- what a node has published by one end changes, and nothing else of it
 pub record PublishesAt (end : EndNumber) (before after : RunnerRec) : Type 0 where
   pub rest : after ≡ record before { published = after.published }
   pub others : (k : EndNumber) → k ≢ end → slice_index after.published k ≡ slice_index before.published k
@@ -31,12 +31,12 @@ least_of None b = b
 least_of (Some a) None = Some a
 least_of (Some a) (Some b) = Some (min a b)
 
--- the lesser of two link ends, where there are two, and up to which slot its link was read
+-- the lesser of two ends, where there are two, and up to which slot its arc was read
 abbrev pub lesser_stop : Option (EndNumber × Slot) → EndNumber → Slot → EndNumber × Slot
 lesser_stop None end slot = (end, slot)
 lesser_stop (Some stop) end slot = if nat_lt end stop.0 then (end, slot) else stop
 
--- the least of the link ends that stop the node, and up to which slot its link was read; none where no link end does
+-- the least of the ends that stop the node, and up to which slot its arc was read; none where no end does
 abbrev pub IsLeastStop : PlanRec → Slot → List Incoming → Option (EndNumber × Slot) → Type 0
 IsLeastStop plan clock ends None = stopping_ends plan clock ends ≡ []
 IsLeastStop plan clock ends (Some stop) = IsLeast stop.0 (stopping_ends plan clock ends) × IsReadTo stop.1 stop.0 ends
@@ -51,11 +51,11 @@ Explains plan clock ends (Some (Busy end)) = ⊥
 Explains plan clock ends (Some Finished) = ⊥
 Explains plan clock ends (Some Memory) = ⊥
 
--- the links of these ends are of the plan
+-- the arcs of these ends are of the plan
 abbrev pub AreOfPlan : PlanRec → List Incoming → Type 0
 AreOfPlan plan ends = AllByRecursion (λ (i : Incoming). i.link < arc_count plan) ends
 
--- a turn found cells in use, and names the least of these link ends
+-- a turn found cells in use, and names the least of these ends
 abbrev pub NamesLeast : List EndNumber → Turn → Type 0
 NamesLeast ends (Busy end) = IsLeast end ends
 NamesLeast ends (Ran from to) = ⊥

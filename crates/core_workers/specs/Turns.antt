@@ -45,7 +45,7 @@ pub record TakesTurns (before : WorkerRec) (turn : Turn) (after : WorkerRec) : T
   pub earlier : GoesOnFor turns before last
   pub takes : Takes last turn after
 
--- the logs of the links that leave the node are closed for a cause, and nothing else changes
+-- the logs of the arcs that leave the node are closed for a cause, and nothing else changes
 pub record Shuts (for : Cause) (before after : WorkerRec) : Type 0 where
   pub closed : AllZip (Closes for) before.ends.outgoing.items after.ends.outgoing.items
   pub rest : KeepsAllElse before after

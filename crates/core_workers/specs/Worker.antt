@@ -1,4 +1,4 @@
--- A worker: one node that runs ahead of the others, with its ends of the cells of the plan's links.
+-- A worker: one node that runs ahead of the others, with its ends of the cells of the plan's arcs.
 use Rattle.std.specs.Prelude.{◌≡◌, ◌≢◌, ◌+◌, ◌<◌, ◌≤◌, min, Bool, true, false, ◌==◌, ◌&&◌, not, Option, Some, None, List, [], ◌∷◌, ◌++◌, All, Contains, length, map, filter, slice_index}
 use Rattle.std.specs.List.{AllByRecursion, AllZip}
 use Rattle.xs_base.specs.Numbers.{Slot, LinkNumber, EndNumber}
@@ -42,14 +42,14 @@ pub record IsHeard (plan : PlanRec) (h : HorizonRec) (i : Incoming) : Type 0 whe
   pub delay : seen.delay ≡ delay_of plan i.link
   pub in_hand : IsInHand plan i.link seen.seen i.r.end.got i.hand
 
--- a node hears of the links that come to it by these ends, and of no others
+-- a node hears of the arcs that come to it by these ends, and of no others
 pub record Listens (cells : CellsRec) (runner : RunnerRec) (ends : List Incoming) : Type 0 where
   pub places : map comes_at ends ≡ coming cells.plan runner.node
   pub fit : AllByRecursion (IsIncoming cells) ends
   pub heard : All (IsHeard cells.plan runner.horizon) ends
   pub no_others : (end : EndNumber) (s : Seen) → Sees runner.horizon end s → (link : LinkNumber) × (incoming cells.plan runner.node end ≡ Some link)
 
--- the node has published a link that leaves it up to the same slot as the end that writes
+-- the node has published an arc that leaves it up to the same slot as the end that writes
 abbrev pub IsTold : List Slot → Outgoing → Type 0
 IsTold published o = slice_index published o.end ≡ o.w.end.published
 
@@ -67,13 +67,13 @@ pub record IsWorker (w : WorkerRec) : Type 0 where
   pub tells : Tells w.cells w.runner w.ends.outgoing.items
   pub busy : HasSteppedBusy w.runner
 
--- the log of a link that leaves the node is open
+-- the log of an arc that leaves the node is open
 abbrev pub IsOpen : Outgoing → Type 0
 IsOpen o = o.w.end.cause ≡ None
 
 -- ---- What any turn leaves as it was
 
--- an end is that of the same link and cell; it has read no less and looked no less often, and where it had found the log closed it still has
+-- an end is that of the same arc and cell; it has read no less and looked no less often, and where it had found the log closed it still has
 pub record StaysIncoming (before after : Incoming) : Type 0 where
   pub end : after.end ≡ before.end
   pub link : after.link ≡ before.link
@@ -84,7 +84,7 @@ pub record StaysIncoming (before after : Incoming) : Type 0 where
   pub looks : before.r.end.looks ≤ after.r.end.looks
   pub shut : before.r.end.shut ≡ true → after.r.end.shut ≡ true
 
--- an end is that of the same link and cell; it has published no less, and has not closed the log
+-- an end is that of the same arc and cell; it has published no less, and has not closed the log
 pub record StaysOutgoing (before after : Outgoing) : Type 0 where
   pub end : after.end ≡ before.end
   pub link : after.link ≡ before.link
@@ -115,18 +115,18 @@ pub record Tried (before after : Incoming) : Type 0 where
   pub refused : after.busy ≡ true → after.r ≡ reader_refused before.r
   pub none_in_hand : after.hand ≡ None
 
--- the link was to be published up to a slot: it is already, and nobody is told; or it was, once; or the cell was in use by its other end
+-- the arc was to be published up to a slot: it is already, and nobody is told; or it was, once; or the cell was in use by its other end
 pub record Told (slot : Slot) (before after : Outgoing) : Type 0 where
   pub already : before.w.end.published ≡ slot → after.w ≡ before.w
   pub published : before.w.end.published ≢ slot → after.w.end.published ≡ slot → after.w ≡ writer_had before.w (record before.w.end { published = slot })
   pub refused : after.w.end.published ≢ slot → after.w ≡ writer_refused before.w
 
--- how far a node may run: to the limit, and of each link that comes to it to the slot up to which it was read, and the link's delay
+-- how far a node may run: to the limit, and of each arc that comes to it to the slot up to which it was read, and the arc's delay
 abbrev pub reach : PlanRec → Slot → List Incoming → Slot
 reach plan limit [] = limit
 reach plan limit (i ∷ ends) = min (i.r.end.got + delay_of plan i.link) (reach plan limit ends)
 
--- each log was looked at or in use, the node has run as far as it may, and each link was published up to there or its cell in use
+-- each log was looked at or in use, the node has run as far as it may, and each arc was published up to there or its cell in use
 pub record Exchanged (before after : WorkerRec) : Type 0 where
   pub tried : AllZip Tried before.ends.incoming.items after.ends.incoming.items
   pub ran : after.runner.clock ≡ reach after.cells.plan after.runner.horizon.limit after.ends.incoming.items
@@ -138,37 +138,37 @@ pub record Exchanged (before after : WorkerRec) : Type 0 where
 abbrev pub shut_links : List Incoming → List LinkNumber
 shut_links ends = map (λ (i : Incoming). i.link) (filter (λ (i : Incoming). i.r.end.shut) ends)
 
--- a link was looked at in the turn, and lets the node run no further
+-- an arc was looked at in the turn, and lets the node run no further
 abbrev pub stops_here : PlanRec → Slot → Incoming → Bool
 stops_here plan clock i = not i.busy && (i.r.end.got + delay_of plan i.link == clock)
 
--- the link ends of such links
+-- the ends of such arcs
 abbrev pub stopping_ends : PlanRec → Slot → List Incoming → List EndNumber
 stopping_ends plan clock ends = map (λ (i : Incoming). i.end) (filter (stops_here plan clock) ends)
 
--- a link is not published up to a slot
+-- an arc is not published up to a slot
 abbrev pub is_behind : Slot → Outgoing → Bool
 is_behind slot o = not (o.w.end.published == slot)
 
--- the link ends of links that were not looked at, since their cells were in use
+-- the ends of arcs that were not looked at, since their cells were in use
 abbrev pub unheard_ends : List Incoming → List EndNumber
 unheard_ends ends = map (λ (i : Incoming). i.end) (filter (λ (i : Incoming). i.busy) ends)
 
--- the link ends of links that are not published up to a slot
+-- the ends of arcs that are not published up to a slot
 abbrev pub untold_ends : Slot → List Outgoing → List EndNumber
 untold_ends clock ends = map (λ (o : Outgoing). o.end) (filter (is_behind clock) ends)
 
 abbrev pub IsLeast : LinkNumber → List LinkNumber → Type 0
 IsLeast link links = Contains links link × All (λ k. link ≤ k) links
 
--- the link that comes to a link end was read up to a slot
+-- the arc that comes to an end was read up to a slot
 pub record IsReadTo (slot : Slot) (end : EndNumber) (ends : List Incoming) : Type 0 where
   pub reader : Incoming
   pub there : Contains ends reader
   pub at_end : reader.end ≡ end
   pub got : reader.r.end.got ≡ slot
 
--- where a turn began, where it came to, and how it left the ends of the links
+-- where a turn began, where it came to, and how it left the ends of the arcs
 pub record Outcome : Type 0 where
   pub plan : PlanRec
   pub from : Slot
@@ -187,7 +187,7 @@ outcome_of before after = record {
   outgoing = after.ends.outgoing.items;
 }
 
--- the node is at the limit, and each link that leaves it is published up to there
+-- the node is at the limit, and each arc that leaves it is published up to there
 abbrev pub IsAllDone : Outcome → Type 0
 IsAllDone o = (o.clock ≡ o.limit) × All (λ (w : Outgoing). w.w.end.published ≡ o.limit) o.outgoing
 
@@ -195,7 +195,7 @@ IsAllDone o = (o.clock ≡ o.limit) × All (λ (w : Outgoing). w.w.end.published
 abbrev pub IsIdle : Outcome → Type 0
 IsIdle o = o.clock ≡ o.from
 
--- at the limit, or no log was found closed and each link that stops the node was not looked at
+-- at the limit, or no log was found closed and each arc that stops the node was not looked at
 abbrev pub IsUnexplained : Outcome → Type 0
 IsUnexplained o = o.clock < o.limit → (shut_links o.incoming ≡ []) × (stopping_ends o.plan o.clock o.incoming ≡ [])
 

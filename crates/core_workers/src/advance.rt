@@ -6,7 +6,7 @@ ghost use Rattle.core_workers.specs.Worker.{HasSteppedBusy};
 use node_runners::{NodeRunner, Ran};
 use std::alloc::AllocError;
 
-/// Runs slots of a node until a link end stops it or it is at the limit, and tells which. The error is want of memory.
+/// Runs slots of a node until an end stops it or it is at the limit, and tells which. The error is want of memory.
 pub(crate) fn run_all(runner: &mut NodeRunner) -> Result<Ran, AllocError>
     requires busy { HasSteppedBusy runner.old }
     ensures rest { runner.new ≡ record runner.old { clock = runner.new.clock; stepped = runner.new.stepped } }

@@ -59,7 +59,7 @@ fn explained(plan: &Plan, readers: &[Incoming], clock: u32) -> Option<Turn>
     }
 }
 
-// The answer where neither tells why: a cell was in use. `untold` is the least link end of what is not published.
+// The answer where neither tells why: a cell was in use. `untold` is the least end of what is not published.
 fn busy(readers: &[Incoming], untold: Option<u8>) -> Turn
     requires some { unheard_ends readers.now ≡ [] → IsSome untold }
     ensures { (ends : List EndNumber) → IsLeastOf untold ends → NamesLeast (unheard_ends readers.now ++ ends) result }

@@ -74,7 +74,8 @@ impl Finished {
     }
 
     /// The run of a plan that was made in so many rounds: each node, by position, has run so many slots, `limit`, and stepped the busy ones;
-    /// `totals` are how many tokens and how many credits were sent on each arc below the limit, by number. It takes no memory.
+    /// `totals` are how many tokens, or levels of a wire, and how many credits were sent on each arc below the limit, by number. It takes no
+    /// memory.
     pub fn of_rounds(
         plan: Known<Plan>,
         limit: u32,
@@ -159,7 +160,7 @@ impl Finished {
         self.run.events(node)
     }
 
-    /// How many tokens were sent on the arc with a number, and how many credits.
+    /// How many tokens were sent on the arc with a number, and how many credits; of a wire, how many levels, and 0.
     pub fn totals(&self, link: u32) -> (u64, u64)
         requires link { link < arc_count self.now.plan }
         ensures tokens { result.0 ≡ tokens_sent (history self.now.plan link 0 self.now.limit) }

@@ -52,7 +52,7 @@ fn take_apart(alloc: Global, parts: Vec<Part>) -> Result<(Vec<NodeRunner>, Vec<E
     Ok((runners, ends))
 }
 
-// How many tokens, and how many credits, the link of each of these logs has carried, read or not. The error is want of memory.
+// How many tokens, or levels of a wire, and how many credits, the arc of each of these logs has carried, read or not. The error is want of memory.
 fn totals_of(alloc: Global, logs: Vec<Log<PlanStory>>) -> Result<Vec<(u64, u64)>, AllocError>
     ensures { IfOk result (λ totals. totals.items ≡ map sent_in logs.items) }
 {

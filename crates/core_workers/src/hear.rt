@@ -1,4 +1,4 @@
-//! What a worker reads of the links that come to its node.
+//! What a worker reads of the arcs that come to its node.
 ghost use Rattle.std.specs.Prelude.{◌≡◌, Some, None, OnOk};
 ghost use Rattle.std.specs.List.{AllZip};
 ghost use Rattle.sys_plan.specs.Plan.{IsPlan, incoming};
@@ -50,7 +50,7 @@ fn give_back(reader: &mut Incoming, runner: &mut NodeRunner, carried: bool)
     }
 }
 
-// Looks once at the log of a link that comes to the node, unless its cell is in use, and hands to the node all that was read of it. The error
+// Looks once at the log of an arc that comes to the node, unless its cell is in use, and hands to the node all that was read of it. The error
 // is want of memory.
 fn hear(cells: &PlanCells, reader: &mut Incoming, runner: &mut NodeRunner) -> Result<(), AllocError>
     requires of_plan { runner.old.plan ≡ cells.now.plan }
@@ -83,8 +83,8 @@ fn hear(cells: &PlanCells, reader: &mut Incoming, runner: &mut NodeRunner) -> Re
     }
 }
 
-/// Looks once at the log of each link that comes to the node, but where its cell is in use, and hands to the node all that was read of it. The
-/// error is want of memory.
+/// Looks once at the log of each link or wire that comes to the node, but where its cell is in use, and hands to the node all that was read
+/// of it. The error is want of memory.
 pub(crate) fn hear_all(
     cells: &PlanCells,
     ends: &mut Ends,

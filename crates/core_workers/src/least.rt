@@ -1,4 +1,4 @@
-//! The least link end, or arc, of those ends of a node of which something holds.
+//! The least end, or arc, of those ends of a node of which something holds.
 ghost use Rattle.std.specs.Prelude.{◌≡◌, ◌<◌};
 ghost use Rattle.sys_plan.specs.Plan.{arc_count};
 ghost use Rattle.core_workers.specs.Worker.{shut_links, stops_here, unheard_ends, untold_ends};
@@ -7,7 +7,7 @@ ghost use Rattle.core_workers.specs.Steps.{IsLeastOf, IsLeastStop, AreOfPlan, le
 use plan_cells::{Incoming, Outgoing};
 use sys_plan::Plan;
 
-/// The lesser of two link ends, where there are two.
+/// The lesser of two ends, where there are two.
 pub(crate) fn least_end(a: Option<u8>, b: Option<u8>) -> Option<u8>
     ensures { result ≡ least_of a b }
 {
@@ -42,7 +42,7 @@ pub(crate) fn least_shut(readers: &[Incoming]) -> Option<u32>
     least
 }
 
-/// The least of the link ends of links that were not looked at, since their cells were in use. None comes exactly where all were looked at.
+/// The least of the ends of links and wires that were not looked at, since their cells were in use. None comes exactly where all were looked at.
 pub(crate) fn least_unheard(readers: &[Incoming]) -> Option<u8>
     ensures { IsLeastOf result (unheard_ends readers.now) }
 {
@@ -55,7 +55,7 @@ pub(crate) fn least_unheard(readers: &[Incoming]) -> Option<u8>
     least
 }
 
-/// The least of the link ends of links that are not published up to a slot. None comes exactly where all are.
+/// The least of the ends of links and wires that are not published up to a slot. None comes exactly where all are.
 pub(crate) fn least_untold(writers: &[Outgoing], slot: u32) -> Option<u8>
     ensures { IsLeastOf result (untold_ends slot writers.now) }
 {
@@ -68,7 +68,7 @@ pub(crate) fn least_untold(writers: &[Outgoing], slot: u32) -> Option<u8>
     least
 }
 
-/// The least of the link ends that were looked at and let the node run no further, and up to which slot its link was read. None comes
+/// The least of the ends that were looked at and let the node run no further, and up to which slot its link or wire was read. None comes
 /// exactly where none does.
 pub(crate) fn least_stop(plan: &Plan, readers: &[Incoming], clock: u32) -> Option<(u8, u32)>
     requires of_plan { AreOfPlan plan.now readers.now }
@@ -83,7 +83,7 @@ pub(crate) fn least_stop(plan: &Plan, readers: &[Incoming], clock: u32) -> Optio
     least
 }
 
-// Whether a link was looked at, and lets the node run no further than the clock.
+// Whether an arc was looked at, and lets the node run no further than the clock.
 fn stops(plan: &Plan, reader: &Incoming, clock: u32) -> bool
     requires of_plan { reader.now.link < arc_count plan.now }
     ensures { result ≡ stops_here plan.now clock reader.now }
@@ -92,7 +92,7 @@ fn stops(plan: &Plan, reader: &Incoming, clock: u32) -> bool
         && u64::from(reader.r.got()) + u64::from(plan.delay(reader.link)) == u64::from(clock)
 }
 
-// The lesser of two link ends, where there are two, and up to which slot its link was read.
+// The lesser of two ends, where there are two, and up to which slot its arc was read.
 fn lesser_of_two(stop: Option<(u8, u32)>, end: u8, got: u32) -> (u8, u32)
     ensures { result ≡ lesser_stop stop end got }
 {

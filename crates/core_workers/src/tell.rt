@@ -1,4 +1,4 @@
-//! What a worker publishes of the links that leave its node.
+//! What a worker publishes of the arcs that leave its node.
 ghost use Rattle.std.specs.Prelude.{◌≡◌, ◌<◌, Some, All, OnOk, [], length};
 ghost use Rattle.std.specs.List.{AllByRecursion, AllZip};
 ghost use Rattle.sys_plan.specs.Plan.{IsPlan, outgoing};
@@ -14,7 +14,7 @@ use std::alloc::AllocError;
 use std::sync::Wait;
 use xs_base::Batch;
 
-// Publishes up to the node's clock a link that leaves it, unless its cell is in use by its other end. The error is want of memory, and
+// Publishes up to the node's clock an arc that leaves it, unless its cell is in use by its other end. The error is want of memory, and
 // publishes nothing. Where all is published it does nothing, so that no one is woken for nothing.
 fn tell(cells: &PlanCells, writer: &mut Outgoing, runner: &mut NodeRunner) -> Result<(), AllocError>
     requires of_plan { runner.old.plan ≡ cells.now.plan }
@@ -62,7 +62,7 @@ fn keep(runner: &mut NodeRunner, end: u8, carried: bool, batch: Batch)
     }
 }
 
-/// Publishes up to the node's clock each link that leaves it, but where its cell is in use by its other end. The error is want of memory.
+/// Publishes up to the node's clock each link or wire that leaves it, but where its cell is in use by its other end. The error is want of memory.
 pub(crate) fn tell_all(
     cells: &PlanCells,
     ends: &mut Ends,
@@ -84,7 +84,7 @@ pub(crate) fn tell_all(
     Ok(())
 }
 
-// Closes the log of a link that leaves the node, where it is open.
+// Closes the log of an arc that leaves the node, where it is open.
 fn close<R: Wait>(rt: &R, cells: &PlanCells, writer: &mut Outgoing, cause: Cause)
     requires fit { IsOutgoing cells.now writer.old }
     ensures closes { Closes cause writer.old writer.new }
@@ -95,7 +95,7 @@ fn close<R: Wait>(rt: &R, cells: &PlanCells, writer: &mut Outgoing, cause: Cause
     }
 }
 
-/// Closes the logs of the links that leave the node, where they are open.
+/// Closes the logs of the links and wires that leave the node, where they are open.
 pub(crate) fn close_all<R: Wait>(rt: &R, cells: &PlanCells, ends: &mut Ends, cause: Cause)
     requires fit { AllByRecursion (IsOutgoing cells.now) ends.old.outgoing.items }
     ensures closes { AllZip (Closes cause) ends.old.outgoing.items ends.new.outgoing.items }

@@ -19,7 +19,7 @@ use std::sync::Wait;
 use std::thread::yield_now;
 use xs_edge::Gate;
 
-/// A node that runs ahead of the others, and the ends by which it reads and writes the cells of its links. Contracts see a `WorkerRec` of
+/// A node that runs ahead of the others, and the ends by which it reads and writes the cells of its links and wires. Contracts see a `WorkerRec` of
 /// `Rattle.core_workers.specs.Worker`. See docs/LOOKAHEAD.md.
 #[derive(Drop)]
 pub struct Worker<'a> {
@@ -42,7 +42,7 @@ impl<'a> Model for Worker<'a> {
     ghost invariant = { λ w. IsWorker (record { cells = w.lanes.now; runner = w.runner; ends = w.ends }) };
 }
 
-/// What is left of a worker: its node, and the ends of its links. `Worker::parts` alone makes one, and nothing changes it. Contracts see
+/// What is left of a worker: its node, and the ends of its links and wires. `Worker::parts` alone makes one, and nothing changes it. Contracts see
 /// it as they saw the worker.
 #[derive(Drop)]
 pub struct Part {
@@ -97,9 +97,9 @@ impl<'a> Worker<'a> {
         self.eager = looks;
     }
 
-    /// Passes the gate; then looks once at the log of each link that comes to the node, runs the node as far as it may, and publishes once
-    /// each link that leaves it. It waits for nobody: where a cell is in use by its other end, what was to be done there is left for a later
-    /// turn. No log of a link that leaves the node may be closed, and none is closed by it.
+    /// Passes the gate; then looks once at the log of each link or wire that comes to the node, runs the node as far as it may, and publishes once
+    /// each link or wire that leaves it. It waits for nobody: where a cell is in use by its other end, what was to be done there is left for a later
+    /// turn. No log of a link or wire that leaves the node may be closed, and none is closed by it.
     pub fn turn<G: Gate>(&mut self, gate: &G) -> Turn
         requires open { All IsOpen self.old.ends.outgoing.items }
         ensures keeps { IsWorker self.new }
@@ -113,9 +113,9 @@ impl<'a> Worker<'a> {
         take_turn(&lanes.cells, &mut self.runner, &mut self.ends)
     }
 
-    /// Takes turns until the node has run all slots, or has run none in a turn and the log of a link that comes to it was found closed, or
-    /// memory is wanting: in the last two cases it closes the logs of the links that leave the node. While the node is blocked it waits for
-    /// news of the link that blocks it, once all that it has sent is published. No log of a link that leaves the node may be closed.
+    /// Takes turns until the node has run all slots, or has run none in a turn and the log of a link or wire that comes to it was found closed, or
+    /// memory is wanting: in the last two cases it closes the logs of the links and wires that leave the node. While the node is blocked it
+    /// waits for news of the link or wire that blocks it, once all that it has sent is published. No log of a link or wire that leaves the node may be closed.
     pub fn run<R: Wait, G: Gate>(&mut self, rt: &R, gate: &G) -> Ended
         requires open { All IsOpen self.old.ends.outgoing.items }
         ensures is_worker { IsWorker self.new }
@@ -139,8 +139,8 @@ impl<'a> Worker<'a> {
         unreachable!()
     }
 
-    // Lets others go on before the next turn: where all that the node has sent is published, until there are news of the link that comes to
-    // a link end. What is not published may be what these news wait for.
+    // Lets others go on before the next turn: where all that the node has sent is published, until there are news of the arc that comes to
+    // an end. What is not published may be what these news wait for.
     fn wait<R: Wait>(&self, rt: &R, end: u8) {
         match least_untold(&self.ends.outgoing, self.runner.clock()) {
             None => self.await_news(rt, end),
@@ -148,7 +148,7 @@ impl<'a> Worker<'a> {
         }
     }
 
-    // Waits for news of the link that comes to a link end.
+    // Waits for news of the arc that comes to an end.
     fn await_news<R: Wait>(&self, rt: &R, end: u8)
         requires told { untold_ends self.now.runner.clock self.now.ends.outgoing.items ≡ [] }
     {
@@ -174,7 +174,7 @@ impl<'a> Worker<'a> {
         Ended::Memory
     }
 
-    /// Closes the logs of the links that leave the node with a cause; those that were closed keep theirs. It may wait for those that look
+    /// Closes the logs of the links and wires that leave the node with a cause; those that were closed keep theirs. It may wait for those that look
     /// at the same logs, and takes no memory.
     pub fn stop<R: Wait>(&mut self, rt: &R, cause: Cause)
         ensures keeps { IsWorker self.new }
@@ -207,7 +207,7 @@ impl<'a> Worker<'a> {
 impl Part {
     ghost use Rattle.core_workers.specs.Worker.{IsWorker};
 
-    /// The node and the ends of its links. It takes no memory.
+    /// The node and the ends of its links and wires. It takes no memory.
     pub(crate) fn apart(self) -> (NodeRunner, Ends)
         ensures runner { result.0 ≡ self.runner }
         ensures ends { result.1 ≡ self.ends }

@@ -23,7 +23,7 @@ pub record FinishedRunRec : Type 0 where
 abbrev pub stepped_in : FinishedRunRec → Position → ℕ
 stepped_in run n = if run.apart then busy_count run.plan n run.limit else run.limit
 
--- how many tokens, and how many credits
+-- how many tokens, or levels of a wire, and how many credits
 abbrev pub Totals : Type 0
 Totals = ℕ × ℕ
 

@@ -58,8 +58,8 @@ impl FinishedRun {
         }
     }
 
-    /// The run of a plan of which each node, by position, has run so many slots by itself, `limit`, and stepped the busy ones; `totals` are how many tokens and how many
-    /// credits were sent on each arc below the limit, by number. It takes no memory.
+    /// The run of a plan of which each node, by position, has run so many slots by itself, `limit`, and stepped the busy ones; `totals` are how many tokens, or levels of a
+    /// wire, and how many credits were sent on each arc below the limit, by number. It takes no memory.
     pub fn of_runners(
         plan: Known<Plan>,
         limit: u32,
@@ -121,8 +121,8 @@ impl FinishedRun {
         }
     }
 
-    /// How many tokens were sent on the arc with a number, and how many credits. Of a serial machine they are counted at each
-    /// call.
+    /// How many tokens were sent on the arc with a number, and how many credits; of a wire, how many levels, and 0. Of a serial machine
+    /// they are counted at each call.
     pub fn totals(&self, link: u32) -> (u64, u64)
         requires link { link < arc_count self.now.plan }
         ensures tokens { result.0 ≡ tokens_sent (history self.now.plan link 0 self.now.limit) }

@@ -8,7 +8,7 @@ use Rattle.link_logs.specs.declared.answers.Got.TheVariants.{Entries, Nothing, C
 use Rattle.link_logs.specs.Entries.{between}
 use Rattle.link_logs.specs.Logs.{LogRec, WriteRec, ReadRec, Reads, Finds, looked}
 
--- a cell: which table it is, and the run and the directed link of its log
+-- a cell: which table it is, and the run and the directed link or wire of its log
 pub record CellRec (Run : Type 0) : Type 0 where
   pub table : TableId
   pub run : Run

@@ -1,4 +1,4 @@
-//! Cells: the log of a directed link, which the end that writes and the end that reads use by turns from two threads.
+//! Cells: the log of a directed link or a wire, which the end that writes and the end that reads use by turns from two threads.
 //! See docs/LOOKAHEAD.md.
 #![tactic(auto)]
 

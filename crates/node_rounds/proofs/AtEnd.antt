@@ -1,12 +1,12 @@
 -- A run at its limit: each node, and what each arc has carried.
-use Rattle.std.proofs.Common.{◌≡◌, ℕ, zero, suc, ◌<◌, Some, List, [], ◌∷◌, length, map, get_or, slice_get, refl, sym, ap, ◌∙◌, subst, arith}
+use Rattle.std.proofs.Common.{◌≡◌, ℕ, zero, suc, ◌<◌, Some, None, List, [], ◌∷◌, length, map, get_or, slice_get, refl, sym, ap, ◌∙◌, subst, arith}
 use Rattle.std.specs.Prelude.{All}
 use Rattle.std.proofs.lemmas.List.{get_or-map, length-map}
 use Rattle.std.proofs.lemmas.Option.{none-some, same_Some, slice_get-get_or, get_or_from_slice_get, slice_get_within}
 use Rattle.xs_base.specs.Numbers.{Slot, Position, LinkNumber}
 use Rattle.xs_base.specs.declared.entry.Entry.{Entry}
 use Rattle.sys_plan.specs.Plan.{PlanRec, Arc, arcs, arc_count}
-use Rattle.sys_plan.proofs.Routes.{directed}
+use Rattle.sys_plan.proofs.Routes.{within}
 use Rattle.serial_model.specs.Serial.{history}
 use Rattle.trace_model.specs.Trace.{tokens_sent, credits_sent}
 use Rattle.ahead_limits.specs.Horizon.{HorizonRec}
@@ -14,11 +14,11 @@ use Rattle.node_runners.specs.Runner.{RunnerRec}
 use Rattle.node_runners.specs.Busy.{HasSteppedBusy}
 use Rattle.finished_runs.specs.Limit.{Totals, HasRun, HasSent, AreAtLimit}
 use Rattle.plan_lanes.specs.declared.lane.Lane.{Lane}
-use Rattle.plan_lanes.specs.Lanes.{IsRunner, IsLane, clocks_of, seen_of, published_of}
+use Rattle.plan_lanes.specs.Lanes.{IsRunner, IsLane, seen_of, published_of}
 use Rattle.round_laws.specs.Rounds.{round_clocks, round_clock}
 use Rattle.node_rounds.specs.declared.seat.Seat.{Seat}
 use Rattle.node_rounds.specs.Seats.{told}
-use Rattle.node_rounds.specs.Rounds.{all_told, AreAfter, run_by_senders}
+use Rattle.node_rounds.specs.Rounds.{all_told, AreAfter}
 use Rattle.node_rounds.specs.Parts.{runner_of, sent_by}
 use Rattle.node_rounds.proofs.Taking.{same_limit}
 
@@ -29,7 +29,7 @@ from_map f (x ∷ xs) zero y here = (x, refl, same_Some (f x) y here)
 from_map f (x ∷ xs) (suc n) y here = from_map f xs n y here
 
 abbrev no_arc : Arc
-no_arc = record { from = 0; from_end = 0; to = 0; to_end = 0; delay = 0; gap = 0 }
+no_arc = record { from = 0; from_end = 0; to = 0; to_end = 0; delay = 0; gap = 0; joins = None }
 
 module _ (plan : PlanRec) (limit : Slot) (rounds : ℕ) (seats : List Seat) (lanes : List Lane) (after : AreAfter plan limit rounds seats lanes)
     (all : (n : Position) → n < length plan.nodes → round_clock plan limit n rounds ≡ limit) where
@@ -101,7 +101,7 @@ module _ (plan : PlanRec) (limit : Slot) (rounds : ℕ) (seats : List Seat) (lan
         sym (get_or-map of_lane lanes link lane 0 lane_below ∙ ap of_lane lane_here)
         ∙ ap (λ (ns : List Slot). get_or ns link 0) after.published
         ∙ get_or-map of_arc (arcs plan) link no_arc 0 arc_below
-        ∙ all arc.from (directed plan after.between.plan_is link arc there).from
+        ∙ all arc.from (within plan after.between.plan_is link arc there).from
 
     has_sent : HasSent plan limit link (sent_by lane)
     has_sent =

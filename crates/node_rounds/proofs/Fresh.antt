@@ -1,5 +1,5 @@
 -- A run before its first round.
-use Rattle.std.proofs.Common.{◌≡◌, ℕ, zero, suc, ◌+◌, ◌^◌, ◌<◌, List, [], ◌∷◌, length, map, replicate, get_or, refl, sym, ap, ◌∙◌, subst, arith}
+use Rattle.std.proofs.Common.{◌≡◌, suc, ◌^◌, ◌<◌, List, [], ◌∷◌, length, map, replicate, get_or, refl, sym, ap, ◌∙◌, subst, arith}
 use Rattle.std.specs.Prelude.{All}
 use Rattle.std.proofs.lemmas.List.{get_or-map, length-map}
 use Rattle.xs_base.specs.Numbers.{Slot, Position}
@@ -14,10 +14,9 @@ use Rattle.plan_lanes.proofs.Places.{map_none}
 use Rattle.plan_lanes.proofs.Starts.{starts_at, starts_as}
 use Rattle.round_laws.specs.Rounds.{round_clocks}
 use Rattle.round_laws.proofs.Positions.{zeros}
-use Rattle.node_rounds.specs.declared.seat.Handed.{Handed}
 use Rattle.node_rounds.specs.declared.seat.Seat.{Seat}
-use Rattle.node_rounds.specs.Seats.{AreNext, MayTake, told, heard_all}
-use Rattle.node_rounds.specs.Rounds.{all_told, IsBusySeat, AreBetween, AreAfter, run_by_senders}
+use Rattle.node_rounds.specs.Seats.{AreNext, MayTake, told}
+use Rattle.node_rounds.specs.Rounds.{all_told, IsBusySeat, AreAfter, run_by_senders}
 use Rattle.node_rounds.specs.Sends.{IsFreshSeat, AreFresh}
 use Rattle.node_rounds.proofs.Taking.{none_to_take}
 

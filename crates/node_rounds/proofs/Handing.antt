@@ -1,5 +1,5 @@
 -- All arcs, one after the other: what each sender has run is handed on.
-use Rattle.std.proofs.Common.{◌≡◌, ◌≢◌, ℕ, ◌+◌, ◌<◌, ◌≤◌, List, length, map, get_or, set, refl, sym, ap, ◌∙◌, arith, inl, inr}
+use Rattle.std.proofs.Common.{◌≡◌, ◌≢◌, ℕ, ◌+◌, ◌<◌, ◌≤◌, None, List, length, map, get_or, set, refl, sym, ap, ◌∙◌, arith, inl, inr}
 use mathlib.Core.Logic.{◌⊎◌}
 use Rattle.std.proofs.lemmas.Bool.{cases_eq}
 use Rattle.std.proofs.lemmas.List.{get_or-set_same, get_or-set_other, get_or-map, get_or_default, length-map, same_lists}
@@ -66,7 +66,7 @@ module _ (plan : PlanRec) (limit : Slot) (seats : List Seat) (lanes : List Lane)
   }
 
   abbrev no_arc : Arc
-  no_arc = record { from = 0; from_end = 0; to = 0; to_end = 0; delay = 0; gap = 0 }
+  no_arc = record { from = 0; from_end = 0; to = 0; to_end = 0; delay = 0; gap = 0; joins = None }
 
   all_at : (ns : List ℕ) → length ns ≡ arc_count plan → ((k : ℕ) → k < arc_count plan → get_or ns k 0 ≡ get_or (clocks_of (all_told seats)) (sender_of plan k) 0) → ns ≡ run_by_senders plan (clocks_of (all_told seats))
   all_at ns count each =

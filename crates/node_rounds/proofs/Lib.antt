@@ -1,7 +1,7 @@
 mod Places
 mod Taking
 mod Running
-mod Routes
+pub mod Routes
 mod Steps
 mod Handing
 mod Fresh

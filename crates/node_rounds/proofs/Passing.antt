@@ -1,10 +1,10 @@
 -- A pass: all nodes work, and each is at the clock of the next round then.
-use Rattle.std.proofs.Common.{◌≡◌, ℕ, zero, suc, ◌+◌, ◌-◌, ◌<◌, ◌≤◌, true, false, ltb, List, [], ◌∷◌, length, map, get_or, refl, sym, ap, ◌∙◌, subst, arith, inl, inr}
+use Rattle.std.proofs.Common.{◌≡◌, ℕ, zero, suc, ◌+◌, ◌<◌, ◌≤◌, true, false, ltb, List, length, get_or, refl, sym, ap, ◌∙◌, subst, arith, inl, inr}
 use mathlib.Core.Logic.{◌⊎◌}
 use Rattle.std.specs.Prelude.{All, nat_lt}
 use Rattle.std.proofs.lemmas.Bool.{cases_lt, lt-ltb, ltb-true}
 use Rattle.std.proofs.lemmas.List.{get_or-map, get_or_default, length-map, same_lists}
-use Rattle.xs_base.specs.Numbers.{Slot, Position}
+use Rattle.xs_base.specs.Numbers.{Slot}
 use Rattle.sys_plan.specs.Plan.{PlanRec, IsPlan}
 use Rattle.ahead_limits.specs.declared.horizon.Seen.{Seen}
 use Rattle.ahead_limits.specs.Horizon.{HorizonRec, Sees, horizon_at, may_run, IsBelowAll}
@@ -12,13 +12,13 @@ use Rattle.ahead_limits.specs.Schedule.{horizon_of}
 use Rattle.ahead_limits.proofs.Ends.{may_run_exactly}
 use Rattle.node_runners.specs.Runner.{RunnerRec}
 use Rattle.plan_lanes.specs.declared.lane.Lane.{Lane}
-use Rattle.plan_lanes.specs.Lanes.{AllAt, IsRunner, AreAt, clocks_of, seen_of, published_of}
+use Rattle.plan_lanes.specs.Lanes.{IsRunner, clocks_of, seen_of, published_of}
 use Rattle.round_laws.specs.Rounds.{round_clocks, round_clock, all_at_limit}
 use Rattle.round_laws.specs.Laws.{SeesRound, RoundMayRun, HorizonSeesRound, seen_after}
 use Rattle.round_laws.proofs.Clocks.{as_many_as_nodes}
 use Rattle.round_laws.proofs.Counts.{all_in_time, at_most, all_from_then_on}
 use Rattle.node_rounds.specs.declared.seat.Seat.{Seat}
-use Rattle.node_rounds.specs.Seats.{MayTake, HasRunOut, HasWorked, told}
+use Rattle.node_rounds.specs.Seats.{MayTake, HasWorked, told}
 use Rattle.node_rounds.specs.Rounds.{all_told, IsBusySeat, HaveWorked, AreBetween, AreAfter, run_by_senders}
 use Rattle.node_rounds.specs.Sends.{HandsAllOn}
 use Rattle.node_rounds.proofs.Places.{element}

@@ -1,9 +1,9 @@
 -- A node that has run on stands at its horizon.
-use Rattle.std.proofs.Common.{◌≡◌, ℕ, ◌<◌, true, false, refl, arith, inl, inr}
+use Rattle.std.proofs.Common.{◌≡◌, true, false, refl, arith, inl, inr}
 use mathlib.Core.Logic.{◌⊎◌}
 use Rattle.std.proofs.lemmas.Bool.{cases_Bool}
 use Rattle.xs_base.specs.Numbers.{Slot}
-use Rattle.ahead_limits.specs.Horizon.{HorizonRec, may_run, IsBelowAll, StopsAt}
+use Rattle.ahead_limits.specs.Horizon.{HorizonRec, may_run, IsBelowAll}
 use Rattle.ahead_limits.proofs.Ends.{may_run_exactly}
 use Rattle.node_runners.specs.declared.runner.Ran.{Ran}
 use Rattle.node_runners.specs.declared.runner.Ran.TheVariants.{Slot as one_slot, Blocked, AtLimit}

@@ -1,11 +1,10 @@
 -- One arc: its sender publishes what it has run, and what is published lies ready for its receiver.
-use Rattle.std.proofs.Common.{◌≡◌, ℕ, ◌<◌, ◌≤◌, Option, Some, None, IsSome, List, [], ◌∷◌, ◌++◌, length, map, get_or, set, refl, sym, ap, ◌∙◌, subst, arith}
-use Rattle.std.specs.Prelude.{All}
+use Rattle.std.proofs.Common.{◌≡◌, ℕ, ◌<◌, ◌≤◌, Option, Some, None, IsSome, List, [], ◌∷◌, ◌++◌, length, get_or, set, refl, sym, ap, ◌∙◌, subst, arith}
 use Rattle.std.proofs.lemmas.List.{length-map, map-set}
 use Rattle.std.proofs.lemmas.Option.{same_Some}
 use Rattle.xs_base.specs.Numbers.{Slot}
 use Rattle.xs_base.specs.declared.entry.Entry.{Entry}
-use Rattle.sys_plan.specs.declared.Step.TheVariants.{Take, Send}
+use Rattle.sys_plan.specs.declared.system_plan.TheConstants.{ENDS}
 use Rattle.sys_plan.specs.Plan.{PlanRec, arc_count, outgoing, incoming}
 use Rattle.serial_model.specs.Serial.{history}
 use Rattle.link_logs.specs.declared.answers.Got.{Got}
@@ -16,7 +15,7 @@ use Rattle.node_runners.specs.Runner.{RunnerRec}
 use Rattle.node_runners.specs.Busy.{HasSteppedBusy}
 use Rattle.plan_lanes.specs.declared.lane.Lane.{Lane}
 use Rattle.plan_lanes.specs.Lanes.{IsRunner, IsLane, AreAt, numbers_of, clocks_of, seen_of, published_of}
-use Rattle.plan_lanes.proofs.Steps.{Goes, own_runner, own_lane, sent_then, read_is_seen, send_goes, take_nothing, take_entries}
+use Rattle.plan_lanes.proofs.Steps.{own_runner, own_lane, sent_then, read_is_seen, send_goes, take_nothing, take_entries}
 use Rattle.node_rounds.specs.declared.seat.Handed.{Handed}
 use Rattle.node_rounds.specs.declared.seat.Seat.{Seat}
 use Rattle.node_rounds.specs.Seats.{IsNext, AreNext, MayTake, told, heard, heard_all}
@@ -40,7 +39,7 @@ read_of lane got = record lane { log = emptied lane.log; r = looked lane.log got
 module _ (plan : PlanRec) (limit : Slot) (seats : List Seat) (lanes : List Lane) (between : AreBetween plan limit seats lanes) where
   -- ---- A take of nothing
 
-  module _ (link : ℕ) (lane : Lane) (lane_is : lane ≡ get_or lanes link lane) (link_below : link < arc_count plan) (node end : ℕ) (inside : end < 8) (here : incoming plan node end ≡ Some link) (got : Got) where
+  module _ (link : ℕ) (lane : Lane) (lane_is : lane ≡ get_or lanes link lane) (link_below : link < arc_count plan) (node end : ℕ) (inside : end < ENDS) (here : incoming plan node end ≡ Some link) (got : Got) where
     pub takes_nothing : lane.log.published ≡ lane.r.got → Takes plan link limit seats lanes seats (set lanes link (read_of lane got))
     takes_nothing none =
         let goes = take_nothing plan limit (all_told seats) lanes between.are_at link lane lane_is link_below node end here inside got lane.log.published refl none in
@@ -78,7 +77,7 @@ module _ (plan : PlanRec) (limit : Slot) (seats : List Seat) (lanes : List Lane)
       busy = all_set IsBusySeat seats node next between.busy busy;
     }
 
-    module _ (link : ℕ) (lane : Lane) (lane_is : lane ≡ get_or lanes link lane) (link_below : link < arc_count plan) (end : ℕ) (inside : end < 8) where
+    module _ (link : ℕ) (lane : Lane) (lane_is : lane ≡ get_or lanes link lane) (link_below : link < arc_count plan) (end : ℕ) (inside : end < ENDS) where
       pub own_log : IsLane plan link lane
       own_log = own_lane plan limit (all_told seats) lanes between.are_at link lane lane_is link_below
 

@@ -2,5 +2,4 @@ pub mod Run
 pub mod Rounds
 pub mod Seats
 pub mod Sends
-pub mod Routes
 pub mod Parts

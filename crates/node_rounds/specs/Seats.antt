@@ -21,7 +21,7 @@ abbrev pub heard_all : HorizonRec → List Handed → HorizonRec
 heard_all h [] = h
 heard_all h (x ∷ xs) = heard_all (heard h x) xs
 
--- a batch is what the link that comes to its link end carried from where the node has seen it on
+-- a batch is what the arc that comes to its end carried from where the node has seen it on
 pub record IsNext (plan : PlanRec) (n : Position) (h : HorizonRec) (x : Handed) : Type 0 where
   pub there : IsSome (incoming plan n x.end)
   pub on : seen_at h x.end ≤ x.to

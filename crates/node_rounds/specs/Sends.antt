@@ -1,5 +1,5 @@
 -- What is handed on by the arcs of a plan, after all nodes have worked.
-use Rattle.std.specs.Prelude.{ℕ, ◌≡◌, ◌<◌, List, [], All, map, slice_index, slice_set}
+use Rattle.std.specs.Prelude.{◌≡◌, List, [], All, map, slice_index, slice_set}
 use Rattle.xs_base.specs.Numbers.{Slot, Position, LinkNumber}
 use Rattle.sys_plan.specs.Plan.{PlanRec}
 use Rattle.node_runners.specs.Runner.{RunnerRec}

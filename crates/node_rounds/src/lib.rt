@@ -3,7 +3,6 @@
 #![tactic(auto)]
 
 mod parts;
-mod route;
 mod run;
 mod seat;
 mod table;

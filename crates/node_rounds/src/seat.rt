@@ -9,8 +9,8 @@ use std::collections::VecDeque;
 use xs_base::Batch;
 use xs_edge::Gate;
 
-/// A batch that lies ready for a node: what the link that comes to a link end, 0 to 7, carried from where the node had seen it on and before
-/// the slot `to`.
+/// A batch that lies ready for a node: what the link or wire that comes to an end, 0 to 39: link ends, then ends of wires, carried from where
+/// the node had seen it on and before the slot `to`.
 #[derive(Drop)]
 pub(crate) struct Handed {
     pub(crate) end: u8,

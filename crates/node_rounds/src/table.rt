@@ -1,15 +1,16 @@
 //! `Table`, the nodes and the lanes of a plan that is run round by round.
 ghost use Rattle.std.specs.Prelude.{◌≡◌, ◌==◌, ◌<◌, Some, IfOk, OnOk, [], length};
 ghost use Rattle.std.specs.List.{list_all};
+ghost use Rattle.sys_plan.specs.declared.system_plan.TheConstants.{ENDS};
 ghost use Rattle.sys_plan.specs.Plan.{arc_count, outgoing, incoming};
 ghost use Rattle.node_rounds.specs.Rounds.{IsBetween, IsAfter, Turns, clocks_in};
 ghost use Rattle.node_rounds.specs.Sends.{Sends, Takes, HandsOn, HandsAllOn, AreFresh};
 
-use crate::route::{Route, route_of};
 use crate::seat::{Handed, Seat};
 use link_logs::{Got, ReadEnd};
 use node_runners::NodeRunner;
 use plan_lanes::{Lane, lanes_of, runners_of};
+use plan_routes::{Route, route_of};
 use plan_stories::PlanStory;
 use std::alloc::{AllocError, Global};
 use std::sync::Arc;
@@ -54,6 +55,7 @@ impl Table {
     }
 
     // By one arc.
+    #[tactic(auto, using(crate::proofs::Routes::sender))]
     fn hand_on(&mut self, plan: &Plan, link: u32) -> Result<(), AllocError>
         requires between { IsBetween plan.now self.old }
         requires link { link < arc_count plan.now }
@@ -69,12 +71,12 @@ impl Table {
         self.take(plan, link, to, to_end)
     }
 
-    // A node publishes what it has sent by the link end by which an arc leaves.
+    // A node publishes what it has sent by the end by which an arc leaves.
     fn send(&mut self, plan: &Plan, link: u32, node: u8, end: u8) -> Result<(), AllocError>
         requires between { IsBetween plan.now self.old }
         requires link { link < arc_count plan.now }
         requires there { node < length plan.now.nodes }
-        requires inside { end < 8 }
+        requires inside { end < ENDS }
         requires route { outgoing plan.now node end ≡ Some link }
         ensures sends { OnOk result (Turns (Sends plan.now link node) self.old self.new) }
     {
@@ -88,12 +90,12 @@ impl Table {
         Ok(())
     }
 
-    // What was published on an arc, and not read, lies ready for the node to whose link end the arc comes.
+    // What was published on an arc, and not read, lies ready for the node to whose end the arc comes.
     fn take(&mut self, plan: &Plan, link: u32, node: u8, end: u8) -> Result<(), AllocError>
         requires between { IsBetween plan.now self.old }
         requires link { link < arc_count plan.now }
         requires there { node < length plan.now.nodes }
-        requires inside { end < 8 }
+        requires inside { end < ENDS }
         requires route { incoming plan.now node end ≡ Some link }
         ensures takes { OnOk result (Turns (Takes plan.now link) self.old self.new) }
     {
@@ -138,7 +140,7 @@ fn keep(runner: &mut NodeRunner, end: u8, carried: bool, batch: Batch)
     }
 }
 
-// Gives the buffer of what a node took last at a link end to the end that reads, which has just parted with its own where it moved something
+// Gives the buffer of what a node took last at one of its ends to the end that reads, which has just parted with its own where it moved something
 // out.
 fn give_back(r: &mut ReadEnd<PlanStory>, runner: &mut NodeRunner, end: u8, carried: bool)
     ensures reader { r.new ≡ r.old }

@@ -1,10 +1,10 @@
--- The ends that a node holds are those of the arcs at its link ends, one for each.
+-- The ends that a node holds are those of the arcs at its ends, one for each.
 use Rattle.std.proofs.Common.{◌≡◌, ℕ, ◌<◌, Some, List, length, map, slice_get, sym, ap, ◌∙◌, subst, arith}
 use Rattle.std.specs.List.{AllByRecursion}
 use Rattle.std.proofs.lemmas.Option.{same_Some}
 use Rattle.xs_base.specs.Numbers.{EndNumber, Position, LinkNumber}
 use Rattle.sys_plan.specs.Plan.{PlanRec, IsPlan, arcs, arc_count, outgoing, incoming}
-use Rattle.sys_plan.proofs.Routes.{outgoing-is, directed}
+use Rattle.sys_plan.proofs.Routes.{outgoing-is, within}
 use Rattle.link_logs.specs.Logs.{LogRec}
 use Rattle.log_cells.specs.Ends.{CellRec, WritesTo, ReadsOf}
 use Rattle.plan_cells.specs.declared.ends.Outgoing.{Outgoing}
@@ -14,7 +14,7 @@ use Rattle.plan_cells.specs.Ends.{CellsRec, LinkAt, leaving, coming, leaves_at, 
 use Rattle.plan_cells.proofs.Lists.{some_at, all_at, map_at, from_map}
 use Rattle.plan_cells.proofs.Places.{leaving_has, leaving_is, leaving_once, coming_has, coming_is, coming_once}
 
--- an end is one of the cell of its link
+-- an end is one of the cell of its arc
 module _ (cells : CellsRec) (cell : CellRec PlanRec) (link : LinkNumber) (table : slice_get cells.tables link ≡ Some cell.table) (run : cell.run ≡ cells.plan) (number : cell.number ≡ link) where
   pub writes_to : (o : Outgoing) → IsOutgoing cells o → o.link ≡ link → WritesTo o.w cell
   writes_to o is at = record {
@@ -30,7 +30,7 @@ module _ (cells : CellsRec) (cell : CellRec PlanRec) (link : LinkNumber) (table 
     number = is.number ∙ at ∙ sym number;
   }
 
--- an end among these has a link end and a link
+-- an end among these is at an end of the node, and of an arc
 pub record Holds {X : Type 0} (at : X → LinkAt) (xs : List X) (end : EndNumber) (link : LinkNumber) : Type 0 where
   pub place : ℕ
   pub held : X
@@ -67,7 +67,7 @@ module _ (cells : CellsRec) (n : Position) (ends : Ends) (are : AreEnds cells n 
     pub incoming_leads : (j : ℕ) (i : Incoming) → slice_get ends.incoming.items j ≡ Some i → incoming cells.plan n i.end ≡ Some i.link
     incoming_leads j i here = coming_is cells.plan n is j i.end i.link (incoming_at j i here)
 
-    -- no two of them have one link end
+    -- no two of them are at one end
     pub outgoing_once : (j k : ℕ) (o p : Outgoing) → slice_get ends.outgoing.items j ≡ Some o → slice_get ends.outgoing.items k ≡ Some p → o.end ≡ p.end → j ≡ k
     outgoing_once j k o p at_j at_k same =
         leaving_once cells.plan n is j k p.end o.link p.link (subst (λ (e : EndNumber). slice_get (leaving cells.plan n) j ≡ Some (e, o.link)) same (outgoing_at j o at_j)) (outgoing_at k p at_k)
@@ -91,12 +91,12 @@ module _ (cells : CellsRec) (is : IsPlan cells.plan) (all : List Ends) (nodes : 
   pub writer_of : (link : LinkNumber) → link < arc_count cells.plan → Writer link
   writer_of link below =
       let d = some_at (arcs cells.plan) link below in
-      let there = directed cells.plan is link d.0 d.1 in
+      let there = within cells.plan is link d.0 d.1 in
       let e = some_at all d.0.from (omega (arith, nodes, there.from)) in
       let h = outgoing_held cells d.0.from e.0 (are d.0.from e.0 e.1) d.0.from_end link (outgoing-is cells.plan is link d.0 d.1) in
       record { node = d.0.from; ends = e.0; ends_at = e.1; place = h.place; end = h.held; end_at = h.here; link_is = h.link_is }
 
-  -- and the log of that link is as that end has left it
+  -- and the log of that arc is as that end has left it
   module _ (logs : List (LogRec PlanRec)) (left : (n : Position) (e : Ends) → slice_get all n ≡ Some e → AllByRecursion (HasLeft logs) e.outgoing.items) where
     pub record LeftBy (log : LogRec PlanRec) (link : LinkNumber) : Type 0 where
       pub writer : Writer link

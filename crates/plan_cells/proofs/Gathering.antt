@@ -8,17 +8,18 @@ use Rattle.std.proofs.lemmas.Option.{none-some, same_Some, slice_get_within}
 use Rattle.std.proofs.lemmas.List.{append_assoc, append-nil, reverse-append, length-map, length-set, length_push, get_or-set_same, get_or-set_other, take_all}
 use Rattle.xs_base.specs.Numbers.{Position, LinkNumber}
 use Rattle.sys_plan.specs.Plan.{PlanRec, Arc, arcs, arc_count}
+use Rattle.plan_routes.specs.declared.route.Route.{Route}
+use Rattle.plan_routes.specs.Routes.{IsRouteOf}
 use Rattle.link_logs.specs.Logs.{LogRec}
 use Rattle.link_logs.specs.Entries.{between}
 use Rattle.log_cells.specs.Ends.{CellRec, WritesTo, ReadsOf}
 use Rattle.plan_stories.specs.Stories.{carried_at}
 use Rattle.plan_stories.proofs.Stories.{between_is_history}
-use Rattle.plan_cells.specs.declared.arc_ends.ArcEnds.{ArcEnds}
 use Rattle.plan_cells.specs.declared.ends.Outgoing.{Outgoing}
 use Rattle.plan_cells.specs.declared.ends.Incoming.{Incoming}
 use Rattle.plan_cells.specs.declared.ends.Ends.{Ends}
 use Rattle.plan_cells.specs.Ends.{LinkAt, leaves_at, comes_at, IsOutgoing, IsIncoming, AreEnds, IsLogOf, HasLeft, HasRead}
-use Rattle.plan_cells.specs.Inside.{Lies, OutgoingLie, IncomingLie, from_of, to_of, from_end_of, to_end_of, handed, tables_of, cells_of, outgoing_items, incoming_items, outgoing_of, incoming_of, IsCellOf, AreCells, AreArcEnds}
+use Rattle.plan_cells.specs.Inside.{Lies, OutgoingLie, IncomingLie, from_of, to_of, from_end_of, to_end_of, handed, tables_of, cells_of, outgoing_items, incoming_items, outgoing_of, incoming_of, IsCellOf, AreCells}
 use Rattle.plan_cells.proofs.Lists.{some_at, before_push, at_push, all_give, map_at, map_or_at}
 use Rattle.plan_cells.proofs.Dealing.{take_next, length_first, some_lie, last_at, last_fit, fewer_lie}
 use Rattle.plan_cells.proofs.AtEnds.{writes_to, reads_of}
@@ -64,7 +65,7 @@ module _ {X : Type 0} where
 
 -- ---- The logs so far: those of the arcs from a number on
 
--- the log of a link is among them, and this holds of it
+-- the log of an arc is among them, and this holds of it
 pub record IsAmong (k : LinkNumber) (logs : List (LogRec PlanRec)) (link : LinkNumber) (Is : LogRec PlanRec → Type 0) : Type 0 where
   pub place : ℕ
   pub link_is : link ≡ k + place
@@ -188,10 +189,10 @@ module _ {plan : PlanRec} {whole cells : List (CellRec PlanRec)} {given all : Li
   pub all_own : (k : LinkNumber) (log : LogRec PlanRec) → slice_get (reverse logs) k ≡ Some log → IsLogOf plan k log
   all_own k log h = let none : 0 + k ≡ k = omega arith in subst (λ (l : LinkNumber). IsLogOf plan l log) none (emptied.own k log h)
 
--- One step: the last cell that is left is popped, and the ends of the arc with its number are these.
-module _ {plan : PlanRec} {whole before : List (CellRec PlanRec)} {given all : List Ends} {logs : List (LogRec PlanRec)} {number : LinkNumber} {ends : ArcEnds}
+-- One step: the last cell that is left is popped, and the arc with its number leads this way.
+module _ {plan : PlanRec} {whole before : List (CellRec PlanRec)} {given all : List Ends} {logs : List (LogRec PlanRec)} {number : LinkNumber} {route : Route}
     (are : AreCells plan whole) (cells : List (CellRec PlanRec)) (cell : CellRec PlanRec) (popped : before ≡ cells ++ cell ∷ [])
-    (so_far : Gathers plan whole given before all logs) (last : length cells ≡ number) (w : AreArcEnds plan number ends) where
+    (so_far : Gathers plan whole given before all logs) (last : length cells ≡ number) (w : IsRouteOf plan number route) where
   with_cell : Gathers plan whole given (cells ++ cell ∷ []) all logs
   with_cell = subst (λ (cs : List (CellRec PlanRec)). Gathers plan whole given cs all logs) popped so_far
 
@@ -228,14 +229,14 @@ module _ {plan : PlanRec} {whole before : List (CellRec PlanRec)} {given all : L
   incoming_lie : IncomingLie FitsIncoming (take link ds ++ d ∷ []) (incoming_of all)
   incoming_lie = subst (λ (l : List Arc). IncomingLie FitsIncoming l (incoming_of all)) first_are with_cell.incoming
 
-  pub some_outgoing : 0 < length (get_or (outgoing_of all) ends.from [])
+  pub some_outgoing : 0 < length (get_or (outgoing_of all) route.from [])
   some_outgoing =
       subst (λ (n : Position). 0 < length (get_or (outgoing_of all) n [])) (sym w.from)
       (some_lie leaves_at from_of from_end_of FitsOutgoing (take link ds) d (outgoing_of all) outgoing_lie
-      (omega (arith, length-map all outgoing_items, with_cell.nodes, w.from_there)))
+      (omega (arith, length-map all outgoing_items, with_cell.nodes, w.from, w.from_there)))
 
   -- the end that writes is taken back
-  module _ (o : Outgoing) (mid : List Ends) (o_out : outgoing_of all ≡ handed (outgoing_of mid) ends.from o) (i_stay : incoming_of mid ≡ incoming_of all) where
+  module _ (o : Outgoing) (mid : List Ends) (o_out : outgoing_of all ≡ handed (outgoing_of mid) route.from o) (i_stay : incoming_of mid ≡ incoming_of all) where
     o_back : outgoing_of all ≡ handed (outgoing_of mid) d.from o
     o_back = o_out ∙ ap (λ (n : Position). handed (outgoing_of mid) n o) w.from
 
@@ -253,14 +254,14 @@ module _ {plan : PlanRec} {whole before : List (CellRec PlanRec)} {given all : L
     mid_incoming : IncomingLie FitsIncoming (take link ds ++ d ∷ []) (incoming_of mid)
     mid_incoming = subst (IncomingLie FitsIncoming (take link ds ++ d ∷ [])) (sym i_stay) incoming_lie
 
-    pub some_incoming : 0 < length (get_or (incoming_of mid) ends.to [])
+    pub some_incoming : 0 < length (get_or (incoming_of mid) route.to [])
     some_incoming =
         subst (λ (n : Position). 0 < length (get_or (incoming_of mid) n [])) (sym w.to)
         (some_lie comes_at to_of to_end_of FitsIncoming (take link ds) d (incoming_of mid) mid_incoming
-        (omega (arith, length-map mid incoming_items, mid_nodes, w.to_there)))
+        (omega (arith, length-map mid incoming_items, mid_nodes, w.to, w.to_there)))
 
     from_mid : d.from < length (outgoing_of mid)
-    from_mid = omega (arith, length-map mid outgoing_items, mid_nodes, w.from_there)
+    from_mid = omega (arith, length-map mid outgoing_items, mid_nodes, w.from, w.from_there)
 
     o_lie : OutgoingLie FitsOutgoing (take link ds ++ d ∷ []) (handed (outgoing_of mid) d.from o)
     o_lie = subst (OutgoingLie FitsOutgoing (take link ds ++ d ∷ [])) o_back outgoing_lie
@@ -280,7 +281,7 @@ module _ {plan : PlanRec} {whole before : List (CellRec PlanRec)} {given all : L
         (last_fit leaves_at from_of from_end_of FitsOutgoing (take link ds) d (outgoing_of mid) o o_lie from_mid) o_link
 
     -- and the end that reads
-    module _ (i : Incoming) (after : List Ends) (i_out : incoming_of mid ≡ handed (incoming_of after) ends.to i) (o_stay : outgoing_of after ≡ outgoing_of mid) where
+    module _ (i : Incoming) (after : List Ends) (i_out : incoming_of mid ≡ handed (incoming_of after) route.to i) (o_stay : outgoing_of after ≡ outgoing_of mid) where
       i_back : incoming_of mid ≡ handed (incoming_of after) d.to i
       i_back = i_out ∙ ap (λ (n : Position). handed (incoming_of after) n i) w.to
 
@@ -289,7 +290,7 @@ module _ {plan : PlanRec} {whole before : List (CellRec PlanRec)} {given all : L
           omega (arith, mid_nodes, length-map after outgoing_items, length-map mid outgoing_items, ap (length {A = List Outgoing}) o_stay)
 
       to_after : d.to < length (incoming_of after)
-      to_after = omega (arith, length-map after incoming_items, after_nodes, w.to_there)
+      to_after = omega (arith, length-map after incoming_items, after_nodes, w.to, w.to_there)
 
       i_lie : IncomingLie FitsIncoming (take link ds ++ d ∷ []) (handed (incoming_of after) d.to i)
       i_lie = subst (IncomingLie FitsIncoming (take link ds ++ d ∷ [])) i_back mid_incoming

@@ -1,4 +1,4 @@
--- The arcs that leave a node, and those that come to it, are those at its link ends.
+-- The arcs that leave a node, and those that come to it, are those at its ends.
 use Rattle.std.proofs.Common.{◌≡◌, ℕ, ◌+◌, Bool, eqb, Some, slice_get, sym, ap, ◌∙◌, arith}
 use Rattle.std.proofs.lemmas.Bool.{eq-eqb, eqb-true}
 use Rattle.std.proofs.lemmas.Option.{same_Some}
@@ -21,7 +21,7 @@ module _ (plan : PlanRec) (n : Position) where
   abbrev to_end : Arc → EndNumber
   to_end d = d.to_end
 
-  -- ---- Each that leaves by a link end, or comes to it, stands among them
+  -- ---- Each that leaves by an end, or comes to it, stands among them
 
   pub leaving_has : (end : EndNumber) (link : LinkNumber) → outgoing plan n end ≡ Some link → (j : ℕ) × (slice_get (leaving plan n) j ≡ Some (end, link))
   leaving_has end link out =
@@ -37,7 +37,7 @@ module _ (plan : PlanRec) (n : Position) where
       let none : 0 + link ≡ link = omega arith in
       (s.0, s.1 ∙ (λ i. Some (l.to_end i, none i)))
 
-  -- ---- Each that stands among them leaves by that link end, or comes to it
+  -- ---- Each that stands among them leaves by that end, or comes to it
 
   module _ (is : IsPlan plan) (j : ℕ) (end : EndNumber) (link : LinkNumber) where
     pub leaving_is : slice_get (leaving plan n) j ≡ Some (end, link) → outgoing plan n end ≡ Some link
@@ -54,7 +54,7 @@ module _ (plan : PlanRec) (n : Position) where
         let to : p.arc.to ≡ n = eqb-true p.arc.to n p.passes in
         (λ i. incoming plan (sym to i) (sym p.end_is i)) ∙ incoming-is plan is p.place p.arc p.here ∙ ap (λ (l : LinkNumber). Some l) none
 
-  -- ---- No two places have one link end
+  -- ---- No two places have one end
 
   module _ (is : IsPlan plan) (i j : ℕ) (end : EndNumber) (a b : LinkNumber) where
     pub leaving_once : slice_get (leaving plan n) i ≡ Some (end, a) → slice_get (leaving plan n) j ≡ Some (end, b) → i ≡ j

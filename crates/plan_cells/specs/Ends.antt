@@ -12,11 +12,11 @@ use Rattle.plan_cells.specs.declared.ends.Ends.{Ends}
 
 -- ---- Which ends a node holds
 
--- an arc at a node: its link end there, and its number
+-- an arc at a node: its end there, and its number
 abbrev pub LinkAt : Type 0
 LinkAt = EndNumber × LinkNumber
 
--- the arcs among these, of which the first has the number k, that pass a test, each with one of its link ends
+-- the arcs among these, of which the first has the number k, that pass a test, each with one of its ends
 abbrev pub links_by : (Arc → Bool) → (Arc → EndNumber) → LinkNumber → List Arc → List LinkAt
 links_by test end k [] = []
 links_by test end k (d ∷ ds) = if test d then (end d, k) ∷ links_by test end (k + 1) ds else links_by test end (k + 1) ds
@@ -42,7 +42,7 @@ pub record CellsRec : Type 0 where
   pub plan : PlanRec
   pub tables : List TableId
 
--- an end is one of the cell of its link
+-- an end is one of the cell of its arc
 pub record IsOutgoing (cells : CellsRec) (o : Outgoing) : Type 0 where
   pub table : slice_get cells.tables o.link ≡ Some o.w.table
   pub run : o.w.end.run ≡ cells.plan
@@ -77,14 +77,14 @@ pub record AreNewEnds (cells : CellsRec) (n : Position) (ends : Ends) : Type 0 w
 
 -- ---- The logs at the end
 
--- the log of an arc: all that the link carries from the base on and before the published slot
+-- the log of an arc: all that it carries from the base on and before the published slot
 pub record IsLogOf (plan : PlanRec) (link : LinkNumber) (log : LogRec PlanRec) : Type 0 where
   pub run : log.run ≡ plan
   pub number : log.number ≡ link
   pub base : log.base ≤ log.published
   pub entries : log.entries ≡ history plan link log.base log.published
 
--- among logs by number, that of an end's link is as the end has left it
+-- among logs by number, that of an end's arc is as the end has left it
 pub record HasLeft (logs : List (LogRec PlanRec)) (o : Outgoing) : Type 0 where
   pub log : LogRec PlanRec
   pub log_at : slice_get logs o.link ≡ Some log

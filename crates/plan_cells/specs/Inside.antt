@@ -6,7 +6,6 @@ use Rattle.xs_base.specs.Numbers.{EndNumber, Position, LinkNumber}
 use Rattle.sys_plan.specs.Plan.{PlanRec, Arc, arcs, arc_count}
 use Rattle.link_logs.specs.Logs.{new_write_end, new_read_end}
 use Rattle.log_cells.specs.Ends.{CellRec}
-use Rattle.plan_cells.specs.declared.arc_ends.ArcEnds.{ArcEnds}
 use Rattle.plan_cells.specs.declared.ends.Outgoing.{Outgoing}
 use Rattle.plan_cells.specs.declared.ends.Incoming.{Incoming}
 use Rattle.plan_cells.specs.declared.ends.Ends.{Ends}
@@ -29,19 +28,6 @@ pub record IsCellOf (plan : PlanRec) (link : LinkNumber) (cell : CellRec PlanRec
 pub record AreCells (plan : PlanRec) (cells : List (CellRec PlanRec)) : Type 0 where
   pub count : length cells ≡ arc_count plan
   pub each : (link : LinkNumber) (cell : CellRec PlanRec) → slice_get cells link ≡ Some cell → IsCellOf plan link cell
-
--- ---- Arcs
-
--- the ends are those of the arc with a number, and its nodes are there
-pub record AreArcEnds (plan : PlanRec) (link : LinkNumber) (ends : ArcEnds) : Type 0 where
-  pub arc : Arc
-  pub here : slice_get (arcs plan) link ≡ Some arc
-  pub from : ends.from ≡ arc.from
-  pub from_end : ends.from_end ≡ arc.from_end
-  pub to : ends.to ≡ arc.to
-  pub to_end : ends.to_end ≡ arc.to_end
-  pub from_there : arc.from < length plan.nodes
-  pub to_there : arc.to < length plan.nodes
 
 -- ---- Ends by node
 

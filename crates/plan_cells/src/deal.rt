@@ -3,9 +3,9 @@ ghost use Rattle.std.specs.Prelude.{◌≡◌, ◌<◌, [], IfOk, OnOk, length, 
 ghost use Rattle.sys_plan.specs.Plan.{arcs, arc_count};
 ghost use Rattle.plan_cells.specs.Inside.{AreCells, IsCellOf, AreDealt, Deals, handed, outgoing_of, incoming_of, cells_of};
 
-use crate::arc_ends::ends_of;
 use crate::ends::{Ends, Incoming, Outgoing};
 use log_cells::{Cell, make_cell};
+use plan_routes::route_of;
 use plan_stories::PlanStory;
 use std::alloc::{AllocError, Global};
 use std::sync::Arc;
@@ -40,7 +40,7 @@ pub(crate) fn deal_all(
     ensures dealt { IfOk result (λ cells. AreDealt (cells_of plan.now.value cells.items) (arcs plan.now.value) all.new.items) }
 {
     let mut cells = Vec::new(alloc);
-    for link in 0..2 * plan.links().len() {
+    for link in 0..2 * plan.links().len() + plan.wires().len() {
         let cell = deal(alloc, plan, link as u32, all)?;
         cells.push(cell)?;
     }
@@ -59,23 +59,23 @@ fn deal(
     ensures cell { IfOk result (λ cell. IsCellOf plan.now.value link cell) }
     ensures deals { IfOk result (λ cell. Deals plan.now.value link cell all.old.items all.new.items) }
 {
-    let ends = ends_of(plan, link as usize);
+    let route = route_of(plan, link);
     let story = PlanStory::new(plan, link)?;
     let (cell, w, r) = make_cell(alloc, story)?;
     let outgoing = Outgoing {
-        end: ends.from_end,
+        end: route.from_end,
         link,
         w,
     };
-    give_outgoing(all, ends.from, outgoing)?;
+    give_outgoing(all, route.from, outgoing)?;
     let incoming = Incoming {
-        end: ends.to_end,
+        end: route.to_end,
         link,
         r,
         hand: None,
         busy: false,
     };
-    give_incoming(all, ends.to, incoming)?;
+    give_incoming(all, route.to, incoming)?;
     Ok(cell)
 }
 

@@ -3,7 +3,7 @@ use log_cells::{ReadEnd, WriteEnd};
 use plan_stories::PlanStory;
 use xs_base::Batch;
 
-/// What a node has read of a link that comes to it, and was not handed: the entries from the slot up to which it was handed all, on
+/// What a node has read of a link or wire that comes to it, and was not handed: the entries from the slot up to which it was handed all, on
 /// and before the slot `to`.
 #[derive(Drop)]
 pub struct Hand {
@@ -11,8 +11,8 @@ pub struct Hand {
     pub to: u32,
 }
 
-/// The end by which a node writes to the cell of an arc that leaves it: the link end, 0 to 7, by which the link leaves, and
-/// the number of the arc.
+/// The end by which a node writes to the cell of an arc that leaves it: by which end of the node it leaves, 0 to 39: link ends, then ends of
+/// wires; and the number of the arc.
 #[derive(Drop)]
 pub struct Outgoing {
     pub end: u8,
@@ -20,8 +20,9 @@ pub struct Outgoing {
     pub w: WriteEnd<PlanStory>,
 }
 
-/// The end by which a node reads the cell of an arc that comes to it: the link end, 0 to 7, to which the link comes, the
-/// number of the arc, what was read and is still in hand, and whether the cell was in use by its other end when it was last to be looked at.
+/// The end by which a node reads the cell of an arc that comes to it: to which end of the node it comes, 0 to 39: link ends, then ends of
+/// wires; the number of the arc, what was read and is still in hand, and whether the cell was in use by its other end when it was last to be
+/// looked at.
 #[derive(Drop)]
 pub struct Incoming {
     pub end: u8,

@@ -8,10 +8,10 @@ ghost use Rattle.plan_cells.specs.declared.ends.Ends as ends;
 ghost use Rattle.plan_cells.specs.Ends.{AreEnds, IsLogOf, HasLeft, HasRead};
 ghost use Rattle.plan_cells.specs.Inside.{AreCells, handed, outgoing_of, incoming_of, cells_of};
 
-use crate::arc_ends::ends_of;
 use crate::ends::{Ends, Incoming, Outgoing};
 use link_logs::Log;
 use log_cells::Cell;
+use plan_routes::route_of;
 use plan_stories::PlanStory;
 use std::alloc::{AllocError, Global};
 use sys_plan::Plan;
@@ -31,14 +31,15 @@ pub(crate) fn logs_of(
     ensures left { IfOk result (λ logs. (n : Position) (e : ends.Ends) → slice_get all.items n ≡ Some e → AllByRecursion (HasLeft logs.items) e.outgoing.items) }
     ensures read { IfOk result (λ logs. (n : Position) (e : ends.Ends) → slice_get all.items n ≡ Some e → AllByRecursion (HasRead logs.items) e.incoming.items) }
 {
+    plan.keeps();
     let mut cells = cells;
     let mut all = all;
     let mut logs = Vec::new(alloc);
     // From the last arc on, whose ends are the last that its two nodes have.
     while let Some(cell) = cells.pop() {
-        let ends = ends_of(plan, cells.len());
-        let outgoing = last_outgoing(&mut all, ends.from);
-        let incoming = last_incoming(&mut all, ends.to);
+        let route = route_of(plan, cells.len() as u32);
+        let outgoing = last_outgoing(&mut all, route.from);
+        let incoming = last_incoming(&mut all, route.to);
         logs.push(cell.done(outgoing.w, incoming.r))?;
     }
     logs.reverse();

@@ -1,7 +1,6 @@
 //! The cells of a plan's arcs, one for each, and the ends of these cells by node. See docs/LOOKAHEAD.md.
 #![tactic(auto)]
 
-mod arc_ends;
 mod cells;
 mod deal;
 mod ends;

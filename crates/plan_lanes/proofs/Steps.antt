@@ -5,7 +5,8 @@ use Rattle.xs_base.specs.Numbers.{Slot}
 use Rattle.xs_base.specs.declared.entry.Entry.{Entry}
 use Rattle.sys_plan.specs.declared.Step.{Step}
 use Rattle.sys_plan.specs.declared.Step.TheVariants.{Take, Run, Send}
-use Rattle.sys_plan.specs.Plan.{PlanRec, arc_count, leaves_by, comes_to, outgoing, incoming, delay_of}
+use Rattle.sys_plan.specs.Plan.{PlanRec, arc_count, outgoing, incoming, delay_of}
+use Rattle.sys_plan.specs.declared.system_plan.TheConstants.{ENDS}
 use Rattle.serial_model.specs.Serial.{history}
 use Rattle.link_logs.specs.declared.answers.Got.{Got}
 use Rattle.link_logs.specs.Logs.{emptied, looked}
@@ -20,11 +21,11 @@ use Rattle.plan_lanes.proofs.Places.{all_at_set}
 use Rattle.sys_plan.proofs.Routes.{at-end-in, at-end-out, leaves-once, comes-once}
 use Rattle.plan_lanes.proofs.Routes.{elsewhere, at_node}
 
--- a link is not another one
+-- an arc is not another one
 not_some : (k link : ℕ) → Some k ≢ Some link → k ≢ link
 not_some k link other is = other (ap (λ (j : ℕ). Some j) is)
 
--- ---- What a node is by the numbers of the links, where one of them changes
+-- ---- What a node is by the numbers of the arcs, where one of them changes
 
 module _ (plan : PlanRec) (limit : Slot) (seen : List Slot) (node end link to : ℕ) (here : incoming plan node end ≡ Some link) (counted : link < length seen) where
   seen_apart : (x : Option ℕ) → x ≢ Some link → option_map (seen_of_link plan (set seen link to)) x ≡ option_map (seen_of_link plan seen) x
@@ -36,24 +37,24 @@ module _ (plan : PlanRec) (limit : Slot) (seen : List Slot) (node end link to : 
   pub horizon_elsewhere : (m : ℕ) → m ≢ node → horizon_of plan limit (set seen link to) m ≡ horizon_of plan limit seen m
   horizon_elsewhere m apart =
       let f : List (Option Seen) → HorizonRec = λ ends. record { limit = limit; ends = ends } in
-      ap f (elsewhere (incoming plan) (λ n m e f l. comes-once plan l n m e f) node end link here (option_map (seen_of_link plan seen)) (option_map (seen_of_link plan (set seen link to))) seen_apart m apart)
+      ap f (elsewhere plan (incoming plan) (λ n m e f l. comes-once plan l n m e f) node end link here (option_map (seen_of_link plan seen)) (option_map (seen_of_link plan (set seen link to))) seen_apart m apart)
 
-  noted : end < 8 → get_or (horizon_of plan limit seen node).ends end None ≡ Some (seen_of_link plan seen link)
+  noted : end < ENDS → get_or (horizon_of plan limit seen node).ends end None ≡ Some (seen_of_link plan seen link)
   noted inside = at-end-in plan node (λ e. option_map (seen_of_link plan seen) (incoming plan node e)) None end inside ∙ ap (option_map (seen_of_link plan seen)) here
 
-  pub seen_here : end < 8 → seen_at (horizon_of plan limit seen node) end ≡ get_or seen link 0
+  pub seen_here : end < ENDS → seen_at (horizon_of plan limit seen node) end ≡ get_or seen link 0
   seen_here inside = ap seen_by_end (noted inside)
 
-  seen_now : end < 8 → option_map (seen_of_link plan (set seen link to)) (Some link) ≡ seen_to to (get_or (horizon_of plan limit seen node).ends end None)
+  seen_now : end < ENDS → option_map (seen_of_link plan (set seen link to)) (Some link) ≡ seen_to to (get_or (horizon_of plan limit seen node).ends end None)
   seen_now inside =
       let f : Slot → Option Seen = λ s. Some (record { delay = delay_of plan link; seen = s }) in
       ap f (get_or-set_same seen link to 0 counted) ∙ sym (ap (seen_to to) (noted inside))
 
-  pub horizon_here : end < 8 → horizon_of plan limit (set seen link to) node
+  pub horizon_here : end < ENDS → horizon_of plan limit (set seen link to) node
       ≡ record (horizon_of plan limit seen node) { ends = set (horizon_of plan limit seen node).ends end (seen_to to (get_or (horizon_of plan limit seen node).ends end None)) }
   horizon_here inside =
       let f : List (Option Seen) → HorizonRec = λ ends. record { limit = limit; ends = ends } in
-      ap f (at_node (incoming plan) (λ n m e f l. comes-once plan l n m e f) node end link here (option_map (seen_of_link plan seen)) (option_map (seen_of_link plan (set seen link to))) seen_apart inside
+      ap f (at_node plan (incoming plan) (λ n m e f l. comes-once plan l n m e f) node end link here (option_map (seen_of_link plan seen)) (option_map (seen_of_link plan (set seen link to))) seen_apart inside
       ∙ ap (λ (s : Option Seen). set (horizon_of plan limit seen node).ends end s) (seen_now inside))
 
 module _ (plan : PlanRec) (published : List Slot) (node end link to : ℕ) (here : outgoing plan node end ≡ Some link) (counted : link < length published) where
@@ -63,14 +64,14 @@ module _ (plan : PlanRec) (published : List Slot) (node end link to : ℕ) (here
 
   pub published_elsewhere : (m : ℕ) → m ≢ node → published_at plan (set published link to) m ≡ published_at plan published m
   published_elsewhere m apart =
-      elsewhere (outgoing plan) (λ n m e f l. leaves-once plan l n m e f) node end link here (number_by published) (number_by (set published link to)) published_apart m apart
+      elsewhere plan (outgoing plan) (λ n m e f l. leaves-once plan l n m e f) node end link here (number_by published) (number_by (set published link to)) published_apart m apart
 
-  pub published_then : end < 8 → get_or (published_at plan published node) end 0 ≡ get_or published link 0
+  pub published_then : end < ENDS → get_or (published_at plan published node) end 0 ≡ get_or published link 0
   published_then inside = at-end-out plan node (λ e. number_by published (outgoing plan node e)) 0 end inside ∙ ap (number_by published) here
 
-  pub published_here : end < 8 → published_at plan (set published link to) node ≡ set (published_at plan published node) end to
+  pub published_here : end < ENDS → published_at plan (set published link to) node ≡ set (published_at plan published node) end to
   published_here inside =
-      at_node (outgoing plan) (λ n m e f l. leaves-once plan l n m e f) node end link here (number_by published) (number_by (set published link to)) published_apart inside
+      at_node plan (outgoing plan) (λ n m e f l. leaves-once plan l n m e f) node end link here (number_by published) (number_by (set published link to)) published_apart inside
       ∙ ap (λ (s : Slot). set (published_at plan published node) end s) (get_or-set_same published link to 0 counted)
 
 -- ---- The numbers of a list in which one place changed
@@ -156,7 +157,7 @@ module _ (plan : PlanRec) (limit : Slot) (runners : List RunnerRec) (lanes : Lis
     own_published = number_at (λ (l : Lane). l.log.published) lanes link lane lane_below lane_is
 
     -- what a node has seen of its link is what the end that reads has read
-    pub read_is_seen : (node end : ℕ) (runner : RunnerRec) → runner ≡ get_or runners node runner → node < length plan.nodes → incoming plan node end ≡ Some link → end < 8 → lane.r.got ≡ seen_at runner.horizon end
+    pub read_is_seen : (node end : ℕ) (runner : RunnerRec) → runner ≡ get_or runners node runner → node < length plan.nodes → incoming plan node end ≡ Some link → end < ENDS → lane.r.got ≡ seen_at runner.horizon end
     read_is_seen node end runner runner_is below here inside =
         sym own_seen
         ∙ sym (seen_here plan limit (seen_of lanes) node end link 0 here seen_below inside)
@@ -164,7 +165,7 @@ module _ (plan : PlanRec) (limit : Slot) (runners : List RunnerRec) (lanes : Lis
 
     -- ---- A take
 
-    module _ (node end : ℕ) (here : incoming plan node end ≡ Some link) (inside : end < 8) (got : Got) (number : ℕ) (number_is : number ≡ lane.log.published) where
+    module _ (node end : ℕ) (here : incoming plan node end ≡ Some link) (inside : end < ENDS) (got : Got) (number : ℕ) (number_is : number ≡ lane.log.published) where
       abbrev taken : Lane
       taken = record lane { log = emptied lane.log; r = looked lane.log got lane.r }
 
@@ -245,7 +246,7 @@ module _ (plan : PlanRec) (limit : Slot) (runners : List RunnerRec) (lanes : Lis
 
     -- ---- A send
 
-    module _ (node end : ℕ) (here : outgoing plan node end ≡ Some link) (inside : end < 8) (runner : RunnerRec) (runner_is : runner ≡ get_or runners node runner) (below : node < length plan.nodes) where
+    module _ (node end : ℕ) (here : outgoing plan node end ≡ Some link) (inside : end < ENDS) (runner : RunnerRec) (runner_is : runner ≡ get_or runners node runner) (below : node < length plan.nodes) where
       pub sent_then : get_or runner.published end 0 ≡ lane.log.published
       sent_then =
           ap (λ (ns : List Slot). get_or ns end 0) (own_runner node runner runner_is below).published_is

@@ -14,7 +14,7 @@ AllAt {X} P xs = (k : ℕ) (x : X) → k < length xs → P k (slice_index_or xs 
 
 -- ---- One node, and one arc
 
--- what a node has published by each of its link ends, 0 where no link leaves
+-- what a node has published by each of its ends, 0 where no arc leaves
 abbrev pub published_at : PlanRec → List Slot → Position → List Slot
 published_at plan published n = map (λ end. number_by published (outgoing plan n end)) (ends_out plan n)
 

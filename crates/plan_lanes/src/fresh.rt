@@ -23,13 +23,15 @@ pub fn runners_of(alloc: Global, plan: &Plan, limit: u32) -> Result<Vec<NodeRunn
     Ok(runners)
 }
 
-/// The lanes of all arcs of a plan by number, with nothing in them. The error is want of memory.
+/// The lanes of all arcs of a plan by number, those of its links and then those of its wires, with nothing in them. The error is want of
+/// memory.
 pub fn lanes_of(alloc: Global, plan: &Arc<Plan>) -> Result<Vec<Lane>, AllocError>
     ensures count { IfOk result (λ v. length v.items ≡ arc_count plan.now.value) }
     ensures start { IfOk result (λ v. AllAt (IsNewLane plan.now.value) v.items) }
 {
     let mut lanes = Vec::new(alloc);
-    for link in 0..2 * plan.links().len() {
+    let arcs = 2 * plan.links().len() + plan.wires().len();
+    for link in 0..arcs {
         let lane = Lane::new(alloc, plan, link as u32)?;
         lanes.push(lane)?;
     }

@@ -1,3 +1,4 @@
+pub mod Ends
 pub mod Slots
 pub mod Lines
 pub mod Passes

@@ -11,7 +11,7 @@ use worker_threads::run_workers;
 use xs_edge::Gate;
 
 /// Runs a plan for so many slots, each node by a worker of its own, in a thread of its own where one can be started: as far ahead of the
-/// others as what it has seen of its links lets it. Each worker passes the gate before each turn. What the plan has become is the same as
+/// others as what it has seen of its links and wires lets it. Each worker passes the gate before each turn. What the plan has become is the same as
 /// by `drive_serial`, in whatever order the workers ran. The error is want of memory. It may wait for the workers. See
 /// docs/LOOKAHEAD.md.
 pub fn drive_free<R: Threads + Wait + Sync, G: Gate>(

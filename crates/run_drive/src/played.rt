@@ -8,7 +8,7 @@ use std::marker::Model;
 use sys_plan::{Plan, Step};
 use xs_base::Batch;
 
-/// A step of a schedule once it is done: the slot that it leaves, which of a take is how much is seen of the link, of a run the
+/// A step of a schedule once it is done: the slot that it leaves, which of a take is how much is seen of the link or wire, of a run the
 /// clock of the node and of a send how much is published, and the entries that it published, of which only a send has any.
 /// See docs/LOOKAHEAD.md.
 #[derive(Drop)]

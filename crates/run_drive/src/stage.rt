@@ -62,7 +62,7 @@ impl Stage {
         }
     }
 
-    // A node reads all that is published of the link that comes to a link end.
+    // A node reads all that is published of the arc that comes to an end.
     fn take(
         &mut self,
         alloc: Global,
@@ -107,7 +107,7 @@ impl Stage {
         Ok(quiet_line(alloc, Step::Run { node, count }, runner.clock()))
     }
 
-    // A node publishes what it has sent by a link end.
+    // A node publishes what it has sent by an end.
     fn send(
         &mut self,
         alloc: Global,
@@ -147,7 +147,7 @@ fn quiet_line(alloc: Global, step: Step, number: u32) -> PlayLine
     }
 }
 
-// A node hears what its neighbour published of the link that comes to a link end.
+// A node hears what its neighbour published of the arc that comes to an end.
 fn hear(runner: &mut NodeRunner, end: u8, batch: Batch, to: u32) -> Result<(), AllocError>
     requires there { IsSome (incoming runner.old.plan runner.old.node end) }
     requires on { seen_at runner.old.horizon end ≤ to }

@@ -35,7 +35,7 @@ pub record IsWorkerOf (cells : CellsRec) (limit : Slot) (n : Position) (w : Work
   pub node : w.runner.node ≡ n
   pub limit_is : w.runner.horizon.limit ≡ limit
 
--- such a worker, whose run has ended so: where it did not come to the limit, the logs of the links that leave the node are closed
+-- such a worker, whose run has ended so: where it did not come to the limit, the logs of the arcs that leave the node are closed
 pub record HasEnded (cells : CellsRec) (limit : Slot) (n : Position) (w : WorkerRec) (ended : Ended) : Type 0 where
   pub worker_of : IsWorkerOf cells limit n w
   pub ends : EndsWith ended w
@@ -60,7 +60,7 @@ IsAt cells limit n w (Some ended) = HasEnded cells limit n w ended
 abbrev pub IsHere : CellsRec → Slot → Position → Here → Type 0
 IsHere cells limit n here = IsAt cells limit n here.worker here.ended
 
--- a worker whose turns may be taken: its run is over, or the logs of the links that leave its node are open
+-- a worker whose turns may be taken: its run is over, or the logs of the arcs that leave its node are open
 abbrev pub MayGoOn : WorkerRec → Option Ended → Type 0
 MayGoOn w None = All IsOpen w.ends.outgoing.items
 MayGoOn w (Some ended) = Unit {0}

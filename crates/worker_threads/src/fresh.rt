@@ -10,7 +10,7 @@ use plan_cells::Ends;
 use std::alloc::{AllocError, Global};
 use sys_plan::Plan;
 
-/// A node before its first slot, with the ends of the cells of its links.
+/// A node before its first slot, with the ends of the cells of its links and wires.
 #[derive(Drop)]
 pub(crate) struct Fresh {
     pub(crate) runner: NodeRunner,

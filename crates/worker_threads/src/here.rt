@@ -35,7 +35,7 @@ impl<'a> Here<'a> {
     }
 
     /// Takes one turn, unless the run is over, and tells whether it goes on. It looks for news, and does not wait for them. Where the
-    /// run is over before the limit, the logs of the links that leave the node are closed.
+    /// run is over before the limit, the logs of the links and wires that leave the node are closed.
     pub(crate) fn turn<R: Wait, G: Gate>(&mut self, rt: &R, gate: &G) -> bool
         requires ready { MayGoOn self.old.worker self.old.ended }
         ensures ready { MayGoOn self.new.worker self.new.ended }

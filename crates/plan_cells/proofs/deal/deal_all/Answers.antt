@@ -2,8 +2,10 @@ use Rattle.std.proofs.Common.{◌≡◌, ◌+◌, ◌≤◌, Some, List, [], ◌
 use Rattle.std.proofs.lemmas.List.{length_push, take_all}
 use Rattle.xs_base.specs.Numbers.{LinkNumber}
 use Rattle.sys_plan.specs.declared.LinkPlan.{LinkPlan}
+use Rattle.sys_plan.specs.declared.WirePlan.{WirePlan}
 use Rattle.sys_plan.specs.Plan.{PlanRec, Arc, arcs}
 use Rattle.sys_plan.proofs.Arcs.{arcs_length}
+use Rattle.sys_plan.proofs.Told.{arcs-count}
 use Rattle.log_cells.specs.Ends.{CellRec}
 use Rattle.plan_cells.specs.Inside.{IsCellOf, AreDealt, cells_of}
 use Rattle.plan_cells.proofs.Dealing.{deal_more, deals_nodes, push_cell}
@@ -13,7 +15,8 @@ pub deal-requires-clause-link : goal.deal-requires-clause-link
 deal-requires-clause-link c =
     let plan = c.args.plan.now.value in
     let links : length c.links.result.now ≡ length plan.links = ap (λ (ls : List LinkPlan). length ls) (c.links.ensures.value ∙ ap (λ (p : PlanRec). p.links) c.deref.ensures) in
-    omega (arith, c.loop-link-test.true, links, arcs_length plan.links)
+    let wires : length c.wires.result.now ≡ length plan.wires = ap (λ (ws : List WirePlan). length ws) (c.wires.ensures.value ∙ ap (λ (p : PlanRec). p.wires) c.deref-2.ensures) in
+    omega (arith, c.loop-link-test.true, links, wires, arcs_length plan.links, arcs-count plan)
 
 pub loop-link-preserved : goal.loop-link-preserved
 loop-link-preserved c =
@@ -40,8 +43,9 @@ pub returns-clause-cells : goal.returns-clause-cells
 returns-clause-cells c =
     let plan = c.args.plan.now.value in
     let links : length c.links.result.now ≡ length plan.links = ap (λ (ls : List LinkPlan). length ls) (c.links.ensures.value ∙ ap (λ (p : PlanRec). p.links) c.deref.ensures) in
+    let wires : length c.wires.result.now ≡ length plan.wires = ap (λ (ws : List WirePlan). length ws) (c.wires.ensures.value ∙ ap (λ (p : PlanRec). p.wires) c.deref-2.ensures) in
     record {
-      count = omega (arith, c.loop-link.invariant.count, c.loop-link-test.false, c.loop-link.auto.link-end, links, arcs_length plan.links);
+      count = omega (arith, c.loop-link.invariant.count, c.loop-link-test.false, c.loop-link.auto.link-end, links, wires, arcs_length plan.links, arcs-count plan);
       each = c.loop-link.invariant.each;
     }
 
@@ -50,5 +54,6 @@ returns-clause-dealt c =
     let plan = c.args.plan.now.value in
     let ds = arcs plan in
     let links : length c.links.result.now ≡ length plan.links = ap (λ (ls : List LinkPlan). length ls) (c.links.ensures.value ∙ ap (λ (p : PlanRec). p.links) c.deref.ensures) in
-    let all : length ds ≤ c.loop-link.link = omega (arith, c.loop-link-test.false, links, arcs_length plan.links) in
+    let wires : length c.wires.result.now ≡ length plan.wires = ap (λ (ws : List WirePlan). length ws) (c.wires.ensures.value ∙ ap (λ (p : PlanRec). p.wires) c.deref-2.ensures) in
+    let all : length ds ≤ c.loop-link.link = omega (arith, c.loop-link-test.false, links, wires, arcs_length plan.links, arcs-count plan) in
     subst (λ (l : List Arc). AreDealt (cells_of plan c.loop-link.cells.items) l c.loop-link.all.items) (take_all c.loop-link.link ds all) c.loop-link.invariant.dealt

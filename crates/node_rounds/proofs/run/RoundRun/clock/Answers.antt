@@ -1,8 +1,6 @@
 use Rattle.std.proofs.Common.{◌≡◌, ◌<◌, List, length, get_or, sym, ap, ◌∙◌, subst, arith}
 use Rattle.std.proofs.lemmas.List.{length-map}
 use Rattle.xs_base.specs.Numbers.{Slot}
-use Rattle.sys_plan.specs.Plan.{PlanRec}
-use Rattle.node_runners.specs.Runner.{RunnerRec}
 use Rattle.round_laws.specs.Rounds.{round_clock}
 use Rattle.node_rounds.specs.declared.seat.Seat.{Seat}
 use Rattle.node_rounds.specs.Run.{RoundRunRec}

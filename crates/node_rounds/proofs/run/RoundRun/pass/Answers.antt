@@ -1,4 +1,4 @@
-use Rattle.std.proofs.Common.{◌≡◌, ◌+◌, false, List, ◌++◌, length, take, drop, sym, ap, ◌∙◌, subst, arith}
+use Rattle.std.proofs.Common.{◌≡◌, ◌+◌, false, List, ◌++◌, length, take, drop, sym, subst, arith}
 use Rattle.sys_plan.specs.Plan.{PlanRec}
 use Rattle.node_rounds.specs.declared.seat.Seat.{Seat}
 use Rattle.xs_base.specs.Numbers.{Slot}

@@ -1,4 +1,4 @@
-use Rattle.std.proofs.Common.{◌≡◌, ap, ◌∙◌, arith}
+use Rattle.std.proofs.Common.{ap, ◌∙◌, arith}
 use Rattle.node_runners.specs.Runner.{RunnerRec}
 use Rattle.node_rounds.proofs.Running.{stopped}
 use Rattle.node_rounds.proofs.seat.Seat.take_and_run.Goals as goal

@@ -1,4 +1,4 @@
-use Rattle.std.proofs.Common.{◌≡◌, ℕ, List, length, get_or, sym, ap, ◌∙◌, arith}
+use Rattle.std.proofs.Common.{◌≡◌, ℕ, List, length, get_or, sym, ap, arith}
 use Rattle.node_rounds.specs.declared.seat.Seat.{Seat}
 use Rattle.node_rounds.proofs.Clocks.{all_there, one_not}
 use Rattle.node_rounds.proofs.table.Table.is_at_limit.Goals as goal

@@ -1,4 +1,4 @@
-use Rattle.std.proofs.Common.{◌≡◌, length, sym, ap, ◌∙◌, subst}
+use Rattle.std.proofs.Common.{◌≡◌, length, ap, ◌∙◌, subst}
 use Rattle.sys_plan.specs.Plan.{PlanRec, IsPlan}
 use Rattle.node_runners.specs.Runner.{new_runner}
 use Rattle.plan_lanes.specs.Lanes.{AllAt}

@@ -5,7 +5,6 @@ use Rattle.serial_model.specs.Serial.{history}
 use Rattle.node_runners.specs.Runner.{RunnerRec}
 use Rattle.plan_lanes.specs.declared.lane.Lane.{Lane}
 use Rattle.plan_stories.proofs.Stories.{between_is_history}
-use Rattle.node_rounds.specs.declared.seat.Seat.{Seat}
 use Rattle.node_rounds.specs.Sends.{Sends}
 use Rattle.node_rounds.proofs.Steps.{own, own_log, published_before, sends}
 use Rattle.node_rounds.proofs.table.Table.send.Goals as goal

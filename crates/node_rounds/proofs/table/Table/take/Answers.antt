@@ -1,4 +1,4 @@
-use Rattle.std.proofs.Common.{◌≡◌, ℕ, suc, ◌<◌, ◌≤◌, List, set, sym, ◌∙◌, subst, refl, arith}
+use Rattle.std.proofs.Common.{◌≡◌, ℕ, suc, ◌<◌, List, set, sym, ◌∙◌, subst, refl, arith}
 use Rattle.xs_base.specs.declared.entry.Entry.{Entry}
 use Rattle.sys_plan.specs.Plan.{PlanRec}
 use Rattle.serial_model.specs.Serial.{history}
@@ -8,7 +8,6 @@ use Rattle.link_logs.specs.Entries.{between}
 use Rattle.plan_lanes.specs.declared.lane.Lane.{Lane}
 use Rattle.plan_stories.proofs.Stories.{between_is_history}
 use Rattle.node_rounds.specs.declared.seat.Handed.{Handed}
-use Rattle.node_rounds.specs.declared.seat.Seat.{Seat}
 use Rattle.node_rounds.specs.Sends.{Takes}
 use Rattle.node_rounds.proofs.Steps.{own_log, takes_nothing, takes_entries}
 use Rattle.node_rounds.proofs.table.Table.take.Goals as goal

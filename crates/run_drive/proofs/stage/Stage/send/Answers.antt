@@ -1,7 +1,4 @@
-use Rattle.std.proofs.Common.{◌≡◌, ℕ, ◌<◌, ◌≤◌, Some, None, List, ◌++◌, get_or, set, sym, ap, ◌∙◌, subst, refl, arith, inl, inr}
-use mathlib.Core.Logic.{◌⊎◌}
-use Rattle.std.proofs.lemmas.Bool.{cases_lt}
-use Rattle.std.proofs.lemmas.Option.{none-some}
+use Rattle.std.proofs.Common.{◌≡◌, ℕ, ◌≤◌, List, ◌++◌, get_or, set, sym, ap, ◌∙◌, subst, refl, arith}
 use Rattle.xs_base.specs.declared.entry.Entry.{Entry}
 use Rattle.sys_plan.specs.declared.Step.TheVariants.{Send}
 use Rattle.sys_plan.specs.Plan.{PlanRec, outgoing}
@@ -11,17 +8,10 @@ use Rattle.node_runners.specs.Runner.{RunnerRec}
 use Rattle.plan_lanes.specs.declared.lane.Lane.{Lane}
 use Rattle.plan_stories.proofs.Stories.{between_is_history}
 use Rattle.plan_lanes.proofs.Steps.{Goes, own_runner, own_lane, sent_then, send_goes}
+use Rattle.run_drive.proofs.Ends.{below_ends}
 use Rattle.run_drive.proofs.stage.Stage.send.Goals as goal
 
--- a link end past the last has no link
-below_eight : (end link : ℕ) → (8 ≤ end → Some link ≡ None) → end < 8
-below_eight end link past = by_case (cases_lt end 8)
-  where
-    by_case : (end < 8) ⊎ (8 ≤ end) → end < 8
-    by_case (inl below) = below
-    by_case (inr beyond) = absurd (none-some link (sym (past beyond)))
-
--- what a node sent is what the link carried
+-- what a node sent is what the arc carried
 sent_is : (entries : List Entry) (at_runner plan : PlanRec) (link number from since clock upto : ℕ) → at_runner ≡ plan → link ≡ number → from ≡ since → clock ≡ upto
     → entries ≡ history at_runner link from clock → entries ≡ history plan number since upto
 sent_is entries at_runner plan link number from since clock upto p l f t is = is ∙ (λ i. history (p i) (l i) (f i) (t i))
@@ -32,7 +22,7 @@ append-requires-clause-on c =
     let lane = c.index_mut-lane.result.now in
     let runner = c.index_mut-runner.result.now in
     let then_is = sent_then c.args.plan.now stage.limit.value stage.runners.items stage.lanes.items c.requires.at c.in-Some.link lane c.index_mut-lane.ensures.value c.in-Some.ensures.bound
-    c.args.node c.args.end (sym c.in-Some.ensures.value) (below_eight c.args.end c.in-Some.link c.in-Some.ensures.none_past) runner c.index_mut-runner.ensures.value c.requires.there.0 in
+    c.args.node c.args.end (sym c.in-Some.ensures.value) (below_ends c.args.end c.in-Some.link c.in-Some.ensures.none_past) runner c.index_mut-runner.ensures.value c.requires.there.0 in
     omega (arith, then_is, c.clock-clock.ensures.behind c.args.end, c.clock-clock.ensures.value)
 
 pub append-requires-clause-own : goal.append-requires-clause-own
@@ -51,7 +41,7 @@ append-requires-clause-own c =
     let own = own_runner plan limit runners lanes c.requires.at c.args.node runner c.index_mut-runner.ensures.value c.requires.there.0 in
     let its = own_lane plan limit runners lanes c.requires.at link lane c.index_mut-lane.ensures.value c.in-Some.ensures.bound in
     let then_is = sent_then plan limit runners lanes c.requires.at link lane c.index_mut-lane.ensures.value c.in-Some.ensures.bound
-    c.args.node end here (below_eight end link c.in-Some.ensures.none_past) runner c.index_mut-runner.ensures.value c.requires.there.0 in
+    c.args.node end here (below_ends end link c.in-Some.ensures.none_past) runner c.index_mut-runner.ensures.value c.requires.there.0 in
     let sent = c.send-sent.ensures.own link ((λ i. outgoing (own.of_plan i) (own.node_is i) end) ∙ here) in
     let on : lane.log.published ≤ upto = omega (arith, then_is, c.clock-clock.ensures.behind end, c.clock-clock.ensures.value) in
     sent_is c.send-sent.result.entries runner.plan lane.log.run link lane.log.number (get_or runner.published end 0) lane.log.published runner.clock upto
@@ -72,7 +62,7 @@ returns c =
     let link = c.in-Some.link in
     let step = Send node end in
     let here = sym c.in-Some.ensures.value in
-    let inside = below_eight end link c.in-Some.ensures.none_past in
+    let inside = below_ends end link c.in-Some.ensures.none_past in
     let own = own_runner plan limit runners lanes c.requires.at node runner c.index_mut-runner.ensures.value c.requires.there.0 in
     let then_is = sent_then plan limit runners lanes c.requires.at link lane c.index_mut-lane.ensures.value c.in-Some.ensures.bound
     node end here inside runner c.index_mut-runner.ensures.value c.requires.there.0 in

@@ -1,8 +1,6 @@
-use Rattle.std.proofs.Common.{◌≡◌, ℕ, suc, ◌<◌, ◌≤◌, Some, None, List, [], set, sym, ◌∙◌, subst, refl, arith, inl, inr}
-use mathlib.Core.Logic.{◌⊎◌}
-use Rattle.std.proofs.lemmas.Bool.{cases_lt}
+use Rattle.std.proofs.Common.{◌≡◌, ℕ, suc, ◌<◌, List, [], set, sym, ◌∙◌, subst, refl, arith}
 use Rattle.play_model.specs.Play.{PlayedStep}
-use Rattle.std.proofs.lemmas.Option.{none-some, same_Some}
+use Rattle.std.proofs.lemmas.Option.{same_Some}
 use Rattle.xs_base.specs.declared.entry.Entry.{Entry}
 use Rattle.sys_plan.specs.declared.Step.TheVariants.{Take}
 use Rattle.sys_plan.specs.Plan.{PlanRec, incoming}
@@ -15,17 +13,10 @@ use Rattle.node_runners.specs.Runner.{RunnerRec}
 use Rattle.plan_lanes.specs.declared.lane.Lane.{Lane}
 use Rattle.plan_stories.proofs.Stories.{between_is_history}
 use Rattle.plan_lanes.proofs.Steps.{Goes, own_runner, own_lane, read_is_seen, take_nothing, take_entries}
+use Rattle.run_drive.proofs.Ends.{below_ends}
 use Rattle.run_drive.proofs.stage.Stage.take.Goals as goal
 
--- a link end past the last has no link
-below_eight : (end link : ℕ) → (8 ≤ end → Some link ≡ None) → end < 8
-below_eight end link past = by_case (cases_lt end 8)
-  where
-    by_case : (end < 8) ⊎ (8 ≤ end) → end < 8
-    by_case (inl below) = below
-    by_case (inr beyond) = absurd (none-some link (sym (past beyond)))
-
--- what was found is what the link carried between what was seen and what is published
+-- what was found is what the arc carried between what was seen and what is published
 heard_is : (entries : List Entry) (run plan : PlanRec) (number link got seen published to : ℕ) → run ≡ plan → number ≡ link → got ≡ seen → to ≡ published → got < published
     → entries ≡ between (λ slot. history run number slot (suc slot)) got published → entries ≡ history plan link seen to
 heard_is entries run plan number link got seen published to p l s t less is =
@@ -37,7 +28,7 @@ hear-requires-clause-on c =
     let stage = c.args.self.now in
     let lane = c.index_mut-lane.result.now in
     let runner = c.index_mut-runner.result.now in
-    let inside = below_eight c.args.end c.in-Some.link c.in-Some.ensures.none_past in
+    let inside = below_ends c.args.end c.in-Some.link c.in-Some.ensures.none_past in
     let found = subst (λ (g : Got). Finds (λ slot. history lane.log.run lane.log.number slot (suc slot)) lane.log lane.r.got g) c.in-Entries.is c.take.ensures.found in
     let got_is = read_is_seen plan stage.limit.value stage.runners.items stage.lanes.items c.requires.at c.in-Some.link lane c.index_mut-lane.ensures.value c.in-Some.ensures.bound
     c.args.node c.args.end runner c.index_mut-runner.ensures.value c.requires.there.0 (sym c.in-Some.ensures.value) inside in
@@ -52,7 +43,7 @@ hear-requires-clause-own c = λ link is.
     let lane = c.index_mut-lane.result.now in
     let runner = c.index_mut-runner.result.now in
     let here = sym c.in-Some.ensures.value in
-    let inside = below_eight c.args.end c.in-Some.link c.in-Some.ensures.none_past in
+    let inside = below_ends c.args.end c.in-Some.link c.in-Some.ensures.none_past in
     let own = own_runner plan stage.limit.value runners lanes c.requires.at c.args.node runner c.index_mut-runner.ensures.value c.requires.there.0 in
     let its = own_lane plan stage.limit.value runners lanes c.requires.at c.in-Some.link lane c.index_mut-lane.ensures.value c.in-Some.ensures.bound in
     let found = subst (λ (g : Got). Finds (λ slot. history lane.log.run lane.log.number slot (suc slot)) lane.log lane.r.got g) c.in-Entries.is c.take.ensures.found in
@@ -75,7 +66,7 @@ returns-in_ok-hear-in-Entries c =
     let line : PlayedStep = record { step = step; number = c.in-Entries.to; entries = [] } in
     let found = subst (λ (g : Got). Finds (λ slot. history lane.log.run lane.log.number slot (suc slot)) lane.log lane.r.got g) c.in-Entries.is c.take.ensures.found in
     let goes = take_entries plan limit runners lanes c.requires.at c.in-Some.link lane c.index_mut-lane.ensures.value c.in-Some.ensures.bound
-    c.args.node c.args.end (sym c.in-Some.ensures.value) (below_eight c.args.end c.in-Some.link c.in-Some.ensures.none_past) c.take.result c.in-Entries.to found.2
+    c.args.node c.args.end (sym c.in-Some.ensures.value) (below_ends c.args.end c.in-Some.link c.in-Some.ensures.none_past) c.take.result c.in-Entries.to found.2
     runner c.index_mut-runner.ensures.value c.requires.there.0 c.in-Entries.to found.2 in
     let taken : Lane = record lane { log = emptied lane.log; r = looked lane.log c.take.result lane.r } in
     let after : Lane = record { log = c.take.new.self; w = lane.w; r = c.take.new.r } in
@@ -96,7 +87,7 @@ returns-in-Nothing c =
     let line : PlayedStep = record { step = step; number = c.in-Nothing.published; entries = [] } in
     let found = subst (λ (g : Got). Finds (λ slot. history lane.log.run lane.log.number slot (suc slot)) lane.log lane.r.got g) c.in-Nothing.is c.take.ensures.found in
     let goes = take_nothing plan limit runners lanes c.requires.at c.in-Some.link lane c.index_mut-lane.ensures.value c.in-Some.ensures.bound
-    c.args.node c.args.end (sym c.in-Some.ensures.value) (below_eight c.args.end c.in-Some.link c.in-Some.ensures.none_past) c.take.result c.in-Nothing.published (found.2 ∙ sym found.0)
+    c.args.node c.args.end (sym c.in-Some.ensures.value) (below_ends c.args.end c.in-Some.link c.in-Some.ensures.none_past) c.take.result c.in-Nothing.published (found.2 ∙ sym found.0)
     found.0 in
     let taken : Lane = record lane { log = emptied lane.log; r = looked lane.log c.take.result lane.r } in
     let after : Lane = record { log = c.take.new.self; w = lane.w; r = c.take.new.r } in
