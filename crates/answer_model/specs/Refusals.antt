@@ -21,6 +21,10 @@ text_of_sys_kind sys.TooLong = codes "S10 input too long"
 text_of_sys_kind sys.BitTwice = codes "S11 bit twice"
 text_of_sys_kind sys.NoSuchNode = codes "S12 no such node or link end"
 text_of_sys_kind sys.TooMany = codes "S13 too many nodes or links"
+text_of_sys_kind sys.WireWithinNode = codes "S14 wire within one node"
+text_of_sys_kind sys.WidthsDiffer = codes "S15 widths differ"
+text_of_sys_kind sys.PinWiredTwice = codes "S16 pin wired twice"
+text_of_sys_kind sys.TooManyWires = codes "S17 too many wires"
 
 abbrev pub text_of_asm_kind : AsmKind → List ℕ
 text_of_asm_kind asm.BadByte = codes "A1 bad byte"

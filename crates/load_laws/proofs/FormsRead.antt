@@ -6,7 +6,7 @@ use Rattle.system_model.specs.declared.frame_line.EndName.{EndName}
 use Rattle.system_model.specs.declared.frame_line.FrameLine.{FrameLine}
 use Rattle.system_model.specs.declared.frame_line.FrameLine.TheVariants.{Node, Link, Bit, Section}
 use Rattle.system_model.specs.declared.frame_line.SectionKind.TheVariants.{Source}
-use Rattle.system_model.specs.FrameLines.{frame_line, node_line, link_line, bit_line, section_line, numbers_of, end_name, or_line}
+use Rattle.system_model.specs.FrameLines.{frame_line, node_line, link_line, bit_line, wire_line, section_line, numbers_of, end_name, or_line}
 use Rattle.load_laws.proofs.NumbersRead.{bind}
 
 -- the first form that a line has
@@ -62,5 +62,5 @@ source_by_words n node h = ap (λ o. option_map Source o) h
 
 -- the same as a line of a frame
 pub source_form : (n : List ℕ) (node : ℕ) → number_of n ≡ Some node → frame_line 1 (codes "source" ∷ n ∷ []) ≡ Some (Section (Source node))
-unfolding frame_line node_line link_line bit_line
+unfolding frame_line node_line link_line bit_line wire_line
 source_form n node h = ap (λ o. option_map Section o) (source_by_words n node h)

@@ -38,7 +38,7 @@ load_nodes n = map (node_plan (bits_of n (node_count n)) (image_of n)) (node_num
 
 -- the plan of a load
 abbrev load_plan : ℕ → PlanRec
-load_plan n = record { nodes = load_nodes n; links = map (load_link n) (node_numbers n); script = []; steps = [] }
+load_plan n = record { nodes = load_nodes n; links = map (load_link n) (node_numbers n); script = []; steps = []; wires = [] }
 
 -- the nodes have these plans
 nodes_planned : (n : ℕ) → node_plans 1 (links_of n (node_count n)) (bits_of n (node_count n)) (sections_of n (sections_at n) (node_count n)) (nodes_of (node_count n)) ≡ Ok (load_nodes n)
@@ -57,9 +57,9 @@ no_script n =
 -- the frame stands for the plan
 planned : (n : ℕ) → plan_of_frame (all_given n) ≡ Plan (load_plan n)
 planned n =
-    ap (λ (links : List LinkPlan). plan_with links [] (script_of (all_given n)) (node_plans 1 (links_of n (node_count n)) (bits_of n (node_count n)) (sections_of n (sections_at n) (node_count n)) (nodes_of (node_count n)))) (links_are n)
-    ∙ ap (λ (script : PinsRead). plan_with (map (load_link n) (node_numbers n)) [] script (node_plans 1 (links_of n (node_count n)) (bits_of n (node_count n)) (sections_of n (sections_at n) (node_count n)) (nodes_of (node_count n)))) (no_script n)
-    ∙ ap (λ (nodes : Result (List NodePlan) SourceFault). plan_with (map (load_link n) (node_numbers n)) [] (Script []) nodes) (nodes_planned n)
+    ap (λ (links : List LinkPlan). plan_with links [] [] (script_of (all_given n)) (node_plans 1 (links_of n (node_count n)) (bits_of n (node_count n)) (sections_of n (sections_at n) (node_count n)) (nodes_of (node_count n)))) (links_are n)
+    ∙ ap (λ (script : PinsRead). plan_with (map (load_link n) (node_numbers n)) [] [] script (node_plans 1 (links_of n (node_count n)) (bits_of n (node_count n)) (sections_of n (sections_at n) (node_count n)) (nodes_of (node_count n)))) (no_script n)
+    ∙ ap (λ (nodes : Result (List NodePlan) SourceFault). plan_with (map (load_link n) (node_numbers n)) [] [] (Script []) nodes) (nodes_planned n)
 
 -- and so does the text
 accepted : (n : ℕ) → n < 4294967296 → system_of (load_text n) ≡ Plan (load_plan n)
@@ -81,5 +81,5 @@ pub load_read : (n : ℕ) → n < 4294967296 → IsAccepted n
 load_read n h = record {
   plan = load_plan n;
   accepted = accepted n h;
-  ring = record { nodes = nodes_are n 0 (node_count n) (omega arith); links = refl; no_script = refl; no_steps = refl };
+  ring = record { nodes = nodes_are n 0 (node_count n) (omega arith); links = refl; no_script = refl; no_steps = refl; no_wires = refl };
 }

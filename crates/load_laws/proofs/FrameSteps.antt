@@ -24,6 +24,10 @@ node_has_none n at k h = record {
   to_other = refl;
   end_once = refl;
   bit_once = refl;
+  two_nodes = refl;
+  one_width = refl;
+  pin_once = refl;
+  few_wires = refl;
   few = ap (λ m. nat_le 16 m) (length-firsts node_given k) ∙ beyond k 16 h (omega arith);
 }
 
@@ -33,7 +37,7 @@ pub node_step : (n at m k : ℕ) (l : List ℕ) (ls : List (List ℕ)) → k < 1
 node_step n at m k l ls h e allowed form =
     form_taken m (given_of n at k 0 0 0) (given_of n at (suc k) 0 0 0) l ls (Node (record { number = k; id = k })) allowed (says_its_form (words_of_line l) _ form) (node_has_none n at k h)
     (ap (λ j. given_with j l (Form (Node (record { number = k; id = k }))) (given_of n at k 0 0 0)) e
-    ∙ ap (λ (ns : List GivenNode). record { edition = Some 1; nodes = ns; links = []; bits = []; steps = []; sections = []; reading = None }) (put_next k))
+    ∙ ap (λ (ns : List GivenNode). record { edition = Some 1; nodes = ns; links = []; bits = []; wires = []; steps = []; sections = []; reading = None }) (put_next k))
 
 -- so does that of the next link
 link_has_none : (n at k : ℕ) → k < node_count n → NoFault (given_of n at (node_count n) k 0 0) (Link (link_given n k))
@@ -52,6 +56,10 @@ link_has_none n at k l =
       to_other = not_onward n k l;
       end_once = or_from ((k == next_node n k) && (0 == 1)) _ (and_left (k == next_node n k) _ (not_onward n k l)) (or_from _ _ (first_end_free n k) (second_end_free n k l));
       bit_once = refl;
+      two_nodes = refl;
+      one_width = refl;
+      pin_once = refl;
+      few_wires = refl;
       few = ap (λ m. nat_le 48 m) (length-firsts (link_given n) k) ∙ beyond k 48 low (omega arith);
     }
 
@@ -73,6 +81,10 @@ bit_has_none n at k l =
       to_other = refl;
       end_once = refl;
       bit_once = no_bit n k (route_bit_at n k);
+      two_nodes = refl;
+      one_width = refl;
+      pin_once = refl;
+      few_wires = refl;
       few = refl;
     }
 

@@ -19,7 +19,7 @@ module _ (nodes : List GivenNode) (links : List LinkLine) (bits : List BitRec) w
   -- these, some sections, and what is being read
   abbrev with_sections : List SectionText → Option SectionText → Given
   with_sections sections reading =
-      record { edition = Some 1; nodes = nodes; links = links; bits = bits; steps = []; sections = sections; reading = reading }
+      record { edition = Some 1; nodes = nodes; links = links; bits = bits; wires = []; steps = []; sections = sections; reading = reading }
 
   -- the section of a source
   abbrev source_of : ℕ → ℕ → List (List ℕ) → SectionText
@@ -35,6 +35,10 @@ module _ (nodes : List GivenNode) (links : List LinkLine) (bits : List BitRec) w
     to_other = refl;
     end_once = refl;
     bit_once = refl;
+    two_nodes = refl;
+    one_width = refl;
+    pin_once = refl;
+    few_wires = refl;
     few = refl;
   }
 

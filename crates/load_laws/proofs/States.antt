@@ -45,7 +45,7 @@ sections_of n at k = firsts (section_given n at) k
 -- so many nodes, links, bits and sections
 abbrev pub given_of : ℕ → ℕ → ℕ → ℕ → ℕ → ℕ → Given
 given_of n at nodes links bits sections =
-    record { edition = Some 1; nodes = nodes_of nodes; links = links_of n links; bits = bits_of n bits; steps = []; sections = sections_of n at sections; reading = None }
+    record { edition = Some 1; nodes = nodes_of nodes; links = links_of n links; bits = bits_of n bits; wires = []; steps = []; sections = sections_of n at sections; reading = None }
 
 -- a node that comes after all others by number is put behind them
 put_last : (node : GivenNode) (others : List GivenNode) → list_any (λ (other : GivenNode). not (nat_lt other.number node.number)) others ≡ false → put_by_number node others ≡ others ++ node ∷ []

@@ -7,8 +7,8 @@ use Rattle.std.proofs.lemmas.List.Concat.{flat_map_single}
 use Rattle.std.proofs.Math.Nat.{suc-mul}
 use Rattle.xs_text.specs.Bytes.{all_allowed}
 use Rattle.system_model.specs.declared.frame_line.FrameLine.{FrameLine}
-use Rattle.system_model.specs.FrameLines.{node_line, link_line, bit_line, section_line, frame_line}
-use Rattle.system_model.specs.Frame.{Given, Form, says, says_in_frame, says_form, first_that_holds, tests, fault_of, given_with, given_after, unless_faulty, frame_from, has_frame_number_out_of_range, names_none, is_given_twice, is_id_twice, is_link_to_itself, is_link_end_twice, is_bit_twice, is_too_many}
+use Rattle.system_model.specs.FrameLines.{node_line, link_line, bit_line, wire_line, section_line, frame_line}
+use Rattle.system_model.specs.Frame.{Given, Form, says, says_in_frame, says_form, first_that_holds, tests, fault_of, given_with, given_after, unless_faulty, frame_from, has_frame_number_out_of_range, names_none, is_given_twice, is_id_twice, is_link_to_itself, is_link_end_twice, is_bit_twice, is_wire_within_node, has_other_widths, is_pin_wired_twice, is_wire_too_many, is_too_many}
 
 -- a line without a fault leads on to what it gives
 pub taken : (m : ℕ) (given next : Given) (l : List ℕ) (ls : List (List ℕ)) → fault_of given l ≡ None → given_after m l given ≡ next
@@ -26,13 +26,19 @@ pub record NoFault (given : Given) (form : FrameLine) : Type 0 where
   pub to_other : is_link_to_itself (Form form) ≡ false
   pub end_once : is_link_end_twice given (Form form) ≡ false
   pub bit_once : is_bit_twice given (Form form) ≡ false
+  pub two_nodes : is_wire_within_node (Form form) ≡ false
+  pub one_width : has_other_widths (Form form) ≡ false
+  pub pin_once : is_pin_wired_twice given (Form form) ≡ false
+  pub few_wires : is_wire_too_many given (Form form) ≡ false
   pub few : is_too_many given (Form form) ≡ false
 
 -- where each test fails none decides
 none_holds : (given : Given) (form : FrameLine) → NoFault given form → first_that_holds (tests given true (Form form)) ≡ None
 none_holds given form none =
     cond-false _ _ _ none.range ∙ cond-false _ _ _ none.named ∙ cond-false _ _ _ none.once ∙ cond-false _ _ _ none.id_once
-    ∙ cond-false _ _ _ none.to_other ∙ cond-false _ _ _ none.end_once ∙ cond-false _ _ _ none.bit_once ∙ cond-false _ _ _ none.few
+    ∙ cond-false _ _ _ none.to_other ∙ cond-false _ _ _ none.end_once ∙ cond-false _ _ _ none.bit_once
+    ∙ cond-false _ _ _ none.two_nodes ∙ cond-false _ _ _ none.one_width ∙ cond-false _ _ _ none.pin_once ∙ cond-false _ _ _ none.few_wires
+    ∙ cond-false _ _ _ none.few
 
 -- a line of a form that passes them leads on to what the form gives
 pub form_taken : (m : ℕ) (given next : Given) (l : List ℕ) (ls : List (List ℕ)) (form : FrameLine) → all_allowed l ≡ true → says given l ≡ Form form
@@ -44,7 +50,7 @@ form_taken m given next l ls form allowed said none g =
 
 -- no words are no line of a form
 no_words : frame_line 1 [] ≡ None
-unfolding frame_line node_line link_line bit_line section_line
+unfolding frame_line node_line link_line bit_line wire_line section_line
 no_words = refl
 
 -- outside of the sections a line after the first line of a load says its form

@@ -29,12 +29,13 @@ pub record IsRingNode (n i : ℕ) (node : NodePlan) : Type 0 where
   pub source : assembled_lines (source_lines (destination_at n i) (first_word_at n i)) ≡ Image node.image
   pub way : slice_index node.ways (route_bit_at n i) ≡ 1
 
--- a plan is the ring of the load: its nodes and links, and neither a pin script nor a schedule
+-- a plan is the ring of the load: its nodes and links, and neither a pin script, nor a schedule, nor wires
 pub record IsRing (n : ℕ) (plan : PlanRec) : Type 0 where
   pub nodes : AllZip (IsRingNode n) (node_numbers n) plan.nodes
   pub links : plan.links ≡ map (load_link n) (node_numbers n)
   pub no_script : plan.script ≡ []
   pub no_steps : plan.steps ≡ []
+  pub no_wires : plan.wires ≡ []
 
 -- the load of a number is no text that is refused: it stands for a plan
 pub record IsAccepted (n : ℕ) : Type 0 where

@@ -5,7 +5,7 @@ use Rattle.std.proofs.lemmas.Bool.{cases_Bool, cond-true, cond-false}
 use Rattle.xs_text.specs.Bytes.{all_allowed}
 use Rattle.source_model.proofs.LeastLine.{none_of_each, first_in, fault_in, Tells, first_is_least, least_is_first, none_has_none, no_fault_none}
 use Rattle.system_model.specs.declared.SysKind.{SysKind}
-use Rattle.system_model.specs.declared.SysKind.TheVariants.{FirstLine, BadLine, GivenTwice, IdTwice, LinkEndTwice, LinkToItself, NumberOutOfRange, NodeWithoutSource, SectionNotEnded, TooLong, BitTwice, NoSuchNode, TooMany}
+use Rattle.system_model.specs.declared.SysKind.TheVariants.{FirstLine, BadLine, GivenTwice, IdTwice, LinkEndTwice, LinkToItself, NumberOutOfRange, NodeWithoutSource, SectionNotEnded, TooLong, BitTwice, NoSuchNode, TooMany, WireWithinNode, WidthsDiffer, PinWiredTwice, TooManyWires}
 use Rattle.system_model.specs.Frame.{Given, Framed, Refused, Whole, nothing_given, given_after, says, has_frame_kind, frame_order, fault_of, unless_faulty, at_the_end, frame_from, framed, have_no_words}
 use Rattle.system_model.specs.FirstFault.{has_frame_fault_after, has_frame_fault, IsFirstFrameFault, HasNoFrameFault, given_after_lines, decided_at_the_end}
 
@@ -26,7 +26,11 @@ none_at p no_source no_end too_long e k =
       | TooLong ↦ too_long
       | BitTwice ↦ all.1.1.1.1.1.1.1.1.0
       | NoSuchNode ↦ all.1.1.1.0
-      | TooMany ↦ all.1.1.1.1.1.1.1.1.1.0
+      | TooMany ↦ all.1.1.1.1.1.1.1.1.1.1.1.1.1.0
+      | WireWithinNode ↦ all.1.1.1.1.1.1.1.1.1.0
+      | WidthsDiffer ↦ all.1.1.1.1.1.1.1.1.1.1.0
+      | PinWiredTwice ↦ all.1.1.1.1.1.1.1.1.1.1.1.0
+      | TooManyWires ↦ all.1.1.1.1.1.1.1.1.1.1.1.1.0
     ]
 
 -- the kinds that no line has a fault of

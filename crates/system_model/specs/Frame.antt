@@ -1,20 +1,23 @@
 -- The frame of a system text: all its lines but those of its sources and its pin script. Each line is tested by what the
 -- lines before it have given, and the first line that has a fault refuses the text.
-use Rattle.std.specs.Prelude.{ℕ, ◌+◌, Bool, true, false, not, ◌&&◌, ◌||◌, ◌==◌, nat_le, nat_lt, if◌then◌else◌, Option, Some, None, option_map, option_to_list, List, [], ◌∷◌, ◌++◌, length, map, find}
+use Rattle.std.specs.Prelude.{ℕ, ◌+◌, Bool, true, false, not, ◌&&◌, ◌||◌, ◌==◌, nat_le, nat_lt, if◌then◌else◌, Option, Some, None, option_map, option_to_list, List, [], ◌∷◌, ◌++◌, length, map, filter, find}
 use Rattle.std.specs.List.{list_any, list_all}
+use Rattle.xs_base.specs.Ids.{port_width}
 use Rattle.xs_text.specs.Bytes.{all_allowed}
 use Rattle.xs_text.specs.Words.{words_of_line}
 use Rattle.system_model.specs.declared.SysKind.{SysKind}
-use Rattle.system_model.specs.declared.SysKind.TheVariants.{FirstLine, BadLine, GivenTwice, IdTwice, LinkEndTwice, LinkToItself, NumberOutOfRange, NodeWithoutSource, SectionNotEnded, BitTwice, NoSuchNode, TooMany}
+use Rattle.system_model.specs.declared.SysKind.TheVariants.{FirstLine, BadLine, GivenTwice, IdTwice, LinkEndTwice, LinkToItself, NumberOutOfRange, NodeWithoutSource, SectionNotEnded, BitTwice, NoSuchNode, TooMany, WireWithinNode, WidthsDiffer, PinWiredTwice, TooManyWires}
 use Rattle.system_model.specs.declared.frame_line.EndName.{EndName}
 use Rattle.system_model.specs.declared.frame_line.FrameLine.{FrameLine}
-use Rattle.system_model.specs.declared.frame_line.FrameLine.TheVariants.{Node, Link, Bit, Section, Step}
+use Rattle.system_model.specs.declared.frame_line.FrameLine.TheVariants.{Node, Link, Bit, Wire, Section, Step}
 use Rattle.system_model.specs.declared.frame_line.GivenNode.{GivenNode}
 use Rattle.system_model.specs.declared.frame_line.LinkLine.{LinkLine}
+use Rattle.system_model.specs.declared.frame_line.PinName.{PinName}
 use Rattle.system_model.specs.declared.frame_line.PlayLine.{PlayLine}
 use Rattle.system_model.specs.declared.frame_line.PlayLine.TheVariants.{Take, Run, Send}
 use Rattle.system_model.specs.declared.frame_line.SectionKind.{SectionKind}
 use Rattle.system_model.specs.declared.frame_line.SectionKind.TheVariants.{Source, Pins, Play}
+use Rattle.system_model.specs.declared.frame_line.WireLine.{WireLine}
 use Rattle.system_model.specs.Bits.{BitRec}
 use Rattle.system_model.specs.FrameLines.{edition_of_header, is_end, frame_line, play_line, are_numbers_in_range}
 
@@ -25,18 +28,19 @@ pub record SectionText : Type 0 where
   pub lines : List (List ℕ)
 
 -- What the lines so far have given: the edition, which the first line with words gives; the nodes, by ascending number; the links, the bits,
--- the steps and the sections that have ended, in the order of the lines; and the section that has not ended yet.
+-- the wires, the steps and the sections that have ended, in the order of the lines; and the section that has not ended yet.
 pub record Given : Type 0 where
   pub edition : Option ℕ
   pub nodes : List GivenNode
   pub links : List LinkLine
   pub bits : List BitRec
+  pub wires : List WireLine
   pub steps : List PlayLine
   pub sections : List SectionText
   pub reading : Option SectionText
 
 abbrev pub nothing_given : Given
-nothing_given = record { edition = None; nodes = []; links = []; bits = []; steps = []; sections = []; reading = None }
+nothing_given = record { edition = None; nodes = []; links = []; bits = []; wires = []; steps = []; sections = []; reading = None }
 
 -- What a line says
 
@@ -105,11 +109,29 @@ has_link_end links name = list_any (λ (link : LinkLine). is_same_end link.a nam
 abbrev pub has_link_ends : List LinkLine → ℕ → List ℕ → Bool
 has_link_ends links node ends = list_all (λ end. has_link_end links (record { node = node; end = end })) ends
 
--- whether a step names a node and link ends that are given
-abbrev pub is_step_of : List GivenNode → List LinkLine → PlayLine → Bool
-is_step_of nodes links (Take name) = has_node nodes name.node && has_link_end links name
-is_step_of nodes links (Run node count) = has_node nodes node
-is_step_of nodes links (Send name) = has_node nodes name.node && has_link_end links name
+-- how many of these wires leave the node with a number, and how many come to it
+abbrev pub count_leaving : List WireLine → ℕ → ℕ
+count_leaving wires node = length (filter (λ (wire : WireLine). wire.a.node == node) wires)
+
+abbrev pub count_coming : List WireLine → ℕ → ℕ
+count_coming wires node = length (filter (λ (wire : WireLine). wire.b.node == node) wires)
+
+-- whether an end is one of so many wires of a node, which are its ends from 8 on
+abbrev pub is_wire_end : ℕ → ℕ → Bool
+is_wire_end count end = nat_le 8 end && nat_lt end (8 + count)
+
+-- whether something comes to an end: by the link that it is in, or by a wire; and whether something leaves by it
+abbrev pub has_end_in : List LinkLine → List WireLine → EndName → Bool
+has_end_in links wires name = has_link_end links name || is_wire_end (count_coming wires name.node) name.end
+
+abbrev pub has_end_out : List LinkLine → List WireLine → EndName → Bool
+has_end_out links wires name = has_link_end links name || is_wire_end (count_leaving wires name.node) name.end
+
+-- whether a step names a node and an end that are given
+abbrev pub is_step_of : List GivenNode → List LinkLine → List WireLine → PlayLine → Bool
+is_step_of nodes links wires (Take name) = has_node nodes name.node && has_end_in links wires name
+is_step_of nodes links wires (Run node count) = has_node nodes node
+is_step_of nodes links wires (Send name) = has_node nodes name.node && has_end_out links wires name
 
 abbrev pub is_same_kind : SectionKind → SectionKind → Bool
 is_same_kind (Source m) (Source n) = m == n
@@ -138,12 +160,13 @@ abbrev pub has_frame_number_out_of_range : FrameSays → Bool
 has_frame_number_out_of_range (Form form) = not (are_numbers_in_range form)
 has_frame_number_out_of_range _ = false
 
--- it names a node that is not given, or a link end that no link has given
+-- it names a node that is not given, or an end that no link and no wire has given
 abbrev pub names_none : Given → FrameSays → Bool
 names_none given (Form (Link link)) = not (has_node given.nodes link.a.node && has_node given.nodes link.b.node)
 names_none given (Form (Bit bit)) = not (has_node given.nodes bit.node && has_link_ends given.links bit.node bit.ends)
+names_none given (Form (Wire wire)) = not (has_node given.nodes wire.a.node && has_node given.nodes wire.b.node)
 names_none given (Form (Section (Source n))) = not (has_node given.nodes n)
-names_none given (Form (Step step)) = not (is_step_of given.nodes given.links step)
+names_none given (Form (Step step)) = not (is_step_of given.nodes given.links given.wires step)
 names_none given _ = false
 
 -- it gives the number of a node, the source of a node, the pin script or the schedule once more
@@ -177,18 +200,46 @@ is_bit_twice given (Form (Bit bit)) =
     list_any (λ (other : BitRec). (other.node == bit.node) && (other.bit == bit.bit)) given.bits
 is_bit_twice given _ = false
 
--- a system has at most so many nodes and so many links
+abbrev pub is_wire_within_node : FrameSays → Bool
+is_wire_within_node (Form (Wire wire)) = wire.a.node == wire.b.node
+is_wire_within_node _ = false
+
+-- it is a wire between ports of two widths
+abbrev pub has_other_widths : FrameSays → Bool
+has_other_widths (Form (Wire wire)) = not (port_width wire.a.port == port_width wire.b.port)
+has_other_widths _ = false
+
+abbrev pub is_same_pin : PinName → PinName → Bool
+is_same_pin a b = (a.node == b.node) && (a.port == b.port)
+
+-- whether a wire leads to a pin
+abbrev pub is_wired : List WireLine → PinName → Bool
+is_wired wires pin = list_any (λ (wire : WireLine). is_same_pin wire.b pin) wires
+
+abbrev pub is_pin_wired_twice : Given → FrameSays → Bool
+is_pin_wired_twice given (Form (Wire wire)) = is_wired given.wires wire.b
+is_pin_wired_twice given _ = false
+
+-- a system has at most so many nodes, so many links and so many wires
 abbrev pub most_nodes : ℕ
 most_nodes = 16
 
 abbrev pub most_links : ℕ
 most_links = 48
 
+abbrev pub most_wires : ℕ
+most_wires = 32
+
 -- it gives a node or a link more than that
 abbrev pub is_too_many : Given → FrameSays → Bool
 is_too_many given (Form (Node node)) = nat_le most_nodes (length given.nodes)
 is_too_many given (Form (Link link)) = nat_le most_links (length given.links)
 is_too_many given _ = false
+
+-- it gives a wire more than that
+abbrev pub is_wire_too_many : Given → FrameSays → Bool
+is_wire_too_many given (Form (Wire wire)) = nat_le most_wires (length given.wires)
+is_wire_too_many given _ = false
 
 -- the test of each kind, by what is given, whether a line's bytes are allowed, and what it says; the other kinds are of no
 -- line by itself
@@ -202,13 +253,18 @@ has_frame_kind IdTwice given allowed said = is_id_twice given said
 has_frame_kind LinkToItself given allowed said = is_link_to_itself said
 has_frame_kind LinkEndTwice given allowed said = is_link_end_twice given said
 has_frame_kind BitTwice given allowed said = is_bit_twice given said
+has_frame_kind WireWithinNode given allowed said = is_wire_within_node said
+has_frame_kind WidthsDiffer given allowed said = has_other_widths said
+has_frame_kind PinWiredTwice given allowed said = is_pin_wired_twice given said
+has_frame_kind TooManyWires given allowed said = is_wire_too_many given said
 has_frame_kind TooMany given allowed said = is_too_many given said
 has_frame_kind _ given allowed said = false
 
 -- the order that decides within a line
 abbrev pub frame_order : List SysKind
 frame_order =
-    FirstLine ∷ BadLine ∷ NumberOutOfRange ∷ NoSuchNode ∷ GivenTwice ∷ IdTwice ∷ LinkToItself ∷ LinkEndTwice ∷ BitTwice ∷ TooMany ∷ []
+    FirstLine ∷ BadLine ∷ NumberOutOfRange ∷ NoSuchNode ∷ GivenTwice ∷ IdTwice ∷ LinkToItself ∷ LinkEndTwice ∷ BitTwice
+    ∷ WireWithinNode ∷ WidthsDiffer ∷ PinWiredTwice ∷ TooManyWires ∷ TooMany ∷ []
 
 -- the tests of a line in that order
 abbrev pub tests : Given → Bool → FrameSays → List (SysKind × Bool)
@@ -242,6 +298,7 @@ given_with n l (Form (Node node)) given =
     record given { nodes = put_by_number (record { line = n; number = node.number; id = node.id }) given.nodes }
 given_with n l (Form (Link link)) given = record given { links = given.links ++ link ∷ [] }
 given_with n l (Form (Bit bit)) given = record given { bits = given.bits ++ bit ∷ [] }
+given_with n l (Form (Wire wire)) given = record given { wires = given.wires ++ wire ∷ [] }
 given_with n l (Form (Step step)) given = record given { steps = given.steps ++ step ∷ [] }
 given_with n l (Form (Section kind)) given =
     record given { reading = Some (record { kind = kind; line = n; lines = [] }) }

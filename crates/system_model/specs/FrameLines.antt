@@ -1,18 +1,21 @@
 -- The forms of the lines of a frame, by their words. Numbers are taken however great they are.
-use Rattle.std.specs.Prelude.{ℕ, ◌+◌, Bool, true, false, not, ◌&&◌, ◌==◌, nat_le, if◌then◌else◌, Option, Some, None, option_map, option_and_then, List, [], ◌∷◌, length, take, drop, codes}
+use Rattle.std.specs.Prelude.{ℕ, ◌+◌, Bool, true, false, not, ◌&&◌, ◌==◌, nat_le, if◌then◌else◌, Option, Some, None, option_map, option_and_then, List, [], ◌∷◌, length, take, drop, min, codes}
 use Rattle.std.specs.List.{prefix_len, list_all}
 use Rattle.xs_text.specs.Numbers.{number_of}
 use Rattle.xs_text.specs.Words.{words_of_line}
+use Rattle.pin_scripts.specs.Pins.{port_of}
 use Rattle.xs_instructions.specs.Image.{same_name}
 use Rattle.system_model.specs.declared.frame_line.EndName.{EndName}
 use Rattle.system_model.specs.declared.frame_line.FrameLine.{FrameLine}
-use Rattle.system_model.specs.declared.frame_line.FrameLine.TheVariants.{Node, Link, Bit, Section, Step}
+use Rattle.system_model.specs.declared.frame_line.FrameLine.TheVariants.{Node, Link, Bit, Wire, Section, Step}
 use Rattle.system_model.specs.declared.frame_line.LinkLine.{LinkLine}
 use Rattle.system_model.specs.declared.frame_line.NodeLine.{NodeLine}
+use Rattle.system_model.specs.declared.frame_line.PinName.{PinName}
 use Rattle.system_model.specs.declared.frame_line.PlayLine.{PlayLine}
 use Rattle.system_model.specs.declared.frame_line.PlayLine.TheVariants.{Take, Run, Send}
 use Rattle.system_model.specs.declared.frame_line.SectionKind.{SectionKind}
 use Rattle.system_model.specs.declared.frame_line.SectionKind.TheVariants.{Source, Pins, Play}
+use Rattle.system_model.specs.declared.frame_line.WireLine.{WireLine}
 use Rattle.system_model.specs.Bits.{BitRec}
 
 infixl 10 ◌>>=◌
@@ -51,7 +54,7 @@ node_line _ = None
 abbrev pub before_colon : List ℕ → ℕ
 before_colon word = prefix_len (λ b. not (b == 58)) word
 
--- `N:E`: link end E of the node N
+-- `N:E`: end E of the node N
 unfoldable pub end_name : List ℕ → Option EndName
 end_name word =
     number_of (take (before_colon word) word) >>= λ node. number_of (drop (before_colon word + 1) word) >>= λ end.
@@ -71,6 +74,20 @@ link_line edition (k ∷ x ∷ y ∷ v ∷ d ∷ w ∷ g ∷ rest) =
     Some (record { a = a; b = b; delay = delay; gap = gap; net = net }))
     else None
 link_line edition _ = None
+
+-- `N:P`: the pin of port P of the node N
+unfoldable pub pin_name : List ℕ → Option PinName
+pin_name word =
+    number_of (take (before_colon word) word) >>= λ node. port_of (drop (before_colon word + 1) word) >>= λ port.
+    Some (record { node = node; port = port })
+
+-- `wire N:P M:Q delay D`, in edition 2 alone
+unfoldable pub wire_line : ℕ → List (List ℕ) → Option WireLine
+wire_line edition (k ∷ x ∷ y ∷ v ∷ d ∷ []) =
+    if (edition == 2) && (same_name (codes "wire") k && same_name (codes "delay") v)
+    then (pin_name x >>= λ a. pin_name y >>= λ b. number_of d >>= λ delay. Some (record { a = a; b = b; delay = delay }))
+    else None
+wire_line edition _ = None
 
 -- words that are all numbers
 unfoldable pub numbers_of : List (List ℕ) → Option (List ℕ)
@@ -100,17 +117,25 @@ or_line None other = other
 unfoldable pub frame_line : ℕ → List (List ℕ) → Option FrameLine
 frame_line edition words =
     or_line (option_map Node (node_line words))
-    (or_line (option_map Link (link_line edition words)) (or_line (option_map Bit (bit_line words)) (option_map Section (section_line words))))
+    (or_line (option_map Link (link_line edition words)) (or_line (option_map Bit (bit_line words))
+    (or_line (option_map Wire (wire_line edition words)) (option_map Section (section_line words)))))
 
 -- a run of the node with this number, over so many slots
 abbrev pub run_of : List ℕ → Option ℕ → Option PlayLine
 run_of n slots = number_of n >>= λ node. slots >>= λ count. Some (Run node count)
 
+-- The end that a step names. No node has an end 255, so a greater number is taken as 255: it names none either.
+abbrev pub last_end : EndName → EndName
+last_end name = record name { end = min name.end 255 }
+
+abbrev pub step_end : List ℕ → Option EndName
+step_end word = option_map last_end (end_name word)
+
 -- a line of the section `play` by its words: `take N:E`, `send N:E`, `run N`, which is a run over one slot, and `run N COUNT`
 unfoldable pub play_line : List (List ℕ) → Option PlayLine
 play_line (k ∷ x ∷ []) =
-    if same_name (codes "take") k then option_map Take (end_name x)
-    else (if same_name (codes "send") k then option_map Send (end_name x) else (if same_name (codes "run") k then run_of x (Some 1) else None))
+    if same_name (codes "take") k then option_map Take (step_end x)
+    else (if same_name (codes "send") k then option_map Send (step_end x) else (if same_name (codes "run") k then run_of x (Some 1) else None))
 play_line (k ∷ n ∷ count ∷ []) = if same_name (codes "run") k then run_of n (number_of count) else None
 play_line _ = None
 
@@ -131,15 +156,16 @@ is_net n = nat_le n 3
 abbrev pub is_end_in_range : EndName → Bool
 is_end_in_range name = is_node_number name.node && is_end_number name.end
 
--- whether each number of a line is within its range
+-- whether each number of a line is within its range; which ends a step may name is not a question of range
 abbrev pub are_numbers_in_range : FrameLine → Bool
 are_numbers_in_range (Node node) = is_node_number node.number && nat_le node.id 65535
 are_numbers_in_range (Link link) =
     is_end_in_range link.a && (is_end_in_range link.b && (is_between 1 1000 link.delay && (is_between 4 1000 link.gap && is_net link.net)))
 are_numbers_in_range (Bit bit) = is_node_number bit.node && (nat_le bit.bit 15 && list_all is_end_number bit.ends)
+are_numbers_in_range (Wire wire) = is_node_number wire.a.node && (is_node_number wire.b.node && is_between 1 1000 wire.delay)
 are_numbers_in_range (Section (Source n)) = is_node_number n
 are_numbers_in_range (Section Pins) = true
 are_numbers_in_range (Section Play) = true
-are_numbers_in_range (Step (Take name)) = is_end_in_range name
+are_numbers_in_range (Step (Take name)) = is_node_number name.node
 are_numbers_in_range (Step (Run node count)) = is_node_number node && is_between 1 1000000 count
-are_numbers_in_range (Step (Send name)) = is_end_in_range name
+are_numbers_in_range (Step (Send name)) = is_node_number name.node

@@ -12,6 +12,7 @@ use Rattle.sys_plan.specs.Plan.{PlanRec, link_ends}
 use Rattle.sys_plan.specs.declared.LinkPlan.{LinkPlan}
 use Rattle.sys_plan.specs.declared.NodePlan.{NodePlan}
 use Rattle.sys_plan.specs.declared.Step.{Step}
+use Rattle.sys_plan.specs.declared.WirePlan.{WirePlan}
 use Rattle.sys_plan.specs.declared.Step.TheVariants as step
 use Rattle.system_model.specs.declared.SysKind.{SysKind}
 use Rattle.system_model.specs.declared.SysKind.TheVariants.{TooLong}
@@ -22,6 +23,7 @@ use Rattle.system_model.specs.declared.frame_line.PlayLine.{PlayLine}
 use Rattle.system_model.specs.declared.frame_line.PlayLine.TheVariants.{Take, Run, Send}
 use Rattle.system_model.specs.declared.frame_line.SectionKind.{SectionKind}
 use Rattle.system_model.specs.declared.frame_line.SectionKind.TheVariants as section
+use Rattle.system_model.specs.declared.frame_line.WireLine.{WireLine}
 use Rattle.system_model.specs.Bits.{BitRec}
 use Rattle.system_model.specs.Frame.{SectionText, Given, Framed, Whole, Refused, framed, is_same_end, is_same_kind}
 
@@ -115,6 +117,15 @@ link_plan nodes link = record {
   net = link.net;
 }
 
+abbrev pub wire_plan : List GivenNode → WireLine → WirePlan
+wire_plan nodes wire = record {
+  a = position_by_number nodes wire.a.node;
+  a_port = wire.a.port;
+  b = position_by_number nodes wire.b.node;
+  b_port = wire.b.port;
+  delay = wire.delay;
+}
+
 -- a step with its node by position
 abbrev pub step_plan : List GivenNode → PlayLine → Step
 step_plan nodes (Take name) = step.Take (position_by_number nodes name.node) name.end
@@ -126,14 +137,15 @@ abbrev pub script_of : Given → PinsRead
 script_of given = pins_of (map (λ (node : GivenNode). node.number) given.nodes) (section_lines given.sections section.Pins)
 
 -- the plan with a script, or the refusal of the script
-abbrev pub plan_by : List NodePlan → List LinkPlan → List Step → PinsRead → System
-plan_by nodes links steps (pins.Script script) = Plan (record { nodes = nodes; links = links; script = script; steps = steps })
-plan_by nodes links steps (pins.Fault line kind) = Pins line kind
+abbrev pub plan_by : List NodePlan → List LinkPlan → List WirePlan → List Step → PinsRead → System
+plan_by nodes links wires steps (pins.Script script) =
+    Plan (record { nodes = nodes; links = links; script = script; steps = steps; wires = wires })
+plan_by nodes links wires steps (pins.Fault line kind) = Pins line kind
 
 -- a source that is refused comes before the script
-abbrev pub plan_with : List LinkPlan → List Step → PinsRead → Result (List NodePlan) SourceFault → System
-plan_with links steps script (Err fault) = Source fault.node fault.line fault.kind
-plan_with links steps script (Ok plans) = plan_by plans links steps script
+abbrev pub plan_with : List LinkPlan → List WirePlan → List Step → PinsRead → Result (List NodePlan) SourceFault → System
+plan_with links wires steps script (Err fault) = Source fault.node fault.line fault.kind
+plan_with links wires steps script (Ok plans) = plan_by plans links wires steps script
 
 -- The edition of the nodes. A text without words is refused, so each frame that is whole has had a first line; what is said here of one
 -- that has had none is said of no text.
@@ -144,7 +156,8 @@ edition_given (Some edition) = edition
 -- the plan of a frame
 abbrev pub plan_of_frame : Given → System
 plan_of_frame given =
-    plan_with (map (link_plan given.nodes) given.links) (map (step_plan given.nodes) given.steps) (script_of given)
+    plan_with (map (link_plan given.nodes) given.links) (map (wire_plan given.nodes) given.wires) (map (step_plan given.nodes) given.steps)
+    (script_of given)
     (node_plans (edition_given given.edition) given.links given.bits given.sections given.nodes)
 
 abbrev pub plan_of : Framed → System

@@ -8,7 +8,8 @@ pub struct NodeLine {
     pub id: u16,
 }
 
-/// A link end by its name `N:E`: link end E, 0 to 7, of the node with the number N.
+/// An end by its name `N:E`: end E of the node with the number N. In a link it is a link end, 0 to 7. In a step it may be that of a wire
+/// too, 8 and so on; a number above 255 is taken as 255, an end that no node has.
 #[derive(Clone, Copy)]
 pub struct EndName {
     pub node: u8,
@@ -24,6 +25,21 @@ pub struct LinkLine {
     pub delay: u32,
     pub gap: u32,
     pub net: u8,
+}
+
+/// A pin by its name `N:P`: that of port P, 0 to 28, of the node with the number N.
+#[derive(Clone, Copy)]
+pub struct PinName {
+    pub node: u8,
+    pub port: u8,
+}
+
+/// A wire's line: what the port of the first pin drives, the second pin shows the delay later, 1 to 1,000 slots.
+#[derive(Clone, Copy)]
+pub struct WireLine {
+    pub a: PinName,
+    pub b: PinName,
+    pub delay: u32,
 }
 
 /// A bit's line: the node with this number sends what differs from its id at this bit first, 0 to 15, by one of these link
@@ -74,6 +90,8 @@ pub enum FrameLine {
     Link(LinkLine),
     /// `bit N B E`, with up to seven more link ends.
     Bit(BitLine),
+    /// `wire N:P M:Q delay D`, in edition 2 alone.
+    Wire(WireLine),
     /// `source N`, `pins` or `play`: it begins a section.
     Section(SectionKind),
     /// A step, in the section `play`.

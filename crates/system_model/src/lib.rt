@@ -9,7 +9,8 @@ mod frame_line;
 pub use cut_text::cut_texts_are_refused;
 pub use first_fault::least_faulty_line_decides;
 pub use frame_line::{
-    BitLine, EndName, FrameLine, GivenNode, LinkLine, NodeLine, PlayLine, SectionKind,
+    BitLine, EndName, FrameLine, GivenNode, LinkLine, NodeLine, PinName, PlayLine, SectionKind,
+    WireLine,
 };
 
 /// Why the frame of a system text is refused. See docs/SYSTEM_TEXT.md.
@@ -37,8 +38,16 @@ pub enum SysKind {
     TooLong,
     /// S11: a bit of a node is given twice.
     BitTwice,
-    /// S12: a node or a link end that no earlier line gave.
+    /// S12: a node or an end that no earlier line gave.
     NoSuchNode,
     /// S13: the 17th node, or the 49th link.
     TooMany,
+    /// S14: a wire joins two pins of one node.
+    WireWithinNode,
+    /// S15: a wire joins pins of ports of two widths.
+    WidthsDiffer,
+    /// S16: two wires lead to one pin.
+    PinWiredTwice,
+    /// S17: the 33rd wire.
+    TooManyWires,
 }

@@ -1,30 +1,34 @@
 -- What a frame keeps whose lines have no fault.
-use Rattle.std.proofs.Common.{◌≡◌, ℕ, suc, ◌+◌, ◌<◌, ◌≤◌, Bool, true, false, not, ◌&&◌, ◌||◌, List, [], ◌∷◌, ◌++◌, length, map, Option, Some, None, refl, sym, ap, ◌∙◌, cond, nat_lt, nat_le, subst, length-append, arith}
+use Rattle.std.proofs.Common.{◌≡◌, ℕ, suc, ◌+◌, ◌<◌, ◌≤◌, Bool, true, false, not, ◌&&◌, ◌||◌, List, [], ◌∷◌, ◌++◌, length, map, filter, Option, Some, None, refl, sym, ap, ◌∙◌, cond, nat_lt, nat_le, subst, length-append, arith}
 use Rattle.std.specs.Prelude.{◌≢◌, ◌==◌, if◌then◌else◌, option_map, codes}
 use Rattle.std.specs.List.{AllByRecursion, list_any, list_all}
 use Rattle.std.proofs.lemmas.Bool.Decides.{nat_tests}
+use Rattle.xs_base.specs.Ids.{port_width}
 use Rattle.sys_plan.specs.Plan.{AreAscending, AreDistinct}
 use Rattle.xs_text.specs.Bytes.{all_allowed}
 use Rattle.xs_text.specs.Words.{words_of_line}
 use Rattle.xs_instructions.specs.Image.{same_name}
 use Rattle.system_model.specs.declared.SysKind.{SysKind}
-use Rattle.system_model.specs.declared.SysKind.TheVariants.{FirstLine, BadLine, GivenTwice, IdTwice, LinkEndTwice, LinkToItself, NumberOutOfRange, BitTwice, NoSuchNode, TooMany}
+use Rattle.system_model.specs.declared.SysKind.TheVariants.{FirstLine}
 use Rattle.system_model.specs.declared.frame_line.EndName.{EndName}
 use Rattle.system_model.specs.declared.frame_line.FrameLine.{FrameLine}
-use Rattle.system_model.specs.declared.frame_line.FrameLine.TheVariants.{Node, Link, Bit, Section, Step}
+use Rattle.system_model.specs.declared.frame_line.FrameLine.TheVariants.{Node, Link, Bit, Wire, Section, Step}
 use Rattle.system_model.specs.declared.frame_line.GivenNode.{GivenNode}
 use Rattle.system_model.specs.declared.frame_line.LinkLine.{LinkLine}
+use Rattle.system_model.specs.declared.frame_line.PinName.{PinName}
 use Rattle.system_model.specs.declared.frame_line.PlayLine.{PlayLine}
 use Rattle.system_model.specs.declared.frame_line.PlayLine.TheVariants.{Take, Run, Send}
 use Rattle.system_model.specs.declared.frame_line.SectionKind.{SectionKind}
 use Rattle.system_model.specs.declared.frame_line.SectionKind.TheVariants.{Source, Pins, Play}
+use Rattle.system_model.specs.declared.frame_line.WireLine.{WireLine}
 use Rattle.system_model.specs.Bits.{BitRec}
 use Rattle.system_model.specs.FrameLines.{edition_of_word, edition_of_header, frame_line, play_line, is_end, are_numbers_in_range, is_node_number, is_end_number, is_end_in_range, is_net, is_between}
-use Rattle.system_model.specs.Frame.{SectionText, Given, FrameSays, Own, End, Blank, Header, NoHeader, NoForm, Form, says_form, says_header, says_in_frame, says_in_play, says_in_section, says_by, says, names_none, is_given_twice, is_id_twice, is_link_to_itself, is_link_end_twice, is_bit_twice, is_too_many, fault_of, first_that_holds, given_with, given_after, put_by_number, has_node, has_link_end, has_link_ends, is_step_of, is_same_end, unless_faulty, at_the_end, whole_but_for, without_source, Framed, Whole, Refused, frame_from, framed, nothing_given, have_no_words}
+use Rattle.system_model.specs.Frame.{SectionText, Given, FrameSays, Own, End, Blank, Header, NoHeader, NoForm, Form, says_form, says_header, says_in_frame, says_in_play, says_in_section, says_by, says, names_none, is_given_twice, is_id_twice, is_link_to_itself, is_link_end_twice, is_wire_within_node, has_other_widths, is_pin_wired_twice, is_wire_too_many, is_too_many, fault_of, first_that_holds, tests, given_with, given_after, put_by_number, has_node, has_link_end, has_link_ends, count_leaving, count_coming, is_wire_end, has_end_in, has_end_out, is_step_of, is_same_end, is_same_pin, is_wired, unless_faulty, at_the_end, whole_but_for, without_source, Framed, Whole, Refused, frame_from, framed, nothing_given, have_no_words}
 use Rattle.system_model.specs.System.{edition_given}
-use Rattle.system_text.specs.Accepted.{IsLinkOf, ends_of, AreAccepted, IsEdition, IsAccepted}
+use Rattle.system_text.specs.Accepted.{IsLinkOf, IsWireOf, ends_of, AreAccepted, IsEdition, IsOfEdition, IsAccepted}
 use Rattle.system_text.proofs.Judged.{fault_by}
 use Rattle.system_text.proofs.Networks.{of_network_0}
+use Rattle.system_text.proofs.WiresSaid.{wire_said}
 use Rattle.system_text.proofs.Walk.{from-cons, from-end, framed_is}
 
 not_false : (b : Bool) → not b ≡ false → b ≡ true
@@ -62,40 +66,36 @@ record Passes (given : Given) (form : FrameLine) : Type 0 where
   pub new_id : is_id_twice given (Form form) ≡ false
   pub apart : is_link_to_itself (Form form) ≡ false
   pub new_ends : is_link_end_twice given (Form form) ≡ false
+  pub two_nodes : is_wire_within_node (Form form) ≡ false
+  pub one_width : has_other_widths (Form form) ≡ false
+  pub new_pin : is_pin_wired_twice given (Form form) ≡ false
+  pub few_wires : is_wire_too_many given (Form form) ≡ false
   pub few : is_too_many given (Form form) ≡ false
 
-abbrev first_of_nine : Bool → Bool → Bool → Bool → Bool → Bool → Bool → Bool → Bool → Option SysKind
-first_of_nine a b c d e f g h i = first_that_holds (
-    (BadLine, a)
-    ∷ (NumberOutOfRange, b)
-    ∷ (NoSuchNode, c)
-    ∷ (GivenTwice, d)
-    ∷ (IdTwice, e)
-    ∷ (LinkToItself, f)
-    ∷ (LinkEndTwice, g)
-    ∷ (BitTwice, h)
-    ∷ (TooMany, i)
-    ∷ []
-    )
+none_by : (b : Bool) (kind : SysKind) (later : Option SysKind) → (if b then Some kind else later) ≡ None → (b ≡ false) × (later ≡ None)
+none_by true kind later e = absurd cc
+none_by false kind later e = (refl, e)
 
-none_of_nine : (a b c d e f g h i : Bool) → first_of_nine a b c d e f g h i ≡ None → (b ≡ false) × (c ≡ false) × (d ≡ false) × (e ≡ false) × (f ≡ false) × (g ≡ false) × (i ≡ false)
-none_of_nine true b c d e f g h i j = absurd cc
-none_of_nine false true c d e f g h i j = absurd cc
-none_of_nine false false true d e f g h i j = absurd cc
-none_of_nine false false false true e f g h i j = absurd cc
-none_of_nine false false false false true f g h i j = absurd cc
-none_of_nine false false false false false true g h i j = absurd cc
-none_of_nine false false false false false false true h i j = absurd cc
-none_of_nine false false false false false false false true i j = absurd cc
-none_of_nine false false false false false false false false true j = absurd cc
-none_of_nine false false false false false false false false false j = (refl, refl, refl, refl, refl, refl, refl)
+none_holds : (tests : List (SysKind × Bool)) → first_that_holds tests ≡ None → AllByRecursion (λ (test : SysKind × Bool). test.1 ≡ false) tests
+none_holds [] e = tt
+none_holds (test ∷ others) e = let parts = none_by test.1 test.0 (first_that_holds others) e in (parts.0, none_holds others parts.1)
 
 passed : (given : Given) (allowed : Bool) (form : FrameLine) → fault_by given allowed (Form form) ≡ None → Passes given form
 passed given allowed form e =
-    let none = none_of_nine (not allowed || false) (not (are_numbers_in_range form)) (names_none given (Form form)) (is_given_twice given (Form form))
-    (is_id_twice given (Form form)) (is_link_to_itself (Form form)) (is_link_end_twice given (Form form)) (is_bit_twice given (Form form))
-    (is_too_many given (Form form)) e in
-    record { ranged = not_false _ none.0; known = none.1; new = none.2; new_id = none.3; apart = none.4; new_ends = none.5; few = none.6 }
+    let none = none_holds (tests given allowed (Form form)) e in
+    record {
+      ranged = not_false _ none.1.1.0;
+      known = none.1.1.1.0;
+      new = none.1.1.1.1.0;
+      new_id = none.1.1.1.1.1.0;
+      apart = none.1.1.1.1.1.1.0;
+      new_ends = none.1.1.1.1.1.1.1.0;
+      two_nodes = none.1.1.1.1.1.1.1.1.1.0;
+      one_width = none.1.1.1.1.1.1.1.1.1.1.0;
+      new_pin = none.1.1.1.1.1.1.1.1.1.1.1.0;
+      few_wires = none.1.1.1.1.1.1.1.1.1.1.1.1.0;
+      few = none.1.1.1.1.1.1.1.1.1.1.1.1.1.0;
+    }
 
 -- Lists with one element more
 
@@ -239,22 +239,41 @@ more_nodes node nodes (link ∷ links) k = (still_link node nodes link k.0, more
 both_more : (a b c d : Bool) → (a && b) ≡ true → (a ≡ true → c ≡ true) → (b ≡ true → d ≡ true) → (c && d) ≡ true
 both_more a b c d e f g = let is = both a b e in rw (f is.0, g is.1) refl
 
-step_with_node : (node : GivenNode) (nodes : List GivenNode) (links : List LinkLine) (step : PlayLine) → is_step_of nodes links step ≡ true
-    → is_step_of (put_by_number node nodes) links step ≡ true
-step_with_node node nodes links (Take name) e = both_more _ _ _ _ e (λ h. put_has node nodes name.node h) (λ h. h)
-step_with_node node nodes links (Run n count) e = put_has node nodes n e
-step_with_node node nodes links (Send name) e = both_more _ _ _ _ e (λ h. put_has node nodes name.node h) (λ h. h)
+step_with_node : (node : GivenNode) (nodes : List GivenNode) (links : List LinkLine) (wires : List WireLine) (step : PlayLine) → is_step_of nodes links wires step ≡ true
+    → is_step_of (put_by_number node nodes) links wires step ≡ true
+step_with_node node nodes links wires (Take name) e = both_more _ _ _ _ e (λ h. put_has node nodes name.node h) (λ h. h)
+step_with_node node nodes links wires (Run n count) e = put_has node nodes n e
+step_with_node node nodes links wires (Send name) e = both_more _ _ _ _ e (λ h. put_has node nodes name.node h) (λ h. h)
 
-steps_with_node : (node : GivenNode) (nodes : List GivenNode) (links : List LinkLine) (steps : List PlayLine)
-    → AllByRecursion (λ (step : PlayLine). is_step_of nodes links step ≡ true) steps
-    → AllByRecursion (λ (step : PlayLine). is_step_of (put_by_number node nodes) links step ≡ true) steps
-steps_with_node node nodes links [] k = tt
-steps_with_node node nodes links (step ∷ steps) k = (step_with_node node nodes links step k.0, steps_with_node node nodes links steps k.1)
+-- the steps name what is given
+abbrev AreStepsOf : List GivenNode → List LinkLine → List WireLine → List PlayLine → Type 0
+AreStepsOf nodes links wires steps = AllByRecursion (λ (step : PlayLine). is_step_of nodes links wires step ≡ true) steps
 
-with_node : (nodes : List GivenNode) (node : GivenNode) (links : List LinkLine) (bits : List BitRec) (steps : List PlayLine) → nat_le 16 (length nodes) ≡ false → node.number ≤ 99
-    → has_node nodes node.number ≡ false → list_any (λ (other : GivenNode). other.id == node.id) nodes ≡ false → AreAccepted nodes links bits steps
-    → AreAccepted (put_by_number node nodes) links bits steps
-with_node nodes node links bits steps few h new new_id k = record {
+steps_with_node : (node : GivenNode) (nodes : List GivenNode) (links : List LinkLine) (wires : List WireLine) (steps : List PlayLine) → AreStepsOf nodes links wires steps
+    → AreStepsOf (put_by_number node nodes) links wires steps
+steps_with_node node nodes links wires [] k = tt
+steps_with_node node nodes links wires (step ∷ steps) k = (step_with_node node nodes links wires step k.0, steps_with_node node nodes links wires steps k.1)
+
+still_wire : (node : GivenNode) (nodes : List GivenNode) (wire : WireLine) → IsWireOf nodes wire → IsWireOf (put_by_number node nodes) wire
+still_wire node nodes wire k = record {
+  a = put_has node nodes wire.a.node k.a;
+  b = put_has node nodes wire.b.node k.b;
+  apart = k.apart;
+  a_port = k.a_port;
+  b_port = k.b_port;
+  widths = k.widths;
+  least_delay = k.least_delay;
+  most_delay = k.most_delay;
+}
+
+still_wires : (node : GivenNode) (nodes : List GivenNode) (wires : List WireLine) → AllByRecursion (IsWireOf nodes) wires → AllByRecursion (IsWireOf (put_by_number node nodes)) wires
+still_wires node nodes [] k = tt
+still_wires node nodes (wire ∷ wires) k = (still_wire node nodes wire k.0, still_wires node nodes wires k.1)
+
+with_node : (nodes : List GivenNode) (node : GivenNode) (links : List LinkLine) (bits : List BitRec) (wires : List WireLine) (steps : List PlayLine) → nat_le 16 (length nodes) ≡ false
+    → node.number ≤ 99 → has_node nodes node.number ≡ false → list_any (λ (other : GivenNode). other.id == node.id) nodes ≡ false → AreAccepted nodes links bits wires steps
+    → AreAccepted (put_by_number node nodes) links bits wires steps
+with_node nodes node links bits wires steps few h new new_id k = record {
   few_nodes = let more = put_length node nodes in let room : length nodes < 16 = grind (arith, nat_tests) in omega arith;
   few_links = k.few_links;
   numbers = put_all (λ (n : GivenNode). n.number ≤ 99) node nodes k.numbers h;
@@ -263,7 +282,10 @@ with_node nodes node links bits steps few h new new_id k = record {
   links = more_nodes node nodes links k.links;
   ends = k.ends;
   bits = k.bits;
-  steps = steps_with_node node nodes links steps k.steps;
+  few_wires = k.few_wires;
+  wires = still_wires node nodes wires k.wires;
+  targets = k.targets;
+  steps = steps_with_node node nodes links wires steps k.steps;
 }
 
 -- One more link
@@ -335,22 +357,31 @@ more_links links link (bit ∷ bits) k = (
   more_links links link bits k.1,
 )
 
-step_with_link : (nodes : List GivenNode) (links : List LinkLine) (link : LinkLine) (step : PlayLine) → is_step_of nodes links step ≡ true
-    → is_step_of nodes (links ++ link ∷ []) step ≡ true
-step_with_link nodes links link (Take name) e = both_more _ _ _ _ e (λ h. h) (λ h. still_in links link name h)
-step_with_link nodes links link (Run n count) e = e
-step_with_link nodes links link (Send name) e = both_more _ _ _ _ e (λ h. h) (λ h. still_in links link name h)
+either_more : (a b c : Bool) → (a || c) ≡ true → (a ≡ true → b ≡ true) → (b || c) ≡ true
+either_more true b c e h = or_first b c (h refl)
+either_more false b c e h = or_second b c e
 
-steps_with_link : (nodes : List GivenNode) (links : List LinkLine) (link : LinkLine) (steps : List PlayLine)
-    → AllByRecursion (λ (step : PlayLine). is_step_of nodes links step ≡ true) steps
-    → AllByRecursion (λ (step : PlayLine). is_step_of nodes (links ++ link ∷ []) step ≡ true) steps
-steps_with_link nodes links link [] k = tt
-steps_with_link nodes links link (step ∷ steps) k = (step_with_link nodes links link step k.0, steps_with_link nodes links link steps k.1)
+step_with_link : (nodes : List GivenNode) (links : List LinkLine) (link : LinkLine) (wires : List WireLine) (step : PlayLine) → is_step_of nodes links wires step ≡ true
+    → is_step_of nodes (links ++ link ∷ []) wires step ≡ true
+step_with_link nodes links link wires (Take name) e =
+    let wired = is_wire_end (count_coming wires name.node) name.end in
+    both_more (has_node nodes name.node) (has_end_in links wires name) (has_node nodes name.node) (has_end_in (links ++ link ∷ []) wires name) e (λ h. h)
+    (λ h. either_more (has_link_end links name) (has_link_end (links ++ link ∷ []) name) wired h (λ i. still_in links link name i))
+step_with_link nodes links link wires (Run n count) e = e
+step_with_link nodes links link wires (Send name) e =
+    let wired = is_wire_end (count_leaving wires name.node) name.end in
+    both_more (has_node nodes name.node) (has_end_out links wires name) (has_node nodes name.node) (has_end_out (links ++ link ∷ []) wires name) e (λ h. h)
+    (λ h. either_more (has_link_end links name) (has_link_end (links ++ link ∷ []) name) wired h (λ i. still_in links link name i))
 
-with_link : (nodes : List GivenNode) (links : List LinkLine) (link : LinkLine) (bits : List BitRec) (steps : List PlayLine) → nat_le 48 (length links) ≡ false → IsLinkOf nodes link
-    → (is_same_end link.a link.b || (has_link_end links link.a || has_link_end links link.b)) ≡ false → AreAccepted nodes links bits steps
-    → AreAccepted nodes (links ++ link ∷ []) bits steps
-with_link nodes links link bits steps few h new k =
+steps_with_link : (nodes : List GivenNode) (links : List LinkLine) (link : LinkLine) (wires : List WireLine) (steps : List PlayLine) → AreStepsOf nodes links wires steps
+    → AreStepsOf nodes (links ++ link ∷ []) wires steps
+steps_with_link nodes links link wires [] k = tt
+steps_with_link nodes links link wires (step ∷ steps) k = (step_with_link nodes links link wires step k.0, steps_with_link nodes links link wires steps k.1)
+
+with_link : (nodes : List GivenNode) (links : List LinkLine) (link : LinkLine) (bits : List BitRec) (wires : List WireLine) (steps : List PlayLine) → nat_le 48 (length links) ≡ false
+    → IsLinkOf nodes link → (is_same_end link.a link.b || (has_link_end links link.a || has_link_end links link.b)) ≡ false → AreAccepted nodes links bits wires steps
+    → AreAccepted nodes (links ++ link ∷ []) bits wires steps
+with_link nodes links link bits wires steps few h new k =
     let ends = neither (is_same_end link.a link.b) (has_link_end links link.a || has_link_end links link.b) new in
     let each = neither (has_link_end links link.a) (has_link_end links link.b) ends.1 in
     record {
@@ -362,14 +393,17 @@ with_link nodes links link bits steps few h new k =
       links = one_more (IsLinkOf nodes) links link k.links h;
       ends = distinct_ends links link (ends_differ link.a link.b ends.0) each.0 each.1 k.ends;
       bits = more_links links link bits k.bits;
-      steps = steps_with_link nodes links link steps k.steps;
+      few_wires = k.few_wires;
+      wires = k.wires;
+      targets = k.targets;
+      steps = steps_with_link nodes links link wires steps k.steps;
     }
 
 -- One more bit
 
-with_bit : (nodes : List GivenNode) (links : List LinkLine) (bits : List BitRec) (steps : List PlayLine) (bit : BitRec)
-    → not (has_node nodes bit.node && has_link_ends links bit.node bit.ends) ≡ false → AreAccepted nodes links bits steps → AreAccepted nodes links (bits ++ bit ∷ []) steps
-with_bit nodes links bits steps bit known k = record {
+with_bit : (nodes : List GivenNode) (links : List LinkLine) (bits : List BitRec) (wires : List WireLine) (steps : List PlayLine) (bit : BitRec)
+    → not (has_node nodes bit.node && has_link_ends links bit.node bit.ends) ≡ false → AreAccepted nodes links bits wires steps → AreAccepted nodes links (bits ++ bit ∷ []) wires steps
+with_bit nodes links bits wires steps bit known k = record {
   few_nodes = k.few_nodes;
   few_links = k.few_links;
   numbers = k.numbers;
@@ -378,14 +412,92 @@ with_bit nodes links bits steps bit known k = record {
   links = k.links;
   ends = k.ends;
   bits = one_more (λ (b : BitRec). has_link_ends links b.node b.ends ≡ true) bits bit k.bits (both (has_node nodes bit.node) (has_link_ends links bit.node bit.ends) (not_false _ known)).1;
+  few_wires = k.few_wires;
+  wires = k.wires;
+  targets = k.targets;
   steps = k.steps;
 }
 
--- One more step
+-- One more wire
 
-with_step : (nodes : List GivenNode) (links : List LinkLine) (bits : List BitRec) (steps : List PlayLine) (step : PlayLine)
-    → not (is_step_of nodes links step) ≡ false → AreAccepted nodes links bits steps → AreAccepted nodes links bits (steps ++ step ∷ [])
-with_step nodes links bits steps step known k = record {
+wire_of : (nodes : List GivenNode) (wire : WireLine) → are_numbers_in_range (Wire wire) ≡ true → not (has_node nodes wire.a.node && has_node nodes wire.b.node) ≡ false
+    → (wire.a.node == wire.b.node) ≡ false → not (port_width wire.a.port == port_width wire.b.port) ≡ false → wire.a.port < 29 → wire.b.port < 29 → IsWireOf nodes wire
+wire_of nodes wire range known apart widths a_port b_port =
+    let given = both (has_node nodes wire.a.node) (has_node nodes wire.b.node) (not_false _ known) in
+    let a = both (is_node_number wire.a.node) _ range in
+    let b = both (is_node_number wire.b.node) (is_between 1 1000 wire.delay) a.1 in
+    let delay = ranges 1 1000 wire.delay b.1 in
+    let same = not_false _ widths in
+    record {
+      a = given.0;
+      b = given.1;
+      apart = differ wire.a.node wire.b.node apart;
+      a_port = a_port;
+      b_port = b_port;
+      widths = grind (arith, nat_tests);
+      least_delay = delay.0;
+      most_delay = delay.1;
+    }
+
+abbrev targets : List WireLine → List PinName
+targets wires = map (λ (wire : WireLine). wire.b) wires
+
+is_same_as_itself : (pin : PinName) → is_same_pin pin pin ≡ true
+is_same_as_itself pin = grind (arith, nat_tests)
+
+pins_differ : (x y : PinName) → is_same_pin x y ≡ false → x ≢ y
+pins_differ x y e same = let is : is_same_pin x y ≡ true = rw same (is_same_as_itself y) in cc
+
+more_targets : (P : PinName → Type 0) (wires : List WireLine) (wire : WireLine) → AllByRecursion P (targets wires) → P wire.b → AllByRecursion P (targets (wires ++ wire ∷ []))
+more_targets P [] wire h p = (p, tt)
+more_targets P (w ∷ wires) wire h p = (h.0, more_targets P wires wire h.1 p)
+
+distinct_targets : (wires : List WireLine) (wire : WireLine) → is_wired wires wire.b ≡ false → AreDistinct (targets wires) → AreDistinct (targets (wires ++ wire ∷ []))
+distinct_targets [] wire e k = (tt, tt)
+distinct_targets (w ∷ wires) wire e k =
+    let new = neither (is_same_pin w.b wire.b) (is_wired wires wire.b) e in
+    (more_targets (λ y. w.b ≢ y) wires wire k.0 (pins_differ w.b wire.b new.0), distinct_targets wires wire new.1 k.1)
+
+-- with one more wire the ends of wires are there still
+end_still : (m n end : ℕ) → m ≤ n → is_wire_end m end ≡ true → is_wire_end n end ≡ true
+end_still m n end h e =
+    let is = both (nat_le 8 end) (nat_lt end (8 + m)) e in
+    let below : end < 8 + m = lesser end (8 + m) is.1 in
+    let more : nat_lt end (8 + n) ≡ true = grind (arith, nat_tests) in
+    rw (is.0, more) refl
+
+counted : (b : Bool) (w : WireLine) (xs ys : List WireLine) → length xs ≤ length ys → length (if b then w ∷ xs else xs) ≤ length (if b then w ∷ ys else ys)
+counted true w xs ys h = omega arith
+counted false w xs ys h = h
+
+count_more : (test : WireLine → Bool) (wires more : List WireLine) → length (filter test wires) ≤ length (filter test (wires ++ more))
+count_more test [] more = omega arith
+count_more test (w ∷ wires) more = counted (test w) w (filter test wires) (filter test (wires ++ more)) (count_more test wires more)
+
+step_with_wire : (nodes : List GivenNode) (links : List LinkLine) (wires : List WireLine) (wire : WireLine) (step : PlayLine) → is_step_of nodes links wires step ≡ true
+    → is_step_of nodes links (wires ++ wire ∷ []) step ≡ true
+step_with_wire nodes links wires wire (Take name) e =
+    let before = count_coming wires name.node in
+    let after = count_coming (wires ++ wire ∷ []) name.node in
+    both_more (has_node nodes name.node) (has_end_in links wires name) (has_node nodes name.node) (has_end_in links (wires ++ wire ∷ []) name) e (λ h. h)
+    (λ h. or_more (has_link_end links name) (is_wire_end before name.end) (is_wire_end after name.end) h
+    (λ i. end_still before after name.end (count_more (λ (w : WireLine). w.b.node == name.node) wires (wire ∷ [])) i))
+step_with_wire nodes links wires wire (Run n count) e = e
+step_with_wire nodes links wires wire (Send name) e =
+    let before = count_leaving wires name.node in
+    let after = count_leaving (wires ++ wire ∷ []) name.node in
+    both_more (has_node nodes name.node) (has_end_out links wires name) (has_node nodes name.node) (has_end_out links (wires ++ wire ∷ []) name) e (λ h. h)
+    (λ h. or_more (has_link_end links name) (is_wire_end before name.end) (is_wire_end after name.end) h
+    (λ i. end_still before after name.end (count_more (λ (w : WireLine). w.a.node == name.node) wires (wire ∷ [])) i))
+
+steps_with_wire : (nodes : List GivenNode) (links : List LinkLine) (wires : List WireLine) (wire : WireLine) (steps : List PlayLine) → AreStepsOf nodes links wires steps
+    → AreStepsOf nodes links (wires ++ wire ∷ []) steps
+steps_with_wire nodes links wires wire [] k = tt
+steps_with_wire nodes links wires wire (step ∷ steps) k = (step_with_wire nodes links wires wire step k.0, steps_with_wire nodes links wires wire steps k.1)
+
+with_wire : (nodes : List GivenNode) (links : List LinkLine) (bits : List BitRec) (wires : List WireLine) (wire : WireLine) (steps : List PlayLine) → nat_le 32 (length wires) ≡ false
+    → IsWireOf nodes wire → is_wired wires wire.b ≡ false → AreAccepted nodes links bits wires steps → AreAccepted nodes links bits (wires ++ wire ∷ []) steps
+with_wire nodes links bits wires wire steps few h new k = record {
   few_nodes = k.few_nodes;
   few_links = k.few_links;
   numbers = k.numbers;
@@ -394,26 +506,79 @@ with_step nodes links bits steps step known k = record {
   links = k.links;
   ends = k.ends;
   bits = k.bits;
-  steps = one_more (λ (s : PlayLine). is_step_of nodes links s ≡ true) steps step k.steps (not_false _ known);
+  few_wires = let room : length wires < 32 = grind (arith, nat_tests) in let more = length-append wires (wire ∷ []) in omega arith;
+  wires = one_more (IsWireOf nodes) wires wire k.wires h;
+  targets = distinct_targets wires wire new k.targets;
+  steps = steps_with_wire nodes links wires wire steps k.steps;
+}
+
+-- One more step
+
+with_step : (nodes : List GivenNode) (links : List LinkLine) (bits : List BitRec) (wires : List WireLine) (steps : List PlayLine) (step : PlayLine)
+    → not (is_step_of nodes links wires step) ≡ false → AreAccepted nodes links bits wires steps → AreAccepted nodes links bits wires (steps ++ step ∷ [])
+with_step nodes links bits wires steps step known k = record {
+  few_nodes = k.few_nodes;
+  few_links = k.few_links;
+  numbers = k.numbers;
+  order = k.order;
+  ids = k.ids;
+  links = k.links;
+  ends = k.ends;
+  bits = k.bits;
+  few_wires = k.few_wires;
+  wires = k.wires;
+  targets = k.targets;
+  steps = one_more (λ (s : PlayLine). is_step_of nodes links wires s ≡ true) steps step k.steps (not_false _ known);
 }
 
 -- A line without a fault keeps it all.
 
+-- what the edition asks, with one more link, and with one more wire
+link_of_edition : (given : Given) (l : List ℕ) (link : LinkLine) → says given l ≡ Form (Link link) → IsOfEdition (edition_given given.edition) given.links given.wires
+    → IsOfEdition (edition_given given.edition) (given.links ++ link ∷ []) given.wires
+link_of_edition given l link s k = record {
+  one_network = λ e. one_more (λ (x : LinkLine). x.net ≡ 0) given.links link (k.one_network e) (of_network_0 given l link s e);
+  no_wires = k.no_wires;
+}
+
+wire_of_edition : (given : Given) (l : List ℕ) (wire : WireLine) → says given l ≡ Form (Wire wire) → IsOfEdition (edition_given given.edition) given.links given.wires
+    → IsOfEdition (edition_given given.edition) given.links (given.wires ++ wire ∷ [])
+wire_of_edition given l wire s k = record {
+  one_network = k.one_network;
+  no_wires = λ e. absurd (omega (arith, e, (wire_said given l wire s).second));
+}
+
 form_keeps : (n : ℕ) (l : List ℕ) (form : FrameLine) (given : Given) → says given l ≡ Form form → Passes given form → IsAccepted given → IsAccepted (given_with n l (Form form) given)
-form_keeps n l (Node node) given s p k = (
-  k.0,
-  with_node given.nodes (record { line = n; number = node.number; id = node.id }) given.links given.bits given.steps p.few
-      (at_most node.number 99 (both (is_node_number node.number) (nat_le node.id 65535) p.ranged).0) p.new p.new_id k.1,
-  k.2,
-)
-form_keeps n l (Link link) given s p k = (
-  k.0,
-  with_link given.nodes given.links link given.bits given.steps p.few (link_of given.nodes link p.ranged p.known p.apart) p.new_ends k.1,
-  λ e. one_more (λ (x : LinkLine). x.net ≡ 0) given.links link (k.2 e) (of_network_0 given l link s e),
-)
-form_keeps n l (Bit bit) given s p k = (k.0, with_bit given.nodes given.links given.bits given.steps bit p.known k.1, k.2)
-form_keeps n l (Step step) given s p k = (k.0, with_step given.nodes given.links given.bits given.steps step p.known k.1, k.2)
-form_keeps n l (Section kind) given s p k = k
+form_keeps n l (Node node) given s p k = record {
+  edition = k.edition;
+  lines = with_node given.nodes (record { line = n; number = node.number; id = node.id }) given.links given.bits given.wires given.steps p.few
+      (at_most node.number 99 (both (is_node_number node.number) (nat_le node.id 65535) p.ranged).0) p.new p.new_id k.lines;
+  of_edition = k.of_edition;
+}
+form_keeps n l (Link link) given s p k = record {
+  edition = k.edition;
+  lines = with_link given.nodes given.links link given.bits given.wires given.steps p.few (link_of given.nodes link p.ranged p.known p.apart) p.new_ends k.lines;
+  of_edition = link_of_edition given l link s k.of_edition;
+}
+form_keeps n l (Bit bit) given s p k = record {
+  edition = k.edition;
+  lines = with_bit given.nodes given.links given.bits given.wires given.steps bit p.known k.lines;
+  of_edition = k.of_edition;
+}
+form_keeps n l (Wire wire) given s p k =
+    let said = wire_said given l wire s in
+    record {
+      edition = k.edition;
+      lines = with_wire given.nodes given.links given.bits given.wires wire given.steps p.few_wires
+          (wire_of given.nodes wire p.ranged p.known p.two_nodes p.one_width said.a_port said.b_port) p.new_pin k.lines;
+      of_edition = wire_of_edition given l wire s k.of_edition;
+    }
+form_keeps n l (Step step) given s p k = record {
+  edition = k.edition;
+  lines = with_step given.nodes given.links given.bits given.wires given.steps step p.known k.lines;
+  of_edition = k.of_edition;
+}
+form_keeps n l (Section kind) given s p k = record { edition = k.edition; lines = k.lines; of_edition = k.of_edition }
 
 -- The edition of a first line is 1 or 2.
 
@@ -474,14 +639,17 @@ line_first given None l edition e = frame_first given (words_of_line l) edition 
 line_first given (Some section) l edition e = absurd (end_no_header (is_end l) section.kind (words_of_line l) edition e)
 
 line_keeps : (n : ℕ) (l : List ℕ) (what : FrameSays) (given : Given) (allowed : Bool) → says given l ≡ what → fault_by given allowed what ≡ None → IsAccepted given → IsAccepted (given_with n l what given)
-line_keeps n l Own given allowed s e k = k
-line_keeps n l End given allowed s e k = k
+line_keeps n l Own given allowed s e k = record { edition = k.edition; lines = k.lines; of_edition = k.of_edition }
+line_keeps n l End given allowed s e k = record { edition = k.edition; lines = k.lines; of_edition = k.of_edition }
 line_keeps n l Blank given allowed s e k = k
-line_keeps n l (Header edition) given allowed s e k = (
-  line_edition given.edition given.reading l edition s,
-  k.1,
-  λ one. k.2 (line_first given.edition given.reading l edition s),
-)
+line_keeps n l (Header edition) given allowed s e k = record {
+  edition = line_edition given.edition given.reading l edition s;
+  lines = k.lines;
+  of_edition = record {
+    one_network = λ one. k.of_edition.one_network (line_first given.edition given.reading l edition s);
+    no_wires = λ one. k.of_edition.no_wires (line_first given.edition given.reading l edition s);
+  };
+}
 line_keeps n l NoHeader given allowed s e k = k
 line_keeps n l NoForm given allowed s e k = k
 line_keeps n l (Form form) given allowed s e k = form_keeps n l form given s (passed given allowed form e) k
@@ -507,11 +675,24 @@ from_keeps (l ∷ ls) n given whole e k =
     from_keeps ls (n + 1) (given_after n l given) whole good.1 (line_keeps n l (says given l) given (all_allowed l) refl good.0 k)
 
 nothing_kept : IsAccepted nothing_given
-nothing_kept = (
-  record { least = omega arith; most = omega arith },
-  record { few_nodes = omega arith; few_links = omega arith; numbers = tt; order = tt; ids = tt; links = tt; ends = tt; bits = tt; steps = tt },
-  λ one. tt,
-)
+nothing_kept = record {
+  edition = record { least = omega arith; most = omega arith };
+  lines = record {
+    few_nodes = omega arith;
+    few_links = omega arith;
+    numbers = tt;
+    order = tt;
+    ids = tt;
+    links = tt;
+    ends = tt;
+    bits = tt;
+    few_wires = omega arith;
+    wires = tt;
+    targets = tt;
+    steps = tt;
+  };
+  of_edition = record { one_network = λ one. tt; no_wires = λ one. refl };
+}
 
 framed_by : (wordless : Bool) (ls : List (List ℕ)) (whole : Given) → cond wordless (Refused 1 FirstLine) (frame_from 1 nothing_given ls) ≡ Whole whole → IsAccepted whole
 framed_by true ls whole e = absurd cc

@@ -9,7 +9,7 @@ use Rattle.xs_text.specs.Words.{words_of_line}
 use Rattle.system_model.specs.declared.SysKind.{SysKind}
 use Rattle.system_model.specs.declared.SysKind.TheVariants.{FirstLine, BadLine, NumberOutOfRange}
 use Rattle.system_model.specs.declared.frame_line.FrameLine.{FrameLine}
-use Rattle.system_model.specs.declared.frame_line.FrameLine.TheVariants.{Node, Link, Bit, Section, Step}
+use Rattle.system_model.specs.declared.frame_line.FrameLine.TheVariants.{Node, Link, Bit, Wire, Section, Step}
 use Rattle.system_model.specs.declared.frame_line.GivenNode.{GivenNode}
 use Rattle.system_model.specs.declared.frame_line.PlayLine.{PlayLine}
 use Rattle.system_model.specs.declared.frame_line.SectionKind.{SectionKind}
@@ -141,6 +141,7 @@ bad_form given None = refl
 bad_form given (Some (Node node)) = refl
 bad_form given (Some (Link link)) = refl
 bad_form given (Some (Bit bit)) = refl
+bad_form given (Some (Wire wire)) = refl
 bad_form given (Some (Section kind)) = refl
 bad_form given (Some (Step step)) = refl
 

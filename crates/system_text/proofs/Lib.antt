@@ -2,6 +2,7 @@ pub mod Lists
 pub mod Forms
 pub mod BitForms
 pub mod Headers
+pub mod Networks
 pub mod FormNames
 pub mod Steps
 pub mod Judged
@@ -9,9 +10,12 @@ pub mod Sections
 pub mod Walk
 pub mod Outcomes
 pub mod Plans
-pub mod Networks
+pub mod Widths
+pub mod WiresSaid
+pub mod WireForms
 pub mod Accepted
 pub mod Masks
 pub mod Places
+pub mod WireEnds
 pub mod Ways
 pub mod Planned

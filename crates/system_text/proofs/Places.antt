@@ -1,5 +1,5 @@
 -- Where nodes stand by their numbers.
-use Rattle.std.proofs.Common.{◌≡◌, ℕ, suc, ◌+◌, ◌<◌, ◌≤◌, Bool, true, false, ◌||◌, List, [], ◌∷◌, length, map, filter, refl, ◌∙◌, nat_lt, arith}
+use Rattle.std.proofs.Common.{◌≡◌, ℕ, suc, ◌+◌, ◌<◌, ◌≤◌, Bool, true, false, ◌||◌, List, [], ◌∷◌, length, map, filter, refl, ap, ◌∙◌, nat_lt, arith}
 use Rattle.std.specs.Prelude.{◌==◌, if◌then◌else◌}
 use Rattle.std.proofs.lemmas.Bool.Decides.{nat_tests}
 use Rattle.sys_plan.specs.Plan.{AreAscending}
@@ -72,6 +72,19 @@ same_number nodes j k e f same = by (nat_lt j k) (nat_lt k j) refl refl
     by true c g h = let less : j < k = grind (arith, nat_tests) in absurd (omega (arith, after nodes j k less e, same))
     by false true g h = let less : k < j = grind (arith, nat_tests) in absurd (omega (arith, after nodes k j less f, same))
     by false false g h = grind (arith, nat_tests)
+
+-- so numbers are the same where places are
+pub same_test : (nodes : List GivenNode) (j k : ℕ) → has_node nodes j ≡ true → has_node nodes k ≡ true → (position_by_number nodes j == position_by_number nodes k) ≡ (j == k)
+same_test nodes j k e f = by (j == k) (position_by_number nodes j == position_by_number nodes k) refl refl
+  where
+    by : (b c : Bool) → (j == k) ≡ b → (position_by_number nodes j == position_by_number nodes k) ≡ c → c ≡ b
+    by true true g h = refl
+    by true false g h = let same : j ≡ k = grind (arith, nat_tests) in let at = ap (position_by_number nodes) same in grind (arith, nat_tests)
+    by false true g h =
+        let at : position_by_number nodes j ≡ position_by_number nodes k = grind (arith, nat_tests) in
+        let same : j ≡ k = same_number nodes j k e f at in
+        grind (arith, nat_tests)
+    by false false g h = refl
 
 -- The node at a place stands there by its number.
 

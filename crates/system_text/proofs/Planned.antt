@@ -1,27 +1,31 @@
 -- The plan of a frame that is accepted keeps what every plan keeps.
-use Rattle.std.proofs.Common.{◌≡◌, ℕ, suc, ◌+◌, ◌<◌, ◌≤◌, true, List, [], ◌∷◌, length, map, Result, Ok, Err, refl, ap, sym, ◌∙◌, subst, arith}
-use Rattle.std.specs.Prelude.{◌≢◌, Bool, ◌&&◌, false, ◌==◌, ◌||◌}
+use Rattle.std.proofs.Common.{◌≡◌, ℕ, suc, ◌+◌, ◌<◌, ◌≤◌, true, List, [], ◌∷◌, ◌++◌, length, map, Result, Ok, Err, refl, ap, sym, ◌∙◌, subst, arith}
+use Rattle.std.specs.Prelude.{◌≢◌, Bool, ◌&&◌, false, ◌==◌, ◌||◌, IsSome}
 use Rattle.std.specs.List.{AllByRecursion}
 use Rattle.std.proofs.lemmas.Bool.Decides.{nat_tests}
 use Rattle.source_model.specs.Source.{Assembled, Image, Fault, assembled_lines}
 use Rattle.pin_scripts.specs.declared.line.PinLine.{PinLine}
 use Rattle.pin_scripts.specs.Script.{IsScript, IsOfNodes}
-use Rattle.sys_plan.specs.Plan.{PlanRec, IsPlan, IsLink, NamesWhatIsThere, AllWaysLead, WaysLead, link_ends, net_at, nets_at, AllKnowNets, edition_of, AreDistinct, AreAscending, places_of}
+use Rattle.sys_plan.specs.Plan.{PlanRec, IsPlan, IsLink, IsWire, NamesWhatIsThere, AllWaysLead, WaysLead, link_ends, net_at, nets_at, AllKnowNets, edition_of, AreDistinct, AreAscending, places_of, targets_of, link_arcs, wire_arcs, first_arc, leaves_by, comes_to, outgoing, incoming}
 use Rattle.sys_plan.specs.declared.LinkPlan.{LinkPlan}
 use Rattle.sys_plan.specs.declared.NodePlan.{NodePlan}
 use Rattle.sys_plan.specs.declared.Step.{Step}
+use Rattle.sys_plan.specs.declared.WirePlan.{WirePlan}
 use Rattle.system_model.specs.declared.frame_line.EndName.{EndName}
 use Rattle.system_model.specs.declared.frame_line.GivenNode.{GivenNode}
 use Rattle.system_model.specs.declared.frame_line.LinkLine.{LinkLine}
+use Rattle.system_model.specs.declared.frame_line.PinName.{PinName}
 use Rattle.system_model.specs.declared.frame_line.PlayLine.{PlayLine}
 use Rattle.system_model.specs.declared.frame_line.PlayLine.TheVariants.{Take, Run, Send}
 use Rattle.system_model.specs.declared.frame_line.SectionKind.TheVariants as section
+use Rattle.system_model.specs.declared.frame_line.WireLine.{WireLine}
 use Rattle.system_model.specs.Bits.{BitRec}
-use Rattle.system_model.specs.Frame.{SectionText, Given, has_node, has_link_end, is_step_of}
-use Rattle.system_model.specs.System.{SourceFault, planned, plan_before, section_lines, node_plans, link_plan, step_plan, position_by_number, ways_of, net_of_end, nets_of, edition_given}
-use Rattle.system_text.specs.Accepted.{IsLinkOf, AreAccepted, AreOfOneNetwork, IsAccepted, ends_of}
-use Rattle.system_text.proofs.Places.{Stand, stand, within, same_number}
+use Rattle.system_model.specs.Frame.{SectionText, Given, has_node, has_link_end, count_leaving, count_coming, is_wire_end, has_end_in, has_end_out, is_step_of}
+use Rattle.system_model.specs.System.{SourceFault, planned, plan_before, section_lines, node_plans, link_plan, wire_plan, step_plan, position_by_number, ways_of, net_of_end, nets_of, edition_given}
+use Rattle.system_text.specs.Accepted.{IsLinkOf, IsWireOf, AreAccepted, AreOfOneNetwork, IsOfEdition, IsAccepted, ends_of}
+use Rattle.system_text.proofs.Places.{Stand, stand, within, same_number, same_test}
 use Rattle.system_text.proofs.Plans.{node_plans-cons, node_plans-none}
+use Rattle.system_text.proofs.WireEnds.{in_first, in_second, wire_leaves, wire_comes}
 use Rattle.system_text.proofs.Ways.{ways_lead, leaves, comes}
 
 -- The plans of nodes, one for each
@@ -143,18 +147,6 @@ ways_kept plan edition links bits place lead n (node ∷ nodes) (p ∷ plans) k 
 )
 
 -- A link end of a node has the network by the node's number that it has by its place.
-
-same_test : (nodes : List GivenNode) (j k : ℕ) → has_node nodes j ≡ true → has_node nodes k ≡ true → (position_by_number nodes j == position_by_number nodes k) ≡ (j == k)
-same_test nodes j k e f = by (j == k) (position_by_number nodes j == position_by_number nodes k) refl refl
-  where
-    by : (b c : Bool) → (j == k) ≡ b → (position_by_number nodes j == position_by_number nodes k) ≡ c → c ≡ b
-    by true true g h = refl
-    by true false g h = let same : j ≡ k = grind (arith, nat_tests) in let at = ap (position_by_number nodes) same in grind (arith, nat_tests)
-    by false true g h =
-        let at : position_by_number nodes j ≡ position_by_number nodes k = grind (arith, nat_tests) in
-        let same : j ≡ k = same_number nodes j k e f at in
-        grind (arith, nat_tests)
-    by false false g h = refl
 
 net_same : (nodes : List GivenNode) (number end : ℕ) (links : List LinkLine) → has_node nodes number ≡ true → AllByRecursion (IsLinkOf nodes) links →
     net_of_end links (record { node = number; end = end }) ≡ net_at (map (link_plan nodes) links) (position_by_number nodes number) end
@@ -283,26 +275,119 @@ places_kept : (nodes : List GivenNode) (links : List LinkLine) → AllByRecursio
 places_kept nodes links k h =
     subst (λ ps. AreDistinct ps) (places_are nodes links) (still_distinct (place nodes) (IsKnown nodes) (same_place nodes) (ends_of links) (all_known nodes links k) h)
 
+-- What the wires keep
+
+wire_kept : (nodes : List GivenNode) (count : ℕ) (wire : WireLine) → length nodes ≡ count → IsWireOf nodes wire → IsWire count (wire_plan nodes wire)
+wire_kept nodes count wire n k = record {
+  a = omega (arith, within nodes wire.a.node k.a, n);
+  b = omega (arith, within nodes wire.b.node k.b, n);
+  apart = λ same. k.apart (same_number nodes wire.a.node wire.b.node k.a k.b same);
+  a_port = k.a_port;
+  b_port = k.b_port;
+  widths = k.widths;
+  least_delay = k.least_delay;
+  most_delay = k.most_delay;
+}
+
+wires_kept : (nodes : List GivenNode) (count : ℕ) (wires : List WireLine) → length nodes ≡ count → AllByRecursion (IsWireOf nodes) wires →
+    AllByRecursion (IsWire count) (map (wire_plan nodes) wires)
+wires_kept nodes count [] n k = tt
+wires_kept nodes count (wire ∷ wires) n k = (wire_kept nodes count wire n k.0, wires_kept nodes count wires n k.1)
+
+as_many_wires : (nodes : List GivenNode) (wires : List WireLine) → length (map (wire_plan nodes) wires) ≡ length wires
+as_many_wires nodes [] = refl
+as_many_wires nodes (wire ∷ wires) = ap suc (as_many_wires nodes wires)
+
+-- in edition 1 there are none; nor are there without nodes
+none_without_nodes : (wires : List WireLine) → AllByRecursion (IsWireOf []) wires → map (wire_plan []) wires ≡ []
+none_without_nodes [] k = refl
+none_without_nodes (wire ∷ wires) k = let a = k.0.a in absurd cc
+
+no_wires_kept : (edition : ℕ) (links : List LinkLine) (wires : List WireLine) (bits : List BitRec) (nodes : List GivenNode) (plans : List NodePlan) → PlansOf edition links bits nodes plans →
+    AllByRecursion (IsWireOf nodes) wires → (edition ≡ 1 → wires ≡ []) → edition_of plans ≡ 1 → map (wire_plan nodes) wires ≡ []
+no_wires_kept edition links wires bits [] [] k joined h e = none_without_nodes wires joined
+no_wires_kept edition links wires bits [] (plan ∷ plans) k joined h e = absurd k
+no_wires_kept edition links wires bits (node ∷ nodes) [] k joined h e = absurd k
+no_wires_kept edition links wires bits (node ∷ nodes) (plan ∷ plans) k joined h e = ap (map (wire_plan (node ∷ nodes))) (h (sym k.0.of_edition ∙ e))
+
+abbrev pin_place : List GivenNode → PinName → ℕ × ℕ
+pin_place nodes pin = (position_by_number nodes pin.node, pin.port)
+
+abbrev IsKnownPin : List GivenNode → PinName → Type 0
+IsKnownPin nodes pin = has_node nodes pin.node ≡ true
+
+abbrev pin_named : ℕ → ℕ → PinName
+pin_named node port = record { node = node; port = port }
+
+same_pin : (x y : PinName) → x.node ≡ y.node → x.port ≡ y.port → x ≡ y
+same_pin x y e f = ap (λ n. pin_named n x.port) e ∙ ap (pin_named y.node) f
+
+same_pin_place : (nodes : List GivenNode) (x y : PinName) → IsKnownPin nodes x → IsKnownPin nodes y → pin_place nodes x ≡ pin_place nodes y → x ≡ y
+same_pin_place nodes x y k l e =
+    same_pin x y (same_number nodes x.node y.node k l (ap (λ (p : ℕ × ℕ). p.0) e)) (ap (λ (p : ℕ × ℕ). p.1) e)
+
+abbrev targets : List WireLine → List PinName
+targets wires = map (λ (wire : WireLine). wire.b) wires
+
+targets_known : (nodes : List GivenNode) (wires : List WireLine) → AllByRecursion (IsWireOf nodes) wires → AllByRecursion (IsKnownPin nodes) (targets wires)
+targets_known nodes [] k = tt
+targets_known nodes (wire ∷ wires) k = (k.0.b, targets_known nodes wires k.1)
+
+targets_are : (nodes : List GivenNode) (wires : List WireLine) → map (pin_place nodes) (targets wires) ≡ targets_of (map (wire_plan nodes) wires)
+targets_are nodes [] = refl
+targets_are nodes (wire ∷ wires) = ap (λ ps. pin_place nodes wire.b ∷ ps) (targets_are nodes wires)
+
+targets_kept : (nodes : List GivenNode) (wires : List WireLine) → AllByRecursion (IsWireOf nodes) wires → AreDistinct (targets wires) → AreDistinct (targets_of (map (wire_plan nodes) wires))
+targets_kept nodes wires k h =
+    subst (λ ps. AreDistinct ps) (targets_are nodes wires) (still_distinct (pin_place nodes) (IsKnownPin nodes) (same_pin_place nodes) (targets wires) (targets_known nodes wires k) h)
+
 -- What the steps keep
 
 both : (a b : Bool) → (a && b) ≡ true → (a ≡ true) × (b ≡ true)
 both true b e = (refl, e)
 both false b e = cc
 
-module _ (plan : PlanRec) (nodes : List GivenNode) (links : List LinkLine) (many : length nodes ≡ length plan.nodes) (is : plan.links ≡ map (link_plan nodes) links) where
+either : (a b : Bool) (A : Type 0) → (a || b) ≡ true → (a ≡ true → A) → (b ≡ true → A) → A
+either true b A e f g = f refl
+either false b A e f g = g e
+
+module _ (plan : PlanRec) (nodes : List GivenNode) (links : List LinkLine) (wires : List WireLine) (many : length nodes ≡ length plan.nodes) (is : plan.links ≡ map (link_plan nodes) links)
+    (wired : plan.wires ≡ map (wire_plan nodes) wires) (of : AllByRecursion (IsWireOf nodes) wires) where
   stands_at : (number : ℕ) → has_node nodes number ≡ true → position_by_number nodes number < length plan.nodes
   stands_at number e = omega (arith, within nodes number e, many)
 
-  step_kept : (line : PlayLine) → is_step_of nodes links line ≡ true → NamesWhatIsThere plan (step_plan nodes line)
+  end_comes : (name : EndName) → has_node nodes name.node ≡ true → has_end_in links wires name ≡ true → IsSome (incoming plan (position_by_number nodes name.node) name.end)
+  end_comes name known e =
+      let place = position_by_number nodes name.node in
+      let test = comes_to place name.end in
+      let first = link_arcs (map (link_plan nodes) links) in
+      let second = wire_arcs [] (map (wire_plan nodes) wires) in
+      rw (is, wired)
+      (either (has_link_end links name) (is_wire_end (count_coming wires name.node) name.end) (IsSome (first_arc test 0 (first ++ second))) e
+      (λ h. in_first test first second 0 (comes nodes name.node name.end links 0 h))
+      (λ h. in_second test first second 0 (λ m. wire_comes nodes name.node known wires name.end m of h)))
+
+  end_leaves : (name : EndName) → has_node nodes name.node ≡ true → has_end_out links wires name ≡ true → IsSome (outgoing plan (position_by_number nodes name.node) name.end)
+  end_leaves name known e =
+      let place = position_by_number nodes name.node in
+      let test = leaves_by place name.end in
+      let first = link_arcs (map (link_plan nodes) links) in
+      let second = wire_arcs [] (map (wire_plan nodes) wires) in
+      rw (is, wired)
+      (either (has_link_end links name) (is_wire_end (count_leaving wires name.node) name.end) (IsSome (first_arc test 0 (first ++ second))) e
+      (λ h. in_first test first second 0 (leaves nodes name.node name.end links 0 h))
+      (λ h. in_second test first second 0 (λ m. wire_leaves nodes name.node known wires name.end m of h)))
+
+  step_kept : (line : PlayLine) → is_step_of nodes links wires line ≡ true → NamesWhatIsThere plan (step_plan nodes line)
   step_kept (Take name) e =
-      let there = both (has_node nodes name.node) (has_link_end links name) e in
-      (stands_at name.node there.0, rw is (comes nodes name.node name.end links 0 there.1))
+      let there = both (has_node nodes name.node) (has_end_in links wires name) e in
+      (stands_at name.node there.0, end_comes name there.0 there.1)
   step_kept (Run node count) e = stands_at node e
   step_kept (Send name) e =
-      let there = both (has_node nodes name.node) (has_link_end links name) e in
-      (stands_at name.node there.0, rw is (leaves nodes name.node name.end links 0 there.1))
+      let there = both (has_node nodes name.node) (has_end_out links wires name) e in
+      (stands_at name.node there.0, end_leaves name there.0 there.1)
 
-  steps_kept : (lines : List PlayLine) → AllByRecursion (λ (line : PlayLine). is_step_of nodes links line ≡ true) lines →
+  steps_kept : (lines : List PlayLine) → AllByRecursion (λ (line : PlayLine). is_step_of nodes links wires line ≡ true) lines →
       AllByRecursion (NamesWhatIsThere plan) (map (step_plan nodes) lines)
   steps_kept [] k = tt
   steps_kept (line ∷ lines) k = (step_kept line k.0, steps_kept lines k.1)
@@ -314,10 +399,10 @@ pub record IsScriptOf (nodes : List GivenNode) (script : List PinLine) : Type 0 
   pub lines : IsScript script
   pub named : IsOfNodes (map (λ (node : GivenNode). node.number) nodes) script
 
-kept_plan : (edition : ℕ) (nodes : List GivenNode) (links : List LinkLine) (bits : List BitRec) (lines : List PlayLine) (plans : List NodePlan) (script : List PinLine) →
-    1 ≤ edition → edition ≤ 2 → AreAccepted nodes links bits lines → AreOfOneNetwork edition links → PlansOf edition links bits nodes plans → IsScriptOf nodes script →
-    IsPlan (record { nodes = plans; links = map (link_plan nodes) links; script = script; steps = map (step_plan nodes) lines })
-kept_plan edition nodes links bits lines plans script least most k one p s = record {
+kept_plan : (edition : ℕ) (nodes : List GivenNode) (links : List LinkLine) (bits : List BitRec) (wires : List WireLine) (lines : List PlayLine) (plans : List NodePlan) (script : List PinLine) →
+    1 ≤ edition → edition ≤ 2 → AreAccepted nodes links bits wires lines → IsOfEdition edition links wires → PlansOf edition links bits nodes plans → IsScriptOf nodes script →
+    IsPlan (record { nodes = plans; links = map (link_plan nodes) links; script = script; steps = map (step_plan nodes) lines; wires = map (wire_plan nodes) wires })
+kept_plan edition nodes links bits wires lines plans script least most k asked p s = record {
   few_nodes = omega (arith, k.few_nodes, as_many edition links bits nodes plans p);
   few_links = omega (arith, k.few_links, as_many_links nodes links);
   numbers = numbers_kept edition links bits nodes plans p k.numbers;
@@ -326,26 +411,36 @@ kept_plan edition nodes links bits lines plans script least most k one p s = rec
   most_edition = most_kept edition links bits nodes plans p most;
   editions = editions_kept edition links bits nodes plans p;
   nets = nets_kept nodes edition links bits k.links 0 nodes plans p (stand nodes k.order) (all_given nodes);
-  one_network = one_network_kept edition links bits nodes plans p k.links one;
+  one_network = one_network_kept edition links bits nodes plans p k.links asked.one_network;
   ids = subst (λ ids. AreDistinct ids) (same_ids edition links bits nodes plans p) k.ids;
   links = links_kept nodes (length plans) links (as_many edition links bits nodes plans p) k.links;
   places = places_kept nodes links k.links k.ends;
   script = s.lines;
   script_nodes = subst (λ numbers. IsOfNodes numbers script) (same_numbers edition links bits nodes plans p) s.named;
-  ways = let plan : PlanRec = record { nodes = plans; links = map (link_plan nodes) links; script = script; steps = map (step_plan nodes) lines } in
-      ways_kept plan edition links bits (position_by_number nodes) (ways_lead plan nodes links bits refl k.bits) 0 nodes plans p (stand nodes k.order);
-  steps = let plan : PlanRec = record { nodes = plans; links = map (link_plan nodes) links; script = script; steps = map (step_plan nodes) lines } in
-      steps_kept plan nodes links (as_many edition links bits nodes plans p) refl lines k.steps;
+  ways = ways_kept made edition links bits (position_by_number nodes) (ways_lead made nodes links bits refl k.bits) 0 nodes plans p (stand nodes k.order);
+  steps = steps_kept made nodes links wires (as_many edition links bits nodes plans p) refl refl k.wires lines k.steps;
+  few_wires = omega (arith, k.few_wires, as_many_wires nodes wires);
+  no_wires = no_wires_kept edition links wires bits nodes plans p k.wires asked.no_wires;
+  wires = wires_kept nodes (length plans) wires (as_many edition links bits nodes plans p) k.wires;
+  targets = targets_kept nodes wires k.wires k.targets;
 }
+  where
+    made : PlanRec
+    made = record { nodes = plans; links = map (link_plan nodes) links; script = script; steps = map (step_plan nodes) lines; wires = map (wire_plan nodes) wires }
 
--- the plans of the nodes, the links and the steps of a frame that is accepted, and its script
-pub frame_plan : (given : Given) (nodes : List GivenNode) (links : List LinkLine) (lines : List PlayLine) (plans : List NodePlan) (joined : List LinkPlan) (script : List PinLine)
-    (steps : List Step) → IsAccepted given → nodes ≡ given.nodes → links ≡ given.links → lines ≡ given.steps → node_plans (edition_given given.edition) given.links given.bits given.sections given.nodes ≡ Ok plans →
-    joined ≡ map (link_plan nodes) links → steps ≡ map (step_plan nodes) lines → IsScriptOf given.nodes script →
-    IsPlan (record { nodes = plans; links = joined; script = script; steps = steps })
-frame_plan given nodes links lines plans joined script steps k n l p e j t s =
-    let same : map (link_plan given.nodes) given.links ≡ joined = sym (j ∙ (ap (λ ns. map (link_plan ns) links) n ∙ ap (map (link_plan given.nodes)) l)) in
-    let as_steps : map (step_plan given.nodes) given.steps ≡ steps = sym (t ∙ (ap (λ ns. map (step_plan ns) lines) n ∙ ap (map (step_plan given.nodes)) p)) in
-    let scheduled : List LinkPlan → List Step → Type 0 = λ ls ss. IsPlan (record { nodes = plans; links = ls; script = script; steps = ss }) in
-    subst (scheduled joined) as_steps (subst (λ ls. scheduled ls (map (step_plan given.nodes) given.steps)) same
-    (kept_plan (edition_given given.edition) given.nodes given.links given.bits given.steps plans script k.0.least k.0.most k.1 k.2 (plans_of (edition_given given.edition) given.links given.bits given.sections given.nodes plans e) s))
+-- the plans of the nodes, the links, the wires and the steps of a frame that is accepted, and its script
+module _ (given : Given) (nodes : List GivenNode) (links : List LinkLine) (wires : List WireLine) (lines : List PlayLine) (plans : List NodePlan) (joined : List LinkPlan) (wired : List WirePlan)
+    (script : List PinLine) (steps : List Step) where
+  pub frame_plan : IsAccepted given → nodes ≡ given.nodes → links ≡ given.links → wires ≡ given.wires → lines ≡ given.steps →
+      node_plans (edition_given given.edition) given.links given.bits given.sections given.nodes ≡ Ok plans → joined ≡ map (link_plan nodes) links → wired ≡ map (wire_plan nodes) wires →
+      steps ≡ map (step_plan nodes) lines → IsScriptOf given.nodes script → IsPlan (record { nodes = plans; links = joined; script = script; steps = steps; wires = wired })
+  frame_plan k n l w p e j v t s =
+      let edition = edition_given given.edition in
+      let same : map (link_plan given.nodes) given.links ≡ joined = sym (j ∙ (ap (λ ns. map (link_plan ns) links) n ∙ ap (map (link_plan given.nodes)) l)) in
+      let as_wired : map (wire_plan given.nodes) given.wires ≡ wired = sym (v ∙ (ap (λ ns. map (wire_plan ns) wires) n ∙ ap (map (wire_plan given.nodes)) w)) in
+      let as_steps : map (step_plan given.nodes) given.steps ≡ steps = sym (t ∙ (ap (λ ns. map (step_plan ns) lines) n ∙ ap (map (step_plan given.nodes)) p)) in
+      let planned_by : List LinkPlan → List WirePlan → List Step → Type 0 = λ ls ws ss. IsPlan (record { nodes = plans; links = ls; script = script; steps = ss; wires = ws }) in
+      subst (planned_by joined wired) as_steps (subst (λ ws. planned_by joined ws (map (step_plan given.nodes) given.steps)) as_wired
+      (subst (λ ls. planned_by ls (map (wire_plan given.nodes) given.wires) (map (step_plan given.nodes) given.steps)) same
+      (kept_plan edition given.nodes given.links given.bits given.wires given.steps plans script k.edition.least k.edition.most k.lines k.of_edition
+      (plans_of edition given.links given.bits given.sections given.nodes plans e) s)))

@@ -1,5 +1,5 @@
 -- The lines of the section `play`, from their words.
-use Rattle.std.proofs.Common.{◌≡◌, ℕ, ◌<◌, Bool, true, false, ◌&&◌, List, [], ◌∷◌, length, Option, Some, None, Result, Ok, Err, refl, sym, ◌∙◌, option_map, nat_le, arith}
+use Rattle.std.proofs.Common.{◌≡◌, ℕ, ◌<◌, Bool, true, false, ◌&&◌, List, [], ◌∷◌, length, Option, Some, None, Result, Ok, Err, refl, sym, ◌∙◌, option_map, nat_le, min, arith}
 use Rattle.std.specs.Prelude.{codes}
 use Rattle.std.proofs.lemmas.Bool.Decides.{nat_tests}
 use Rattle.xs_text.specs.Numbers.{number_of}
@@ -11,40 +11,50 @@ use Rattle.system_model.specs.declared.frame_line.FrameLine.{FrameLine}
 use Rattle.system_model.specs.declared.frame_line.FrameLine.TheVariants.{Step}
 use Rattle.system_model.specs.declared.frame_line.PlayLine.{PlayLine}
 use Rattle.system_model.specs.declared.frame_line.PlayLine.TheVariants.{Take, Run, Send}
-use Rattle.system_model.specs.FrameLines.{◌>>=◌, play_line, end_name, is_between, is_end_in_range}
+use Rattle.system_model.specs.FrameLines.{◌>>=◌, play_line, step_end, last_end, is_between}
 use Rattle.system_text.specs.declared.words.Word.{Word}
-use Rattle.system_text.specs.Forms.{ranged, capped, is_in_range, end_of}
+use Rattle.system_text.specs.Forms.{ranged, capped, capped_end, end_of}
 use Rattle.system_text.specs.LineWords.{bytes_of}
 use Rattle.system_text.specs.Steps.{stepped, named}
-use Rattle.system_text.proofs.Forms.{chain, read, read_end, end_capped, word_at}
+use Rattle.system_text.proofs.Forms.{chain, read, read_end, word_at}
 
--- Link ends
+-- Ends
 
-pub end_is : (o : Option EndName) → named o ≡ chain (read_end o) (λ n. ranged (is_in_range n) (end_of n))
+end_by : (b : Bool) (m n k l : ℕ) → (b ≡ true → m ≡ n) → k ≡ l → ranged {A = EndName} b (record { node = m; end = k }) ≡ ranged b (record { node = n; end = l })
+end_by true m n k l f e = rw (f refl, e) refl
+end_by false m n k l f e = refl
+
+end_capped : (name : EndName) → ranged (nat_le (capped name.node) 99) (last_end (end_of (capped_end name))) ≡ ranged (nat_le name.node 99) (last_end name)
+end_capped name =
+    let node : nat_le (capped name.node) 99 ≡ nat_le name.node 99 = grind (arith, nat_tests) in
+    let end : min (capped name.end) 255 ≡ min name.end 255 = grind (arith, nat_tests) in
+    rw node (end_by (nat_le name.node 99) (capped name.node) name.node (min (capped name.end) 255) (min name.end 255) (λ e. grind (arith, nat_tests)) end)
+
+pub end_is : (o : Option EndName) → named (option_map last_end o) ≡ chain (read_end o) (λ n. ranged (nat_le n.node 99) (last_end (end_of n)))
 end_is None = refl
 end_is (Some name) = sym (end_capped name)
 
--- a step that a link end makes
+-- a step that an end makes
 end_ranged : (b : Bool) (f : EndName → PlayLine) (name : EndName) → ranged b (Step (f name)) ≡ chain (ranged b name) (λ e. Ok (Step (f e)))
 end_ranged true f name = refl
 end_ranged false f name = refl
 
 take_steps : (o : Option EndName) → stepped (option_map (λ (e : EndName). Take e) o) ≡ chain (named o) (λ e. Ok (Step (Take e)))
 take_steps None = refl
-take_steps (Some name) = end_ranged (is_end_in_range name) (λ e. Take e) name
+take_steps (Some name) = end_ranged (nat_le name.node 99) (λ e. Take e) name
 
 send_steps : (o : Option EndName) → stepped (option_map (λ (e : EndName). Send e) o) ≡ chain (named o) (λ e. Ok (Step (Send e)))
 send_steps None = refl
-send_steps (Some name) = end_ranged (is_end_in_range name) (λ e. Send e) name
+send_steps (Some name) = end_ranged (nat_le name.node 99) (λ e. Send e) name
 
-pub take_is : (k x : List ℕ) → same_name (codes "take") k ≡ true → stepped (play_line (k ∷ x ∷ [])) ≡ chain (named (end_name x)) (λ e. Ok (Step (Take e)))
+pub take_is : (k x : List ℕ) → same_name (codes "take") k ≡ true → stepped (play_line (k ∷ x ∷ [])) ≡ chain (named (step_end x)) (λ e. Ok (Step (Take e)))
 unfolding play_line
-take_is k x e = rw e (take_steps (end_name x))
+take_is k x e = rw e (take_steps (step_end x))
 
 pub send_is : (k x : List ℕ) → same_name (codes "take") k ≡ false → same_name (codes "send") k ≡ true
-    → stepped (play_line (k ∷ x ∷ [])) ≡ chain (named (end_name x)) (λ e. Ok (Step (Send e)))
+    → stepped (play_line (k ∷ x ∷ [])) ≡ chain (named (step_end x)) (λ e. Ok (Step (Send e)))
 unfolding play_line
-send_is k x e f = rw (e, f) (send_steps (end_name x))
+send_is k x e f = rw (e, f) (send_steps (step_end x))
 
 -- Runs
 

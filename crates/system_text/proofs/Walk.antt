@@ -142,6 +142,7 @@ given_without_line n l (said.Header edition) given = refl
 given_without_line n l (said.Form (form.Node node)) given = refl
 given_without_line n l (said.Form (form.Link link)) given = refl
 given_without_line n l (said.Form (form.Bit bit)) given = refl
+given_without_line n l (said.Form (form.Wire wire)) given = refl
 given_without_line n l (said.Form (form.Section kind)) given = refl
 given_without_line n l (said.Form (form.Step step)) given = refl
 

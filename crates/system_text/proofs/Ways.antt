@@ -5,7 +5,7 @@ use Rattle.std.specs.List.{AllByRecursion, list_any}
 use Rattle.std.specs.Int.{bit_at}
 use Rattle.std.proofs.lemmas.Bool.Decides.{nat_tests}
 use Rattle.std.proofs.lemmas.Nat.Bits.{bit_at-zero}
-use Rattle.sys_plan.specs.Plan.{PlanRec, WaysLead, outgoing, link_arcs, first_arc, leaves_by, comes_to}
+use Rattle.sys_plan.specs.Plan.{PlanRec, WaysLead, outgoing, link_arcs, wire_arcs, first_arc, leaves_by, comes_to}
 use Rattle.system_model.specs.declared.frame_line.EndName.{EndName}
 use Rattle.system_model.specs.declared.frame_line.GivenNode.{GivenNode}
 use Rattle.system_model.specs.declared.frame_line.LinkLine.{LinkLine}
@@ -13,6 +13,7 @@ use Rattle.system_model.specs.Bits.{BitRec}
 use Rattle.system_model.specs.Frame.{has_link_end, has_link_ends, is_same_end}
 use Rattle.system_model.specs.System.{ends_for, way, ways_of, id_bits, link_plan, position_by_number}
 use Rattle.system_text.proofs.Masks.{passes}
+use Rattle.system_text.proofs.WireEnds.{in_first}
 
 -- A link end that is in a link has a way out.
 
@@ -101,7 +102,8 @@ module _ (plan : PlanRec) (nodes : List GivenNode) (links : List LinkLine) (bits
   way_leads : (number bit : ℕ) → LeadOut plan (position_by_number nodes number) (way bits number bit)
   way_leads number bit = λ end e.
       let there = joined links number bit end bits kept (passes (λ n. list_any (λ e. e == n) (ends_for bits number bit)) 8 end e) in
-      rw is (leaves nodes number end links 0 there)
+      let place = position_by_number nodes number in
+      rw is (in_first (leaves_by place end) (link_arcs (map (link_plan nodes) links)) (wire_arcs [] plan.wires) 0 (leaves nodes number end links 0 there))
 
   all_lead : (number : ℕ) (ns : List ℕ) → AllByRecursion (LeadOut plan (position_by_number nodes number)) (map (way bits number) ns)
   all_lead number [] = tt

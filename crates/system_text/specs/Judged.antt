@@ -1,11 +1,11 @@
 -- What the reader finds of a line of the frame.
 use Rattle.std.specs.Prelude.{ℕ, ◌≡◌, Option, Some, None, List, [], ◌∷◌, ◌++◌, Result, Ok, Err}
 use Rattle.system_model.specs.declared.SysKind.{SysKind}
-use Rattle.system_model.specs.declared.SysKind.TheVariants.{GivenTwice, IdTwice, LinkEndTwice, LinkToItself, BitTwice, NoSuchNode, TooMany}
+use Rattle.system_model.specs.declared.SysKind.TheVariants.{GivenTwice, IdTwice, LinkEndTwice, LinkToItself, BitTwice, NoSuchNode, TooMany, WireWithinNode, WidthsDiffer, PinWiredTwice, TooManyWires}
 use Rattle.system_model.specs.declared.frame_line.FrameLine.{FrameLine}
 use Rattle.system_model.specs.declared.frame_line.SectionKind.{SectionKind}
 use Rattle.system_model.specs.declared.frame_line.SectionKind.TheVariants.{Source, Pins, Play}
-use Rattle.system_model.specs.Frame.{SectionText, Given, FrameSays, End, Blank, Header, Form, says, says_form, fault_of, first_that_holds, names_none, is_given_twice, is_id_twice, is_link_to_itself, is_link_end_twice, is_bit_twice, is_too_many}
+use Rattle.system_model.specs.Frame.{SectionText, Given, FrameSays, End, Blank, Header, Form, says, says_form, fault_of, first_that_holds, names_none, is_given_twice, is_id_twice, is_link_to_itself, is_link_end_twice, is_bit_twice, is_wire_within_node, has_other_widths, is_pin_wired_twice, is_wire_too_many, is_too_many}
 use Rattle.system_text.specs.Forms.{formed}
 use Rattle.system_text.specs.Sections.{play_from}
 use Rattle.system_text.specs.declared.frame.Said.{Said}
@@ -31,6 +31,10 @@ later_fault given form = first_that_holds (
     ∷ (LinkToItself, is_link_to_itself (Form form))
     ∷ (LinkEndTwice, is_link_end_twice given (Form form))
     ∷ (BitTwice, is_bit_twice given (Form form))
+    ∷ (WireWithinNode, is_wire_within_node (Form form))
+    ∷ (WidthsDiffer, has_other_widths (Form form))
+    ∷ (PinWiredTwice, is_pin_wired_twice given (Form form))
+    ∷ (TooManyWires, is_wire_too_many given (Form form))
     ∷ (TooMany, is_too_many given (Form form))
     ∷ []
     )

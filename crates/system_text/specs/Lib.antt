@@ -1,5 +1,6 @@
 pub mod LineWords
 pub mod Forms
+pub mod WireForms
 pub mod Steps
 pub mod Ranges
 pub mod Judged

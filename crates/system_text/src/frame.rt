@@ -2,7 +2,7 @@ ghost use Rattle.std.specs.Prelude.{◌≡◌, ◌≤◌, ℕ, true, false, ◌=
 ghost use Rattle.std.specs.List.{list_any, prefix_len};
 ghost use Rattle.xs_text.specs.Lines.{lines_of};
 ghost use Rattle.xs_text.specs.Words.{words_of_line};
-ghost use Rattle.system_model.specs.Frame.{Given, Form, End, says, nothing_given, is_empty, has_node, has_link_end, has_link_ends, is_same_end, is_same_kind, has_section, given_with, without_source};
+ghost use Rattle.system_model.specs.Frame.{Given, Form, End, says, nothing_given, is_empty, has_node, has_end_in, has_end_out, has_link_end, has_link_ends, is_same_end, is_same_kind, has_section, given_with, without_source};
 ghost use Rattle.system_model.specs.System.{edition_given, section_lines};
 ghost use Rattle.system_text.specs.Judged.{Judges, IsFormless, IsFormOf, IsPlaying, NamesNoNode, said_by, later_fault, with_section};
 ghost use Rattle.system_text.specs.Ranges.{IsShortSource};
@@ -11,18 +11,22 @@ ghost use Rattle.system_text.specs.Wants.{IsKept};
 use crate::end_numbers::stands_twice;
 use crate::frame_lines::frame_line;
 use crate::step_lines::step_line;
+use crate::wires::{count_coming, count_leaving, is_wire_end, is_wired, width_of};
 use crate::words::{edition_of_header, is_empty, is_end};
 use std::alloc::{AllocError, Global};
 use std::marker::Model;
 use system_model::{
     BitLine, EndName, FrameLine, GivenNode, LinkLine, NodeLine, PlayLine, SectionKind, SysKind,
+    WireLine,
 };
 use xs_text::all_allowed;
 
-// A system has at most so many nodes and so many links.
+// A system has at most so many nodes, so many links and so many wires.
 const MOST_NODES: usize = 16;
 
 const MOST_LINKS: usize = 48;
+
+const MOST_WIRES: usize = 32;
 
 // What a line of the frame without a fault says.
 #[derive(Drop)]
@@ -53,6 +57,7 @@ pub struct Frame<'a> {
     nodes: Vec<GivenNode>,
     links: Vec<LinkLine>,
     bits: Vec<BitLine>,
+    wires: Vec<WireLine>,
     steps: Vec<PlayLine>,
     sections: Vec<SectionText<'a>>,
     playing: Option<u32>,
@@ -68,7 +73,7 @@ impl<'a> Model for Frame<'a> {
 
     ghost Value = { Given };
 
-    ghost view = { λ f. record { edition = f.edition; nodes = f.nodes.items; links = f.links.items; bits = f.bits.items; steps = f.steps.items; sections = map (λ s. record { kind = s.kind; line = s.line; lines = lines_of s.text.now }) f.sections.items; reading = option_map play_from f.playing } };
+    ghost view = { λ f. record { edition = f.edition; nodes = f.nodes.items; links = f.links.items; bits = f.bits.items; wires = f.wires.items; steps = f.steps.items; sections = map (λ s. record { kind = s.kind; line = s.line; lines = lines_of s.text.now }) f.sections.items; reading = option_map play_from f.playing } };
 
     ghost invariant = { λ f. AllByRecursion (λ s. IsShortSource s.text.now) f.sections.items };
 }
@@ -83,6 +88,7 @@ impl<'a> Frame<'a> {
             nodes: Vec::new(alloc),
             links: Vec::new(alloc),
             bits: Vec::new(alloc),
+            wires: Vec::new(alloc),
             steps: Vec::new(alloc),
             sections: Vec::new(alloc),
             playing: None,
@@ -152,6 +158,7 @@ impl<'a> Frame<'a> {
             FrameLine::Node(node) => self.node_fault(*node),
             FrameLine::Link(link) => self.link_fault(*link),
             FrameLine::Bit(bit) => self.bit_fault(bit),
+            FrameLine::Wire(wire) => self.wire_fault(*wire),
             FrameLine::Section(SectionKind::Source(number)) => self.source_fault(*number),
             FrameLine::Section(SectionKind::Pins) => self.twice_fault(SectionKind::Pins),
             FrameLine::Section(SectionKind::Play) => self.twice_fault(SectionKind::Play),
@@ -203,6 +210,24 @@ impl<'a> Frame<'a> {
         }
     }
 
+    fn wire_fault(&self, wire: WireLine) -> Option<SysKind>
+        ensures { result ≡ later_fault self.now (FrameLine.Wire wire) }
+    {
+        if !(self.has_node(wire.a.node) && self.has_node(wire.b.node)) {
+            Some(SysKind::NoSuchNode)
+        } else if wire.a.node == wire.b.node {
+            Some(SysKind::WireWithinNode)
+        } else if width_of(wire.a.port) != width_of(wire.b.port) {
+            Some(SysKind::WidthsDiffer)
+        } else if is_wired(self.wires(), wire.b) {
+            Some(SysKind::PinWiredTwice)
+        } else if self.wires().len() >= MOST_WIRES {
+            Some(SysKind::TooManyWires)
+        } else {
+            None
+        }
+    }
+
     fn source_fault(&self, number: u8) -> Option<SysKind>
         ensures { result ≡ later_fault self.now (FrameLine.Section (SectionKind.Source number)) }
     {
@@ -231,9 +256,9 @@ impl<'a> Frame<'a> {
         ensures { result ≡ later_fault self.now (FrameLine.Step step) }
     {
         let known = match step {
-            PlayLine::Take(name) => self.has_node(name.node) && self.has_link_end(name),
+            PlayLine::Take(name) => self.has_node(name.node) && self.has_end_in(name),
             PlayLine::Run { node, .. } => self.has_node(node),
-            PlayLine::Send(name) => self.has_node(name.node) && self.has_link_end(name),
+            PlayLine::Send(name) => self.has_node(name.node) && self.has_end_out(name),
         };
         if known {
             None
@@ -259,6 +284,20 @@ impl<'a> Frame<'a> {
         ensures { result ≡ has_link_end self.now.links name }
     {
         self.links.iter().any(|link| is_same_end(link.a, name) || is_same_end(link.b, name))
+    }
+
+    // Whether a link or a wire comes to an end.
+    fn has_end_in(&self, name: EndName) -> bool
+        ensures { result ≡ has_end_in self.now.links self.now.wires name }
+    {
+        self.has_link_end(name) || is_wire_end(count_coming(self.wires(), name.node), name.end)
+    }
+
+    // Whether one leaves by it.
+    fn has_end_out(&self, name: EndName) -> bool
+        ensures { result ≡ has_end_out self.now.links self.now.wires name }
+    {
+        self.has_link_end(name) || is_wire_end(count_leaving(self.wires(), name.node), name.end)
     }
 
     // Whether all of these link ends of a node are.
@@ -298,6 +337,7 @@ impl<'a> Frame<'a> {
             Said::Form(FrameLine::Node(node)) => self.add_node(line, node)?,
             Said::Form(FrameLine::Link(link)) => self.links.push(link)?,
             Said::Form(FrameLine::Bit(bit)) => self.bits.push(bit)?,
+            Said::Form(FrameLine::Wire(wire)) => self.wires.push(wire)?,
             _ => {}
         }
         Ok(())
@@ -389,6 +429,12 @@ impl<'a> Frame<'a> {
         ensures { result.now ≡ self.now.bits }
     {
         &self.bits
+    }
+
+    pub fn wires(&self) -> &[WireLine]
+        ensures { result.now ≡ self.now.wires }
+    {
+        &self.wires
     }
 
     pub fn steps(&self) -> &[PlayLine]

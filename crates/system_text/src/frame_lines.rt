@@ -2,17 +2,18 @@ ghost use Rattle.std.specs.Prelude.{◌≡◌, ◌≤◌, ◌∷◌, codes, is_s
 ghost use Rattle.std.specs.List.{list_all};
 ghost use Rattle.xs_text.specs.Words.{words_of_line};
 ghost use Rattle.xs_text.specs.Numbers.{number_of};
-ghost use Rattle.system_model.specs.FrameLines.{node_line, link_line, net_of_words, bit_line, section_line, frame_line, end_name, before_colon, is_between};
+ghost use Rattle.system_model.specs.FrameLines.{node_line, link_line, net_of_words, bit_line, section_line, frame_line, end_name, last_end, before_colon, is_between};
 ghost use Rattle.system_text.specs.Forms.{formed, ranged, or_bad, capped, capped_end, is_in_range, end_of, end_numbers, GivesEnds};
 ghost use Rattle.system_text.specs.LineWords.{bytes_of};
 
+use crate::wire_lines::wire_line;
 use crate::words::{Word, line_words};
 use arrayvec::ArrayVec;
 use system_model::{BitLine, EndName, FrameLine, LinkLine, NodeLine, SectionKind, SysKind};
 use xs_instructions::same_name;
 use xs_text::{is_plain_number, number};
 
-// A link end as its name has it, before the ranges of its numbers are looked at.
+// An end as its name has it, before the ranges of its numbers are looked at.
 #[derive(Clone, Copy)]
 pub struct NamedEnd {
     node: u32,
@@ -43,6 +44,8 @@ fn form_of(edition: u8, words: &[Word]) -> Result<FrameLine, SysKind>
         link_line(edition, rest)
     } else if same_name(b"bit", name.bytes) {
         bit_line(rest)
+    } else if same_name(b"wire", name.bytes) {
+        wire_line(edition, rest)
     } else if same_name(b"source", name.bytes) {
         source_line(rest)
     } else if same_name(b"pins", name.bytes) {
@@ -200,7 +203,7 @@ pub fn between(value: u32, least: u32, most: u32) -> Result<u32, SysKind>
     }
 }
 
-// `N:E`: link end E of the node with the number N.
+// `N:E`: end E of the node with the number N.
 pub fn end_name(word: &[u8]) -> Result<NamedEnd, SysKind>
     ensures { result ≡ or_bad (option_map capped_end (end_name word.now)) }
 {
@@ -215,7 +218,7 @@ pub fn end_name(word: &[u8]) -> Result<NamedEnd, SysKind>
 }
 
 // How many bytes of a word stand before its first colon.
-fn before_colon(word: &[u8]) -> usize
+pub fn before_colon(word: &[u8]) -> usize
     ensures value { result ≡ before_colon word.now }
     ensures within { result ≤ length word.now }
 {
@@ -229,6 +232,16 @@ pub fn end_in_range(name: NamedEnd) -> Result<EndName, SysKind>
     Ok(EndName {
         node: up_to(name.node, 99)? as u8,
         end: up_to(name.end, 7)? as u8,
+    })
+}
+
+// An end of a step, whose node's number is within its range. No node has an end 255, as which a greater number is taken.
+pub fn step_end(name: NamedEnd) -> Result<EndName, SysKind>
+    ensures { result ≡ ranged (nat_le name.node 99) (last_end (end_of name)) }
+{
+    Ok(EndName {
+        node: up_to(name.node, 99)? as u8,
+        end: name.end.min(255) as u8,
     })
 }
 

@@ -14,6 +14,9 @@ mod step_lines;
 mod step_plans;
 mod system_error;
 mod system_reader;
+mod wire_lines;
+mod wire_plans;
+mod wires;
 mod words;
 
 pub use pin_scripts::PinKind;

@@ -1,11 +1,11 @@
 ghost use Rattle.std.specs.Prelude.{◌≡◌, ◌∷◌, ◌&&◌, [], nat_le};
 ghost use Rattle.xs_text.specs.Words.{words_of_line};
-ghost use Rattle.system_model.specs.FrameLines.{play_line, end_name, is_between};
+ghost use Rattle.system_model.specs.FrameLines.{play_line, step_end, is_between};
 ghost use Rattle.system_text.specs.Forms.{ranged};
 ghost use Rattle.system_text.specs.Steps.{stepped, named};
 ghost use Rattle.system_text.specs.LineWords.{bytes_of};
 
-use crate::frame_lines::{any_number, between, end_in_range, end_name, up_to};
+use crate::frame_lines::{any_number, between, end_name, step_end, up_to};
 use crate::words::{Word, line_words};
 use system_model::{EndName, FrameLine, PlayLine, SysKind};
 use xs_instructions::same_name;
@@ -39,9 +39,9 @@ fn short_step(name: &[u8], word: &[u8]) -> Result<FrameLine, SysKind>
     ensures { result ≡ stepped (play_line (name.now ∷ word.now ∷ [])) }
 {
     if same_name(b"take", name) {
-        Ok(FrameLine::Step(PlayLine::Take(link_end(word)?)))
+        Ok(FrameLine::Step(PlayLine::Take(named_end(word)?)))
     } else if same_name(b"send", name) {
-        Ok(FrameLine::Step(PlayLine::Send(link_end(word)?)))
+        Ok(FrameLine::Step(PlayLine::Send(named_end(word)?)))
     } else if same_name(b"run", name) {
         run(any_number(word)?, 1)
     } else {
@@ -69,9 +69,9 @@ fn run(node: u32, count: u32) -> Result<FrameLine, SysKind>
     }))
 }
 
-// The link end that a word names.
-fn link_end(word: &[u8]) -> Result<EndName, SysKind>
-    ensures { result ≡ named (end_name word.now) }
+// The end that a word names.
+fn named_end(word: &[u8]) -> Result<EndName, SysKind>
+    ensures { result ≡ named (step_end word.now) }
 {
-    end_in_range(end_name(word)?)
+    step_end(end_name(word)?)
 }

@@ -20,6 +20,7 @@ use crate::node_plans::node_plans;
 use crate::script::script_of;
 use crate::step_plans::step_plans;
 use crate::system_error::{SystemError, refusal};
+use crate::wire_plans::wire_plans;
 use std::alloc::Global;
 use sys_plan::Plan;
 use system_model::SysKind;
@@ -73,8 +74,9 @@ fn plan_of_frame(alloc: Global, frame: &Frame) -> Result<Plan, SystemError>
 {
     let given = frame.nodes();
     let links = link_plans(alloc, given, frame.links())?;
+    let wires = wire_plans(alloc, given, frame.wires())?;
     let steps = step_plans(alloc, given, frame.steps())?;
     let nodes = node_plans(alloc, frame)?;
     let script = script_of(alloc, frame)?;
-    Ok(Plan::of(nodes, links, script, steps))
+    Ok(Plan::of(nodes, links, script, steps, wires))
 }

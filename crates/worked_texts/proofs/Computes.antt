@@ -13,11 +13,11 @@ use Rattle.source_model.specs.Layout.{place_of, define_all, after_lines}
 use Rattle.source_model.specs.Source.{defines_twice, first_fault, code_of_lines, bytes_of_lines}
 use Rattle.source_model.specs.Canonical.{behind_labels, first_name_at}
 use Rattle.pin_scripts.specs.Pins.{port_of, pin_form, pins_from, pins_of}
-use Rattle.system_model.specs.FrameLines.{node_line, end_name, link_line, numbers_of, bit_line, section_line, frame_line, play_line}
+use Rattle.system_model.specs.FrameLines.{node_line, end_name, link_line, pin_name, wire_line, numbers_of, bit_line, section_line, frame_line, play_line}
 use Rattle.system_model.specs.Frame.{frame_from, framed}
 use Rattle.system_model.specs.System.{mask_where, node_plans, system_of}
 
 -- names them all on its own line, so that they unfold where it does
 unfoldable pub computes : Type 0
-unfolding digits without_comment parted lines_of tokens_after register_number fixed find known all_some operands_after values_from labels_first after_labels place_of define_all after_lines defines_twice first_fault code_of_lines bytes_of_lines behind_labels first_name_at port_of pin_form pins_from pins_of node_line end_name link_line numbers_of bit_line section_line frame_line play_line frame_from framed mask_where node_plans system_of
+unfolding digits without_comment parted lines_of tokens_after register_number fixed find known all_some operands_after values_from labels_first after_labels place_of define_all after_lines defines_twice first_fault code_of_lines bytes_of_lines behind_labels first_name_at port_of pin_form pins_from pins_of node_line end_name link_line pin_name wire_line numbers_of bit_line section_line frame_line play_line frame_from framed mask_where node_plans system_of
 computes = Unit {0}

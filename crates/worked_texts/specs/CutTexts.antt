@@ -14,7 +14,7 @@ whole_text = codes "xs1 1\nnode 0 id 0\nsource 0\nend:\n# x\n  end # x\npins\n\n
 
 -- the plan of such a text by the image of its source
 abbrev pub plan_with : ImageRec → PlanRec
-plan_with image = record { nodes = plain_plan 0 0 image (replicate 16 0) ∷ []; links = []; script = []; steps = [] }
+plan_with image = record { nodes = plain_plan 0 0 image (replicate 16 0) ∷ []; links = []; script = []; steps = []; wires = [] }
 
 -- the source has a label alone
 abbrev pub labelled_image : ImageRec

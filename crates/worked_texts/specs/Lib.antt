@@ -4,6 +4,7 @@ pub mod SourceLines
 pub mod CanonicalTexts
 pub mod Scripts
 pub mod SystemsRead
+pub mod WiresRead
 pub mod PinsRead
 pub mod PlayRead
 pub mod CutTexts

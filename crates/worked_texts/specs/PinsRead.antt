@@ -34,6 +34,7 @@ scripted script = record {
   links = [];
   script = script;
   steps = [];
+  wires = [];
 }
 
 -- a script that names the node that the frame gives later
@@ -50,7 +51,7 @@ pub record WorkedPlansWithPins : Type 0 where
   pub round : system_of (round_pins short_script empty_sources) ≡ Plan (scripted short_lines)
   pub empty : system_of (behind_pins [] empty_sources) ≡ Plan (scripted [])
   pub without : system_of (codes "xs1 1\nnode 7 id 1\nnode 3 id 0\n" ++ empty_sources) ≡ Plan (scripted [])
-  pub no_node : system_of (codes "xs1 1\npins\nend") ≡ Plan (record { nodes = []; links = []; script = []; steps = [] })
+  pub no_node : system_of (codes "xs1 1\npins\nend") ≡ Plan (record { nodes = []; links = []; script = []; steps = []; wires = [] })
 
 -- scripts, and the line and the kind of the refusal of each
 abbrev pub Refusals : Type 0

@@ -84,11 +84,7 @@ wide_steps =
     ∷ (played (codes "run 0x64 5\nend\n"), 6, NumberOutOfRange)
     ∷ (played (codes "take 100:0\nend\n"), 6, NumberOutOfRange)
     ∷ (played (codes "take 259:0\nend\n"), 6, NumberOutOfRange)
-    ∷ (played (codes "take 3:8\nend\n"), 6, NumberOutOfRange)
-    ∷ (played (codes "take 3:99999999999\nend\n"), 6, NumberOutOfRange)
     ∷ (played (codes "send 100:0\nend\n"), 6, NumberOutOfRange)
-    ∷ (played (codes "send 3:8\nend\n"), 6, NumberOutOfRange)
-    ∷ (played (codes "send 3:256\nend\n"), 6, NumberOutOfRange)
     ∷ (played (codes "run 3 0\nend\n"), 6, NumberOutOfRange)
     ∷ (played (codes "run 3 000\nend\n"), 6, NumberOutOfRange)
     ∷ (played (codes "run 3 0x0\nend\n"), 6, NumberOutOfRange)
@@ -96,10 +92,10 @@ wide_steps =
     ∷ (played (codes "run 3 0xF4241\nend\n"), 6, NumberOutOfRange)
     ∷ (played (codes "run 3 4294967297\nend\n"), 6, NumberOutOfRange)
     ∷ (played (codes "run 3 99999999999999999999999999999999999999999999\nend\n"), 6, NumberOutOfRange)
-    -- they come before a node or a link end that is not given, and a line of no form comes before them
+    -- they come before a node or an end that is not given, and a line of no form comes before them
     ∷ (played (codes "run 4 0\nend\n"), 6, NumberOutOfRange)
-    ∷ (played (codes "take 4:8\nend\n"), 6, NumberOutOfRange)
-    ∷ (played (codes "send 4:8\nend\n"), 6, NumberOutOfRange)
+    ∷ (played (codes "take 100:8\nend\n"), 6, NumberOutOfRange)
+    ∷ (played (codes "send 100:99999999999\nend\n"), 6, NumberOutOfRange)
     ∷ (played (codes "run 100 x\nend\n"), 6, BadLine)
     ∷ (played (codes "take 100:8 0\nend\n"), 6, BadLine)
     ∷ (played (codes "run 3 0 0\nend\n"), 6, BadLine)
@@ -115,6 +111,15 @@ missing_steps =
     -- a link end that no link has, alone and where the other node of the link has it
     ∷ (played (codes "take 3:1\nend\n"), 6, NoSuchNode)
     ∷ (played (codes "send 7:7\nend\n"), 6, NoSuchNode)
+    -- an end that no node has here, however great, also of a node that is not there
+    ∷ (played (codes "take 3:8\nend\n"), 6, NoSuchNode)
+    ∷ (played (codes "send 3:8\nend\n"), 6, NoSuchNode)
+    ∷ (played (codes "take 3:255\nend\n"), 6, NoSuchNode)
+    ∷ (played (codes "send 3:256\nend\n"), 6, NoSuchNode)
+    ∷ (played (codes "send 3:0x100\nend\n"), 6, NoSuchNode)
+    ∷ (played (codes "take 3:99999999999\nend\n"), 6, NoSuchNode)
+    ∷ (played (codes "take 4:8\nend\n"), 6, NoSuchNode)
+    ∷ (played (codes "send 4:8\nend\n"), 6, NoSuchNode)
     ∷ (two_nodes (codes "link 7:0 3:1 delay 5 gap 4\nplay\ntake 3:1\nsend 3:0\nend\n"), 7, NoSuchNode)
     ∷ (two_nodes (codes "link 7:0 3:1 delay 5 gap 4\nplay\nsend 7:0\ntake 7:1\nend\n"), 7, NoSuchNode)
     -- one that a later line gives
@@ -141,7 +146,7 @@ whole_plays =
     ∷ (played (codes "end\n"), 3, NodeWithoutSource)
     -- but a faulty line comes before it, also one of its own
     ∷ (played (codes "foo\n"), 6, BadLine)
-    ∷ (played (codes "run 3\nsend 3:8\n"), 7, NumberOutOfRange)
+    ∷ (played (codes "run 3\nsend 3:8\n"), 7, NoSuchNode)
     ∷ (played (codes "run 3\n# " ++ 1 ∷ []), 7, BadLine)
     -- and the frame before a source or a script that is refused
     ∷ (linked (codes "source 7\nfoo\nend\npins\nfoo\nend\nsource 3\nend\nplay\nrun 4\nend\n"), 14, NoSuchNode)
@@ -181,6 +186,7 @@ scheduled steps = record {
   links = record { a = 1; a_end = 0; b = 0; b_end = 0; delay = 5; gap = 4; net = 0 } ∷ [];
   script = [];
   steps = steps;
+  wires = [];
 }
 
 abbrev pub with_script : PlanRec → PlanRec
@@ -198,4 +204,4 @@ pub record WorkedSchedules : Type 0 where
   pub early_node : system_of early ≡ Plan (scheduled (Run 1 2 ∷ []))
   pub empty : system_of (played (codes "end\n" ++ sources)) ≡ Plan (scheduled [])
   pub without : system_of (linked sources) ≡ Plan (scheduled [])
-  pub no_node : system_of (codes "xs1 1\nplay\n# none\nend") ≡ Plan (record { nodes = []; links = []; script = []; steps = [] })
+  pub no_node : system_of (codes "xs1 1\nplay\n# none\nend") ≡ Plan (record { nodes = []; links = []; script = []; steps = []; wires = [] })

@@ -367,6 +367,7 @@ mixed_frame = Whole (record {
       ∷ record { node = 7; bit = 0; ends = 7 ∷ 0 ∷ [] }
       ∷ record { node = 3; bit = 15; ends = 0 ∷ [] }
       ∷ [];
+  wires = [];
   steps = [];
   sections =
       record { kind = section.Source 7; line = 5; lines = codes "end:" ∷ codes " pins" ∷ codes "xs1 1" ∷ [] }
@@ -393,6 +394,7 @@ plan_of_3_and_7 = record {
   links = record { a = 1; a_end = 0; b = 0; b_end = 0; delay = 5; gap = 4; net = 0 } ∷ [];
   script = [];
   steps = [];
+  wires = [];
 }
 
 -- a line of three nodes whose numbers do not rise with their place in it; node 5 has two ways for bit 1
@@ -415,6 +417,7 @@ plan_of_three = record {
       ∷ [];
   script = [];
   steps = [];
+  wires = [];
 }
 
 -- two nodes with eight links between them, all of them for a bit at one and one for each of two bits at the other
@@ -432,6 +435,7 @@ plan_of_eight = record {
       map (λ end. record { a = 0; a_end = end; b = 1; b_end = end; delay = 5; gap = 4; net = 0 }) (0 ∷ 1 ∷ 2 ∷ 3 ∷ 4 ∷ 5 ∷ 6 ∷ 7 ∷ []);
   script = [];
   steps = [];
+  wires = [];
 }
 
 -- two nodes that no link joins, at the edges of their numbers
@@ -444,6 +448,7 @@ plan_of_0_and_99 = record {
   links = [];
   script = [];
   steps = [];
+  wires = [];
 }
 
 -- nodes of edition 2, with all that they have in edition 1
@@ -480,6 +485,7 @@ plan_with_networks = record {
       ∷ [];
   script = [];
   steps = [];
+  wires = [];
 }
 
 pub record WorkedPlans : Type 0 where
@@ -489,10 +495,10 @@ pub record WorkedPlans : Type 0 where
   pub three : system_of line_of_three ≡ Plan plan_of_three
   pub eight : system_of eight_between ≡ Plan plan_of_eight
   pub edges : system_of (codes "xs1 1\nnode 99 id 0\nnode 0 id 65535\nsource 99\nend\nsource 0\nend\n") ≡ Plan plan_of_0_and_99
-  pub no_node : system_of (codes "xs1 1") ≡ Plan (record { nodes = []; links = []; script = []; steps = [] })
+  pub no_node : system_of (codes "xs1 1") ≡ Plan (record { nodes = []; links = []; script = []; steps = []; wires = [] })
   pub second : system_of second_7_and_3 ≡ Plan (record plan_of_3_and_7 { nodes = map in_edition_2 plan_of_3_and_7.nodes })
   pub second_edges : system_of (codes "xs1 2\nnode 99 id 0\nnode 0 id 65535\nsource 99\nend\nsource 0\nend\n") ≡ Plan (record plan_of_0_and_99 { nodes = map in_edition_2 plan_of_0_and_99.nodes })
-  pub second_no_node : system_of (codes "xs1 2") ≡ Plan (record { nodes = []; links = []; script = []; steps = [] })
+  pub second_no_node : system_of (codes "xs1 2") ≡ Plan (record { nodes = []; links = []; script = []; steps = []; wires = [] })
   pub networks : system_of three_with_networks ≡ Plan plan_with_networks
 
 -- the longest input stands for what its lines say, and one byte more is too long, whatever the bytes

@@ -11,6 +11,7 @@ mod play_read;
 mod scripts;
 mod source_lines;
 mod systems_read;
+mod wires_read;
 
 pub use canonical_texts::worked_canonical_texts;
 pub use cut_texts::worked_cut_texts;
@@ -21,3 +22,4 @@ pub use play_read::worked_play_read;
 pub use scripts::worked_scripts;
 pub use source_lines::worked_source_lines;
 pub use systems_read::worked_systems_read;
+pub use wires_read::worked_wires_read;

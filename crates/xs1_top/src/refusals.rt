@@ -68,6 +68,10 @@ fn text_of_sys_kind(kind: SysKind) -> &'static [u8]
         SysKind::BitTwice => b"S11 bit twice",
         SysKind::NoSuchNode => b"S12 no such node or link end",
         SysKind::TooMany => b"S13 too many nodes or links",
+        SysKind::WireWithinNode => b"S14 wire within one node",
+        SysKind::WidthsDiffer => b"S15 widths differ",
+        SysKind::PinWiredTwice => b"S16 pin wired twice",
+        SysKind::TooManyWires => b"S17 too many wires",
     }
 }
 
