@@ -8,4 +8,4 @@ mod traffic;
 
 pub use lines::line_of;
 pub use numerals::append_hex_word;
-pub use traffic::{append_link_end, append_token};
+pub use traffic::{append_link_end, append_pin, append_token};

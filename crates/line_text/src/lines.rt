@@ -104,7 +104,8 @@ fn append_halt(line: &mut Text, thread: u8) -> Result<(), AllocError>
     line.append(b" halt")
 }
 
-fn append_port_name(line: &mut Text, port: u8) -> Result<(), AllocError>
+// The name of a port: its width, and its letter.
+pub(crate) fn append_port_name(line: &mut Text, port: u8) -> Result<(), AllocError>
     requires { port < 29 }
     ensures { OnOk result (line.new ≡ line.old ++ port_name port) }
 {

@@ -1,8 +1,9 @@
-//! What travels on links, and the link ends by which it goes.
-ghost use Rattle.std.specs.Prelude.{◌≡◌, ◌++◌, OnOk};
+//! What travels on links, the link ends by which it goes, and the pins that wires join.
+ghost use Rattle.std.specs.Prelude.{◌≡◌, ◌<◌, ◌++◌, OnOk};
 ghost use Rattle.trace_model.specs.EventLines.{token_text};
-ghost use Rattle.trace_model.specs.Trace.{link_end_text};
+ghost use Rattle.trace_model.specs.Trace.{link_end_text, pin_text};
 
+use crate::lines::append_port_name;
 use decimal_text::append_decimal;
 use std::alloc::AllocError;
 use xs_base::{Text, Token};
@@ -31,4 +32,15 @@ pub fn append_link_end(out: &mut Text, node: u8, end: u8) -> Result<(), AllocErr
     append_decimal(out, u64::from(node))?;
     out.append(b":")?;
     append_decimal(out, u64::from(end))
+}
+
+/// Puts the pin of a port, 0 to 28, of the node with this number at the end of the text: `N:P`. The error is want of memory. See
+/// docs/OUTPUT.md.
+pub fn append_pin(out: &mut Text, node: u8, port: u8) -> Result<(), AllocError>
+    requires { port < 29 }
+    ensures { OnOk result (out.new ≡ out.old ++ pin_text node port) }
+{
+    append_decimal(out, u64::from(node))?;
+    out.append(b":")?;
+    append_port_name(out, port)
 }

@@ -2,12 +2,12 @@
 ghost use Rattle.std.specs.Prelude.{◌≡◌, ◌<◌, ◌++◌, length, OnOk};
 ghost use Rattle.std.specs.List.{flat_map};
 ghost use Rattle.trace_model.specs.Trace.{number_at};
-ghost use Rattle.play_model.specs.PlayText.{carried_text, entry_line, played_lines, run_line, send_line, take_line};
+ghost use Rattle.play_model.specs.PlayText.{carried_text, entry_line, level_text, played_lines, run_line, send_line, take_line};
 ghost use Rattle.run_drive.specs.Played.{line_of};
 ghost use Rattle.play_text.specs.Steps.{IsOfNodes};
 
 use decimal_text::append_decimal;
-use line_text::{append_link_end, append_token};
+use line_text::{append_hex_word, append_link_end, append_token};
 use run_drive::PlayLine;
 use std::alloc::AllocError;
 use sys_plan::{NodePlan, Step};
@@ -97,12 +97,21 @@ fn append_entry(out: &mut Text, node: u8, end: u8, e: Entry) -> Result<(), Alloc
     out.append(b"\n")
 }
 
-// `dt V`, `ct V` or `credit`
+// `dt V`, `ct V` or `credit`, and of a wire `level V`
 fn append_carried(out: &mut Text, what: What) -> Result<(), AllocError>
     ensures { OnOk result (out.new ≡ out.old ++ carried_text what) }
 {
     match what {
         What::Token(token) => append_token(out, token),
         What::Credit => out.append(b"credit"),
+        What::Level(level) => append_level(out, level),
     }
+}
+
+// `level V`
+fn append_level(out: &mut Text, level: u32) -> Result<(), AllocError>
+    ensures { OnOk result (out.new ≡ out.old ++ level_text level) }
+{
+    out.append(b"level ")?;
+    append_hex_word(out, level)
 }

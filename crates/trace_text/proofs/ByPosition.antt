@@ -16,15 +16,15 @@ module _ {A : Type 0} (piece : ℕ → A → List ℕ) where
   unfolding by_position
   by_position-nil k = refl
 
-  by_position-next : (k : ℕ) (xs : List A) (x : A) → k < length xs → x ≡ get_or xs k x → by_position piece k (drop k xs) ≡ piece k x ++ by_position piece (k + 1) (drop (k + 1) xs)
-  by_position-next k xs x below is =
-      at_drop_more (by_position piece k) xs k x below
+  by_position-next : (k : ℕ) (xs : List A) (d x : A) → k < length xs → x ≡ get_or xs k d → by_position piece k (drop k xs) ≡ piece k x ++ by_position piece (k + 1) (drop (k + 1) xs)
+  by_position-next k xs d x below is =
+      at_drop_more (by_position piece k) xs k d below
       ∙ (ap (λ (y : A). by_position piece k (y ∷ drop (k + 1) xs)) (sym is) ∙ by_position-cons k x (drop (k + 1) xs))
 
   -- from the text so far and the pieces that are left, to those with one piece more
-  pub position_more : (k : ℕ) (xs : List A) (x : A) (so_far after all : List ℕ) → k < length xs → x ≡ get_or xs k x → after ≡ so_far ++ piece k x → so_far ++ by_position piece k (drop k xs) ≡ all → after ++ by_position piece (k + 1) (drop (k + 1) xs) ≡ all
-  position_more k xs x so_far after all below is added h =
-      one_more so_far after (piece k x) _ _ all added (by_position-next k xs x below is) h
+  pub position_more : (k : ℕ) (xs : List A) (d x : A) (so_far after all : List ℕ) → k < length xs → x ≡ get_or xs k d → after ≡ so_far ++ piece k x → so_far ++ by_position piece k (drop k xs) ≡ all → after ++ by_position piece (k + 1) (drop (k + 1) xs) ≡ all
+  position_more k xs d x so_far after all below is added h =
+      one_more so_far after (piece k x) _ _ all added (by_position-next k xs d x below is) h
 
   -- no pieces are left
   pub position_done : (k : ℕ) (xs : List A) (so_far all : List ℕ) → length xs ≤ k → so_far ++ by_position piece k (drop k xs) ≡ all → so_far ≡ all

@@ -1,3 +1,4 @@
 pub mod ByPosition
 pub mod Kept
 pub mod TraceLines
+pub mod WireArcs

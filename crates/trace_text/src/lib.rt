@@ -2,6 +2,7 @@
 #![tactic(auto)]
 
 mod by_node;
+mod change_lines;
 mod node_lines;
 mod traffic_lines;
 mod whole_trace;

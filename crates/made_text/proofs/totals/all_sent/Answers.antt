@@ -4,6 +4,7 @@ use Rattle.std.specs.List.{range_with_len}
 use Rattle.sys_plan.specs.declared.LinkPlan.{LinkPlan}
 use Rattle.sys_plan.specs.Plan.{PlanRec, link_arcs}
 use Rattle.sys_plan.proofs.Arcs.{arcs_length}
+use Rattle.sys_plan.proofs.Told.{arcs-count}
 use Rattle.serial_model.specs.Serial.{serial}
 use Rattle.trace_model.specs.Trace.{tokens_sent, credits_sent, history_at}
 use Rattle.load_model.specs.Made.{link_count, all_tokens, all_credits}
@@ -14,7 +15,7 @@ pub totals-sent-requires : goal.totals-sent-requires
 totals-sent-requires c =
     let count : length (link_arcs c.args.finished.now.plan.links) ≡ 2 * length c.links.result.now =
     arcs_length _ ∙ ap (λ (ls : List LinkPlan). 2 * length ls) (ap (λ (p : PlanRec). p.links) c.requires.plan ∙ sym c.links.ensures.value) in
-    record { link = omega (arith, count, c.loop-link-test.true) }
+    record { link = omega (arith, count, arcs-count c.args.finished.now.plan, c.loop-link-test.true) }
 
 pub loop-link-preserved : goal.loop-link-preserved
 loop-link-preserved c =

@@ -6,7 +6,7 @@ use Rattle.trace_text.proofs.by_node.append_by_node.Goals as goal
 pub loop-k-preserved : goal.loop-k-preserved
 loop-k-preserved g c =
     let run = c.args.finished.now in
-    position_more (g.P.NodePiece.piece (serial run.plan run.limit)) c.loop-k.k c.args.nodes.now c.index-nodes-k.result _ _ _ (omega arith) c.index-nodes-k.is c.in_ok-append_at.ensures c.loop-k.invariant
+    position_more (g.P.NodePiece.piece (serial run.plan run.limit)) c.loop-k.k c.args.nodes.now _ c.index-nodes-k.result _ _ _ (omega arith) c.index-nodes-k.is c.in_ok-append_at.ensures c.loop-k.invariant
 
 pub returns : goal.returns
 returns g c =

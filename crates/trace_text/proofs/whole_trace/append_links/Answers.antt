@@ -4,6 +4,7 @@ use Rattle.sys_plan.specs.declared.NodePlan.{NodePlan}
 use Rattle.sys_plan.specs.Plan.{PlanRec, link_arcs}
 use Rattle.serial_model.specs.Serial.{serial}
 use Rattle.trace_model.specs.Trace.{by_position, traffic_at}
+use Rattle.sys_plan.proofs.Told.{arcs-count}
 use Rattle.trace_text.proofs.ByPosition.{arcs-length, link_more, link_done}
 use Rattle.trace_text.proofs.whole_trace.append_links.Goals as goal
 
@@ -12,7 +13,7 @@ append_traffic_at-requires-clause-number c =
     let links = c.links-links.result.now in
     let count : length (link_arcs c.args.finished.now.plan.links) ≡ 2 * length links =
     arcs-length _ ∙ ap (λ (ls : List LinkPlan). 2 * length ls) (ap (λ (p : PlanRec). p.links) c.requires.plan ∙ sym c.links-links.ensures.value) in
-    omega (arith, count)
+    omega (arith, count, arcs-count c.args.finished.now.plan)
 
 pub loop-k-preserved : goal.loop-k-preserved
 loop-k-preserved c =
