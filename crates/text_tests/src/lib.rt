@@ -1,5 +1,4 @@
-//! Tests of the crates that read and write texts, of those below them, and of plans: each file has those of the crate whose
-//! name it bears. They show what no contract says: values from outside, texts as they are printed, and that each call does its
+//! Tests of the crates that read and write texts, and of plans: each file has those of the crate whose name it bears. They show what no contract says: values from outside, texts as they are printed, and that each call does its
 //! work where memory is ample.
 #![tactic(auto)]
 
@@ -20,10 +19,4 @@ mod trace_merge_tests;
 #[cfg(test)]
 mod xs_assembler_tests;
 #[cfg(test)]
-mod xs_base_tests;
-#[cfg(test)]
-mod xs_instructions_tests;
-#[cfg(test)]
 mod xs_printer_tests;
-#[cfg(test)]
-mod xs_text_tests;

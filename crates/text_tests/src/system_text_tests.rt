@@ -87,6 +87,32 @@ fn networks_of_links(rt: HostRuntime) -> Result<(), Fail> {
 }
 
 #[test]
+fn wires_beside_a_link(rt: HostRuntime) -> Result<(), Fail> {
+    let text =
+        b"xs1 2\nnode 9 id 3\nnode 5 id 1\nwire 9:32A 5:32A delay 0x3e8\nlink 5:7 9:0 delay 1 gap 4\nwire 5:1P 9:1A delay 1 # back\nplay\nsend 9:8\ntake 5:8\nsend 5:8\ntake 5:7\nend\nsource 5\nend\nsource 9\nend";
+    let plan = read_system(rt.alloc(), text)?;
+    let [a, b] = plan.wires() else {
+        return Err(Fail::from("two wires"));
+    };
+    assert!(rt;
+        (a.a, a.a_port, a.b, a.b_port, a.delay) == (1, 28, 0, 28, 1000)
+            && (b.a, b.a_port, b.b, b.b_port, b.delay) == (0, 15, 1, 0, 1)
+    );
+    assert!(rt;
+        matches!(
+            plan.steps(),
+            [
+                Step::Send { node: 1, end: 8 },
+                Step::Take { node: 0, end: 8 },
+                Step::Send { node: 0, end: 8 },
+                Step::Take { node: 0, end: 7 },
+            ]
+        )
+    );
+    Ok(())
+}
+
+#[test]
 fn pin_script_before_its_nodes(rt: HostRuntime) -> Result<(), Fail> {
     let text =
         b"xs1 1\npins # of both\n# slots\n5 3:4A 15\n\n  0x9 7:1B 1 // last\n end\nnode 7 id 1\nnode 3 id 0\nsource 7\nend\nsource 3\nend";

@@ -12,6 +12,7 @@ fn a_play_without_steps_tells_nothing(rt: HostRuntime) -> Result<(), Fail> {
         Vec::new(rt.alloc()),
         Script::empty(),
         Vec::new(rt.alloc()),
+        Vec::new(rt.alloc()),
     );
     let plan = Arc::new(rt.alloc(), plan)?;
     let played = drive_play(rt.alloc(), &plan, 7)?;

@@ -44,7 +44,13 @@ fn ring_of_three(alloc: Global, delay: u32) -> Result<Plan, AllocError>
         gap: 4,
         net: 0,
     })?;
-    Ok(Plan::of(nodes, links, Script::empty(), Vec::new(alloc)))
+    Ok(Plan::of(
+        nodes,
+        links,
+        Script::empty(),
+        Vec::new(alloc),
+        Vec::new(alloc),
+    ))
 }
 
 #[test]

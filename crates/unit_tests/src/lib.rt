@@ -10,6 +10,8 @@ mod event_unit_tests;
 #[cfg(test)]
 mod flow_unit_tests;
 #[cfg(test)]
+mod pin_wires_tests;
+#[cfg(test)]
 mod sync_locks_tests;
 #[cfg(test)]
 mod thread_slots_tests;

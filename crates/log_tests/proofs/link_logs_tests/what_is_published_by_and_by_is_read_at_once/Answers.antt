@@ -1,5 +1,5 @@
 use Rattle.std.proofs.Common.{◌≡◌, [], ◌∷◌, ◌++◌, ap, ◌∙◌}
-use Rattle.thread_tests.proofs.link_logs_tests.what_is_published_by_and_by_is_read_at_once.Goals as goal
+use Rattle.log_tests.proofs.link_logs_tests.what_is_published_by_and_by_is_read_at_once.Goals as goal
 
 pub append-requires-2-clause-own : goal.append-requires-2-clause-own
 append-requires-2-clause-own g c =

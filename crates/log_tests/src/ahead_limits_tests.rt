@@ -58,7 +58,7 @@ fn a_node_takes_what_the_other_has_sent(rt: HostRuntime) -> Result<(), Fail> {
         node: 0,
         count: 1_000_000,
     })?;
-    let plan = Plan::of(nodes, links, Script::empty(), steps);
+    let plan = Plan::of(nodes, links, Script::empty(), steps, Vec::new(rt.alloc()));
     let numbers = Numbers::of(rt.alloc(), &plan, 40)?;
     // No count is run further than 5 slots, of which 3 were sent.
     let clocks = [numbers.clock(0), numbers.clock(1)];
