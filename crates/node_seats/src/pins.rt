@@ -87,6 +87,7 @@ impl Pins {
 
     /// Looks at what the pins show in a slot, which may be any slot after the one at which it last looked. The answer tells whether it
     /// looked anew at the script and at what came by wires: where it did not, they show what they showed before.
+    #[inline]
     pub fn look(&mut self, slot: u32) -> bool
         requires slot { slot < 2 ^ 32 - 1 }
         requires shown { IsSteady slot self.old }
@@ -102,10 +103,26 @@ impl Pins {
         if !self.is_due(slot) {
             return false;
         }
+        self.look_anew(slot);
+        true
+    }
+
+    // Looks anew at the script and at what came by wires. Not inlined: a slot in which nothing changes then saves no registers for it.
+    #[cold]
+    #[inline(never)]
+    fn look_anew(&mut self, slot: u32)
+        requires slot { slot < 2 ^ 32 - 1 }
+        ensures script { self.new.script ≡ self.old.script }
+        ensures number { self.new.number ≡ self.old.number }
+        ensures wired { self.new.wired ≡ self.old.wired }
+        ensures wires { self.new.levels ≡ self.old.levels }
+        ensures view { self.new.view ≡ shown_by self.old slot }
+        ensures levels { LevelsFit self.new.view.level }
+        ensures shown { IsShown (slot + 1) self.new }
+    {
         self.script.view(self.number, slot, &mut self.view);
         put_over(self.wired, &self.levels, &mut self.view);
         self.next = slot_or_never(self.script.next_change(self.number, slot));
-        true
     }
 
     // Whether the next change comes in a slot, or came before it.
