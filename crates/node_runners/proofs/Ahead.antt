@@ -43,7 +43,7 @@ unfolding clock_after
 runs_to h zero clock = record { on = omega arith; runs = λ slot on below. absurd (omega (arith, on, below)); stops = inl (omega arith) }
 runs_to h (suc count) clock = one_more h count clock (λ t. runs_to h count t) (may_run h clock) refl
 
--- the first slot from one on that a node may not run, which is not past its limit or a link's horizon where the first one is not
+-- the first slot from one on that a node may not run, which is not past its limit or an arc's horizon where the first one is not
 pub record IsHorizon (h : HorizonRec) (clock stop : Slot) : Type 0 where
   pub on : clock ≤ stop
   pub below : (slot : Slot) → clock ≤ slot → slot < stop → IsBelowAll h slot

@@ -31,6 +31,10 @@ some_is None h = absurd (apart h)
     apart : false ≡ true → ⊥
     apart e = cc
 
+-- an arc leaves by an end of a node, by what is seen of the node
+pub leaves_by : {r seen : RunnerRec} (end : EndNumber) → r ≡ seen → IsSome (outgoing seen.plan seen.node end) → IsSome (outgoing r.plan r.node end)
+leaves_by end is = subst (λ (x : RunnerRec). IsSome (outgoing x.plan x.node end)) (sym is)
+
 module _ (plan : PlanRec) (n : Position) (clock : Slot) (horizon : HorizonRec) (seat : Seat) (pins : Pins) (inlets : Inlets) (outlets : OutletsRec) (published : List Slot)
     (is : IsRunner plan n clock horizon seat pins inlets outlets published) (end : EndNumber) (leaves : IsSome (outgoing plan n end)) where
   link_is : (link : LinkNumber) × (outgoing plan n end ≡ Some link)
@@ -128,7 +132,7 @@ module _ (plan : PlanRec) (n : Position) (clock : Slot) (horizon : HorizonRec) (
         (publishes (batch_by outlets end) slot behind
         (λ link at. (is.links.tells end link at).batch ∙ ap (λ s. history plan link s clock) last ∙ none_carried plan link clock ∙ sym none ∙ own link at))
 
--- what a link carried from where it is published up to the clock on is nothing
+-- what an arc carried from where it is published up to the clock on is nothing
 pub nothing_after : (r : RunnerRec) (end : EndNumber) → IsSome (outgoing r.plan r.node end) → slice_index r.published end ≡ r.clock → (entries : List Entry)
     → ((link : LinkNumber) → outgoing r.plan r.node end ≡ Some link → entries ≡ history r.plan link (slice_index r.published end) r.clock) → entries ≡ []
 nothing_after r end leaves last entries own =

@@ -1,4 +1,4 @@
--- A node that may not run its slot is at the limit, or some link end stops it.
+-- A node that may not run its slot is at the limit, or some end stops it.
 use Rattle.std.proofs.Common.{◌≡◌, ◌≢◌, ℕ, zero, suc, ◌<◌, ◌≤◌, true, false, length, Option, Some, List, [], ◌∷◌, slice_get, refl, sym, ◌∙◌, arith, inl, inr}
 use mathlib.Core.Logic.{◌⊎◌}
 use Rattle.std.proofs.Math.Nat.{eq-or-lt_of_le}
@@ -12,7 +12,7 @@ use Rattle.ahead_limits.proofs.Ends.{may_run_exactly}
 true_false : true ≡ false → ⊥
 true_false h = cc
 
--- a link end that there is comes before its list's end
+-- an end that there is comes before its list's end
 within : (ends : List (Option Seen)) (end : ℕ) (x : Option Seen) → slice_get ends end ≡ Some x → end < length ends
 within [] end x h = absurd (none-some x h)
 within (y ∷ ends) zero x h = omega arith
@@ -29,7 +29,7 @@ module _ (h : HorizonRec) (clock : Slot) (stopped : may_run h clock ≡ false) (
       by_order (inl same) apart = absurd (apart same)
       by_order (inr less) apart = less
 
-  -- where no link end stops it, it is at the limit
+  -- where no end stops it, it is at the limit
   pub is_at_limit : clock ≤ h.limit → clock ≡ h.limit
   is_at_limit at_most = by_limit (eq-or-lt_of_le at_most)
     where

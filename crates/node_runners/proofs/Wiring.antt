@@ -227,13 +227,17 @@ one-longer (y ∷ xs) x = omega (arith, one-longer xs x)
 not-equal : (a b : ℕ) → a ≢ b → (a == b) ≡ false
 not-equal a b ne = ne_eqb a b ne
 
--- one more was looked at, which is this
-module _ (plan : PlanRec) (is : IsPlan plan) (n : Position) (lent : List WirePlan) (same : lent ≡ plan.wires) (i : ℕ) (within : i < length lent) (w : WirePlan) (w_is : w ≡ get_or lent i w) where
-  here : slice_get plan.wires i ≡ Some w
-  here = subst (λ (ws : List WirePlan). slice_get ws i ≡ Some w) same (slice_get-get_or lent i w within ∙ ap (λ (v : WirePlan). Some v) (sym w_is))
+-- the wire at a place of the list that the plan lends
+abbrev pub lent_wire : List WirePlan → ℕ → WirePlan
+lent_wire lent i = get_or lent i (record { a = 0; a_port = 0; b = 0; b_port = 0; delay = 0 })
 
-  pub in-more : (ends later : List WireInlet) → w.b ≡ n → InSoFar plan n i ends → later ≡ ends ++ record { port = w.b_port; inlet = record { delay = w.delay; queue = [] } } ∷ [] → InSoFar plan n (i + 1) later
-  in-more ends later node so_far is_later =
+pub wire-here : (plan : PlanRec) (lent : List WirePlan) (i : ℕ) → lent ≡ plan.wires → i < length lent → slice_get plan.wires i ≡ Some (lent_wire lent i)
+wire-here plan lent i same within = subst (λ (ws : List WirePlan). slice_get ws i ≡ Some (lent_wire lent i)) same (slice_get-get_or lent i _ within)
+
+-- one more was looked at, which is this
+module _ {plan : PlanRec} (is : IsPlan plan) {n : Position} {i : ℕ} {w : WirePlan} (here : slice_get plan.wires i ≡ Some w) where
+  pub in-more : {ends later : List WireInlet} → w.b ≡ n → InSoFar plan n i ends → later ≡ ends ++ record { port = w.b_port; inlet = record { delay = w.delay; queue = [] } } ∷ [] → InSoFar plan n (i + 1) later
+  in-more {ends} node so_far is_later =
       let new : WireInlet = record { port = w.b_port; inlet = record { delay = w.delay; queue = [] } } in
       subst (InSoFar plan n (i + 1)) (sym is_later) (record {
         all = one-longer ends new ∙ ap (λ m. m + 1) so_far.all ∙ sym (count-on (λ (v : WirePlan). v.b) n plan.wires i w here node);
@@ -242,14 +246,14 @@ module _ (plan : PlanRec) (is : IsPlan plan) (n : Position) (lent : List WirePla
             (subst (λ m. FirstIn plan n (8 + m) new) (sym so_far.all) (first-in plan is n i w here node));
       })
 
-  pub in-stays : (ends : List WireInlet) → w.b ≢ n → InSoFar plan n i ends → InSoFar plan n (i + 1) ends
-  in-stays ends ne so_far = record {
+  pub in-stays : {ends later : List WireInlet} → w.b ≢ n → InSoFar plan n i ends → later ≡ ends → InSoFar plan n (i + 1) later
+  in-stays ne so_far same = subst (InSoFar plan n (i + 1)) (sym same) (record {
     all = so_far.all ∙ sym (count-stays (λ (v : WirePlan). v.b) n plan.wires i w here (not-equal w.b n ne));
     fresh = so_far.fresh;
-  }
+  })
 
-  pub out-more : (ends later : List WireOutRec) → w.a ≡ n → OutSoFar plan n i ends → later ≡ ends ++ record { port = w.a_port; sent = 0; batch = no_batch } ∷ [] → OutSoFar plan n (i + 1) later
-  out-more ends later node so_far is_later =
+  pub out-more : {ends later : List WireOutRec} → w.a ≡ n → OutSoFar plan n i ends → later ≡ ends ++ record { port = w.a_port; sent = 0; batch = no_batch } ∷ [] → OutSoFar plan n (i + 1) later
+  out-more {ends} node so_far is_later =
       let new : WireOutRec = record { port = w.a_port; sent = 0; batch = no_batch } in
       subst (OutSoFar plan n (i + 1)) (sym is_later) (record {
         all = one-longer ends new ∙ ap (λ m. m + 1) so_far.all ∙ sym (count-on (λ (v : WirePlan). v.a) n plan.wires i w here node);
@@ -258,11 +262,11 @@ module _ (plan : PlanRec) (is : IsPlan plan) (n : Position) (lent : List WirePla
             (subst (λ m. FirstOut plan n (8 + m) new) (sym so_far.all) (first-out plan is n i w here node));
       })
 
-  pub out-stays : (ends : List WireOutRec) → w.a ≢ n → OutSoFar plan n i ends → OutSoFar plan n (i + 1) ends
-  out-stays ends ne so_far = record {
+  pub out-stays : {ends later : List WireOutRec} → w.a ≢ n → OutSoFar plan n i ends → later ≡ ends → OutSoFar plan n (i + 1) later
+  out-stays ne so_far same = subst (OutSoFar plan n (i + 1)) (sym same) (record {
     all = so_far.all ∙ sym (count-stays (λ (v : WirePlan). v.a) n plan.wires i w here (not-equal w.a n ne));
     fresh = so_far.fresh;
-  }
+  })
 
 -- all were
 pub all-in : (plan : PlanRec) (n : Position) (i : ℕ) (ends : List WireInlet) → length plan.wires ≤ i → InSoFar plan n i ends → length ends ≡ count_to n plan.wires

@@ -1,4 +1,4 @@
--- One node that runs ahead of the others, as far as what it has seen of the links that come to it lets it.
+-- One node that runs ahead of the others, as far as what it has seen of the arcs that come to it lets it.
 use Rattle.std.specs.Prelude.{ℕ, ◌≡◌, ◌+◌, ◌<◌, true, List, replicate}
 use Rattle.xs_base.specs.Numbers.{Slot, Position}
 use Rattle.sys_plan.specs.Plan.{PlanRec, arc_count}
@@ -35,8 +35,8 @@ Stops h clock one_slot = ⊥
 Stops h clock (Blocked end seen) = (clock < h.limit) × StopsAt h clock end seen
 Stops h clock AtLimit = clock ≡ h.limit
 
--- what came of a call to run a slot: a slot where the horizon lets the node run it; else nothing changes, and a link end stops the node,
--- or it is at the limit
+-- what came of a call to run a slot: a slot where the horizon lets the node run it; else nothing changes, and an end stops the node, or it is
+-- at the limit
 abbrev pub Runs : RunnerRec → Ran → RunnerRec → Type 0
 Runs before one_slot after = (may_run before.horizon before.clock ≡ true) × (after ≡ record before { clock = before.clock + 1; stepped = before.stepped + 1 })
 Runs before (Blocked end seen) after = (before.clock < before.horizon.limit) × StopsAt before.horizon before.clock end seen × (after ≡ before)
