@@ -89,6 +89,12 @@ through-to R S w (suc i) [] ys h = absurd h
 through-to R S w (suc i) (x ∷ xs) [] h = absurd h
 through-to R S w (suc i) (x ∷ xs) (y ∷ ys) h = (w x y h.0, through-to R S w i xs ys h.1)
 
+-- the next place is changed, and a weaker relation holds of all places
+pub through-next : {X : Type 0} (R S : X → X → Type 0) → ((x y : X) → R x y → S x y) → ((x : X) → S x x) → (i : ℕ) (xs ys : List X) (d y : X) → Through R i xs ys → i < length ys
+    → S (get_or ys i d) y → AllZip S xs (slice_set ys i y)
+through-next R S w r i xs ys d y h k s =
+    through-weaker S S (λ x y s. s) r (i + 1) xs (slice_set ys i y) (through-more S i xs ys d y (through-to R S w i xs ys h) k s)
+
 -- ---- The first places of a list
 
 -- one more of them

@@ -1,5 +1,6 @@
 -- Directed links by which nothing arrives for some slots.
 use Rattle.std.proofs.Common.{◌≡◌, ℕ, zero, suc, ◌+◌, ◌<◌, ◌≤◌, false, eqb, Option, Some, None, List, [], ◌∷◌, ◌++◌, length, map, get_or, slice_get, refl, sym, ap, ◌∙◌, arith}
+use Rattle.std.specs.Prelude.{IfSome}
 use Rattle.std.specs.List.{AllByRecursion}
 use Rattle.std.proofs.lemmas.Option.{none-some, same_Some}
 use Rattle.xs_base.specs.Numbers.{Slot, Position, LinkNumber, EndNumber}
@@ -65,6 +66,12 @@ first_to_come from slot delay zero (x ∷ es) e on due order here late =
     )
 first_to_come from slot delay (suc first) [] e on due order here late = absurd due
 first_to_come from slot delay (suc first) (x ∷ es) e on due order here late = (omega (arith, due.0, on), first_to_come from slot delay first es e on due.1 order.1 here late)
+
+-- whether there is one or not
+pub next_to_come : (from slot delay first : ℕ) (es : List Entry) (next : Option Entry) → from ≤ slot + 1 → IsDueFrom from delay first es → AreInSendingOrder es → slice_get es first ≡ next
+    → IfSome next (λ (e : Entry). slot < e.slot + delay) → IsDueFrom (slot + 1) delay first es
+next_to_come from slot delay first es None on due order here late = none_to_come from slot delay first es on due here
+next_to_come from slot delay first es (Some e) on due order here late = first_to_come from slot delay first es e on due order here late
 
 -- ---- A directed link
 

@@ -145,118 +145,107 @@ coming-keeps : (told : Option What) (wire : Wire) → SameParts wire (with_comin
 coming-keeps None wire = record { from = refl; from_port = refl; to = refl; to_port = refl; delay = refl; history = refl; sent = refl }
 coming-keeps (Some told) wire = record { from = refl; from_port = refl; to = refl; to_port = refl; delay = refl; history = refl; sent = refl }
 
--- a wire that was told of a slot, but has not taken what comes in the next
-record IsTold (slot : ℕ) (wire : Wire) : Type 0 where
-  from_port : wire.from_port < 29
-  to_port : wire.to_port < 29
-  widths : port_width wire.from_port ≡ port_width wire.to_port
-  delayed : 1 ≤ wire.delay
-  in_order : AreInOrder wire.history.entries
-  levels : AllByRecursion (λ (e : Entry). IsLevel (port_width wire.to_port) e.what) wire.history.entries
-  before : AllByRecursion (λ (e : Entry). e.slot < slot + 1) wire.history.entries
-  few : wire.first ≤ slot
-  due : IsDueFrom (slot + 1) wire.delay wire.first wire.history.entries
-  level : wire.level ≡ level_after 0 (take wire.first wire.history.entries)
-  narrow : wire.level < 2 ^ port_width wire.to_port
+-- entries that a wire may have before a slot
+record IsHistory (width slot : ℕ) (es : List Entry) : Type 0 where
+  in_order : AreInOrder es
+  levels : AllByRecursion (λ (e : Entry). IsLevel width e.what) es
+  before : AllByRecursion (λ (e : Entry). e.slot < slot) es
 
+-- a wire of one slot, of which so much has come by another
+with-come : (slot to : ℕ) (wire : Wire) → IsWire slot wire → (history : BatchRec) (sent first level : ℕ) → IsHistory (port_width wire.to_port) to history.entries → first ≤ to
+    → IsDueFrom (to + 1) wire.delay first history.entries → level ≡ wire_level to wire.delay history.entries → level < 2 ^ port_width wire.to_port
+    → IsWire to (record wire { history = history; sent = sent; first = first; level = level })
+with-come slot to wire is history sent first level entries few due same narrow = record {
+  from_port = is.from_port;
+  to_port = is.to_port;
+  widths = is.widths;
+  delayed = is.delayed;
+  in_order = entries.in_order;
+  levels = entries.levels;
+  before = entries.before;
+  few = few;
+  due = due;
+  level = same;
+  narrow = narrow;
+}
+
+-- a wire that was told of a slot
 module _ (slot : ℕ) (wire : Wire) (is : IsWire slot wire) (now : ℕ) (fits : now < 2 ^ port_width wire.from_port) (history : BatchRec)
     (entries : history.entries ≡ wire.history.entries ++ level_entries slot wire.sent now) where
   abbrev pub told : Wire
   told = record wire { history = history; sent = now }
 
-  is-told : IsTold slot told
-  is-told =
+  new-told : IsNew slot (port_width wire.to_port) (level_entries slot wire.sent now)
+  new-told = new-is slot (port_width wire.to_port) wire.sent now (subst (λ w. now < 2 ^ w) is.widths fits)
+
+  history-told : IsHistory (port_width wire.to_port) (slot + 1) history.entries
+  history-told =
       let new = level_entries slot wire.sent now in
       let width = port_width wire.to_port in
       let es = wire.history.entries in
-      let n = new-is slot width wire.sent now (subst (λ w. now < 2 ^ w) is.widths fits) in
-      let due : IsDueFrom (slot + 1) wire.delay wire.first (es ++ new) =
-      due-append (slot + 1) wire.delay wire.first es new is.due
-      (all-map (λ (e : Entry). e.slot ≡ slot) (λ (e : Entry). slot + 1 ≤ e.slot + wire.delay) (λ e same. omega (arith, same, is.delayed)) new n.at) in
-      let same = take-append-le wire.first es new (due-within (slot + 1) wire.delay wire.first es is.due) in
-      record {
-        from_port = is.from_port;
-        to_port = is.to_port;
-        widths = is.widths;
-        delayed = is.delayed;
-        in_order = subst AreInOrder (sym entries) (order-more slot es new is.in_order is.before n.at n.order);
-        levels = subst (AllByRecursion (λ (e : Entry). IsLevel width e.what)) (sym entries) (all-append (λ (e : Entry). IsLevel width e.what) es new is.levels n.levels);
+      subst (IsHistory width (slot + 1)) (sym entries) (record {
+        in_order = order-more slot es new is.in_order is.before new-told.at new-told.order;
+        levels = all-append (λ (e : Entry). IsLevel width e.what) es new is.levels new-told.levels;
         before =
-            subst (AllByRecursion (λ (e : Entry). e.slot < slot + 1)) (sym entries)
-            (all-append (λ (e : Entry). e.slot < slot + 1) es new
+            all-append (λ (e : Entry). e.slot < slot + 1) es new
             (all-map (λ (e : Entry). e.slot < slot) (λ (e : Entry). e.slot < slot + 1) (λ e l. omega (arith, l)) es is.before)
-            (all-map (λ (e : Entry). e.slot ≡ slot) (λ (e : Entry). e.slot < slot + 1) (λ e same. omega (arith, same)) new n.at));
-        few = is.few;
-        due = subst (IsDueFrom (slot + 1) wire.delay wire.first) (sym entries) due;
-        level =
-            is.level ∙ level-is slot wire.delay wire.first es is.due
-            ∙ ap (level_after 0) (sym same)
-            ∙ ap (λ (all : List Entry). level_after 0 (take wire.first all)) (sym entries);
-        narrow = is.narrow;
-      }
+            (all-map (λ (e : Entry). e.slot ≡ slot) (λ (e : Entry). e.slot < slot + 1) (λ e same. omega (arith, same)) new new-told.at);
+      })
 
--- it takes what comes
-module _ (slot : ℕ) (wire : Wire) (is : IsTold slot wire) where
-  -- nothing does
-  stays : IsDueFrom (slot + 1 + 1) wire.delay wire.first wire.history.entries → IsWire (slot + 1) wire
-  stays due = record {
-    from_port = is.from_port;
-    to_port = is.to_port;
-    widths = is.widths;
-    delayed = is.delayed;
-    in_order = is.in_order;
-    levels = is.levels;
-    before = is.before;
-    few = omega (arith, is.few);
-    due = due;
-    level = is.level ∙ sym (level-is (slot + 1) wire.delay wire.first wire.history.entries due);
-    narrow = is.narrow;
-  }
+  due-told : IsDueFrom (slot + 1) wire.delay wire.first history.entries
+  due-told =
+      let new = level_entries slot wire.sent now in
+      let later = all-map (λ (e : Entry). e.slot ≡ slot) (λ (e : Entry). slot + 1 ≤ e.slot + wire.delay) (λ e same. omega (arith, same, is.delayed)) new new-told.at in
+      subst (IsDueFrom (slot + 1) wire.delay wire.first) (sym entries) (due-append (slot + 1) wire.delay wire.first wire.history.entries new is.due later)
+
+  level-told : wire.level ≡ level_after 0 (take wire.first history.entries)
+  level-told =
+      let es = wire.history.entries in
+      let same = take-append-le wire.first es (level_entries slot wire.sent now) (due-within (slot + 1) wire.delay wire.first es is.due) in
+      is.level ∙ level-is slot wire.delay wire.first es is.due
+      ∙ ap (level_after 0) (sym same)
+      ∙ ap (λ (all : List Entry). level_after 0 (take wire.first all)) (sym entries)
+
+  -- it takes what comes: nothing does
+  stays : IsDueFrom (slot + 1 + 1) wire.delay wire.first history.entries → IsWire (slot + 1) told
+  stays due =
+      with-come slot (slot + 1) wire is history now wire.first wire.level history-told (omega (arith, is.few)) due
+      (level-told ∙ sym (level-is (slot + 1) wire.delay wire.first history.entries due)) is.narrow
 
   -- the next entry does
-  comes : (e : Entry) → slice_get wire.history.entries wire.first ≡ Some e → e.slot + wire.delay ≡ slot + 1 → IsWire (slot + 1) (record wire { first = wire.first + 1; level = level_or e.what wire.level })
-  comes e here now =
-      let es = wire.history.entries in
+  comes : (e : Entry) → slice_get history.entries wire.first ≡ Some e → e.slot + wire.delay ≡ slot + 1 → IsWire (slot + 1) (record told { first = wire.first + 1; level = level_or e.what wire.level })
+  comes e here now_due =
+      let es = history.entries in
       let one : suc wire.first ≡ wire.first + 1 = omega arith in
       let due : IsDueFrom (slot + 1 + 1) wire.delay (wire.first + 1) es =
-      subst (λ n. IsDueFrom (slot + 1 + 1) wire.delay n es) one (due-next (slot + 1) wire.delay wire.first es e is.due is.in_order here now) in
+      subst (λ n. IsDueFrom (slot + 1 + 1) wire.delay n es) one (due-next (slot + 1) wire.delay wire.first es e due-told history-told.in_order here now_due) in
       let more : take (wire.first + 1) es ≡ take wire.first es ++ e ∷ [] =
       take_more es wire.first e (get-within es wire.first e here) ∙ ap (λ x. take wire.first es ++ x ∷ []) (get-is es wire.first e here) in
-      record {
-        from_port = is.from_port;
-        to_port = is.to_port;
-        widths = is.widths;
-        delayed = is.delayed;
-        in_order = is.in_order;
-        levels = is.levels;
-        before = is.before;
-        few = omega (arith, is.few);
-        due = due;
-        level =
-            ap (level_or e.what) is.level
-            ∙ sym (level-more 0 (take wire.first es) e)
-            ∙ ap (level_after 0) (sym more)
-            ∙ sym (level-is (slot + 1) wire.delay (wire.first + 1) es due);
-        narrow = level-fits (port_width wire.to_port) e.what wire.level (level-at (port_width wire.to_port) wire.first es e is.levels here);
-      }
+      let level =
+      ap (level_or e.what) level-told
+      ∙ sym (level-more 0 (take wire.first es) e)
+      ∙ ap (level_after 0) (sym more)
+      ∙ sym (level-is (slot + 1) wire.delay (wire.first + 1) es due) in
+      let narrow = level-fits (port_width wire.to_port) e.what wire.level (level-at (port_width wire.to_port) wire.first es e history-told.levels here) in
+      with-come slot (slot + 1) wire is history now (wire.first + 1) (level_or e.what wire.level) history-told (omega (arith, is.few)) due level narrow
 
-  by-next : (next : Option Entry) → slice_get wire.history.entries wire.first ≡ next → IsWire (slot + 1) (with_coming (due_of (slot + 1) wire.delay next) wire)
-  by-next None none = stays (none_to_come (slot + 1) (slot + 1) wire.delay wire.first wire.history.entries (omega arith) is.due none)
+  by-next : (next : Option Entry) → slice_get history.entries wire.first ≡ next → IsWire (slot + 1) (with_coming (due_of (slot + 1) wire.delay next) told)
+  by-next None none = stays (none_to_come (slot + 1) (slot + 1) wire.delay wire.first history.entries (omega arith) due-told none)
   by-next (Some e) here = by_test (cases_Bool (eqb (e.slot + wire.delay) (slot + 1)))
     where
-      by_test : (eqb (e.slot + wire.delay) (slot + 1) ≡ true) ⊎ (eqb (e.slot + wire.delay) (slot + 1) ≡ false) → IsWire (slot + 1) (with_coming (due_of (slot + 1) wire.delay (Some e)) wire)
-      by_test (inl now) =
-          subst (λ b. IsWire (slot + 1) (with_coming (cond b (Some e.what) None) wire)) (sym now)
-          (comes e here (eqb-true (e.slot + wire.delay) (slot + 1) now))
+      by_test : (eqb (e.slot + wire.delay) (slot + 1) ≡ true) ⊎ (eqb (e.slot + wire.delay) (slot + 1) ≡ false) → IsWire (slot + 1) (with_coming (due_of (slot + 1) wire.delay (Some e)) told)
+      by_test (inl now_due) =
+          subst (λ b. IsWire (slot + 1) (with_coming (cond b (Some e.what) None) told)) (sym now_due)
+          (comes e here (eqb-true (e.slot + wire.delay) (slot + 1) now_due))
       by_test (inr later) =
-          subst (λ b. IsWire (slot + 1) (with_coming (cond b (Some e.what) None) wire)) (sym later)
-          (stays (first_to_come (slot + 1) (slot + 1) wire.delay wire.first wire.history.entries e (omega arith) is.due (sending wire.history.entries is.in_order) here (not-now later)))
+          subst (λ b. IsWire (slot + 1) (with_coming (cond b (Some e.what) None) told)) (sym later)
+          (stays (first_to_come (slot + 1) (slot + 1) wire.delay wire.first history.entries e (omega arith) due-told (sending history.entries history-told.in_order) here (not-now later)))
         where
           not-now : eqb (e.slot + wire.delay) (slot + 1) ≡ false → slot + 1 < e.slot + wire.delay
-          not-now apart = omega (arith, due-at (slot + 1) wire.delay wire.first wire.history.entries e is.due here, eqb-false (e.slot + wire.delay) (slot + 1) apart)
+          not-now apart = omega (arith, due-at (slot + 1) wire.delay wire.first history.entries e due-told here, eqb-false (e.slot + wire.delay) (slot + 1) apart)
 
-  takes : IsWire (slot + 1) (with_coming (due_of (slot + 1) wire.delay (slice_get wire.history.entries wire.first)) wire)
-  takes = by-next (slice_get wire.history.entries wire.first) refl
+  takes : IsWire (slot + 1) (with_coming (due_of (slot + 1) wire.delay (slice_get history.entries wire.first)) told)
+  takes = by-next (slice_get history.entries wire.first) refl
 
 -- a wire that goes on to the next slot
 module _ (slot : ℕ) (wire : Wire) (is : IsWire slot wire) (now : ℕ) (fits : now < 2 ^ port_width wire.from_port) (was after : Wire)
@@ -277,24 +266,16 @@ module _ (slot : ℕ) (wire : Wire) (is : IsWire slot wire) (now : ℕ) (fits : 
         delay = parts.delay;
         entries = ap (λ (h : BatchRec). h.entries) parts.history ∙ entries;
         sent = parts.sent;
-        next = subst (IsWire (slot + 1)) (sym from_w) (takes slot w (is-told slot wire is now fits was.history entries));
+        next = subst (IsWire (slot + 1)) (sym from_w) (takes slot wire is now fits was.history entries);
       }
 
 -- it goes over slots in which nothing comes by it
 pub wire-later : (from to : ℕ) → from ≤ to → (wire : Wire) → IsWire from wire → IsDueFrom (to + 1) wire.delay wire.first wire.history.entries → IsWire to wire
-wire-later from to on wire is late = record {
-  from_port = is.from_port;
-  to_port = is.to_port;
-  widths = is.widths;
-  delayed = is.delayed;
-  in_order = is.in_order;
-  levels = is.levels;
-  before = all-map (λ (e : Entry). e.slot < from) (λ (e : Entry). e.slot < to) (λ e l. omega (arith, l, on)) wire.history.entries is.before;
-  few = omega (arith, is.few, on);
-  due = late;
-  level = is.level ∙ sym (level-stays from to wire.delay wire.first wire.history.entries is.due late);
-  narrow = is.narrow;
-}
+wire-later from to on wire is late =
+    let es = wire.history.entries in
+    let before = all-map (λ (e : Entry). e.slot < from) (λ (e : Entry). e.slot < to) (λ e l. omega (arith, l, on)) es is.before in
+    with-come from to wire is wire.history wire.sent wire.first wire.level (record { in_order = is.in_order; levels = is.levels; before = before }) (omega (arith, is.few, on)) late
+    (is.level ∙ sym (level-stays from to wire.delay wire.first es is.due late)) is.narrow
 
 -- and shows the same in each of them
 pub shows-still : (from slot to : ℕ) → from ≤ slot → slot ≤ to → (wire : Wire) → IsWire from wire → IsDueFrom (to + 1) wire.delay wire.first wire.history.entries

@@ -1,5 +1,5 @@
 //! `Track`, one directed link: its history, and what of it arrives. See docs/LINKS.md.
-ghost use Rattle.std.specs.Prelude.{◌≡◌, ◌+◌, ◌-◌, ◌^◌, ◌<◌, ◌≤◌, ◌++◌, false, slice_get};
+ghost use Rattle.std.specs.Prelude.{◌≡◌, ◌+◌, ◌-◌, ◌^◌, ◌<◌, ◌≤◌, ◌++◌, false, slice_get, IfSome};
 ghost use Rattle.xs_base.specs.declared.numbers.TheConstants.{LINK_ENDS};
 ghost use Rattle.serial_model.specs.Serial.{sent_by};
 ghost use Rattle.crossings.specs.Crossings.{due_of, seen_of, no_crossing, entry_count};
@@ -104,10 +104,7 @@ impl Track {
         ensures within { result ≤ limit }
         ensures quiet { from ≤ result → ArrivesAfter result self.now }
     {
-        match self.next_entry() {
-            None => limit,
-            Some(e) => before(u64::from(e.slot) + u64::from(self.delay), limit),
-        }
+        before_next(self.next_entry(), self.delay, limit)
     }
 
     // The first entry that has not arrived before this slot.
@@ -118,15 +115,22 @@ impl Track {
     }
 }
 
-// The last slot before another, and up to a limit.
-pub(crate) fn before(slot: u64, limit: u32) -> u32
-    requires some { 1 ≤ slot }
+// The last slot before an entry comes, if there is one, and up to a limit.
+#[inline]
+pub(crate) fn before_next(entry: Option<Entry>, delay: u32, limit: u32) -> u32
+    requires delayed { 1 ≤ delay }
     ensures within { result ≤ limit }
-    ensures before { result < slot }
+    ensures before { IfSome entry (λ e. result < e.slot + delay) }
 {
-    if slot <= u64::from(limit) {
-        (slot - 1) as u32
-    } else {
-        limit
+    match entry {
+        None => limit,
+        Some(e) => {
+            let comes = u64::from(e.slot) + u64::from(delay);
+            if comes <= u64::from(limit) {
+                (comes - 1) as u32
+            } else {
+                limit
+            }
+        }
     }
 }

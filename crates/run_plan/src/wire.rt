@@ -7,7 +7,7 @@ ghost use Rattle.crossings.specs.Crossings.{due_of};
 ghost use Rattle.run_plan.specs.Wires.{IsWire, WireGoesOn, with_coming};
 ghost use Rattle.run_plan.specs.Quiet.{ComesAfter};
 
-use crate::track::before;
+use crate::track::before_next;
 use xs_base::{Batch, Entry, What};
 
 /// A wire: it leads from the pin of a port of the node at a position to that of a port of the node at another, with a delay in slots.
@@ -87,10 +87,7 @@ impl Wire {
         ensures within { result ≤ limit }
         ensures quiet { from ≤ result → ComesAfter result self.now }
     {
-        match self.next_entry() {
-            None => limit,
-            Some(e) => before(u64::from(e.slot) + u64::from(self.delay), limit),
-        }
+        before_next(self.next_entry(), self.delay, limit)
     }
 
     // The first entry that has not come by this slot.

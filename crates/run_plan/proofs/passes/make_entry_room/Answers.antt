@@ -1,24 +1,23 @@
 use Rattle.std.proofs.Common.{◌+◌, refl, arith}
 use Rattle.std.specs.Prelude.{slice_index_or}
 use Rattle.run_plan.specs.Passes.{MakesEntryRoom, SameTrack, HasEntryRoom}
-use Rattle.run_plan.proofs.Through.{through-to, through-more, through-all, through-weaker, zip-second}
+use Rattle.run_plan.proofs.Through.{through-next, through-more, through-all, through-weaker, zip-second}
 use Rattle.run_plan.proofs.Systems.{same-track}
 use Rattle.run_plan.proofs.passes.make_entry_room.Goals as goal
 
 pub returns-in_err-reserve-clause-same : goal.returns-in_err-reserve-clause-same
 returns-in_err-reserve-clause-same c =
-    let i = c.loop-track.track-index in
-    let before = slice_index_or c.loop-track.tracks i c.track-item.result in
-    let so_far = through-to MakesEntryRoom SameTrack (λ x y r. r.same) i c.args.tracks.now c.loop-track.tracks c.loop-track.invariant.through in
-    let after = through-more SameTrack i c.args.tracks.now c.loop-track.tracks c.track-item.result _ so_far (omega arith) (same-track before c.reserve.new.self c.reserve.ensures.entries) in
-    through-weaker SameTrack SameTrack (λ x y r. r) (λ x. refl) (i + 1) c.args.tracks.now _ after
+    let before = slice_index_or c.loop-track.tracks c.loop-track.track-index c.track-item.result in
+    through-next MakesEntryRoom SameTrack (λ x y r. r.same) (λ x. refl) c.loop-track.track-index c.args.tracks.now c.loop-track.tracks c.track-item.result _ c.loop-track.invariant.through
+    (omega arith) (same-track before c.reserve.new.self c.reserve.ensures.entries)
 
 pub loop-track-preserved : goal.loop-track-preserved
 loop-track-preserved c =
     let before = slice_index_or c.loop-track.tracks c.loop-track.track-index c.track-item.result in
     record {
       through =
-          through-more MakesEntryRoom c.loop-track.track-index c.args.tracks.now c.loop-track.tracks c.track-item.result _ c.loop-track.invariant.through (omega arith)
+          through-more MakesEntryRoom c.loop-track.track-index c.args.tracks.now c.loop-track.tracks c.track-item.result _ c.loop-track.invariant.through
+          (omega arith)
           (record { same = same-track before c.reserve.new.self c.reserve.ensures.entries; room = c.in_ok-reserve.ensures.room });
     }
 

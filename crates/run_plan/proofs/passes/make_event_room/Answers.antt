@@ -1,21 +1,16 @@
 use Rattle.std.proofs.Common.{◌+◌, refl, arith}
-use Rattle.std.specs.Prelude.{slice_index_or}
 use Rattle.run_plan.specs.Passes.{MakesEventRoom, SameStation, HasRoomForEvents}
-use Rattle.run_plan.proofs.Through.{through-to, through-more, through-all, through-weaker, zip-second}
+use Rattle.run_plan.proofs.Through.{through-next, through-more, through-all, through-weaker, zip-second}
 use Rattle.run_plan.proofs.Systems.{same-itself}
 use Rattle.run_plan.proofs.passes.make_event_room.Goals as goal
 
 pub returns-in_err-reserve-clause-same : goal.returns-in_err-reserve-clause-same
 returns-in_err-reserve-clause-same c =
-    let i = c.loop-station.station-index in
-    let before = slice_index_or c.loop-station.stations i c.station-item.result in
-    let so_far = through-to MakesEventRoom SameStation (λ x y r. r.same) i c.args.stations.now c.loop-station.stations c.loop-station.invariant.through in
-    let after = through-more SameStation i c.args.stations.now c.loop-station.stations c.station-item.result _ so_far (omega arith) (record { node = record { seat = c.reserve.ensures.same; pins = refl; incoming = refl }; due = refl }) in
-    through-weaker SameStation SameStation (λ x y r. r) same-itself (i + 1) c.args.stations.now _ after
+    through-next MakesEventRoom SameStation (λ x y r. r.same) same-itself c.loop-station.station-index c.args.stations.now c.loop-station.stations c.station-item.result _ c.loop-station.invariant.through
+    (omega arith) (record { node = record { seat = c.reserve.ensures.same; pins = refl; incoming = refl }; due = refl })
 
 pub loop-station-preserved : goal.loop-station-preserved
 loop-station-preserved c =
-    let before = slice_index_or c.loop-station.stations c.loop-station.station-index c.station-item.result in
     record {
       through =
           through-more MakesEventRoom c.loop-station.station-index c.args.stations.now c.loop-station.stations c.station-item.result _ c.loop-station.invariant.through (omega arith)

@@ -1,17 +1,15 @@
 use Rattle.std.proofs.Common.{◌+◌, refl, arith}
 use Rattle.std.specs.Prelude.{slice_index_or}
 use Rattle.run_plan.specs.Passes.{MakesLevelRoom, SameWire, HasLevelRoom}
-use Rattle.run_plan.proofs.Through.{through-to, through-more, through-all, through-weaker, zip-second}
+use Rattle.run_plan.proofs.Through.{through-next, through-more, through-all, through-weaker, zip-second}
 use Rattle.run_plan.proofs.Systems.{same-wire}
 use Rattle.run_plan.proofs.passes.make_level_room.Goals as goal
 
 pub returns-in_err-reserve-clause-same : goal.returns-in_err-reserve-clause-same
 returns-in_err-reserve-clause-same c =
-    let i = c.loop-wire.wire-index in
-    let before = slice_index_or c.loop-wire.wires i c.wire-item.result in
-    let so_far = through-to MakesLevelRoom SameWire (λ x y r. r.same) i c.args.wires.now c.loop-wire.wires c.loop-wire.invariant.through in
-    let after = through-more SameWire i c.args.wires.now c.loop-wire.wires c.wire-item.result _ so_far (omega arith) (same-wire before c.reserve.new.self c.reserve.ensures.entries) in
-    through-weaker SameWire SameWire (λ x y r. r) (λ x. refl) (i + 1) c.args.wires.now _ after
+    let before = slice_index_or c.loop-wire.wires c.loop-wire.wire-index c.wire-item.result in
+    through-next MakesLevelRoom SameWire (λ x y r. r.same) (λ x. refl) c.loop-wire.wire-index c.args.wires.now c.loop-wire.wires c.wire-item.result _ c.loop-wire.invariant.through
+    (omega arith) (same-wire before c.reserve.new.self c.reserve.ensures.entries)
 
 pub loop-wire-preserved : goal.loop-wire-preserved
 loop-wire-preserved c =
