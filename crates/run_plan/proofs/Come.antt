@@ -1,16 +1,16 @@
 -- What came by wires to the pins of nodes is what the wires of the plan show there.
-use Rattle.std.proofs.Common.{◌≡◌, ℕ, zero, suc, ◌+◌, ◌<◌, Bool, true, false, ◌&&◌, eqb, cond, Option, Some, None, List, [], ◌∷◌, ◌++◌, length, map, get_or, refl, sym, ap, ◌∙◌, subst, arith, inl, inr}
+use Rattle.std.proofs.Common.{◌≡◌, ℕ, suc, ◌+◌, true, false, cond, Some, List, [], ◌∷◌, ◌++◌, length, map, get_or, refl, sym, ap, ◌∙◌, subst, arith, inl, inr}
 use mathlib.Core.Logic.{◌⊎◌}
 use Rattle.std.specs.Prelude.{◌==◌}
-use Rattle.std.specs.List.{AllByRecursion, AllZip}
+use Rattle.std.specs.List.{AllByRecursion}
 use Rattle.std.proofs.lemmas.Bool.{cases_Bool, eqb-true, and_right, and_parts}
 use Rattle.std.proofs.lemmas.Option.{none-some, same_Some}
-use Rattle.xs_base.specs.Numbers.{Slot, Word, Position, PortNumber, LinkNumber}
+use Rattle.xs_base.specs.Numbers.{Slot, Word, Position, PortNumber}
 use Rattle.xs_base.specs.declared.entry.Entry.{Entry}
 use Rattle.xs_model.specs.Record.{NodeRec}
 use Rattle.sys_plan.specs.declared.LinkPlan.{LinkPlan}
 use Rattle.sys_plan.specs.declared.WirePlan.{WirePlan}
-use Rattle.sys_plan.specs.Plan.{PlanRec, Arc, forth, back, link_arcs, wire_arcs, along, first_arc, comes_to_pin, joins_to, wire_to, delay_of}
+use Rattle.sys_plan.specs.Plan.{PlanRec, Arc, forth, back, link_arcs, wire_arcs, along, first_arc, comes_to_pin, joins_to}
 use Rattle.sys_plan.proofs.Told.{delay-of-wire}
 use Rattle.serial_model.specs.Serial.{wire_level}
 use Rattle.node_seats.specs.Shown.{HaveCome}

@@ -6,7 +6,7 @@ use Rattle.std.proofs.lemmas.Option.{same_Some}
 use Rattle.xs_base.specs.declared.entry.Entry.{Entry}
 use Rattle.node_seats.specs.declared.seat.Seat.{Seat}
 use Rattle.serial_model.specs.Serial.{sent_by}
-use Rattle.sys_plan.specs.Plan.{PlanRec, Arc, link_arcs, incoming, link_ends}
+use Rattle.sys_plan.specs.Plan.{PlanRec, Arc, link_arcs, incoming}
 use Rattle.crossings.specs.declared.crossing.Crossing.{Crossing}
 use Rattle.crossings.specs.Crossings.{no_crossing}
 use Rattle.run_plan.specs.declared.track.Track.{Track}

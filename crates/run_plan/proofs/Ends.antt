@@ -1,11 +1,10 @@
 -- What comes to the link ends of nodes comes by directed links alone, whose histories stand before those of wires.
 use Rattle.std.proofs.Common.{◌≡◌, ℕ, zero, suc, ◌+◌, ◌<◌, Option, Some, None, List, [], ◌∷◌, ◌++◌, length, map, get_or, slice_get, refl, sym, ap, ◌∙◌, arith}
-use Rattle.std.specs.Prelude.{IfSome}
 use Rattle.std.specs.List.{AllByRecursion}
 use Rattle.std.proofs.lemmas.Option.{none-some, same_Some}
 use Rattle.xs_base.specs.Numbers.{Slot, Position, EndNumber, LinkNumber}
 use Rattle.xs_base.specs.declared.entry.Entry.{Entry}
-use Rattle.sys_plan.specs.Plan.{PlanRec, Arc, arcs, link_arcs, wire_arcs, incoming, link_ends}
+use Rattle.sys_plan.specs.Plan.{PlanRec, Arc, link_arcs, wire_arcs, incoming, link_ends}
 use Rattle.sys_plan.proofs.Routes.{link-comes, leads-to}
 use Rattle.sys_plan.proofs.Told.{delay-of-link}
 use Rattle.serial_model.specs.Serial.{arriving, arriving_by}

@@ -9,7 +9,7 @@ use Rattle.xs_model.specs.declared.event.Event.{Event}
 use Rattle.xs_model.specs.declared.outside.Arrivals.{Arrivals}
 use Rattle.xs_model.specs.Record.{NodeRec, first_node, port_of}
 use Rattle.xs_model.specs.Ports.{level_of}
-use Rattle.xs_model.specs.Outside.{Emitted, emitted_events}
+use Rattle.xs_model.specs.Outside.{emitted_events}
 use Rattle.sys_plan.specs.declared.NodePlan.{NodePlan}
 use Rattle.sys_plan.specs.Plan.{PlanRec, Arc, Joined, arcs, gaps_of}
 use Rattle.step_model.specs.Start.{fixed_of}

@@ -1,5 +1,5 @@
 -- Pins that are told what comes by wires.
-use Rattle.std.proofs.Common.{◌≡◌, ◌≢◌, ℕ, zero, suc, ◌+◌, ◌<◌, true, false, eqb, List, [], ◌∷◌, length, map, get_or, refl, sym, ap, ◌∙◌, subst, arith, inl, inr}
+use Rattle.std.proofs.Common.{◌≡◌, ◌≢◌, ℕ, zero, suc, ◌<◌, true, false, eqb, List, [], ◌∷◌, length, get_or, refl, sym, ap, ◌∙◌, subst, arith, inl, inr}
 use mathlib.Core.Logic.{◌⊎◌}
 use Rattle.std.specs.Prelude.{slice_set}
 use Rattle.std.specs.List.{AllByRecursion, AllZip}
@@ -15,7 +15,7 @@ use Rattle.run_plan.specs.declared.wire.Wire.{Wire}
 use Rattle.run_plan.specs.declared.station.Station.{Station}
 use Rattle.run_plan.specs.Wires.{HasCome, WireGoesOn, target, targets}
 use Rattle.run_plan.specs.Passes.{SameButCome, IsShownAt, WireAdvances, cores_of, driven_by, levels_of}
-use Rattle.run_plan.proofs.Through.{all-zip, all-at}
+use Rattle.run_plan.proofs.Through.{all-zip}
 
 -- ---- One pin
 

@@ -1,4 +1,3 @@
-use Rattle.std.proofs.Common.{arith}
 use Rattle.run_plan.proofs.Ends.{is-below}
 use Rattle.run_plan.proofs.inbound.link_to.Goals as goal
 

@@ -1,4 +1,4 @@
-use Rattle.std.proofs.Common.{◌+◌, refl, arith}
+use Rattle.std.proofs.Common.{refl, arith}
 use Rattle.std.specs.Prelude.{slice_index_or}
 use Rattle.run_plan.specs.Passes.{MakesEntryRoom, SameTrack, HasEntryRoom}
 use Rattle.run_plan.proofs.Through.{through-next, through-more, through-all, through-weaker, zip-second}
@@ -16,8 +16,7 @@ loop-track-preserved c =
     let before = slice_index_or c.loop-track.tracks c.loop-track.track-index c.track-item.result in
     record {
       through =
-          through-more MakesEntryRoom c.loop-track.track-index c.args.tracks.now c.loop-track.tracks c.track-item.result _ c.loop-track.invariant.through
-          (omega arith)
+          through-more MakesEntryRoom c.loop-track.track-index c.args.tracks.now c.loop-track.tracks c.track-item.result _ c.loop-track.invariant.through (omega arith)
           (record { same = same-track before c.reserve.new.self c.reserve.ensures.entries; room = c.in_ok-reserve.ensures.room });
     }
 

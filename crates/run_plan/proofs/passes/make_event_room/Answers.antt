@@ -1,4 +1,4 @@
-use Rattle.std.proofs.Common.{◌+◌, refl, arith}
+use Rattle.std.proofs.Common.{refl, arith}
 use Rattle.run_plan.specs.Passes.{MakesEventRoom, SameStation, HasRoomForEvents}
 use Rattle.run_plan.proofs.Through.{through-next, through-more, through-all, through-weaker, zip-second}
 use Rattle.run_plan.proofs.Systems.{same-itself}

@@ -1,4 +1,4 @@
-use Rattle.std.proofs.Common.{◌+◌, refl, arith}
+use Rattle.std.proofs.Common.{refl, arith}
 use Rattle.std.specs.Prelude.{slice_index_or}
 use Rattle.run_plan.specs.Passes.{MakesLevelRoom, SameWire, HasLevelRoom}
 use Rattle.run_plan.proofs.Through.{through-next, through-more, through-all, through-weaker, zip-second}

@@ -1,11 +1,6 @@
-use Rattle.std.proofs.Common.{◌+◌, ◌<◌, List, length, refl, sym, ap, ◌∙◌, subst, arith}
-use Rattle.std.proofs.lemmas.List.{get_or-map, length-map}
-use Rattle.xs_model.specs.Record.{CoreRec, first_node, port_of}
-use Rattle.pin_wires.specs.Wires.{driven_or_low}
+use Rattle.std.proofs.Common.{◌+◌, ◌<◌, length, arith}
+use Rattle.std.proofs.lemmas.List.{length-map}
 use Rattle.run_plan.specs.declared.station.Station.{Station}
-use Rattle.run_plan.specs.Wires.{WireGoesOn}
-use Rattle.run_plan.specs.Passes.{IsShownAt}
-use Rattle.run_plan.proofs.Through.{all-at}
 use Rattle.run_plan.proofs.Told.{none-told, tells-level}
 use Rattle.run_plan.proofs.passes.tell.Goals as goal
 

@@ -1,8 +1,6 @@
-use Rattle.std.proofs.Common.{◌∙◌, ◌≡◌, ◌++◌, ℕ, List, ap, sym, subst}
-use Rattle.xs_base.specs.declared.entry.Entry.{Entry}
+use Rattle.std.proofs.Common.{◌∙◌, ◌++◌, ℕ, ap}
 use Rattle.pin_wires.specs.Wires.{driven_or_low}
 use Rattle.serial_model.specs.Serial.{level_entries}
-use Rattle.run_plan.specs.declared.wire.Wire.{Wire}
 use Rattle.run_plan.proofs.Wires.{goes-on, low-fits}
 use Rattle.run_plan.proofs.wire.Wire.go_on.Goals as goal
 
