@@ -87,11 +87,14 @@ pub record WorkedChecks : Type 0 where
   -- labels with one address stand in their order, and a code operand is the first of them
   pub labels : answer check (lone (codes "a: b: bu b\nbu c\nc:\n")) ≡ done (codes "source 0\na:\nb:\n  bu a\n  bu c\nc:\n.data\n.cp\nend\n")
   -- `.align` gives its instructions and bytes; a label at the end of the data stands after `.cp`
-  pub sections : answer check (lone (codes "bu z\n.align 3\nz:\n.data\nv: .word z, -1\nw:\n.cp\n.byte 7\n")) ≡ done (codes "source 0\n  bu z\n  nop\n  nop\nz:\n.data\nv:\n  .byte 12\n  .byte 0\n  .byte 4\n  .byte 0\n  .byte 255\n  .byte 255\n  .byte 255\n  .byte 255\n.cp\nw:\n  .byte 7\nend\n")
+  pub sections : answer check (lone (codes "bu z\n.align 3\nz:\n.data\nv: .word z, -1\nw:\n.cp\n.byte 7\n")) ≡
+      done (codes "source 0\n  bu z\n  nop\n  nop\nz:\n.data\nv:\n  .byte 12\n  .byte 0\n  .byte 4\n  .byte 0\n  .byte 255\n  .byte 255\n  .byte 255\n  .byte 255\n.cp\nw:\n  .byte 7\nend\n")
   -- a name in brackets is written as its number, and zeros come before the constants
-  pub names_in_brackets : answer check (lone (codes "ldw r0, dp[x]\n.data\n.word 1\nx: .byte 2\n.cp\n.byte 3\n")) ≡ done (codes "source 0\n  ldw r0, dp[1]\n.data\n  .byte 1\n  .byte 0\n  .byte 0\n  .byte 0\nx:\n  .byte 2\n  .byte 0\n  .byte 0\n  .byte 0\n.cp\n  .byte 3\nend\n")
+  pub names_in_brackets : answer check (lone (codes "ldw r0, dp[x]\n.data\n.word 1\nx: .byte 2\n.cp\n.byte 3\n")) ≡
+      done (codes "source 0\n  ldw r0, dp[1]\n.data\n  .byte 1\n  .byte 0\n  .byte 0\n  .byte 0\nx:\n  .byte 2\n  .byte 0\n  .byte 0\n  .byte 0\n.cp\n  .byte 3\nend\n")
   -- the rows on ports alone
-  pub port_rows : answer check (lone (codes "inpw r0, res[r1], 0x8\noutshr res[r2], r3\nsetclk res[r4],r5\n")) ≡ done (codes "source 0\n  inpw r0, res[r1], 8\n  outshr res[r2], r3\n  setclk res[r4], r5\n.data\n.cp\nend\n")
+  pub port_rows : answer check (lone (codes "inpw r0, res[r1], 0x8\noutshr res[r2], r3\nsetclk res[r4],r5\n")) ≡
+      done (codes "source 0\n  inpw r0, res[r1], 8\n  outshr res[r2], r3\n  setclk res[r4], r5\n.data\n.cp\nend\n")
   pub least_line : answer check (lone (codes "foo r0\na: a:\n")) ≡ source_refused (codes "source 0 line 1: A2 unknown name\n")
   pub wrong_shape : answer check (lone (codes "add r0, r1\n")) ≡ source_refused (codes "source 0 line 1: A3 wrong operands\n")
   pub least_node : answer check (swapped (codes "nop\n\nbu gone\n") (codes "foo\n")) ≡ source_refused (codes "source 3 line 3: A6 label missing\n")

@@ -6,7 +6,8 @@ use Rattle.worked_answers.specs.Answers.{lone, run_for, done, frame_refused, sou
 -- at the frame of a system text
 pub record WorkedFrames : Type 0 where
   pub end_with_comment : answer (run_for (codes "0")) (codes "xs1 1\nnode 0 id 0\nsource 0\n  end # x\n") ≡ done (codes "end 0\n")
-  pub bad_byte_after_end_of_faulty_source : answer (run_for (codes "0")) (codes "xs1 1\nnode 0 id 0\nsource 0\nfoo\nend # " ++ (1 ∷ codes "\n")) ≡ frame_refused (codes "system line 5: S2 bad line\n")
+  pub bad_byte_after_end_of_faulty_source : answer (run_for (codes "0")) (codes "xs1 1\nnode 0 id 0\nsource 0\nfoo\nend # " ++ (1 ∷ codes "\n")) ≡
+      frame_refused (codes "system line 5: S2 bad line\n")
   pub bad_byte_after_section : answer (run_for (codes "0")) (codes "xs1 1\nnode 0 id 0\nsource 0\nend\n# " ++ (0 ∷ [])) ≡ frame_refused (codes "system line 5: S2 bad line\n")
   pub bad_byte_before_header : answer (run_for (codes "0")) (codes "# " ++ (1 ∷ codes "\nxs1 1\nnode 0 id 0\nsource 0\nend\n")) ≡ frame_refused (codes "system line 1: S2 bad line\n")
   pub two_returns : answer (run_for (codes "0")) (codes "xs1 1\r\r\nnode 0 id 0\nsource 0\nend\n") ≡ frame_refused (codes "system line 1: S1 first line is not xs1 1 or xs1 2\n")
