@@ -1,2 +1,4 @@
 pub mod AnyCondition
 pub mod Periods
+pub mod Made
+pub mod States

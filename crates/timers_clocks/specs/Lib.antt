@@ -1,3 +1,4 @@
 pub mod Timers
 pub mod Falls
 pub mod Alike
+pub mod States

@@ -3,8 +3,10 @@ ghost use Rattle.std.specs.Prelude.{◌≡◌, ◌<◌, ◌≤◌, ◌↔◌, �
 ghost use Rattle.xs_model.specs.Record.{off_clock};
 ghost use Rattle.xs_model.specs.Time.{edge_in_period, period, block_edge, on_clock, turned_off, divided_by, started, stopped};
 ghost use Rattle.timers_clocks.specs.Timers.{clock_after};
+ghost use Rattle.timers_clocks.specs.States.{clock_state, clock_of};
 
 use crate::answers::Bad;
+use crate::state::ClockState;
 use std::marker::Model;
 use xs_model::Edge;
 
@@ -172,5 +174,27 @@ impl Block {
         ensures { result ≡ self.now.divider }
     {
         u32::from(self.divider)
+    }
+
+    /// What a snapshot keeps of it.
+    pub(crate) fn state(&self) -> ClockState
+        ensures { result ≡ clock_state self.now }
+    {
+        ClockState {
+            on: self.on,
+            running: self.running,
+            div: self.divider,
+        }
+    }
+
+    /// The clock block that a snapshot keeps.
+    pub(crate) fn of_state(state: ClockState) -> Block
+        ensures { result ≡ clock_of state }
+    {
+        Block {
+            on: state.on,
+            divider: state.div,
+            running: state.running,
+        }
     }
 }

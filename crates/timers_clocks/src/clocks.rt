@@ -1,5 +1,5 @@
 //! `Clocks`, the clock blocks of a core, beside the reference clock.
-ghost use Rattle.std.specs.Prelude.{ℕ, ◌≡◌, ◌<◌, ◌≤◌, ◌-◌, ◌↔◌, ◌⊎◌, true, false, Some, None, length, IfSome, IfNone, OnOk, OnErr, IsErr, slice_set};
+ghost use Rattle.std.specs.Prelude.{ℕ, ◌≡◌, ◌<◌, ◌≤◌, ◌-◌, ◌↔◌, ◌⊎◌, true, false, Some, None, length, map, IfSome, IfNone, OnOk, OnErr, IsErr, slice_set};
 ghost use Rattle.xs_base.specs.declared.numbers.TheConstants.{CLOCK_BLOCKS};
 ghost use Rattle.xs_model.specs.Record.{off_clock};
 ghost use Rattle.xs_model.specs.Time.{edge_at, on_clock, turned_off, divided_by, started, stopped};
@@ -7,10 +7,12 @@ ghost use Rattle.quiet_model.specs.Slots.{IsFirst};
 ghost use Rattle.quiet_model.specs.Clocks.{falls_in, has_fallen};
 ghost use Rattle.timers_clocks.specs.Timers.{IsClock, no_clocks, clock_at, clocks_after};
 ghost use Rattle.timers_clocks.specs.Falls.{FallsEvery, NeverFalls};
+ghost use Rattle.timers_clocks.specs.States.{clock_state, clock_of};
 
 use crate::answers::Bad;
 use crate::block::{self, Block};
 use crate::falls;
+use crate::state::ClockState;
 use std::marker::Model;
 use xs_base::numbers::CLOCK_BLOCKS;
 use xs_model::{Clock, Edge};
@@ -171,5 +173,21 @@ impl Clocks {
         ensures value { result ≡ (clock_at self.now k).divider }
     {
         self.blocks[k as usize].divider()
+    }
+
+    /// What a snapshot keeps of the clock blocks, by their numbers. It takes no memory. See docs/SNAPSHOTS.md.
+    pub fn state(&self) -> [ClockState; 6]
+        ensures value { result ≡ map clock_state self.now }
+    {
+        self.blocks.each_ref().map(Block::state)
+    }
+
+    /// The clock blocks that a snapshot keeps, by their numbers. It takes no memory. See docs/SNAPSHOTS.md.
+    pub fn of_state(clocks: &[ClockState; 6]) -> Clocks
+        ensures value { result ≡ map clock_of clocks.now }
+    {
+        Clocks {
+            blocks: clocks.map(Block::of_state),
+        }
     }
 }

@@ -21,6 +21,19 @@ pub(crate) fn noted(mask: u32, n: u8, timer: &Timer) -> u32
     with_bit(mask, n, timer.has_condition())
 }
 
+/// The mask of the timers that have the condition.
+pub(crate) fn of_all(timers: &[Timer; 10]) -> u32
+    ensures { IsMask result timers.now }
+{
+    let mut mask = 0;
+    for n in 0..TIMERS {
+        if timers[n as usize].has_condition() {
+            mask = with_bit(mask, n, true);
+        }
+    }
+    mask
+}
+
 /// Whether a timer has the condition, by the mask of those that do.
 pub(crate) fn any(mask: u32) -> bool
     ensures { (timers : List TimerRec) → length timers ≡ TIMERS → IsMask mask timers → result ≡ list_any (λ timer. timer.after) timers }

@@ -6,8 +6,10 @@ ghost use Rattle.xs_model.specs.Time.{is_after, time_at, timer_holds, got_timer,
 ghost use Rattle.quiet_model.specs.Slots.{IsFirst};
 ghost use Rattle.timers_clocks.specs.Timers.{timer_after};
 ghost use Rattle.timers_clocks.specs.Alike.{is_past, TurnsAfter};
+ghost use Rattle.timers_clocks.specs.States.{timer_state, timer_of};
 
 use crate::answers::Bad;
+use crate::state::TimerState;
 use std::marker::Model;
 
 /// A timer: whether it is in use, the value of its condition, and whether it has the condition. Contracts see it as a
@@ -144,6 +146,28 @@ impl Timer {
         ensures { result ≡ self.now.after }
     {
         self.after
+    }
+
+    /// What a snapshot keeps of it.
+    pub(crate) fn state(&self) -> TimerState
+        ensures { result ≡ timer_state self.now }
+    {
+        TimerState {
+            used: self.used,
+            after: self.after,
+            value: self.value,
+        }
+    }
+
+    /// The timer that a snapshot keeps.
+    pub(crate) fn of_state(state: TimerState) -> Timer
+        ensures { result ≡ timer_of state }
+    {
+        Timer {
+            used: state.used,
+            value: state.value,
+            after: state.after,
+        }
     }
 }
 

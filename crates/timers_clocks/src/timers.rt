@@ -1,5 +1,5 @@
 //! `Timers`, the timers of a core.
-ghost use Rattle.std.specs.Prelude.{ℕ, ◌≡◌, ◌<◌, ◌≤◌, ◌↔◌, true, false, Some, None, length, OnOk, OnErr, IsErr, IfSome, slice_set};
+ghost use Rattle.std.specs.Prelude.{ℕ, ◌≡◌, ◌<◌, ◌≤◌, ◌↔◌, true, false, Some, None, length, map, OnOk, OnErr, IsErr, IfSome, slice_set};
 ghost use Rattle.std.specs.List.{list_any};
 ghost use Rattle.xs_base.specs.Numbers.{Slot};
 ghost use Rattle.xs_base.specs.declared.numbers.TheConstants.{TIMERS};
@@ -10,9 +10,11 @@ ghost use Rattle.xs_model.specs.Time.{time_at, timer_holds, freed_timer, with_va
 ghost use Rattle.quiet_model.specs.Slots.{IsFirst};
 ghost use Rattle.timers_clocks.specs.Timers.{no_timers, timer_at, with_got_timer, timers_after};
 ghost use Rattle.timers_clocks.specs.Alike.{SomeTurnsAfter};
+ghost use Rattle.timers_clocks.specs.States.{timer_state, timer_of};
 
 use crate::answers::Bad;
 use crate::conditions;
+use crate::state::TimerState;
 use crate::timer::{Timer, time};
 use std::marker::Model;
 use xs_base::numbers::TIMERS;
@@ -192,6 +194,25 @@ impl Timers {
         ensures value { result ≡ (timer_at self.now n).used }
     {
         self.timers[n as usize].is_used()
+    }
+
+    /// What a snapshot keeps of the timers, by their numbers. It takes no memory. See docs/SNAPSHOTS.md.
+    pub fn state(&self) -> [TimerState; 10]
+        ensures value { result ≡ map timer_state self.now }
+    {
+        self.timers.each_ref().map(Timer::state)
+    }
+
+    /// The timers that a snapshot keeps, by their numbers. It takes no memory. See docs/SNAPSHOTS.md.
+    pub fn of_state(timers: &[TimerState; 10]) -> Timers
+        ensures value { result ≡ map timer_of timers.now }
+    {
+        let all = timers.map(Timer::of_state);
+        let conditions = conditions::of_all(&all);
+        Timers {
+            timers: all,
+            conditions,
+        }
     }
 }
 
