@@ -3,3 +3,4 @@ pub mod Lowest
 pub mod Picked
 pub mod Turns
 pub mod Rested
+pub mod Marked

@@ -160,6 +160,33 @@ impl Slots {
             _ => Some(slot),
         };
     }
+
+    /// What a snapshot keeps: the slot in which each thread issued last, by the threads' numbers, and that of the core's last division,
+    /// each `None` where there was none. It takes no memory. See docs/SNAPSHOTS.md.
+    pub fn state(&self) -> ([Option<u32>; 8], Option<u32>)
+        ensures last { result.0 ≡ self.now.last }
+        ensures division { result.1 ≡ self.now.division }
+    {
+        let mut last = [None; 8];
+        for th in 0..THREADS {
+            last[th as usize] = self.last(th);
+        }
+        (last, self.division)
+    }
+
+    /// The last issues that a snapshot keeps, by the threads' numbers, and its last division. It takes no memory. See
+    /// docs/SNAPSHOTS.md.
+    pub fn of_state(last: &[Option<u32>; 8], division: Option<u32>) -> Slots
+        ensures value { result ≡ record { last = last.now; division = division } }
+    {
+        let mut slots = Slots::new();
+        for th in 0..THREADS {
+            if let Some(slot) = last[th as usize] {
+                slots.mark_issue(th, slot);
+            }
+        }
+        Slots { division, ..slots }
+    }
 }
 
 /// The mask with no thread in it, for `Slots::pick`.
