@@ -1,3 +1,5 @@
 pub mod First
 pub mod Disabled
 pub mod Wakes
+pub mod Made
+pub mod States

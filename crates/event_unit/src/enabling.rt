@@ -3,8 +3,10 @@ ghost use Rattle.std.specs.Prelude.{◌≡◌, Some};
 ghost use Rattle.xs_model.specs.Record.{not_enabled};
 ghost use Rattle.xs_model.specs.Enabling.{with_vector, with_environment, in_mode};
 ghost use Rattle.event_unit.specs.Ready.{choice_of};
+ghost use Rattle.event_unit.specs.States.{enable_state, enable_of};
 
 use crate::answers::Choice;
+use crate::state::EnableState;
 use std::marker::Model;
 
 /// What a resource gives where it is ready, and to which thread. Contracts see it as an `EnablingRec` of
@@ -88,6 +90,30 @@ impl Enabling {
             interrupt: self.interrupt,
             vector: self.vector,
             env: self.env,
+        }
+    }
+
+    /// What a snapshot keeps of it.
+    pub(crate) fn state(self) -> EnableState
+        ensures { result ≡ enable_state self }
+    {
+        EnableState {
+            vector: self.vector,
+            env: self.env,
+            interrupt: self.interrupt,
+            by: self.thread,
+        }
+    }
+
+    /// What a snapshot keeps, again.
+    pub(crate) fn of_state(state: EnableState) -> Enabling
+        ensures { result ≡ enable_of state }
+    {
+        Enabling {
+            vector: state.vector,
+            env: state.env,
+            interrupt: state.interrupt,
+            thread: state.by,
         }
     }
 }

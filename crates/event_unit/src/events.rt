@@ -1,5 +1,5 @@
 //! `Events`, what of a core gives events and interrupts, and to which thread.
-ghost use Rattle.std.specs.Prelude.{ℕ, ◌≡◌, ◌≢◌, ◌<◌, ◌↔◌, true, None, is_some, slice_index_or};
+ghost use Rattle.std.specs.Prelude.{ℕ, ◌≡◌, ◌≢◌, ◌<◌, ◌↔◌, true, None, is_some, map, slice_index_or};
 ghost use Rattle.xs_base.specs.declared.numbers.TheConstants.{THREADS};
 ghost use Rattle.xs_model.specs.Masks.{in_mask};
 ghost use Rattle.xs_model.specs.Status.{no_status};
@@ -8,10 +8,12 @@ ghost use Rattle.xs_model.specs.Enabling.{enabling_of, with_enabling, changed, e
 ghost use Rattle.xs_model.specs.Choices.{ReadyRec, choice_by, choice_in_mode};
 ghost use Rattle.event_unit.specs.Marks.{HasThread};
 ghost use Rattle.event_unit.specs.Ready.{AreReady, IsRes, choice_of};
+ghost use Rattle.event_unit.specs.States.{enable_state, enable_of, AreEnableStates};
 
 use crate::answers::{Choice, Ready};
 use crate::enabling::Enabling;
 use crate::group::Group;
+use crate::state::EnableState;
 use bitflags::Flags;
 use core_state::Status;
 use std::marker::Model;
@@ -154,6 +156,38 @@ impl Events {
             }
         }
         mask
+    }
+
+    /// What a snapshot keeps of what the channel ends, the timers and the ports give, each by their numbers. It takes no memory.
+    /// See docs/SNAPSHOTS.md.
+    pub fn state(&self) -> ([EnableState; 32], [EnableState; 10], [EnableState; 29])
+        ensures chans { result.0 ≡ map enable_state self.now.chans }
+        ensures timers { result.1 ≡ map enable_state self.now.timers }
+        ensures ports { result.2 ≡ map enable_state self.now.ports }
+    {
+        let chans = self.chans.entries().map(Enabling::state);
+        let timers = self.timers.entries().map(Enabling::state);
+        let ports = self.ports.entries().map(Enabling::state);
+        (chans, timers, ports)
+    }
+
+    /// What the channel ends, the timers and the ports give as a snapshot keeps it, each by their numbers. It takes no memory.
+    /// See docs/SNAPSHOTS.md.
+    pub fn of_state(
+        chans: &[EnableState; 32],
+        timers: &[EnableState; 10],
+        ports: &[EnableState; 29],
+    ) -> Events
+        requires chans { AreEnableStates chans.now }
+        requires timers { AreEnableStates timers.now }
+        requires ports { AreEnableStates ports.now }
+        ensures value { result ≡ record { chans = map enable_of chans.now; timers = map enable_of timers.now; ports = map enable_of ports.now } }
+    {
+        Events {
+            chans: Group::of_state(chans),
+            timers: Group::of_state(timers),
+            ports: Group::of_state(ports),
+        }
     }
 
     // What a resource gives.

@@ -7,9 +7,11 @@ ghost use Rattle.xs_model.specs.Record.{EnablingRec, not_enabled};
 ghost use Rattle.xs_model.specs.Enabling.{gives_to, disabled_where};
 ghost use Rattle.xs_model.specs.Choices.{first_ready};
 ghost use Rattle.event_unit.specs.Marks.{HasThread, entry_at, disabled_in};
+ghost use Rattle.event_unit.specs.States.{enable_of, AreEnableStates};
 
 use crate::enabling::Enabling;
 use crate::marks::Marks;
+use crate::state::EnableState;
 use bit_masks::{has_bit, lowest};
 use std::marker::Model;
 
@@ -44,6 +46,27 @@ impl<const N: usize> Group<N> {
             entries: [Enabling::none(); N],
             marks: Marks::none(),
         }
+    }
+
+    /// The resources of one kind as a snapshot keeps them.
+    pub(crate) fn of_state(states: &[EnableState; N]) -> Group<N>
+        requires most { N ≤ 32 }
+        requires threads { AreEnableStates states.now }
+        ensures { result ≡ map enable_of states.now }
+    {
+        let mut group = Group::new();
+        for n in 0..group.count() {
+            group.set(n, Enabling::of_state(states[n as usize]));
+        }
+        group
+    }
+
+    /// What each of them gives.
+    pub(crate) fn entries(&self) -> &[Enabling; N]
+        ensures value { result.now ≡ self.now }
+        ensures count { length self.now ≡ N }
+    {
+        &self.entries
     }
 
     /// What resource `n` gives.

@@ -6,7 +6,9 @@ mod enabling;
 mod events;
 mod group;
 mod marks;
+mod state;
 
 pub use answers::{Choice, Ready};
 pub use events::Events;
+pub use state::EnableState;
 pub use xs_model::Res;
