@@ -1,1 +1,4 @@
 pub mod Slaves
+pub mod Made
+pub mod Masks
+pub mod States

@@ -1,3 +1,3 @@
 pub mod Syncs
 pub mod Answers
-pub mod State
+pub mod States

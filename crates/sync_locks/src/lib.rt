@@ -4,8 +4,10 @@
 
 mod answers;
 mod lock;
+mod state;
 mod sync;
 mod syncs;
 
 pub use answers::{Bad, Claim};
+pub use state::{LockState, SyncState};
 pub use syncs::Syncs;

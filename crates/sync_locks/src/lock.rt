@@ -5,24 +5,18 @@ ghost use Rattle.xs_model.specs.Syncs.{is_thread, free_lock, claimed, released, 
 ghost use Rattle.sync_locks.specs.declared.answers.Claim.TheVariants as claim;
 ghost use Rattle.sync_locks.specs.Answers.{claim_answer};
 ghost use Rattle.sync_locks.specs.Syncs.{lock_after, lock_after_claim};
+ghost use Rattle.sync_locks.specs.States.{lock_state, lock_of};
 
 use crate::answers::{Bad, Claim};
+use crate::state::LockState;
 use std::marker::Model;
 
-/// A lock. Contracts see it as a `LockRec` of `Rattle.xs_model.specs.Record`.
+/// A lock: whether it is in use, and its owner, if it has one. One that a snapshot gave may have an owner though it is not in
+/// use. Contracts see it as a `LockRec` of `Rattle.xs_model.specs.Record`.
 #[derive(Drop)]
 pub(crate) struct Lock {
-    state: State,
-}
-
-/// What a lock is at.
-#[derive(Clone, Copy)]
-enum State {
-    Unused,
-    /// In use, and nobody owns it.
-    Free,
-    /// This thread owns it.
-    Owned(u8),
+    used: bool,
+    owner: Option<u8>,
 }
 
 impl Model for Lock {
@@ -30,9 +24,7 @@ impl Model for Lock {
 
     ghost Value = { LockRec };
 
-    ghost use Rattle.sync_locks.specs.State.{lock_at_state};
-
-    ghost view = { λ lock. lock_at_state lock.state };
+    ghost view = { λ lock. record { used = lock.used; owner = lock.owner } };
 }
 
 impl Default for Lock {
@@ -43,7 +35,8 @@ impl Default for Lock {
 
     fn default() -> Self {
         Lock {
-            state: State::Unused,
+            used: false,
+            owner: None,
         }
     }
 }
@@ -53,22 +46,22 @@ impl Lock {
     pub(crate) fn get(&mut self)
         ensures { self.new ≡ free_lock }
     {
-        self.state = State::Free;
+        *self = Lock {
+            used: true,
+            owner: None,
+        };
     }
 
     pub(crate) fn is_used(&self) -> bool
         ensures { result ≡ self.now.used }
     {
-        !matches!(self.state, State::Unused)
+        self.used
     }
 
     pub(crate) fn owner(&self) -> Option<u8>
         ensures { result ≡ self.now.owner }
     {
-        match self.state {
-            State::Owned(owner) => Some(owner),
-            State::Unused | State::Free => None,
-        }
+        self.owner
     }
 
     /// A thread would own it.
@@ -76,34 +69,34 @@ impl Lock {
         ensures answer { result ≡ claim_answer (claimed by self.old) }
         ensures after { self.new ≡ lock_after_claim self.old (claimed by self.old) }
         ensures got { (result ≡ claim.Got) ↔ ((self.old.used ≡ true) × (self.old.owner ≡ None)) }
-        ensures held { (result ≡ claim.Held) ↔ IsSomeAnd self.old.owner (λ owner. owner ≢ by) }
+        ensures held { (result ≡ claim.Held) ↔ ((self.old.used ≡ true) × IsSomeAnd self.old.owner (λ owner. owner ≢ by)) }
         ensures bad { (result ≡ claim.Bad) ↔ ((self.old.used ≡ false) ⊎ (self.old.owner ≡ Some by)) }
     {
-        match self.state {
-            State::Unused => Claim::Bad,
-            State::Free => {
-                self.state = State::Owned(by);
+        if !self.used {
+            return Claim::Bad;
+        }
+        match self.owner {
+            None => {
+                self.owner = Some(by);
                 Claim::Got
             }
-            State::Owned(owner) if owner == by => Claim::Bad,
-            State::Owned(_) => Claim::Held,
+            Some(owner) if owner == by => Claim::Bad,
+            Some(_) => Claim::Held,
         }
     }
 
-    /// Its owner gives it up: refused exactly where the thread is not its owner.
+    /// Its owner gives it up: refused exactly where it is not in use, or the thread is not its owner.
     pub(crate) fn release(&mut self, by: u8) -> Result<(), Bad>
         ensures ok { OnOk result (released by self.old ≡ Some free_lock) }
         ensures err { OnErr result (released by self.old ≡ None) }
         ensures after { self.new ≡ lock_after self.old (released by self.old) }
-        ensures bad { IsErr result ↔ (is_thread by self.old.owner ≡ false) }
+        ensures bad { IsErr result ↔ ((self.old.used ≡ false) ⊎ (is_thread by self.old.owner ≡ false)) }
     {
-        match self.state {
-            State::Owned(owner) if owner == by => {
-                self.state = State::Free;
-                Ok(())
-            }
-            _ => Err(Bad),
+        if !self.used || self.owner != Some(by) {
+            return Err(Bad);
         }
+        self.owner = None;
+        Ok(())
     }
 
     /// Puts it out of use: refused exactly where it is not in use, or a thread owns it.
@@ -113,12 +106,30 @@ impl Lock {
         ensures after { self.new ≡ lock_after self.old (freed_lock self.old) }
         ensures bad { IsErr result ↔ ((self.old.used ≡ false) ⊎ IsSome self.old.owner) }
     {
-        match self.state {
-            State::Free => {
-                self.state = State::Unused;
-                Ok(())
-            }
-            State::Unused | State::Owned(_) => Err(Bad),
+        if !self.used || self.owner.is_some() {
+            return Err(Bad);
+        }
+        self.used = false;
+        Ok(())
+    }
+
+    /// What a snapshot keeps of it.
+    pub(crate) fn state(&self) -> LockState
+        ensures { result ≡ lock_state self.now }
+    {
+        LockState {
+            used: self.used,
+            owner: self.owner,
+        }
+    }
+
+    /// The lock that a snapshot keeps.
+    pub(crate) fn of_state(state: LockState) -> Lock
+        ensures { result ≡ lock_of state }
+    {
+        Lock {
+            used: state.used,
+            owner: state.owner,
         }
     }
 }

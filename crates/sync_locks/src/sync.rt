@@ -5,8 +5,10 @@ ghost use Rattle.xs_model.specs.Record.{unused_sync};
 ghost use Rattle.xs_model.specs.Masks.{in_mask, members};
 ghost use Rattle.xs_model.specs.Syncs.{is_thread, is_sync_used, got_sync, is_bound, bound, freed_sync, with_slave};
 ghost use Rattle.sync_locks.specs.Syncs.{sync_after};
+ghost use Rattle.sync_locks.specs.States.{sync_state, sync_of};
 
 use crate::answers::Bad;
+use crate::state::SyncState;
 use bit_masks::has_bit;
 use std::marker::Model;
 
@@ -114,5 +116,26 @@ impl Sync {
         }
         self.master = None;
         Ok(())
+    }
+
+    /// What a snapshot keeps of it.
+    pub(crate) fn state(&self) -> SyncState
+        ensures { result ≡ sync_state self.now }
+    {
+        SyncState {
+            used: self.is_used(),
+            master: self.master().unwrap_or(0),
+            slaves: self.slaves(),
+        }
+    }
+
+    /// The synchroniser that a snapshot keeps.
+    pub(crate) fn of_state(state: SyncState) -> Sync
+        ensures { result ≡ sync_of state }
+    {
+        Sync {
+            master: if state.used { Some(state.master) } else { None },
+            slaves: state.slaves,
+        }
     }
 }

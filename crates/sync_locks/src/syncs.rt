@@ -1,5 +1,5 @@
 //! `Syncs`, the synchronisers and locks of a core.
-ghost use Rattle.std.specs.Prelude.{ℕ, ◌≡◌, ◌≢◌, ◌<◌, ◌↔◌, ◌⊎◌, true, false, Some, None, [], length, OnOk, OnErr, IsErr, IsSome, IfSome, IsSomeAnd};
+ghost use Rattle.std.specs.Prelude.{ℕ, ◌≡◌, ◌≢◌, ◌<◌, ◌↔◌, ◌⊎◌, true, false, Some, None, [], length, map, OnOk, OnErr, IsErr, IsSome, IfSome, IsSomeAnd};
 ghost use Rattle.xs_base.specs.declared.numbers.TheConstants.{THREADS, SYNCHRONISERS, LOCKS};
 ghost use Rattle.xs_model.specs.Record.{unused_sync, unused_lock};
 ghost use Rattle.xs_model.specs.Free.{lowest_free};
@@ -8,9 +8,11 @@ ghost use Rattle.xs_model.specs.Syncs.{is_thread, is_sync_used, is_bound, with_s
 ghost use Rattle.sync_locks.specs.declared.answers.Claim.TheVariants as claim;
 ghost use Rattle.sync_locks.specs.Answers.{claim_answer};
 ghost use Rattle.sync_locks.specs.Syncs.{all_unused, sync_at, lock_at, with_got_sync, with_got_lock, with_sync_at, syncs_after, locks_after, locks_after_claim};
+ghost use Rattle.sync_locks.specs.States.{sync_state, sync_of, lock_state, lock_of, AreSyncStates, AreLockStates};
 
 use crate::answers::{Bad, Claim};
 use crate::lock::Lock;
+use crate::state::{LockState, SyncState};
 use crate::sync::Sync;
 use std::marker::Model;
 use xs_base::numbers::{LOCKS, SYNCHRONISERS};
@@ -161,8 +163,8 @@ impl Syncs {
     }
 
     /// Thread `by`, 0 to 7, would own lock `lock`, 0 to 3: where it is in use and nobody owns it, the thread owns it
-    /// then. `Held` comes exactly where another thread owns it, and `Bad` exactly where it is not in use or `by` owns
-    /// it; then nothing changes. See docs/THREADS.md.
+    /// then. `Held` comes exactly where it is in use and another thread owns it, and `Bad` exactly where it is not in use or
+    /// `by` owns it; then nothing changes. See docs/THREADS.md.
     pub fn claim(&mut self, lock: u8, by: u8) -> Claim
         requires lock { lock < LOCKS }
         requires by { by < THREADS }
@@ -170,14 +172,14 @@ impl Syncs {
         ensures after { self.new ≡ locks_after_claim self.old lock (claimed by (lock_at self.old.locks lock)) }
         ensures unchanged { result ≢ claim.Got → self.new ≡ self.old }
         ensures got { (result ≡ claim.Got) ↔ (((lock_at self.old.locks lock).used ≡ true) × ((lock_at self.old.locks lock).owner ≡ None)) }
-        ensures held { (result ≡ claim.Held) ↔ IsSomeAnd (lock_at self.old.locks lock).owner (λ owner. owner ≢ by) }
+        ensures held { (result ≡ claim.Held) ↔ (((lock_at self.old.locks lock).used ≡ true) × IsSomeAnd (lock_at self.old.locks lock).owner (λ owner. owner ≢ by)) }
         ensures bad { (result ≡ claim.Bad) ↔ (((lock_at self.old.locks lock).used ≡ false) ⊎ ((lock_at self.old.locks lock).owner ≡ Some by)) }
     {
         self.locks[lock as usize].claim(by)
     }
 
     /// Thread `by`, 0 to 7, gives lock `lock`, 0 to 3, up: it is in use then, and nobody owns it. `Bad` comes exactly
-    /// where `by` is not its owner, and then nothing changes. See docs/THREADS.md.
+    /// where it is not in use or `by` is not its owner, and then nothing changes. See docs/THREADS.md.
     pub fn release(&mut self, lock: u8, by: u8) -> Result<(), Bad>
         requires lock { lock < LOCKS }
         requires by { by < THREADS }
@@ -185,7 +187,7 @@ impl Syncs {
         ensures err { OnErr result (released by (lock_at self.old.locks lock) ≡ None) }
         ensures after { self.new ≡ locks_after self.old lock (released by (lock_at self.old.locks lock)) }
         ensures unchanged { OnErr result (self.new ≡ self.old) }
-        ensures bad { IsErr result ↔ (is_thread by (lock_at self.old.locks lock).owner ≡ false) }
+        ensures bad { IsErr result ↔ (((lock_at self.old.locks lock).used ≡ false) ⊎ (is_thread by (lock_at self.old.locks lock).owner ≡ false)) }
     {
         self.locks[lock as usize].release(by)
     }
@@ -201,6 +203,29 @@ impl Syncs {
         ensures bad { IsErr result ↔ (((lock_at self.old.locks lock).used ≡ false) ⊎ IsSome (lock_at self.old.locks lock).owner) }
     {
         self.locks[lock as usize].free()
+    }
+
+    /// What a snapshot keeps of the synchronisers and of the locks, each by their numbers. It takes no memory. See
+    /// docs/SNAPSHOTS.md.
+    pub fn state(&self) -> ([SyncState; 7], [LockState; 4])
+        ensures syncs { result.0 ≡ map sync_state self.now.syncs }
+        ensures locks { result.1 ≡ map lock_state self.now.locks }
+    {
+        let syncs = self.syncs.each_ref().map(Sync::state);
+        let locks = self.locks.each_ref().map(Lock::state);
+        (syncs, locks)
+    }
+
+    /// The synchronisers and locks that a snapshot keeps, each by their numbers. It takes no memory. See docs/SNAPSHOTS.md.
+    pub fn of_state(syncs: &[SyncState; 7], locks: &[LockState; 4]) -> Syncs
+        requires syncs { AreSyncStates syncs.now }
+        requires locks { AreLockStates locks.now }
+        ensures value { result ≡ record { syncs = map sync_of syncs.now; locks = map lock_of locks.now } }
+    {
+        Syncs {
+            syncs: syncs.map(Sync::of_state),
+            locks: locks.map(Lock::of_state),
+        }
     }
 }
 
