@@ -17,7 +17,8 @@ pub sync-again : (master : Option ℕ) (mask : ℕ) → mask < 2 ^ 8 → sync_of
 sync-again None mask fits = ap (with_mask None) (mask-again mask fits)
 sync-again (Some k) mask fits = ap (with_mask (Some k)) (mask-again mask fits)
 
-again : (used : Bool) (master slaves : ℕ) → slaves < 2 ^ 8 → (used ≡ false → (master ≡ 0) × (slaves ≡ 0)) → let state : SyncState = record { used = used; master = master; slaves = slaves } in sync_state (sync_of state) ≡ state
+again : (used : Bool) (master slaves : ℕ) → slaves < 2 ^ 8 → (used ≡ false → (master ≡ 0) × (slaves ≡ 0))
+    → let state : SyncState = record { used = used; master = master; slaves = slaves } in sync_state (sync_of state) ≡ state
 again true master slaves fits unused = ap (λ n. let state : SyncState = record { used = true; master = master; slaves = n } in state) (mask-again slaves fits)
 again false master slaves fits unused =
     ap (λ n. let state : SyncState = record { used = false; master = 0; slaves = n } in state) (mask-again slaves fits)

@@ -7,5 +7,6 @@ pub returns : goal.returns
 returns c = record {
   value =
       ap (λ (last : List (Option ℕ)). let slots : SlotsRec = record { last = last; division = c.args.division } in slots)
-      (ap (λ (slots : SlotsRec). slots.last) c.slots.view_is ∙ all_marked c.loop-th.th c.args.last.now c.loop-th.slots.last (omega (arith, c.told-last)) (omega (arith, c.loop-th-test.false)) c.loop-th.invariant);
+      (ap (λ (slots : SlotsRec). slots.last) c.slots.view_is
+      ∙ all_marked c.loop-th.th c.args.last.now c.loop-th.slots.last (omega (arith, c.told-last)) (omega (arith, c.loop-th-test.false)) c.loop-th.invariant);
 }

@@ -6,5 +6,9 @@ use Rattle.timers_clocks.proofs.clocks.Clocks.state.Goals as goal
 
 pub returns : goal.returns
 returns c = record {
-  value = rw (← c.self.view_is) (made_of_each _ _ clock_state c.each_ref.result c.self.inside.blocks c.map.result 6 off_clock c.self.invariant c.each_ref.ensures.items c.map.ensures.items (λ p r y q called. search rules));
+  value =
+      rw (← c.self.view_is) (
+      made_of_each _ _ clock_state c.each_ref.result c.self.inside.blocks c.map.result 6 off_clock
+      c.self.invariant c.each_ref.ensures.items c.map.ensures.items (λ p r y q called. search rules)
+      );
 }

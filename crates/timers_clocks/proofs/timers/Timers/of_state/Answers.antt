@@ -5,5 +5,7 @@ use Rattle.timers_clocks.proofs.timers.Timers.of_state.Goals as goal
 
 pub returns : goal.returns
 returns c = record {
-  value = made_of _ _ timer_of c.args.timers.now c.map-all.result 10 (record { used = false; after = false; value = 0 }) (omega (arith, c.told-timers)) c.map-all.ensures.items (λ p x y q called. search rules);
+  value =
+      made_of _ _ timer_of c.args.timers.now c.map-all.result 10 (record { used = false; after = false; value = 0 })
+      (omega (arith, c.told-timers)) c.map-all.ensures.items (λ p x y q called. search rules);
 }

@@ -6,5 +6,9 @@ use Rattle.timers_clocks.proofs.timers.Timers.state.Goals as goal
 
 pub returns : goal.returns
 returns c = record {
-  value = rw (← c.self.view_is) (made_of_each _ _ timer_state c.each_ref.result c.self.inside.timers c.map.result 10 unused_timer c.self.invariant.0 c.each_ref.ensures.items c.map.ensures.items (λ p r y q called. search rules));
+  value =
+      rw (← c.self.view_is) (
+      made_of_each _ _ timer_state c.each_ref.result c.self.inside.timers c.map.result 10 unused_timer
+      c.self.invariant.0 c.each_ref.ensures.items c.map.ensures.items (λ p r y q called. search rules)
+      );
 }
