@@ -1,2 +1,4 @@
 pub mod Unused
 pub mod Marked
+pub mod Filled
+pub mod States

@@ -5,11 +5,13 @@ ghost use Rattle.xs_model.specs.Waits.{has_room, has_tokens, is_control};
 ghost use Rattle.net_model.specs.Chans.{Got, Refused, got_chan, put_away, freed_chan, found_at, chan_after, take_dest, take_net, put_tokens, put_token, bytes_of_word, put_word};
 ghost use Rattle.net_model.specs.Chans.{joined, take_word, take_byte, take_ctrl, check_token, look, control_place, look_word};
 ghost use Rattle.chan_ends.specs.Ends.{has_output, chan_where_freed};
+ghost use Rattle.chan_ends.specs.States.{chan_state, chan_of};
 ghost use Rattle.xs_model.specs.Choices.{chan_is_ready};
 ghost use Rattle.chan_ends.specs.Answers.{put_answer, take_answer};
 ghost use Rattle.chan_ends.specs.declared.answers.Take.TheVariants as taken;
 
 use crate::answers::{Bad, Put, Take};
+use crate::state::ChanState;
 use arrayvec::ArrayVec;
 use std::marker::Model;
 use xs_base::Token;
@@ -326,6 +328,32 @@ impl ChanEnd {
         self.input.push(t);
         true
     }
+
+    /// What a snapshot keeps of it.
+    pub(crate) fn state(&self) -> ChanState
+        ensures value { result ≡ chan_state self.now }
+    {
+        ChanState {
+            used: self.used,
+            net: self.net,
+            dest: self.dest,
+            output: copy_of(&self.output),
+            input: copy_of(&self.input),
+        }
+    }
+
+    /// The channel end that a state says.
+    pub(crate) fn of_state(state: &ChanState) -> ChanEnd
+        ensures value { result ≡ chan_of state.now }
+    {
+        ChanEnd {
+            used: state.used,
+            net: state.net,
+            dest: state.dest,
+            output: copy_of(&state.output),
+            input: copy_of(&state.input),
+        }
+    }
 }
 
 /// Whether so many tokens are there, or a control token is among the first so many.
@@ -405,4 +433,13 @@ fn first_of(tokens: &ArrayVec<Token, 8>) -> Option<Token>
         Some(first) => Some(*first),
         None => None,
     }
+}
+
+// A buffer with the same tokens.
+fn copy_of(tokens: &ArrayVec<Token, 8>) -> ArrayVec<Token, 8>
+    ensures { result ≡ tokens.now }
+{
+    let mut copy = ArrayVec::new();
+    let _ = copy.try_extend_from_slice(tokens.as_slice());
+    copy
 }

@@ -1,18 +1,20 @@
 //! `ChanEnds`, the channel ends of a core.
-ghost use Rattle.std.specs.Prelude.{ℕ, ◌≡◌, ◌<◌, ◌↔◌, true, false, Some, None, [], ◌∷◌, ◌++◌, drop, length, replicate, slice_get, slice_set, IsOk, OnOk, OnErr, IfSome, IsTrue, IsFalse};
-ghost use Rattle.std.specs.List.{list_any};
+ghost use Rattle.std.specs.Prelude.{ℕ, ◌≡◌, ◌<◌, ◌↔◌, true, false, Some, None, [], ◌∷◌, ◌++◌, drop, length, map, replicate, slice_get, slice_set, IsOk, OnOk, OnErr, IfSome, IsTrue, IsFalse};
+ghost use Rattle.std.specs.List.{list_any, AllByRecursion};
 ghost use Rattle.xs_base.specs.declared.numbers.TheConstants.{CHAN_ENDS};
 ghost use Rattle.xs_model.specs.Record.{unused_chan};
 ghost use Rattle.xs_model.specs.Masks.{in_mask};
 ghost use Rattle.xs_model.specs.Waits.{has_room, has_tokens};
 ghost use Rattle.net_model.specs.Chans.{Got, Refused, free_chan, put_away, freed_chan, found_at, put_token, put_word, take_word, take_byte, take_ctrl, check_token, look, look_word, take_dest, take_net};
 ghost use Rattle.chan_ends.specs.Ends.{chan_at, has_output, with_got, with_freed, chans_after};
+ghost use Rattle.chan_ends.specs.States.{chan_state, chan_of, IsChanState};
 ghost use Rattle.xs_model.specs.Choices.{chan_is_ready};
 ghost use Rattle.chan_ends.specs.Answers.{put_answer, take_answer};
 
 use crate::answers::{Bad, Put, Take};
 use crate::chan_end::ChanEnd;
 use crate::marks::Marks;
+use crate::state::ChanState;
 use std::marker::Model;
 use xs_base::Token;
 use xs_base::numbers::{BUFFER_TOKENS, CHAN_ENDS};
@@ -48,6 +50,38 @@ impl ChanEnds {
             ends: Default::default(),
             marks: Marks::default(),
         }
+    }
+
+    /// What a snapshot keeps of each channel end, by number. It takes no memory. See docs/SNAPSHOTS.md.
+    pub fn state(&self) -> [ChanState; 32]
+        ensures value { result ≡ map chan_state self.now }
+    {
+        let mut states: [ChanState; 32] = Default::default();
+        for c in 0..CHAN_ENDS {
+            states[c as usize] = self.ends[c as usize].state();
+        }
+        states
+    }
+
+    /// The channel ends that a snapshot says, by number. It takes no memory. See docs/SNAPSHOTS.md.
+    pub fn of_state(node: u16, chans: &[ChanState; 32]) -> ChanEnds
+        requires facts { AllByRecursion IsChanState chans.now }
+        ensures value { result ≡ map chan_of chans.now }
+    {
+        let mut ends = ChanEnds::new(node);
+        for c in 0..CHAN_ENDS {
+            ends.set(c, ChanEnd::of_state(&chans[c as usize]));
+        }
+        ends
+    }
+
+    // Puts a channel end in place of what was there.
+    fn set(&mut self, c: u8, end: ChanEnd)
+        requires { c < CHAN_ENDS }
+        ensures { self.new ≡ slice_set self.old c end }
+    {
+        self.marks.note(c, &end);
+        self.ends[c as usize] = end;
     }
 
     /// Gets the channel end with the lowest number that is not in use: it is in use then, of network 0, with no

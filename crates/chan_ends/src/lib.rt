@@ -5,7 +5,9 @@ mod answers;
 mod chan_end;
 mod ends;
 mod marks;
+mod state;
 
 pub use answers::{Bad, Put, Take};
 pub use ends::ChanEnds;
+pub use state::ChanState;
 pub use xs_base::Token;
