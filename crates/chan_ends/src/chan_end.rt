@@ -5,7 +5,7 @@ ghost use Rattle.xs_model.specs.Waits.{has_room, has_tokens, is_control};
 ghost use Rattle.net_model.specs.Chans.{Got, Refused, got_chan, put_away, freed_chan, found_at, chan_after, take_dest, take_net, put_tokens, put_token, bytes_of_word, put_word};
 ghost use Rattle.net_model.specs.Chans.{joined, take_word, take_byte, take_ctrl, check_token, look, control_place, look_word};
 ghost use Rattle.chan_ends.specs.Ends.{has_output, chan_where_freed};
-ghost use Rattle.chan_ends.specs.States.{chan_state, chan_of};
+ghost use Rattle.chan_ends.specs.States.{chan_state, chan_of, IsChan, IsChanState};
 ghost use Rattle.xs_model.specs.Choices.{chan_is_ready};
 ghost use Rattle.chan_ends.specs.Answers.{put_answer, take_answer};
 ghost use Rattle.chan_ends.specs.declared.answers.Take.TheVariants as taken;
@@ -37,6 +37,10 @@ impl Model for ChanEnd {
     ghost Value = { ChanRec };
 
     ghost view = { λ end. record { used = end.used; net = end.net; dest = end.dest; output = end.output.items; input = end.input.items } };
+
+    ghost use Rattle.chan_ends.specs.States.{IsChan};
+
+    ghost invariant = { λ end. IsChan (record { used = end.used; net = end.net; dest = end.dest; output = end.output.items; input = end.input.items }) };
 }
 
 impl Default for ChanEnd {
@@ -332,6 +336,7 @@ impl ChanEnd {
     /// What a snapshot keeps of it.
     pub(crate) fn state(&self) -> ChanState
         ensures value { result ≡ chan_state self.now }
+        ensures facts { IsChan self.now }
     {
         ChanState {
             used: self.used,
@@ -344,6 +349,7 @@ impl ChanEnd {
 
     /// The channel end that a state says.
     pub(crate) fn of_state(state: &ChanState) -> ChanEnd
+        requires facts { IsChanState state.now }
         ensures value { result ≡ chan_of state.now }
     {
         ChanEnd {

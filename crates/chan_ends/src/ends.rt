@@ -55,6 +55,7 @@ impl ChanEnds {
     /// What a snapshot keeps of each channel end, by number. It takes no memory. See docs/SNAPSHOTS.md.
     pub fn state(&self) -> [ChanState; 32]
         ensures value { result ≡ map chan_state self.now }
+        ensures facts { AllByRecursion IsChanState result }
     {
         let mut states: [ChanState; 32] = Default::default();
         for c in 0..CHAN_ENDS {

@@ -1,8 +1,14 @@
 use Rattle.std.proofs.Common.{◌∙◌, ap, length, arith}
 use Rattle.std.proofs.lemmas.List.{length-set}
-use Rattle.chan_ends.specs.States.{chan_of}
+use Rattle.std.proofs.lemmas.List.Elements.{All-from_recursion}
+use Rattle.chan_ends.specs.States.{chan_of, IsChanState}
 use Rattle.chan_ends.proofs.Filled.{filled_more, filled_all}
 use Rattle.chan_ends.proofs.ends.ChanEnds.of_state.Goals as goal
+
+pub of_state-requires : goal.of_state-requires
+of_state-requires c = record {
+  facts = All-from_recursion IsChanState c.args.chans.now c.requires.facts c.loop-c.c c.index-chans-c.result (omega arith);
+}
 
 pub loop-c-preserved : goal.loop-c-preserved
 loop-c-preserved c = record {
