@@ -7,8 +7,12 @@ ghost use Rattle.xs_base.specs.declared.numbers.TheConstants.{BUFFER_TOKENS};
 ghost use Rattle.xs_model.specs.Record.{LinkRec};
 ghost use Rattle.net_model.specs.Links.{fresh_link, token_arrives, credit_arrives, may_send, gap_is_over};
 ghost use Rattle.link_ends.specs.Counts.{CountsOf, fresh_counts, can_send};
+ghost use Rattle.link_ends.specs.States.{end_state, counts_of, end_of, IsEndState};
+
+mod state;
 
 use arrayvec::ArrayVec;
+pub use state::EndState;
 use std::marker::Model;
 use xs_base::Token;
 use xs_base::numbers::WINDOW_TOKENS;
@@ -26,7 +30,7 @@ pub struct LinkEnd {
 }
 
 impl Model for LinkEnd {
-    ghost use Rattle.std.specs.Prelude.{◌≤◌};
+    ghost use Rattle.std.specs.Prelude.{◌≡◌, ◌≤◌, None};
     ghost use Rattle.xs_base.specs.declared.numbers.TheConstants.{BUFFER_TOKENS, WINDOW_TOKENS};
     ghost use Rattle.arrayvec.specs.ArrayVec.{array_vec_len};
     ghost use Rattle.link_ends.specs.Counts.{EndCounts};
@@ -35,7 +39,8 @@ impl Model for LinkEnd {
 
     ghost view = { λ end. record { gap = end.gap; buffer = end.buffer.items; outstanding = end.outstanding; last_sent = end.last_sent } };
 
-    ghost invariant = { λ end. (array_vec_len end.buffer ≤ BUFFER_TOKENS) × (end.outstanding ≤ WINDOW_TOKENS) × (1 ≤ end.gap) };
+    ghost invariant = { λ end. (array_vec_len end.buffer ≤ BUFFER_TOKENS) × (end.outstanding ≤ WINDOW_TOKENS) × (1 ≤ end.gap)
+        × (end.last_sent ≡ None → end.outstanding ≡ 0) };
 }
 
 impl LinkEnd {
@@ -122,6 +127,36 @@ impl LinkEnd {
             Some(self.buffer.remove(0))
         }
     }
+
+    /// What a snapshot keeps of it. It takes no memory. See docs/SNAPSHOTS.md.
+    pub fn state(&self) -> EndState
+        ensures value { result ≡ end_state self.now }
+        ensures facts { IsEndState result }
+        ensures stands { CountsOf self.now (end_of result) }
+    {
+        EndState {
+            present: true,
+            buffer: copy_of(&self.buffer),
+            window: self.outstanding as u8,
+            last: self.last_sent,
+        }
+    }
+
+    /// The link end with this gap, at least 1, that a snapshot says. It takes no memory. See docs/SNAPSHOTS.md.
+    pub fn of_state(gap: u32, end: &EndState) -> LinkEnd
+        requires gap { 1 ≤ gap }
+        requires present { end.now.present ≡ true }
+        requires facts { IsEndState end.now }
+        ensures value { result ≡ counts_of gap end.now }
+        ensures stands { CountsOf result (end_of end.now) }
+    {
+        LinkEnd {
+            gap,
+            buffer: copy_of(&end.buffer),
+            outstanding: u32::from(end.window),
+            last_sent: end.last,
+        }
+    }
 }
 
 impl Default for LinkEnd {
@@ -141,4 +176,13 @@ fn gap_is_over(gap: u32, slot: u32, last: Option<u32>) -> bool
         Some(last) => u64::from(last) + u64::from(gap) <= u64::from(slot),
         None => true,
     }
+}
+
+// A buffer with the same tokens.
+fn copy_of(tokens: &ArrayVec<Token, 8>) -> ArrayVec<Token, 8>
+    ensures { result ≡ tokens.now }
+{
+    let mut copy = ArrayVec::new();
+    let _ = copy.try_extend_from_slice(tokens.as_slice());
+    copy
 }
