@@ -14,3 +14,4 @@ pub mod Still
 pub mod Walk
 pub mod CanAct
 pub mod StillNetwork
+pub mod States

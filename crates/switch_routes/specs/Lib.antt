@@ -8,3 +8,4 @@ pub mod Known
 pub mod Ways
 pub mod InsideSwitch
 pub mod Rest
+pub mod States

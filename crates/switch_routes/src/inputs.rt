@@ -1,16 +1,18 @@
 //! What the switch's inputs are at.
-ghost use Rattle.std.specs.Prelude.{ℕ, ◌≡◌, ◌<◌, ◌≤◌, false, slice_set, slice_index_or};
-ghost use Rattle.std.specs.List.{list_any};
+ghost use Rattle.std.specs.Prelude.{ℕ, ◌≡◌, ◌<◌, ◌≤◌, false, map, slice_set, slice_index_or};
+ghost use Rattle.std.specs.List.{list_any, AllByRecursion};
 ghost use Rattle.xs_base.specs.declared.numbers.TheConstants.{INPUTS};
 ghost use Rattle.xs_model.specs.Record.{Idle};
 ghost use Rattle.xs_model.specs.Masks.{in_mask};
 ghost use Rattle.net_model.specs.Switch.{is_local_to, is_out_by};
 ghost use Rattle.quiet_model.specs.Still.{acts_alone};
 ghost use Rattle.switch_routes.specs.Inputs.{state_of, InputFits, idle_inputs};
+ghost use Rattle.switch_routes.specs.States.{input_state, input_of, IsInputState};
 
+use crate::state::InputState;
 use bit_masks::wide::with_bit;
 use std::marker::Model;
-use xs_base::numbers::HEADER_BYTES;
+use xs_base::numbers::{HEADER_BYTES, INPUTS};
 use xs_model::Dest;
 
 /// What an input of the switch is at. See docs/LINKS.md.
@@ -120,6 +122,81 @@ impl Inputs {
             }
         }
         false
+    }
+
+    /// What a snapshot keeps of each input.
+    pub(crate) fn states(&self) -> [InputState; 40]
+        ensures value { result ≡ map input_state self.now }
+    {
+        let mut states = [InputState::Idle; 40];
+        for input in 0..INPUTS {
+            states[input as usize] = kept_of(self.states[input as usize]);
+        }
+        states
+    }
+
+    /// The inputs that a snapshot says.
+    pub(crate) fn of_states(states: &[InputState; 40]) -> Inputs
+        requires facts { AllByRecursion IsInputState states.now }
+        ensures value { result ≡ map input_of states.now }
+    {
+        let mut inputs = Inputs::new();
+        for input in 0..INPUTS {
+            inputs.set(input, said_by(states[input as usize]));
+        }
+        inputs
+    }
+}
+
+// What a snapshot keeps of an input in this state.
+fn kept_of(state: Input) -> InputState
+    ensures value { result ≡ input_state (state_of state) }
+{
+    match state {
+        Input::Idle => InputState::Idle,
+        Input::Head1 { high } => InputState::Head1 { first: high },
+        Input::Head2 { high, low } => InputState::Head2 {
+            first: high,
+            second: low,
+        },
+        Input::Want { dest, net } => InputState::Want {
+            dest: dest.id(),
+            net,
+        },
+        Input::Local { chan } => InputState::Local { chan },
+        Input::Out { end, headers, dest } => InputState::Out {
+            end,
+            count: headers,
+            dest: dest.id(),
+        },
+        Input::Lost => InputState::Lost,
+    }
+}
+
+// What an input is at by a state.
+fn said_by(state: InputState) -> Input
+    requires facts { IsInputState state }
+    ensures value { state_of result ≡ input_of state }
+    ensures fits { InputFits result }
+{
+    match state {
+        InputState::Idle => Input::Idle,
+        InputState::Head1 { first } => Input::Head1 { high: first },
+        InputState::Head2 { first, second } => Input::Head2 {
+            high: first,
+            low: second,
+        },
+        InputState::Want { dest, net } => Input::Want {
+            dest: Dest::of_id(dest),
+            net,
+        },
+        InputState::Local { chan } => Input::Local { chan },
+        InputState::Out { end, count, dest } => Input::Out {
+            end,
+            headers: count,
+            dest: Dest::of_id(dest),
+        },
+        InputState::Lost => Input::Lost,
     }
 }
 

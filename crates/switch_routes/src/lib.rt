@@ -4,13 +4,15 @@
 mod able;
 mod inputs;
 mod links;
+mod state;
 mod steps;
 mod switch;
 mod wants;
 mod ways;
 mod work;
 
-pub use link_ends::LinkEnd;
+pub use link_ends::{EndState, LinkEnd};
 pub use links::Links;
+pub use state::InputState;
 pub use switch::Switch;
 pub use xs_base::Token;

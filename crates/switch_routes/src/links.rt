@@ -1,20 +1,22 @@
 //! `Links`, the row of a node's link ends.
-ghost use Rattle.std.specs.Prelude.{ℕ, ◌≡◌, ◌≢◌, ◌<◌, ◌≤◌, true, false, is_some, Some, None, Option, IsNone, List, [], ◌∷◌, drop, length, slice_set, slice_index_or, MatchOption};
+ghost use Rattle.std.specs.Prelude.{ℕ, ◌≡◌, ◌≢◌, ◌<◌, ◌≤◌, true, false, is_some, Some, None, Option, IsNone, List, [], ◌∷◌, drop, length, map, slice_set, slice_index_or, MatchOption};
 ghost use Rattle.std.specs.Borrow.{sem};
-ghost use Rattle.std.specs.List.{list_any};
+ghost use Rattle.std.specs.List.{list_any, AllByRecursion};
 ghost use Rattle.xs_base.specs.declared.numbers.TheConstants.{LINK_ENDS};
 ghost use Rattle.xs_model.specs.Masks.{in_mask};
 ghost use Rattle.xs_model.specs.Record.{LinkRec};
 ghost use Rattle.net_model.specs.Links.{links_after_arrivals, link_after_arrivals, token_arrives, credit_arrives};
 ghost use Rattle.net_model.specs.Switch.{Routes, sent_in, end_may_send};
 ghost use Rattle.link_ends.specs.Counts.{EndCounts, CountsOf};
+ghost use Rattle.link_ends.specs.States.{IsEndState};
 ghost use Rattle.switch_routes.specs.Rows.{no_ends, counts_at, AllCountsOf, end_gaps, CreditedBy, SentBy, buffer_of, may_send_by, without_first};
 ghost use Rattle.switch_routes.specs.Rest.{AreMarked, has_waiting};
 ghost use Rattle.switch_routes.specs.Lends.{LendsEnd};
+ghost use Rattle.switch_routes.specs.States.{place_state, link_of};
 
 use arrayvec::ArrayVec;
 use bit_masks::{lowest, without};
-use link_ends::LinkEnd;
+use link_ends::{EndState, LinkEnd};
 use std::marker::Model;
 use xs_base::Token;
 use xs_base::numbers::LINK_ENDS;
@@ -196,6 +198,34 @@ impl Links {
         if let Some(link) = self.end(end) {
             link.sent(slot);
             self.waiting = waiting;
+        }
+    }
+
+    /// What a snapshot keeps of each link end, by number: all 0 for one that is not there. It takes no memory. See docs/SNAPSHOTS.md.
+    pub fn state(&self) -> [EndState; 8]
+        ensures value { result ≡ map place_state self.now }
+        ensures facts { AllByRecursion IsEndState result }
+        ensures stands { AllCountsOf self.now (map link_of result) }
+    {
+        let mut states: [EndState; 8] = Default::default();
+        for end in 0..LINK_ENDS {
+            states[end as usize] = self.state_at(end);
+        }
+        states
+    }
+
+    // What a snapshot keeps of one link end.
+    fn state_at(&self, end: u8) -> EndState
+        requires within { end < LINK_ENDS }
+        ensures value { result ≡ place_state (counts_at self.now end) }
+        ensures facts { IsEndState result }
+        ensures count { length self.now ≡ LINK_ENDS }
+    {
+        let link = &self.ends.as_slice()[end as usize];
+        if self.present[end as usize] {
+            link.state()
+        } else {
+            EndState::default()
         }
     }
 }

@@ -1,5 +1,5 @@
 //! `Switch`, the switch of a node.
-ghost use Rattle.std.specs.Prelude.{◌≡◌, ◌<◌, ◌≤◌, ◌+◌, List, length, IsTrue};
+ghost use Rattle.std.specs.Prelude.{◌≡◌, ◌<◌, ◌≤◌, ◌+◌, List, map, length, IsTrue};
 ghost use Rattle.xs_base.specs.Numbers.{Slot};
 ghost use Rattle.xs_base.specs.declared.numbers.TheConstants.{CHAN_ENDS, SWITCH_EVENTS, EVENTS_BEFORE_SWITCH};
 ghost use Rattle.xs_model.specs.declared.event.Event.{Event};
@@ -10,10 +10,12 @@ ghost use Rattle.quiet_model.specs.Still.{network_is_still};
 ghost use Rattle.switch_routes.specs.Rows.{AllCountsOf, SentBy, end_gaps};
 ghost use Rattle.switch_routes.specs.Switch.{StandsIn, idle_switch, known_routes, with_parts, emitted_after};
 ghost use Rattle.switch_routes.specs.Work.{GoesBy};
+ghost use Rattle.switch_routes.specs.States.{input_state, switch_by, AreInputStates};
 
 use crate::able::able;
 use crate::inputs::{Input, Inputs};
 use crate::links::Links;
+use crate::state::InputState;
 use crate::ways::Ways;
 use crate::work::Work;
 use bit_masks::wide::{lowest, without};
@@ -50,6 +52,26 @@ impl Switch {
         Switch {
             ways: Ways::new(node, ways, nets),
             inputs: Inputs::new(),
+        }
+    }
+
+    /// What a snapshot keeps of each input: those of link ends 0 to 7, then those of channel ends 0 to 31. It takes no memory. See
+    /// docs/SNAPSHOTS.md.
+    pub fn state(&self) -> [InputState; 40]
+        ensures value { result ≡ map input_state self.now.inputs }
+    {
+        self.inputs.states()
+    }
+
+    /// The switch of the node with this id, these ways and these networks of link ends, as `new` has them, whose inputs a snapshot
+    /// says. Only those of link ends are in a header. It takes no memory. See docs/SNAPSHOTS.md.
+    pub fn of_state(node: u16, ways: [u8; 16], nets: [u8; 8], inputs: &[InputState; 40]) -> Switch
+        requires facts { AreInputStates inputs.now }
+        ensures value { result ≡ switch_by node ways nets inputs.now }
+    {
+        Switch {
+            ways: Ways::new(node, ways, nets),
+            inputs: Inputs::of_states(inputs),
         }
     }
 
