@@ -90,11 +90,12 @@ impl Shift {
     }
 
     /// The number that the bits are that are held, in a port whose transfers have `tw` bits: the first to leave is its
-    /// lowest, however many there are.
+    /// lowest, however many there are. Loaded as so many bits, it gives them again.
     #[inline]
     pub fn word(&self, _tw: u32) -> u32
         ensures value { result ≡ value_of self.now.bits }
         ensures fits { result < 2 ^ length self.now.bits }
+        ensures again { bits_of (length self.now.bits) result ≡ self.now.bits }
     {
         self.word
     }

@@ -1,3 +1,4 @@
 pub mod Plain
 pub mod Fits
 pub mod Counted
+pub mod States

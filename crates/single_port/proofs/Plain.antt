@@ -1,5 +1,5 @@
 -- What the edges of the reference clock do at plain ports.
-use Rattle.std.proofs.Common.{ℕ, ◌≡◌, Bool, cond, None, ap, ◌∙◌}
+use Rattle.std.proofs.Common.{ℕ, ◌≡◌, Bool, cond, ap, ◌∙◌}
 use Rattle.std.proofs.lemmas.Bool.{cond-false}
 use Rattle.xs_model.specs.Record.{PortRec}
 use Rattle.xs_model.specs.Ports.{rises, lets_sample, sampled, samples_buffered, samples, takes_by_time, takes_level, is_met, emptied, level_of}
@@ -16,6 +16,6 @@ plain_rises width level high port plain =
     ∙ ap (λ condition. cond (is_met condition port.value level) (takes_level width level port) (emptied port)) plain.condition
 
 -- whose level is that from outside, since they drive nothing
-pub plain_level : (width outside : ℕ) (high : Bool) (port : PortRec) → IsPlain port → port.driven ≡ None → rises width (level_of port.driven outside) high port ≡ takes_level width outside port
-plain_level width outside high port plain none =
-    ap (λ driven. rises width (level_of driven outside) high port) none ∙ plain_rises width outside high port plain
+pub plain_level : (width outside : ℕ) (high : Bool) (port : PortRec) → IsPlain port → rises width (level_of port.driven outside) high port ≡ takes_level width outside port
+plain_level width outside high port plain =
+    ap (λ driven. rises width (level_of driven outside) high port) plain.driven ∙ plain_rises width outside high port plain

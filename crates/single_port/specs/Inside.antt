@@ -1,14 +1,8 @@
 -- How ports lie in their places.
-use Rattle.xs_model.specs.Record.{PortRec, Condition, Always, Equal, NotEqual}
-use Rattle.single_port.specs.declared.transfer.Compare.{Compare}
-use Rattle.single_port.specs.declared.transfer.Compare.TheVariants as compare
+use Rattle.xs_model.specs.Record.{PortRec}
 use Rattle.single_port.specs.declared.port.Port.TheInside as port
 use Rattle.single_port.specs.Keeps.{PortOf}
-
-abbrev pub condition_of : Compare → Condition
-condition_of compare.Always = Always
-condition_of compare.Equal = Equal
-condition_of compare.NotEqual = NotEqual
+use Rattle.single_port.specs.States.{condition_of}
 
 abbrev pub port_in : port.Inside → PortRec
 port_in c = record {

@@ -18,8 +18,8 @@ pub record IsTransfer (transfer_width : ℕ) (t : TransferRec) : Type 0 where
   pub bits : t.bits ≤ transfer_width
   pub value : t.value < 2 ^ t.bits
 
--- what a port of this width keeps: where it is on its transfers have at least as many bits as it is wide, and in direction
--- input, in which one that is off is, it drives nothing
+-- what a port of this width keeps: where it is on its transfers have at least as many bits as it is wide; one that is off has
+-- direction input, and drives nothing
 pub record IsPort (width : ℕ) (port : PortRec) : Type 0 where
   pub some : 0 < width
   pub narrow : width ≤ 32
@@ -29,8 +29,8 @@ pub record IsPort (width : ℕ) (port : PortRec) : Type 0 where
   pub shift : length port.shift ≤ port.transfer_width
   pub transfer : IfSome port.transfer (IsTransfer port.transfer_width)
   pub driven : IfSome port.driven (λ value. value < 2 ^ width)
-  pub input : port.output ≡ false → port.driven ≡ None
   pub off_input : port.on ≡ false → port.output ≡ false
+  pub off_driven : port.on ≡ false → port.driven ≡ None
   pub clock : IsClock port.clock
   pub strobe : IsStrobe port.strobe
 
@@ -38,7 +38,7 @@ pub record IsPort (width : ℕ) (port : PortRec) : Type 0 where
 abbrev pub takes_shift : PortRec → PortRec
 takes_shift port = record port { transfer = Some (came_in (value_of port.shift) (length port.shift)); sample_stamp = port.counter }
 
--- a port that takes each level at the rising edges of the reference clock, and at the falling ones only counts
+-- a port that takes each level from outside at the rising edges of the reference clock, and at the falling ones only counts
 pub record IsPlain (port : PortRec) : Type 0 where
   pub on : port.on ≡ true
   pub output : port.output ≡ false
@@ -48,6 +48,7 @@ pub record IsPlain (port : PortRec) : Type 0 where
   pub time : port.time ≡ None
   pub held : port.held ≡ false
   pub strobe : port.strobe ≡ None
+  pub driven : port.driven ≡ None
 
 -- by these two no wait of a thread and no readiness can tell one port from the other
 pub record ServesAs (before after : PortRec) : Type 0 where

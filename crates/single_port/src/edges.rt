@@ -5,7 +5,7 @@ ghost use Rattle.single_port.specs.Keeps.{ServesAs, KeepsRole, IsPlain};
 ghost use Rattle.xs_model.specs.Ports.{falls, outputs, next_out, beat_out, drives, shows, is_due, rises, lets_sample, level_of, unchanged};
 
 use crate::port::Port;
-use crate::transfer::Transfer;
+use crate::transfer::TransferWord;
 use xs_model::PinChange;
 
 /// What a falling edge did: how the port's pins changed, and whether it may serve threads otherwise than before.
@@ -65,7 +65,7 @@ impl Port {
         }
     }
 
-    fn next_out(&mut self, transfer: Option<Transfer>) -> Option<PinChange>
+    fn next_out(&mut self, transfer: Option<TransferWord>) -> Option<PinChange>
         requires output { self.old.port.output ≡ true }
         requires transfer { transfer ≡ self.old.port.transfer }
         ensures port { self.new ≡ record self.old { port = (next_out self.old.width self.old.port transfer).port } }
@@ -141,8 +141,7 @@ impl Port {
         if self.output || !self.lets_sample(high) {
             return false;
         }
-        // Nothing is driven in direction input.
-        self.sampled(outside)
+        self.sampled(self.level(outside))
     }
 
     /// The rising edge of the reference clock at a plain port.

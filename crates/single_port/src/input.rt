@@ -7,7 +7,8 @@ ghost use Rattle.single_port.specs.Asks.{answer_of, port_after, IsBelow};
 
 use crate::answers::Answer;
 use crate::port::Port;
-use crate::transfer::{Compare, Transfer};
+use crate::state::Condition;
+use crate::transfer::TransferWord;
 use xs_model::Wait;
 
 impl Port {
@@ -41,7 +42,7 @@ impl Port {
         }
     }
 
-    fn take_transfer(&mut self, p: u8, wanted: Option<u32>, transfer: Option<Transfer>) -> Answer
+    fn take_transfer(&mut self, p: u8, wanted: Option<u32>, transfer: Option<TransferWord>) -> Answer
         requires { IfSome transfer (λ t. t.value < 2 ^ self.old.port.transfer_width) }
         ensures port { self.new ≡ record self.old { port = port_after self.old.port (take_transfer p wanted self.old.port transfer) } }
         ensures answer { result ≡ answer_of (take_transfer p wanted self.old.port transfer) }
@@ -83,7 +84,7 @@ impl Port {
         self.transfer = None;
         self.stamp = self.sample_stamp;
         self.held = false;
-        self.condition = Compare::Always;
+        self.condition = Condition::None;
         self.wanted = self.transfer_width;
     }
 

@@ -9,10 +9,13 @@ mod port;
 mod rows;
 mod sampling;
 mod settings;
+mod snapshot;
+mod state;
 mod still;
 mod transfer;
 
 pub use answers::{Answer, Ask, Reply};
 pub use edges::Fallen;
 pub use port::Port;
+pub use state::{Condition, PortState, Transfer};
 pub use xs_model::{Clock, PinChange, Wait};

@@ -7,7 +7,8 @@ ghost use Rattle.single_port.specs.Asks.{answer_of, port_after};
 use crate::answers::Answer;
 use crate::port::Port;
 use crate::settings::low_bits;
-use crate::transfer::{Compare, Transfer};
+use crate::state::Condition;
+use crate::transfer::TransferWord;
 use xs_model::Wait;
 
 impl Port {
@@ -53,7 +54,7 @@ impl Port {
         self.output = true;
         self.shift.clear();
         self.transfer = None;
-        self.condition = Compare::Always;
+        self.condition = Condition::None;
         self.held = false;
     }
 
@@ -75,7 +76,7 @@ impl Port {
         ensures { self.new ≡ record self.old { port = filled bits word self.old.port } }
     {
         let time = self.time;
-        self.transfer = Some(Transfer {
+        self.transfer = Some(TransferWord {
             value: low_bits(word, bits),
             bits,
             time,

@@ -7,7 +7,8 @@ ghost use Rattle.xs_model.specs.Choices.{port_is_ready};
 ghost use Rattle.single_port.specs.Asks.{IsClock, IsStrobe};
 ghost use Rattle.single_port.specs.Keeps.{IsPort, IsPlain};
 
-use crate::transfer::{Compare, Transfer};
+use crate::state::Condition;
+use crate::transfer::TransferWord;
 use port_shift::Shift;
 use std::marker::Model;
 use xs_model::Clock;
@@ -20,7 +21,7 @@ pub struct Port {
     pub(crate) output: bool,
     pub(crate) buffered: bool,
     pub(crate) held: bool,
-    pub(crate) condition: Compare,
+    pub(crate) condition: Condition,
     pub(crate) clock: Clock,
     pub(crate) counter: u16,
     pub(crate) sample_stamp: u16,
@@ -30,7 +31,7 @@ pub struct Port {
     pub(crate) wanted: u32,
     pub(crate) value: u32,
     pub(crate) shift: Shift,
-    pub(crate) transfer: Option<Transfer>,
+    pub(crate) transfer: Option<TransferWord>,
     pub(crate) strobe: Option<u8>,
     pub(crate) driven: Option<u32>,
 }
@@ -59,7 +60,7 @@ impl Default for Port {
             output: false,
             buffered: false,
             held: false,
-            condition: Compare::Always,
+            condition: Condition::None,
             clock: Clock::Reference,
             counter: 0,
             sample_stamp: 0,
@@ -151,7 +152,8 @@ impl Port {
         self.transfer_width
     }
 
-    /// Whether it takes each level at the rising edges of the reference clock, and at the falling ones only counts.
+    /// Whether it takes each level from outside at the rising edges of the reference clock, and at the falling ones only
+    /// counts.
     pub fn is_plain(&self) -> bool
         ensures plain { result ≡ true → IsPlain self.now.port }
         ensures all { IsPlain self.now.port → result ≡ true }
@@ -159,11 +161,11 @@ impl Port {
         if !self.on || self.output || self.buffered || self.held {
             return false;
         }
-        if self.time.is_some() || self.strobe.is_some() {
+        if self.time.is_some() || self.strobe.is_some() || self.driven.is_some() {
             return false;
         }
         match (self.condition, self.clock) {
-            (Compare::Always, Clock::Reference) => true,
+            (Condition::None, Clock::Reference) => true,
             _ => false,
         }
     }

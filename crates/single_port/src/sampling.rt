@@ -5,7 +5,8 @@ ghost use Rattle.xs_model.specs.Ports.{sampled, samples, takes_by_time, takes_in
 ghost use Rattle.single_port.specs.Keeps.{takes_shift, ServesAs, KeepsRole, KeepsShift};
 
 use crate::port::Port;
-use crate::transfer::{Compare, Transfer};
+use crate::state::Condition;
+use crate::transfer::TransferWord;
 
 impl Port {
     /// Its pins are sampled, which show this. The answer tells whether it may serve threads otherwise than before.
@@ -91,9 +92,8 @@ impl Port {
         requires fits { level < 2 ^ self.old.width }
         ensures port { self.new ≡ record self.old { port = takes_level self.old.width level self.old.port } }
         ensures keeps { KeepsShift self.old.port self.new.port }
-        ensures input { self.old.port.output ≡ false → self.old.port.driven ≡ None }
     {
-        self.transfer = Some(Transfer {
+        self.transfer = Some(TransferWord {
             value: level,
             bits: self.shift.width(),
             time: None,
@@ -106,9 +106,9 @@ impl Port {
         ensures { result ≡ is_met self.now.port.condition self.now.port.value level }
     {
         match self.condition {
-            Compare::Always => true,
-            Compare::Equal => level == self.value,
-            Compare::NotEqual => level != self.value,
+            Condition::None => true,
+            Condition::Equal => level == self.value,
+            Condition::NotEqual => level != self.value,
         }
     }
 
@@ -117,8 +117,8 @@ impl Port {
         ensures { result ≡ is_condition self.now.port.condition }
     {
         match self.condition {
-            Compare::Always => false,
-            Compare::Equal | Compare::NotEqual => true,
+            Condition::None => false,
+            Condition::Equal | Condition::NotEqual => true,
         }
     }
 
@@ -146,7 +146,7 @@ impl Port {
         ensures role { KeepsRole self.old.port self.new.port }
     {
         if self.has_condition() {
-            self.condition = Compare::Always;
+            self.condition = Condition::None;
             self.shift.clear();
         }
     }
@@ -194,7 +194,7 @@ impl Port {
         ensures port { self.new ≡ record self.old { port = takes_shift self.old.port } }
         ensures role { KeepsRole self.old.port self.new.port }
     {
-        self.transfer = Some(Transfer {
+        self.transfer = Some(TransferWord {
             value: self.shift.word(self.transfer_width),
             bits: self.shift.bits(),
             time: None,

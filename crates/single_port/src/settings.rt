@@ -6,11 +6,11 @@ ghost use Rattle.xs_model.specs.Record.{Always, Equal, NotEqual};
 ghost use Rattle.xs_model.specs.PortActions.{in_mode, turned_on, turned_off, let_go, set_mode, with_condition, resampled, cleared, unbuffered, buffered, set_clock, set_strobe, set_transfer_width, is_transfer_width, set_value, set_time, clear_time, goes_by, restarted};
 ghost use Rattle.single_port.specs.Asks.{answer_of, port_after, IsClock, IsStrobe};
 ghost use Rattle.single_port.specs.Keeps.{IsPlaced, KeepsRole, ServesAs, IsPlain, is_width};
-ghost use Rattle.single_port.specs.Inside.{condition_of};
+ghost use Rattle.single_port.specs.States.{condition_of};
 
 use crate::answers::{Answer, Reply};
 use crate::port::Port;
-use crate::transfer::Compare;
+use crate::state::Condition;
 use xs_base::port_width;
 use xs_model::modes::{BUFFERS, CLEAR, EQUAL, NO_BUFFERS, NO_CONDITION, NOT_EQUAL, OFF, ON};
 use xs_model::{Clock, PinChange};
@@ -83,9 +83,9 @@ impl Port {
         ensures answer { result ≡ answer_of (set_mode self.old.width mode self.old.port) }
     {
         match mode {
-            NO_CONDITION => self.with_condition(Compare::Always),
-            EQUAL => self.with_condition(Compare::Equal),
-            NOT_EQUAL => self.with_condition(Compare::NotEqual),
+            NO_CONDITION => self.with_condition(Condition::None),
+            EQUAL => self.with_condition(Condition::Equal),
+            NOT_EQUAL => self.with_condition(Condition::NotEqual),
             CLEAR => self.cleared(),
             NO_BUFFERS => self.unbuffered(),
             BUFFERS => self.buffered(),
@@ -94,7 +94,7 @@ impl Port {
         Answer::done()
     }
 
-    fn with_condition(&mut self, condition: Compare)
+    fn with_condition(&mut self, condition: Condition)
         ensures { self.new ≡ record self.old { port = with_condition (condition_of condition) self.old.port } }
     {
         self.condition = condition;
@@ -117,7 +117,7 @@ impl Port {
         self.shift.clear();
         self.transfer = None;
         self.time = None;
-        self.condition = Compare::Always;
+        self.condition = Condition::None;
         self.held = false;
     }
 

@@ -1,4 +1,5 @@
-use Rattle.std.proofs.Common.{sym}
+use Rattle.std.proofs.Common.{sym, ap}
+use Rattle.xs_model.specs.Bits.{bits_of}
 use Rattle.port_shift.proofs.Bits.{length_bits, value_bits}
 use Rattle.port_shift.proofs.shift.Shift.word.Goals as goal
 
@@ -7,3 +8,6 @@ returns-clause-value c = rw (← c.self.view_is) (sym (value_bits _ _ c.self.inv
 
 pub returns-clause-fits : goal.returns-clause-fits
 returns-clause-fits c = rw (← c.self.view_is, length_bits c.self.inside.count c.self.inside.word) c.self.invariant.word
+
+pub returns-clause-again : goal.returns-clause-again
+returns-clause-again c = rw (← c.self.view_is) (ap (λ count. bits_of count c.self.inside.word) (length_bits c.self.inside.count c.self.inside.word))
