@@ -15,7 +15,8 @@ use Rattle.single_port.specs.declared.state.Transfer.{Transfer}
 use Rattle.single_port.specs.declared.state.PortState.{PortState}
 use Rattle.single_port.specs.Asks.{IsStrobe}
 use Rattle.single_port.specs.Keeps.{IsPort, IsTransfer}
-use Rattle.single_port.specs.States.{port_state, port_of, off_state, condition_state, condition_of, transfer_state, transfer_of, shift_state, shift_word, IsShiftState, IsTransferState, IsStrobeState, IsOnState, IsPortState}
+use Rattle.single_port.specs.States.{port_state, port_of, off_state, condition_state, condition_of, transfer_state, transfer_of, shift_state, shift_word}
+use Rattle.single_port.specs.States.{IsShiftState, IsTransferState, IsStrobeState, IsOnState, IsPortState}
 
 -- ---- Widths
 
@@ -35,15 +36,15 @@ one_of_five x is =
     elim (or_cases (x == 1) ((x == 4) || ((x == 8) || ((x == 16) || (x == 32)))) is) [
       | inl one ↦ sized x 1 one (omega arith) (omega arith)
       | inr more ↦ elim (or_cases (x == 4) ((x == 8) || ((x == 16) || (x == 32))) more) [
-          | inl four ↦ sized x 4 four (omega arith) (omega arith)
-          | inr more ↦ elim (or_cases (x == 8) ((x == 16) || (x == 32)) more) [
-              | inl eight ↦ sized x 8 eight (omega arith) (omega arith)
-              | inr more ↦ elim (or_cases (x == 16) (x == 32) more) [
-                  | inl sixteen ↦ sized x 16 sixteen (omega arith) (omega arith)
-                  | inr all ↦ sized x 32 all (omega arith) (omega arith)
-                ]
-            ]
+        | inl four ↦ sized x 4 four (omega arith) (omega arith)
+        | inr more ↦ elim (or_cases (x == 8) ((x == 16) || (x == 32)) more) [
+          | inl eight ↦ sized x 8 eight (omega arith) (omega arith)
+          | inr more ↦ elim (or_cases (x == 16) (x == 32) more) [
+            | inl sixteen ↦ sized x 16 sixteen (omega arith) (omega arith)
+            | inr all ↦ sized x 32 all (omega arith) (omega arith)
+          ]
         ]
+      ]
     ]
 
 both : (width x : ℕ) → is_transfer_width width x ≡ true → ((0 < x) × (x ≤ 32)) × (x % width ≡ 0)
@@ -107,13 +108,26 @@ bits_again output tw count word sr bits is again =
     ap (λ n. bits_of count (shift_word output tw count n)) is ∙ ap (bits_of count) (word_again output tw count word) ∙ again
 
 -- in direction input
-pub bits_again_in : (output : Bool) (tw count word sr : ℕ) (bits : List ℕ) → output ≡ false → sr ≡ word * 2 ^ (tw - count) → bits_of count word ≡ bits → bits_of count (shift_word output tw count sr) ≡ bits
+pub bits_again_in : (output : Bool) (tw count word sr : ℕ) (bits : List ℕ) → output ≡ false → sr ≡ word * 2 ^ (tw - count)
+    → bits_of count word ≡ bits → bits_of count (shift_word output tw count sr) ≡ bits
 bits_again_in output tw count word sr bits in_input is again =
     bits_again output tw count word sr bits (is ∙ sym (ap (λ o. shift_state o tw count word) in_input)) again
 
 sr_again : (output : Bool) (tw count sr : ℕ) → IsShiftState output tw count sr → shift_state output tw count (shift_word output tw count sr) ≡ sr
 sr_again true tw count sr is = refl
 sr_again false tw count sr is = omega (arith, shr_split sr (tw - count), is.1)
+
+-- what is put there is nothing but the bits
+pub shift_is : (output : Bool) (tw count word : ℕ) → count ≤ tw → word < 2 ^ count → IsShiftState output tw count (shift_state output tw count word)
+shift_is true tw count word few fits = fits
+shift_is false tw count word few fits =
+    let none : (word * 2 ^ (tw - count) + 0) % 2 ^ (tw - count) ≡ 0 = mod_low word (tw - count) 0 (pow_pos (tw - count)) in
+    let same : word * 2 ^ (tw - count) + 0 ≡ word * 2 ^ (tw - count) = omega arith in
+    (top_fits count tw word few fits, ap (λ n. n % 2 ^ (tw - count)) (sym same) ∙ none)
+
+pub shift_is_in : (output : Bool) (tw count word sr : ℕ) → output ≡ false → sr ≡ word * 2 ^ (tw - count) → count ≤ tw → word < 2 ^ count → IsShiftState output tw count sr
+shift_is_in output tw count word sr in_input is few fits =
+    subst (λ o. IsShiftState o tw count sr) (sym in_input) (subst (IsShiftState false tw count) (sym is) (shift_is false tw count word few fits))
 
 -- ---- The port that a snapshot says
 

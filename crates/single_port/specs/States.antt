@@ -1,5 +1,5 @@
 -- What a snapshot keeps of a port, the port that it says, and what it may say.
-use Rattle.std.specs.Prelude.{ℕ, ◌≡◌, ◌≢◌, ◌<◌, ◌≤◌, ◌-◌, ◌*◌, ◌/◌, ◌%◌, ◌^◌, Bool, true, false, Option, Some, None, IfSome, option_map, length}
+use Rattle.std.specs.Prelude.{ℕ, ◌≡◌, ◌≢◌, ◌<◌, ◌≤◌, ◌-◌, ◌*◌, ◌/◌, ◌%◌, ◌^◌, Bool, true, false, None, IfSome, option_map, length}
 use Rattle.xs_base.specs.Numbers.{PortNumber}
 use Rattle.xs_base.specs.Ids.{port_width}
 use Rattle.xs_model.specs.Record.{PortRec, TransferRec, Condition, Always, Equal, NotEqual}

@@ -141,6 +141,7 @@ impl Port {
         if self.output || !self.lets_sample(high) {
             return false;
         }
+        // In direction input too it may drive its pins.
         self.sampled(self.level(outside))
     }
 

@@ -42,7 +42,12 @@ impl Port {
         }
     }
 
-    fn take_transfer(&mut self, p: u8, wanted: Option<u32>, transfer: Option<TransferWord>) -> Answer
+    fn take_transfer(
+        &mut self,
+        p: u8,
+        wanted: Option<u32>,
+        transfer: Option<TransferWord>,
+    ) -> Answer
         requires { IfSome transfer (λ t. t.value < 2 ^ self.old.port.transfer_width) }
         ensures port { self.new ≡ record self.old { port = port_after self.old.port (take_transfer p wanted self.old.port transfer) } }
         ensures answer { result ≡ answer_of (take_transfer p wanted self.old.port transfer) }

@@ -3,18 +3,48 @@ ghost use Rattle.std.specs.Prelude.{◌≡◌, ◌<◌, ◌≤◌, ◌^◌, Opti
 ghost use Rattle.xs_base.specs.Ids.{port_width};
 ghost use Rattle.xs_base.specs.declared.numbers.TheConstants.{PORTS};
 ghost use Rattle.xs_model.specs.Bits.{bits_of, value_of};
-ghost use Rattle.single_port.specs.States.{port_state, port_of, transfer_state, transfer_of, shift_state, shift_word, IsPortState, IsShiftState};
+ghost use Rattle.single_port.specs.States.{port_state, port_of, off_state, transfer_state, transfer_of, shift_state, shift_word, IsPortState, IsShiftState};
 
 use crate::port::Port;
-use crate::state::{PortState, Transfer};
+use crate::state::{Condition, PortState, Transfer};
 use crate::transfer::TransferWord;
 use port_shift::Shift;
 use xs_base::port_width;
+use xs_model::Clock;
+
+impl PortState {
+    /// That of a port that is off. See docs/SNAPSHOTS.md.
+    pub fn off() -> PortState
+        ensures { result ≡ off_state }
+    {
+        PortState {
+            on: false,
+            output: false,
+            clock: Clock::Reference,
+            counter: 0,
+            buffers: false,
+            tw: 0,
+            want: 0,
+            value: 0,
+            condition: Condition::None,
+            time: None,
+            sr: 0,
+            count: 0,
+            tr: None,
+            held: false,
+            sample_stamp: 0,
+            stamp: 0,
+            strobe: None,
+            driven: None,
+        }
+    }
+}
 
 impl Port {
     /// What a snapshot keeps of it: a port of that state is this one again. It takes no memory. See docs/SNAPSHOTS.md.
     pub fn state(&self) -> PortState
         ensures value { result ≡ port_state self.now.port }
+        ensures shift { IsShiftState result.output result.tw result.count result.sr }
         ensures again { port_of result ≡ self.now.port }
     {
         PortState {
@@ -42,6 +72,7 @@ impl Port {
     // The bits of its shift register as a number: in direction input they stand at the top of a transfer.
     fn shift_state(&self) -> u32
         ensures value { result ≡ shift_state self.now.port.output self.now.port.transfer_width (length self.now.port.shift) (value_of self.now.port.shift) }
+        ensures is { IsShiftState self.now.port.output self.now.port.transfer_width (length self.now.port.shift) result }
         ensures again { bits_of (length self.now.port.shift) (shift_word self.now.port.output self.now.port.transfer_width (length self.now.port.shift) result) ≡ self.now.port.shift }
     {
         let word = self.shift.word(self.transfer_width);
@@ -93,6 +124,15 @@ impl Port {
             strobe: state.strobe,
             driven: state.driven,
         }
+    }
+
+    /// From now on it is port `p`, 0 to 28, as a snapshot says it is. It takes no memory. See docs/SNAPSHOTS.md.
+    pub fn set_state(&mut self, p: u8, state: &PortState)
+        requires port { p < PORTS }
+        requires facts { IsPortState p state.now }
+        ensures { self.new ≡ record { width = port_width p; port = port_of state.now } }
+    {
+        *self = Port::of_state(p, state);
     }
 }
 
