@@ -4,3 +4,4 @@ pub mod High
 pub mod Plain
 pub mod InTurn
 pub mod Counts
+pub mod States

@@ -5,9 +5,10 @@ mod levels;
 mod marks;
 mod ports;
 mod slot;
+mod snapshot;
 mod still;
 
 pub use levels::high_of;
 pub use ports::Ports;
-pub use single_port::{Answer, Ask, Reply};
+pub use single_port::{Answer, Ask, Condition, PortState, Reply, Transfer};
 pub use xs_model::{Clock, Edge, PinChange, Wait};
