@@ -1,0 +1,11 @@
+use Rattle.std.proofs.Common.{◌≡◌, ◌-◌, [], map}
+use Rattle.arrayvec.specs.ArrayVec.{array_vec_len}
+use Rattle.byte_forms.specs.Forms.{read_chain}
+use Rattle.byte_forms.proofs.field.read_elements.Given as goal
+
+abbrev pub invariant-loop : goal.invariant-loop
+invariant-loop g l =
+    record {
+      len : array_vec_len l.elements ≡ l.counter;
+      so_far : read_chain (λ before. g.T.Field.form) (l.count - l.counter) (map g.T.Field.view l.elements.items) l.from ≡ read_chain (λ before. g.T.Field.form) l.count [] l.fn.from;
+    }
