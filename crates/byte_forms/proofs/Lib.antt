@@ -2,3 +2,5 @@ pub mod Steps
 pub mod Fields
 pub mod Parts
 pub mod Lists
+pub mod Tokens
+pub mod Whole

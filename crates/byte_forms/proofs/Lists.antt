@@ -1,7 +1,7 @@
 -- The laws of lists, and the steps of a loop that reads or writes one.
-use Rattle.std.proofs.Common.{◌≡◌, ℕ, zero, suc, ◌+◌, ◌-◌, ◌≤◌, ◌<◌, List, [], ◌∷◌, ◌++◌, length, Result, Ok, Err, refl, sym, ap, subst, ◌∙◌, append_assoc, arith, inl, inr}
+use Rattle.std.proofs.Common.{◌≡◌, ℕ, zero, suc, ◌+◌, ◌-◌, ◌≤◌, ◌<◌, List, [], ◌∷◌, ◌++◌, length, Ok, Err, refl, sym, ap, subst, ◌∙◌, append_assoc, arith, inl, inr}
 use Rattle.std.proofs.lemmas.List.{append-nil, length-append}
-use Rattle.byte_forms.specs.Forms.{Form, ◌>>=◌, AreBytes, both, seen_as, read_chain, write_chain, HoldInChain, chain, repeat, with_length, the_list, counted}
+use Rattle.byte_forms.specs.Forms.{Form, AreBytes, read_chain, write_chain, HoldInChain, chain, repeat, with_length, the_list, counted}
 use Rattle.byte_forms.specs.Laws.{Lawful}
 use Rattle.byte_forms.specs.Reading.{Refuses}
 use Rattle.byte_forms.specs.declared.fault.Fault.{Fault}
@@ -17,7 +17,7 @@ record IsChain {A : Type 0} (form : List A → Form A) (n : ℕ) (before : List 
   len : length more ≡ n
   hold : HoldInChain form before more
 
-module _ {A : Type 0} (form : List A → Form A) (laws : (before : List A) → Lawful (form before)) where
+module _ {A : Type 0} {form : List A → Form A} (laws : (before : List A) → Lawful (form before)) where
   chain_found : (n : ℕ) (before : List A) (bytes : List ℕ) (all : List A) (rest : List ℕ) → AreBytes bytes → read_chain form n before bytes ≡ Ok (all, rest) → IsChain form n before bytes all rest
   unfolding read_chain write_chain HoldInChain
   chain_found zero before bytes all rest fit e =
@@ -50,29 +50,27 @@ module _ {A : Type 0} (form : List A → Form A) (laws : (before : List A) → L
       elim (bind_err ((form before).read bytes) (λ x. read_chain form n (before ++ x.0 ∷ []) x.1) left e) [
         | inl h ↦ (laws before).within bytes left fit h
         | inr h ↦
-          let t = (laws before).found bytes h.0.0 h.0.1 fit h.1 in
-          let l = chain_within n (before ++ h.0.0 ∷ []) h.0.1 left (bytes_after bytes ((form before).write h.0.0) h.0.1 fit t.0) h.2 in
-          omega (arith, ap length t.0, length-append ((form before).write h.0.0) h.0.1)
+            let t = (laws before).found bytes h.0.0 h.0.1 fit h.1 in
+            let l = chain_within n (before ++ h.0.0 ∷ []) h.0.1 left (bytes_after bytes ((form before).write h.0.0) h.0.1 fit t.0) h.2 in
+            omega (arith, ap length t.0, length-append ((form before).write h.0.0) h.0.1)
       ]
 
   pub chain-lawful : (n : ℕ) → Lawful (chain n form)
   chain-lawful n = record {
     found = λ bytes xs rest fit e.
-      let t = chain_found n [] bytes xs rest fit e in
-      let same : t.more ≡ xs = sym t.parts in
-      subst (λ (ys : List A). (bytes ≡ write_chain form [] ys ++ rest) × ((length ys ≡ n) × HoldInChain form [] ys)) same (t.spelled, (t.len, t.hold));
+        let t = chain_found n [] bytes xs rest fit e in
+        let same : t.more ≡ xs = sym t.parts in
+        subst (λ (ys : List A). (bytes ≡ write_chain form [] ys ++ rest) × ((length ys ≡ n) × HoldInChain form [] ys)) same (t.spelled, (t.len, t.hold));
     again = λ xs rest h. subst (λ (k : ℕ). read_chain form k [] (write_chain form [] xs ++ rest) ≡ Ok (xs, rest)) h.0 (chain_again xs [] rest h.1);
     within = λ bytes left fit e. chain_within n [] bytes left fit e;
   }
 
-pub repeat-lawful : {A : Type 0} (n : ℕ) (f : Form A) → Lawful f → Lawful (repeat n f)
-repeat-lawful n f law = chain-lawful (λ before. f) (λ before. law) n
+pub repeat-lawful : {A : Type 0} {f : Form A} (n : ℕ) → Lawful f → Lawful (repeat n f)
+repeat-lawful n law = chain-lawful (λ before. law) n
 
--- the form of so many elements gives lists of so many
-pub counted-lawful : {A : Type 0} (count : Form ℕ) (form : ℕ → Form (List A)) → Lawful count → ((n : ℕ) → Lawful (form n)) → ((n : ℕ) (xs : List A) → (form n).Holds xs → length xs ≡ n)
-    → Lawful (counted count form)
-counted-lawful {A} count form law laws len =
-    seen-lawful (both count form) the_list with_length (both-lawful count form law laws) (λ p h. ap (λ (n : ℕ). (n, p.1)) (len p.0 p.1 h.1)) (λ xs. refl)
+-- the form of so many elements has lists of so many
+pub counted-lawful : {A : Type 0} {count : Form ℕ} {form : ℕ → Form (List A)} → Lawful count → ((n : ℕ) → Lawful (form n)) → ((n : ℕ) (xs : List A) → (form n).Holds xs → length xs ≡ n) → Lawful (counted count form)
+counted-lawful law laws len = seen-lawful the_list with_length (both-lawful law laws) (λ p h. ap (λ (n : ℕ). (n, p.1)) (len p.0 p.1 h.1)) (λ xs. refl)
 
 -- ---- a loop that reads a list: what is still read of it from here gives what all of it gives
 

@@ -100,9 +100,13 @@ abbrev pub flag_and_value : Option ℕ → Bool × ℕ
 flag_and_value None = (false, 0)
 flag_and_value (Some n) = (true, n)
 
--- a flag and a value with a fact, which is 0 where the flag is 0
+-- A flag and a value with a fact, which is 0 where the flag is 0. What is written does not ask for the fact.
 abbrev pub option : Form ℕ → (ℕ → Bool) → Form (Option ℕ)
 option f fact = seen_as (both flag (λ there. where_is f (λ n. if there then fact n else n == 0))) option_of flag_and_value
+
+-- the fact that every number has
+abbrev pub any : ℕ → Bool
+any n = true
 
 -- the same with a value below a limit
 abbrev pub option_below : Form ℕ → ℕ → Form (Option ℕ)
@@ -147,3 +151,9 @@ the_list p = p.1
 -- a list after how many it has
 abbrev pub counted : {A : Type 0} → Form ℕ → (ℕ → Form (List A)) → Form (List A)
 counted count form = seen_as (both count form) the_list with_length
+
+-- ---- the whole of the bytes
+
+-- A form that is all of the bytes. Bytes that are left are wrong at the first of them.
+abbrev pub read_whole : {A : Type 0} → Form A → List ℕ → Result A ℕ
+read_whole f bytes = f.read bytes >>= λ x. if length x.1 == 0 then Ok x.0 else Err (length x.1)

@@ -1,3 +1,4 @@
 pub mod Forms
+pub mod Tokens
 pub mod Laws
 pub mod Reading

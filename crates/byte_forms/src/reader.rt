@@ -1,5 +1,5 @@
 //! `Reader`, bytes that are read from the front.
-ghost use Rattle.std.specs.Prelude.{◌≡◌, ◌≢◌, ◌==◌, [], length, nat_lt, if◌then◌else◌, IfOk, IfErr};
+ghost use Rattle.std.specs.Prelude.{◌≡◌, ◌≢◌, ◌<◌, ◌==◌, [], length, nat_lt, if◌then◌else◌, IfOk, IfErr};
 ghost use Rattle.byte_forms.specs.declared.fault.Fault.TheVariants.{Wrong};
 ghost use Rattle.byte_forms.specs.Forms.{byte, half, word, long, bytes, below, flag, option_below};
 ghost use Rattle.byte_forms.specs.Reading.{Gives};
@@ -55,6 +55,7 @@ impl<'a> Reader<'a> {
     /// Reads a byte below a limit.
     pub fn read_byte_below(&mut self, limit: u8) -> Result<u8, Fault>
         ensures value { Gives (below byte limit) (λ x. x) self.old result self.new }
+        ensures limit { IfOk result (λ n. n < limit) }
     {
         let left = self.left();
         let b = self.read_byte()?;
@@ -107,6 +108,7 @@ impl<'a> Reader<'a> {
     /// Reads a number of four bytes that is below a limit.
     pub fn read_word_below(&mut self, limit: u64) -> Result<u32, Fault>
         ensures value { Gives (below word limit) (λ x. x) self.old result self.new }
+        ensures limit { IfOk result (λ n. n < limit) }
     {
         let left = self.left();
         let n = self.read_word()?;
@@ -123,14 +125,13 @@ impl<'a> Reader<'a> {
         ensures value { Gives long (λ x. x) self.old result self.new }
     {
         let b = self.read_bytes(8)?;
-        Ok(u64::from_le_bytes([
-            b[0], b[1], b[2], b[3], b[4], b[5], b[6], b[7],
-        ]))
+        Ok(u64::from_le_bytes([b[0], b[1], b[2], b[3], b[4], b[5], b[6], b[7]]))
     }
 
     /// Reads a number of eight bytes that is below a limit.
     pub fn read_long_below(&mut self, limit: u64) -> Result<u64, Fault>
         ensures value { Gives (below long limit) (λ x. x) self.old result self.new }
+        ensures limit { IfOk result (λ n. n < limit) }
     {
         let left = self.left();
         let n = self.read_long()?;

@@ -1,7 +1,7 @@
 //! Writers of the fields. Each puts a field's bytes at the end of a text. The error is want of memory, and leaves the text as it was or with
 //! a part of the field.
-ghost use Rattle.std.specs.Prelude.{ℕ, Bool, ◌≡◌, ◌++◌, OnOk};
-ghost use Rattle.byte_forms.specs.Forms.{byte, half, word, long, flag, option};
+ghost use Rattle.std.specs.Prelude.{◌≡◌, ◌++◌, OnOk};
+ghost use Rattle.byte_forms.specs.Forms.{byte, half, word, long, flag, any, option};
 
 use std::alloc::AllocError;
 use xs_base::Text;
@@ -41,25 +41,25 @@ pub fn write_long(out: &mut Text, n: u64) -> Result<(), AllocError>
     out.append(&n.to_le_bytes())
 }
 
-/// Writes a flag and a byte, which is 0 where there is none. The fact of the form is any.
+/// Writes a flag and a byte, which is 0 where there is none.
 pub fn write_option_byte(out: &mut Text, value: Option<u8>) -> Result<(), AllocError>
-    ensures value { (fact : ℕ → Bool) → OnOk result (out.new ≡ out.old ++ (option byte fact).write value) }
+    ensures value { OnOk result (out.new ≡ out.old ++ (option byte any).write value) }
 {
     write_flag(out, value.is_some())?;
     write_byte(out, value.unwrap_or(0))
 }
 
-/// Writes a flag and a number of two bytes, which is 0 where there is none. The fact of the form is any.
+/// Writes a flag and a number of two bytes, which is 0 where there is none.
 pub fn write_option_half(out: &mut Text, value: Option<u16>) -> Result<(), AllocError>
-    ensures value { (fact : ℕ → Bool) → OnOk result (out.new ≡ out.old ++ (option half fact).write value) }
+    ensures value { OnOk result (out.new ≡ out.old ++ (option half any).write value) }
 {
     write_flag(out, value.is_some())?;
     write_half(out, value.unwrap_or(0))
 }
 
-/// Writes a flag and a number of four bytes, which is 0 where there is none. The fact of the form is any.
+/// Writes a flag and a number of four bytes, which is 0 where there is none.
 pub fn write_option_word(out: &mut Text, value: Option<u32>) -> Result<(), AllocError>
-    ensures value { (fact : ℕ → Bool) → OnOk result (out.new ≡ out.old ++ (option word fact).write value) }
+    ensures value { OnOk result (out.new ≡ out.old ++ (option word any).write value) }
 {
     write_flag(out, value.is_some())?;
     write_word(out, value.unwrap_or(0))

@@ -1,4 +1,4 @@
-use Rattle.std.proofs.Common.{◌≡◌, ◌+◌, List, [], ◌∷◌, ◌++◌, get_or, map, take, drop, sym, ap, ◌∙◌, arith}
+use Rattle.std.proofs.Common.{◌≡◌, ◌+◌, List, [], ◌∷◌, ◌++◌, get_or, map, take, drop, sym, ap, ◌∙◌}
 use Rattle.std.proofs.lemmas.List.{map_push, take_more, drop_more, drop_all}
 use Rattle.byte_forms.specs.Forms.{Form, write_chain}
 use Rattle.byte_forms.proofs.Lists.{writes_on, writes_all}
