@@ -21,7 +21,8 @@ module _ {A : Type 0} {form : List A → Form A} (laws : (before : List A) → L
   chain_found : (n : ℕ) (before : List A) (bytes : List ℕ) (all : List A) (rest : List ℕ) → AreBytes bytes → read_chain form n before bytes ≡ Ok (all, rest) → IsChain form n before bytes all rest
   unfolding read_chain write_chain HoldInChain
   chain_found zero before bytes all rest fit e =
-      subst (λ (x : List A × List ℕ). IsChain form 0 before bytes x.0 x.1) (ok_is (before, bytes) (all, rest) e) (record { more = []; parts = sym (append-nil before); spelled = refl; len = refl; hold = tt })
+      subst (λ (x : List A × List ℕ). IsChain form 0 before bytes x.0 x.1) (ok_is (before, bytes) (all, rest) e)
+      (record { more = []; parts = sym (append-nil before); spelled = refl; len = refl; hold = tt })
   chain_found (suc n) before bytes all rest fit e =
       let b = bind_ok ((form before).read bytes) (λ x. read_chain form n (before ++ x.0 ∷ []) x.1) (all, rest) e in
       let t = (laws before).found bytes b.0.0 b.0.1 fit b.1 in
@@ -69,7 +70,8 @@ pub repeat-lawful : {A : Type 0} {f : Form A} (n : ℕ) → Lawful f → Lawful 
 repeat-lawful n law = chain-lawful (λ before. law) n
 
 -- the form of so many elements has lists of so many
-pub counted-lawful : {A : Type 0} {count : Form ℕ} {form : ℕ → Form (List A)} → Lawful count → ((n : ℕ) → Lawful (form n)) → ((n : ℕ) (xs : List A) → (form n).Holds xs → length xs ≡ n) → Lawful (counted count form)
+pub counted-lawful : {A : Type 0} {count : Form ℕ} {form : ℕ → Form (List A)} → Lawful count → ((n : ℕ) → Lawful (form n)) → ((n : ℕ) (xs : List A) → (form n).Holds xs → length xs ≡ n)
+    → Lawful (counted count form)
 counted-lawful law laws len = seen-lawful the_list with_length (both-lawful law laws) (λ p h. ap (λ (n : ℕ). (n, p.1)) (len p.0 p.1 h.1)) (λ xs. refl)
 
 -- ---- a loop that reads a list: what is still read of it from here gives what all of it gives

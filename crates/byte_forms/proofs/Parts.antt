@@ -1,5 +1,6 @@
 -- The laws of forms that are put together of others.
-use Rattle.std.proofs.Common.{◌≡◌, ℕ, zero, suc, ◌≤◌, Bool, true, false, IsTrue, cond, eqb, ltb, List, ◌++◌, length, Option, Some, None, Ok, Err, refl, sym, ap, subst, ◌∙◌, append_assoc, arith, inl, inr}
+use Rattle.std.proofs.Common.{◌≡◌, ℕ, zero, suc, ◌≤◌, Bool, true, false, IsTrue, cond, eqb, ltb, List, ◌++◌, length, Option, Some, None, Ok, Err}
+use Rattle.std.proofs.Common.{refl, sym, ap, subst, ◌∙◌, append_assoc, arith, inl, inr}
 use Rattle.std.proofs.lemmas.Bool.{eqb-true, ltb-true}
 use Rattle.std.proofs.lemmas.List.{length-append}
 use Rattle.byte_forms.specs.Forms.{Form, ◌>>=◌, where_is, both, seen_as, below, flag_of, byte_of_flag, flag, option_of, flag_and_value, option, option_below}
@@ -29,8 +30,10 @@ both-lawful {A} {B} {f} {g} first second = record {
       let c = bind_ok ((g b.0.0).read b.0.1) (λ y. Ok ((b.0.0, y.0), y.1)) (p, rest) b.2 in
       let t = first.found bytes b.0.0 b.0.1 fit b.1 in
       let u = (second b.0.0).found b.0.1 c.0.0 c.0.1 (bytes_after bytes (f.write b.0.0) b.0.1 fit t.0) c.1 in
-      let spelled : bytes ≡ (f.write b.0.0 ++ (g b.0.0).write c.0.0) ++ c.0.1 = rw (append_assoc (f.write b.0.0) ((g b.0.0).write c.0.0) c.0.1) (t.0 ∙ ap (λ (xs : List ℕ). f.write b.0.0 ++ xs) u.0) in
-      subst (λ (x : (A × B) × List ℕ). (bytes ≡ (f.write x.0.0 ++ (g x.0.0).write x.0.1) ++ x.1) × (f.Holds x.0.0 × (g x.0.0).Holds x.0.1)) (ok_is ((b.0.0, c.0.0), c.0.1) (p, rest) c.2) (spelled, (t.1, u.1));
+      let spelled : bytes ≡ (f.write b.0.0 ++ (g b.0.0).write c.0.0) ++ c.0.1
+      = rw (append_assoc (f.write b.0.0) ((g b.0.0).write c.0.0) c.0.1) (t.0 ∙ ap (λ (xs : List ℕ). f.write b.0.0 ++ xs) u.0) in
+      subst (λ (x : (A × B) × List ℕ). (bytes ≡ (f.write x.0.0 ++ (g x.0.0).write x.0.1) ++ x.1) × (f.Holds x.0.0 × (g x.0.0).Holds x.0.1))
+      (ok_is ((b.0.0, c.0.0), c.0.1) (p, rest) c.2) (spelled, (t.1, u.1));
   again = λ p rest h. rw (append_assoc (f.write p.0) ((g p.0).write p.1) rest, first.again p.0 ((g p.0).write p.1 ++ rest) h.0, (second p.0).again p.1 rest h.1) refl;
   within = λ bytes left fit e.
       elim (bind_err (f.read bytes) (λ x. (g x.0).read x.1 >>= λ y. Ok ((x.0, y.0), y.1)) left e) [
@@ -87,7 +90,8 @@ option_again (Some n) = refl
 
 pub option-lawful : {f : Form ℕ} (fact : ℕ → Bool) → Lawful f → Lawful (option f fact)
 option-lawful {f} fact law =
-    seen-lawful option_of flag_and_value (both-lawful flag-lawful (λ (there : Bool). where-lawful {f = f} (λ n. cond there (fact n) (eqb n 0)) law)) (λ p h. option_back fact p.0 p.1 h.1.1) option_again
+    seen-lawful option_of flag_and_value (both-lawful flag-lawful (λ (there : Bool). where-lawful {f = f} (λ n. cond there (fact n) (eqb n 0)) law))
+    (λ p h. option_back fact p.0 p.1 h.1.1) option_again
 
 pub option_below-lawful : {f : Form ℕ} (limit : ℕ) → Lawful f → Lawful (option_below f limit)
 option_below-lawful limit law = option-lawful (λ n. ltb n limit) law

@@ -9,17 +9,20 @@ pub returns-in_err-read : goal.returns-in_err-read
 returns-in_err-read g c =
     let p = err_from_is_err_and c.from_residual.result c.from_residual.ensures.1 in
     let form : List g.T.Field.Value → Form g.T.Field.Value = λ before. g.T.Field.form in
-    let refused = refuses_all form c.args.count c.loop.counter (map g.T.Field.view c.loop.elements.items) c.loop.from c.args.from.now c.loop.invariant.so_far c.in_err-read.field-0.0 c.loop-test.true c.in_err-read.ensures.value in
+    let refused = refuses_all form c.args.count c.loop.counter (map g.T.Field.view c.loop.elements.items) c.loop.from c.args.from.now
+    c.loop.invariant.so_far c.in_err-read.field-0.0 c.loop-test.true c.in_err-read.ensures.value in
     rw (p.1, p.2) (record { value = refused })
 
 pub loop-preserved : goal.loop-preserved
 loop-preserved g c =
     let form : List g.T.Field.Value → Form g.T.Field.Value = λ before. g.T.Field.form in
     let x = c.in_ok-read.field-0 in
-    let e : map g.T.Field.view c.push.new.self.items ≡ map g.T.Field.view c.loop.elements.items ++ g.T.Field.view x ∷ [] = rw c.push.ensures.items (map_push g.T.Field.view c.loop.elements.items x) in
+    let e : map g.T.Field.view c.push.new.self.items ≡ map g.T.Field.view c.loop.elements.items ++ g.T.Field.view x ∷ [] =
+    rw c.push.ensures.items (map_push g.T.Field.view c.loop.elements.items x) in
     record {
       len = omega arith;
-      so_far = rw e (reads_on form c.args.count c.loop.counter (map g.T.Field.view c.loop.elements.items) c.loop.from c.args.from.now c.loop.invariant.so_far (g.T.Field.view x) c.read.new.from c.loop-test.true c.in_ok-read.ensures.value);
+      so_far = rw e (reads_on form c.args.count c.loop.counter (map g.T.Field.view c.loop.elements.items) c.loop.from c.args.from.now
+          c.loop.invariant.so_far (g.T.Field.view x) c.read.new.from c.loop-test.true c.in_ok-read.ensures.value);
     }
 
 pub returns : goal.returns

@@ -13,9 +13,11 @@ loop-element-preserved g c =
     let x = c.element-item.result in
     let here : get_or xs i x ≡ x = sym c.element-item.is in
     let front : map view (take (i + 1) xs) ≡ map view (take i xs) ++ view x ∷ [] = rw (take_more xs i x c.loop-element-test.true, here) (map_push view (take i xs) x) in
-    let rest : map view (drop i xs) ≡ view x ∷ map view (drop (i + 1) xs) = ap (map view) (drop_more xs i x c.loop-element-test.true) ∙ ap (λ (y : g.row.T.Denot). view y ∷ map view (drop (i + 1) xs)) here in
+    let rest : map view (drop i xs) ≡ view x ∷ map view (drop (i + 1) xs) =
+    ap (map view) (drop_more xs i x c.loop-element-test.true) ∙ ap (λ (y : g.row.T.Denot). view y ∷ map view (drop (i + 1) xs)) here in
     let so_far = rw rest at c.loop-element.invariant in
-    rw (c.in_ok-write.ensures.value, front) (writes_on form c.loop-element.out (map view (take i xs)) (view x) (map view (drop (i + 1) xs)) (c.args.out.now ++ write_chain form [] (map view xs)) so_far)
+    rw (c.in_ok-write.ensures.value, front) (writes_on form c.loop-element.out (map view (take i xs)) (view x) (map view (drop (i + 1) xs))
+    (c.args.out.now ++ write_chain form [] (map view xs)) so_far)
 
 pub returns : goal.returns
 returns g c =
