@@ -8,7 +8,7 @@ ghost use Rattle.core_step.specs.Core.{StandsAt};
 ghost use Rattle.xs_model.specs.Record.{first_node};
 
 use crate::passes::pass_slot;
-use crate::quiet::pass_quiet;
+use crate::quiet::{first_rests, pass_quiet};
 use crate::station::Station;
 use crate::track::Track;
 use crate::wire::Wire;
@@ -102,9 +102,23 @@ impl SerialMachine {
         }
     }
 
-    // Goes over the slots before a limit in which nothing happens anywhere, as far as that is known: there may be none.
+    // Goes over the slots before a limit in which nothing happens anywhere, as far as that is known: there may be none. In most busy slots
+    // the first node has something to do, and then that is all that is asked.
     #[inline]
     fn pass_quiet_slots(&mut self, limit: u32)
+        requires before { self.old.now ≤ limit }
+        ensures plan { self.new.plan ≡ self.old.plan }
+        ensures on { self.old.now ≤ self.new.now }
+        ensures within { self.new.now ≤ limit }
+    {
+        if first_rests(&self.stations, self.clock) {
+            self.pass_where_all_rest(limit);
+        }
+    }
+
+    // The same, where the first node has nothing to do.
+    #[inline]
+    fn pass_where_all_rest(&mut self, limit: u32)
         requires before { self.old.now ≤ limit }
         ensures plan { self.new.plan ≡ self.old.plan }
         ensures on { self.old.now ≤ self.new.now }

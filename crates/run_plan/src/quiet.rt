@@ -17,6 +17,16 @@ use busy_slots::nodes_are_whole;
 use quiet_laws::{first_stirring_slot, quiet_slots_only_count};
 use step_laws::slot_tells_pins;
 
+/// Whether it may be worth while to go over slots from one on: not where the first node may do something in it. No clause says more, since
+/// each slot may also be stepped.
+#[inline]
+pub(crate) fn first_rests(stations: &[Station], from: u32) -> bool {
+    match stations.first() {
+        None => true,
+        Some(first) => from < first.seat.rests_to(from),
+    }
+}
+
 /// Goes over the slots from one on and before a limit in which nothing happens anywhere, as far as that is known. The answer is the
 /// slot before which all then stand, which may be the first. It takes no more than to come to a node that may do something in that slot,
 /// which in most busy slots is the first node.
