@@ -22,6 +22,7 @@ use Rattle.crossings.specs.Crossings.{AreInSendingOrder}
 use Rattle.ahead_limits.specs.declared.horizon.Seen.{Seen}
 use Rattle.ahead_limits.specs.Horizon.{HorizonRec, IsBelowAll}
 use Rattle.node_seats.specs.declared.pins.Pins.{Pins}
+use Rattle.node_seats.specs.declared.seat.Seat.{Seat}
 use Rattle.node_seats.specs.Shown.{ArePins, IsShown, HaveCome, shown_by}
 use Rattle.node_seats.proofs.Wired.{shows}
 use Rattle.node_runners.specs.declared.inlets.Inlets.{Inlets}
@@ -30,7 +31,7 @@ use Rattle.node_runners.specs.Wires.{wire_in, level_by, HasLevels, ArePortsApart
 use Rattle.node_runners.specs.Ends.{inlet_by}
 use Rattle.node_runners.specs.Sent.{OutletsRec}
 use Rattle.node_runners.specs.Joins.{ComesTo}
-use Rattle.node_runners.specs.Inside.{HearsLink, Hears, HasLinks, HaveComeBefore}
+use Rattle.node_runners.specs.Inside.{HearsLink, Hears, HasLinks, HaveComeBefore, IsRunner}
 use Rattle.node_runners.proofs.Ends.{by-wire-at}
 use Rattle.node_runners.proofs.Gots.{got}
 
@@ -153,6 +154,14 @@ module _ (plan : PlanRec) (plan_is : IsPlan plan) (n : Position) (clock : Slot) 
 
       pub pins-show : shown_by later slot ≡ shown_in_serial plan n slot
       pins-show = shows plan (serial plan slot).histories n slot slot due due-are (subst (HaveCome plan (serial plan slot).histories n slot) (sym is) have-come)
+
+module _ {plan : PlanRec} {n : Position} {clock : Slot} {horizon : HorizonRec} {seat : Seat} {pins : Pins} {inlets : Inlets} {outlets : OutletsRec} {published : List Slot}
+    (is : IsRunner plan n clock horizon seat pins inlets outlets published) where
+  pub its-levels : HasLevels inlets.wires
+  its-levels = has-levels plan is.plan_is n clock horizon inlets outlets published pins.levels is.links is.wires.come
+
+  pub its-ports-apart : ArePortsApart inlets.wires
+  its-ports-apart = ports-apart plan is.plan_is n clock horizon inlets outlets published pins.levels is.links is.wires.come
 
 -- ---- They were looked at
 

@@ -5,7 +5,7 @@ use Rattle.core_step.specs.PinLevels.{from_outside}
 use Rattle.node_seats.proofs.Seats.{noted-still, noted-same}
 use Rattle.node_runners.specs.Runner.{RunnerRec}
 use Rattle.node_runners.specs.Inside.{HaveComeBefore}
-use Rattle.node_runners.proofs.Coming.{has-levels, ports-apart, come-before, pins-show, pins-looked}
+use Rattle.node_runners.proofs.Coming.{its-levels, its-ports-apart, come-before, pins-show, pins-looked}
 use Rattle.node_runners.proofs.Slots.{links-ahead, waits, runner-same, runner-next}
 use Rattle.node_runners.proofs.runner.NodeRunner.run_slot.Goals as goal
 
@@ -28,16 +28,10 @@ arrive-arrives-requires-clause-waits c =
     waits i.plan.value c.self.invariant.1.plan_is i.node i.clock i.horizon i.inlets i.outlets i.published c.self.invariant.1.links
 
 pub come-requires-clause-levels : goal.come-requires-clause-levels
-come-requires-clause-levels c =
-    let i = c.self.inside in
-    let is = c.self.invariant.1 in
-    has-levels i.plan.value is.plan_is i.node i.clock i.horizon i.inlets i.outlets i.published i.pins.levels is.links is.wires.come
+come-requires-clause-levels c = its-levels c.self.invariant.1
 
 pub come-requires-clause-apart : goal.come-requires-clause-apart
-come-requires-clause-apart c =
-    let i = c.self.inside in
-    let is = c.self.invariant.1 in
-    ports-apart i.plan.value is.plan_is i.node i.clock i.horizon i.inlets i.outlets i.published i.pins.levels is.links is.wires.come
+come-requires-clause-apart c = its-ports-apart c.self.invariant.1
 
 pub step-requires-clause-arrives : goal.step-requires-clause-arrives
 step-requires-clause-arrives c = λ none. subst NothingArrives (sym c.arrived.ensures) (c.arrive-arrives.ensures.nothing none)

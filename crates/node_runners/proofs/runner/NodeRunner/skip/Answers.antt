@@ -3,10 +3,25 @@ use Rattle.quiet_model.specs.Slots.{NoneBefore}
 use Rattle.busy_slots.specs.Busy.{is_busy}
 use Rattle.ahead_limits.specs.Horizon.{may_run}
 use Rattle.node_runners.specs.Runner.{RunnerRec}
+use Rattle.node_runners.specs.Inside.{IsRunner}
 use Rattle.node_seats.proofs.Shown.{steady-later}
-use Rattle.node_runners.proofs.Coming.{has-levels, ports-apart}
-use Rattle.node_runners.proofs.Skips.{with_seat, issue_is_busy, goes_to, goes_on, pins_skipped, shown_last, came_last}
+use Rattle.node_runners.proofs.Coming.{its-levels, its-ports-apart}
+use Rattle.node_runners.proofs.Skips.{GoesTo, with_seat, issue_is_busy, goes_to, goes_on, pins_skipped, shown_last, came_last}
 use Rattle.node_runners.proofs.runner.NodeRunner.skip.Goals as goal
+use Rattle.node_runners.proofs.runner.NodeRunner.skip.Goals.{After-quiet_to-to}
+
+-- a look at the seat has left the node as it was
+is_still : (c : After-quiet_to-to)
+    → let i = c.self.inside in IsRunner i.plan.value i.node i.clock i.horizon c.may_issue.new.self i.pins i.inlets i.outlets i.published
+is_still c = with_seat _ _ _ _ _ _ _ _ _ _ c.self.invariant.1 c.may_issue.ensures.unchanged
+
+-- what was found of the slots from its clock on
+found : (c : After-quiet_to-to) → GoesTo c.self.inside.plan.value c.self.inside.node c.self.inside.clock c.self.inside.horizon c.quiet_to-to.result
+found c =
+    let i = c.self.inside in
+    goes_to i.plan.value i.node i.clock i.horizon c.may_issue.new.self i.pins i.inlets i.outlets i.published (is_still c)
+    c.clock_after-stop.result c.first_arrival-arrival.result c.quiet_to-to.result c.clock_after-stop.ensures.value c.first_arrival-arrival.ensures.first c.first_arrival-arrival.ensures.within
+    c.first_busy_by_both.ensures.first c.quiet_to-to.ensures.first
 
 pub invariant_of-self : goal.invariant_of-self
 invariant_of-self c =
@@ -22,25 +37,15 @@ returns-then-may_issue-clause-greatest c =
 pub returns-then-to-from-clause-greatest : goal.returns-then-to-from-clause-greatest
 returns-then-to-from-clause-greatest c =
     let i = c.self.inside in
-    let seat = c.may_issue.new.self in
-    let is = with_seat i.plan.value i.node i.clock i.horizon i.seat c.may_issue.new.self i.pins i.inlets i.outlets i.published c.self.invariant.1 c.may_issue.ensures.unchanged in
-    let goes = goes_to i.plan.value i.node i.clock i.horizon seat i.pins i.inlets i.outlets i.published is
-    c.clock_after-stop.result c.first_arrival-arrival.result c.quiet_to-to.result c.clock_after-stop.ensures.value c.first_arrival-arrival.ensures.first c.first_arrival-arrival.ensures.within
-    c.first_busy_by_both.ensures.first c.quiet_to-to.ensures.first in
+    let goes = found (goal.at.returns-then-to-from-clause-greatest c).After-quiet_to-to in
     let same : c.quiet_to-to.result ≡ i.clock = omega (arith, c.if-to-from.true, goes.on) in
     subst (λ t. may_run i.horizon t ≡ true → is_busy i.plan.value i.node t ≡ true) same goes.greatest
 
 pub come-requires-clause-levels : goal.come-requires-clause-levels
-come-requires-clause-levels c =
-    let i = c.self.inside in
-    let is = c.self.invariant.1 in
-    has-levels i.plan.value is.plan_is i.node i.clock i.horizon i.inlets i.outlets i.published i.pins.levels is.links is.wires.come
+come-requires-clause-levels c = its-levels c.self.invariant.1
 
 pub come-requires-clause-apart : goal.come-requires-clause-apart
-come-requires-clause-apart c =
-    let i = c.self.inside in
-    let is = c.self.invariant.1 in
-    ports-apart i.plan.value is.plan_is i.node i.clock i.horizon i.inlets i.outlets i.published i.pins.levels is.links is.wires.come
+come-requires-clause-apart c = its-ports-apart c.self.invariant.1
 
 pub come-requires-clause-steady : goal.come-requires-clause-steady
 come-requires-clause-steady c =
@@ -50,23 +55,12 @@ come-requires-clause-steady c =
 pub returns-clause-quiet : goal.returns-clause-quiet
 returns-clause-quiet c =
     let i = c.self.inside in
-    let seat = c.may_issue.new.self in
-    let is = with_seat i.plan.value i.node i.clock i.horizon i.seat c.may_issue.new.self i.pins i.inlets i.outlets i.published c.self.invariant.1 c.may_issue.ensures.unchanged in
-    let goes = goes_to i.plan.value i.node i.clock i.horizon seat i.pins i.inlets i.outlets i.published is
-    c.clock_after-stop.result c.first_arrival-arrival.result c.quiet_to-to.result c.clock_after-stop.ensures.value c.first_arrival-arrival.ensures.first c.first_arrival-arrival.ensures.within
-    c.first_busy_by_both.ensures.first c.quiet_to-to.ensures.first in
+    let goes = found (goal.at.returns-clause-quiet c).After-quiet_to-to in
     subst (λ (r : RunnerRec). NoneBefore (is_busy r.plan r.node) r.clock (r.clock + (c.quiet_to-to.result - i.clock))) c.self.view_is
     (λ slot on before. goes.quiet slot on (omega (arith, before, goes.on)))
 
 pub returns-clause-greatest : goal.returns-clause-greatest
-returns-clause-greatest c =
-    let i = c.self.inside in
-    let seat = c.may_issue.new.self in
-    let is = with_seat i.plan.value i.node i.clock i.horizon i.seat c.may_issue.new.self i.pins i.inlets i.outlets i.published c.self.invariant.1 c.may_issue.ensures.unchanged in
-    let goes = goes_to i.plan.value i.node i.clock i.horizon seat i.pins i.inlets i.outlets i.published is
-    c.clock_after-stop.result c.first_arrival-arrival.result c.quiet_to-to.result c.clock_after-stop.ensures.value c.first_arrival-arrival.ensures.first c.first_arrival-arrival.ensures.within
-    c.first_busy_by_both.ensures.first c.quiet_to-to.ensures.first in
-    goes.greatest
+returns-clause-greatest c = (found (goal.at.returns-clause-greatest c).After-quiet_to-to).greatest
 
 pub invariant_of-self-then-to-from : goal.invariant_of-self-then-to-from
 invariant_of-self-then-to-from c =
@@ -76,11 +70,10 @@ invariant_of-self-then-to-from c =
 pub invariant_of-self-2 : goal.invariant_of-self-2
 invariant_of-self-2 c =
     let i = c.self.inside in
+    let at = (goal.at.invariant_of-self-2 c).After-quiet_to-to in
     let seat = c.may_issue.new.self in
-    let is = with_seat i.plan.value i.node i.clock i.horizon i.seat c.may_issue.new.self i.pins i.inlets i.outlets i.published c.self.invariant.1 c.may_issue.ensures.unchanged in
-    let goes = goes_to i.plan.value i.node i.clock i.horizon seat i.pins i.inlets i.outlets i.published is
-    c.clock_after-stop.result c.first_arrival-arrival.result c.quiet_to-to.result c.clock_after-stop.ensures.value c.first_arrival-arrival.ensures.first c.first_arrival-arrival.ensures.within
-    c.first_busy_by_both.ensures.first c.quiet_to-to.ensures.first in
+    let is = is_still at in
+    let goes = found at in
     let plan = i.plan.value in
     let to = c.quiet_to-to.result in
     let come = c.come.new.pins in
