@@ -47,6 +47,23 @@ impl Ram {
         Ok(Ram { bytes: memory })
     }
 
+    /// A memory with the same bytes. The error is want of memory.
+    pub fn copy(&self, alloc: Global) -> Result<Ram, AllocError>
+        ensures same { IfOk result (λ ram. ram ≡ self.now) }
+    {
+        let bytes = Vec::from_slice(alloc, self.bytes.as_slice())?;
+        Ok(Ram { bytes })
+    }
+
+    /// From now on its bytes are those of another memory. It takes no memory.
+    pub fn copy_from(&mut self, other: &Ram)
+        ensures same { self.new ≡ other.now }
+    {
+        self.bytes
+            .as_mut_slice()
+            .copy_from_slice(other.bytes.as_slice());
+    }
+
     /// The word at an address. `BadAddress` comes exactly where the address is outside the memory or no multiple
     /// of 4. See docs/MACHINE.md.
     #[inline]

@@ -46,6 +46,20 @@ impl Processor {
         }
     }
 
+    /// The processor with these units, of which nothing is known. It takes no memory.
+    pub fn of_units(units: Units) -> Processor
+        ensures value { result ≡ units }
+    {
+        Processor { units, able: None }
+    }
+
+    /// Its units.
+    pub fn units(&self) -> &Units
+        ensures { result.now ≡ self.now }
+    {
+        &self.units
+    }
+
     /// The channel ends.
     #[inline]
     pub fn chans(&self) -> &ChanEnds
