@@ -3,10 +3,12 @@
 
 mod network;
 mod node_core;
+mod node_state;
 mod pin_levels;
 mod rest;
 
 pub use node_core::Core;
+pub use node_state::NodeState;
 pub use processor::BadAddress;
 pub use sys_plan::NodePlan;
 pub use trace_lines::{Emissions, Event, Happen};

@@ -1,17 +1,20 @@
 //! `Network`, the link ends and the switch of a node.
 ghost use Rattle.std.specs.Prelude.{ℕ, ◌≡◌, ◌≤◌, ◌+◌, false, List, Option, length, map, slice_index_or, None, IsTrue};
-ghost use Rattle.xs_base.specs.declared.numbers.TheConstants.{EVENTS_BEFORE_SWITCH, SWITCH_EVENTS};
+ghost use Rattle.std.specs.List.{AllByRecursion};
+ghost use Rattle.xs_base.specs.declared.numbers.TheConstants.{EVENTS_BEFORE_SWITCH, LINK_ENDS, SWITCH_EVENTS};
 ghost use Rattle.xs_model.specs.AtWork.{AtWork};
 ghost use Rattle.xs_model.specs.Record.{LinkRec, NodeRec};
 ghost use Rattle.net_model.specs.Links.{links_after_arrivals};
 ghost use Rattle.quiet_model.specs.Still.{network_is_still};
 ghost use Rattle.switch_routes.specs.Rows.{AllCountsOf, CreditedBy, SentBy, end_gaps};
+ghost use Rattle.link_ends.specs.States.{IsEndState};
+ghost use Rattle.switch_routes.specs.States.{input_state, place_state, AreInputStates};
 ghost use Rattle.core_step.specs.Core.{NothingArrives};
-ghost use Rattle.core_step.specs.Network.{NetworkStands, Brings, routes_of, counts_with_gap, first_network};
+ghost use Rattle.core_step.specs.Network.{NetworkStands, Brings, routes_of, counts_with_gap, first_network, EndsHaveGaps, row_by, network_by};
 
 use processor::{Holders, Processor};
 use std::marker::Model;
-use switch_routes::{LinkEnd, Links, Switch};
+use switch_routes::{EndState, InputState, LinkEnd, Links, Switch};
 use trace_lines::Emissions;
 use xs_base::Token;
 use xs_base::numbers::LINK_ENDS;
@@ -42,6 +45,42 @@ impl Network {
             links: links_with(gaps),
             switch: Switch::new(id, ways, nets),
         }
+    }
+
+    /// The network of the node with this id, with ways, networks and gaps as `new` has them, whose inputs and link ends a
+    /// snapshot says.
+    pub(crate) fn of_state(
+        id: u16,
+        ways: [u8; 16],
+        nets: [u8; 8],
+        gaps: &[u32; 8],
+        inputs: &[InputState; 40],
+        ends: &[EndState; 8],
+    ) -> Network
+        requires inputs { AreInputStates inputs.now }
+        requires ends { AllByRecursion IsEndState ends.now }
+        requires gaps { EndsHaveGaps gaps.now ends.now }
+        ensures value { result ≡ network_by id ways nets gaps.now inputs.now ends.now }
+        ensures count { length ends.now ≡ LINK_ENDS }
+    {
+        Network {
+            links: links_of(gaps, ends),
+            switch: Switch::of_state(id, ways, nets, inputs),
+        }
+    }
+
+    /// What a snapshot keeps of the inputs of the switch.
+    pub(crate) fn inputs(&self) -> [InputState; 40]
+        ensures { result ≡ map input_state self.now.switch.inputs }
+    {
+        self.switch.state()
+    }
+
+    /// What a snapshot keeps of the link ends.
+    pub(crate) fn ends(&self) -> [EndState; 8]
+        ensures { result ≡ map place_state self.now.links }
+    {
+        self.links.state()
     }
 
     /// What arrives by the link ends in a slot, if anything does, and then the switch, which works with the units' channel
@@ -100,6 +139,23 @@ fn links_with(gaps: &[u32; 8]) -> Links
         let gap = gaps[end as usize];
         if gap > 0 {
             links.set(end, LinkEnd::new(gap));
+        }
+    }
+    links
+}
+
+// The link ends with these gaps that a snapshot says, by number.
+fn links_of(gaps: &[u32; 8], ends: &[EndState; 8]) -> Links
+    requires ends { AllByRecursion IsEndState ends.now }
+    requires gaps { EndsHaveGaps gaps.now ends.now }
+    ensures value { result ≡ row_by gaps.now ends.now }
+    ensures count { length ends.now ≡ LINK_ENDS }
+{
+    let mut links = Links::new();
+    for end in 0..LINK_ENDS {
+        let state = &ends[end as usize];
+        if state.present {
+            links.set(end, LinkEnd::of_state(gaps[end as usize], state));
         }
     }
     links

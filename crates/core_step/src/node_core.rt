@@ -16,8 +16,10 @@ ghost use Rattle.quiet_laws.specs.Quiet.{StirsFirst};
 ghost use Rattle.core_step.specs.PinLevels.{from_outside};
 ghost use Rattle.core_step.specs.Core.{StandsFor, StandsAt, SlotsBefore, NothingArrives, Passes};
 ghost use Rattle.core_step.specs.Quiet.{IsQuietTo};
+ghost use Rattle.core_step.specs.States.{node_state, node_rec, IsNodeState, IsStateBefore};
 
 use crate::network::{Network, nothing_arrives};
+use crate::node_state::NodeState;
 use crate::pin_levels::{PinLevels, high_before};
 use crate::rest::Rest;
 use processor::{BadAddress, Processor, Program, Ram};
@@ -73,6 +75,49 @@ impl Core {
                 pins: PinView { level: [0; 29] },
                 is_outside: false,
             },
+            rest: Rest::none(),
+        })
+    }
+
+    /// Puts what a snapshot keeps of the core into `out`, in place of what was there. It takes no memory. See docs/SNAPSHOTS.md.
+    pub fn state(&self, out: &mut NodeState)
+        ensures state { (rec : NodeRec) → StandsFor self.now rec → out.new ≡ node_state rec }
+    {
+        out.keep(self.units.units());
+        out.inputs = self.network.inputs();
+        out.ends = self.network.ends();
+        out.levels = self.levels.shown(&out.ports);
+    }
+
+    /// The core of a node that a snapshot says, with the gaps of its link ends as `boot` has them. Link ends are there where they
+    /// have a gap. It stands before each slot that is after all slots in the state. The error is want of memory. See
+    /// docs/SNAPSHOTS.md.
+    pub fn of_state(
+        alloc: Global,
+        plan: &NodePlan,
+        gaps: &[u32; 8],
+        state: &NodeState,
+    ) -> Result<Core, AllocError>
+        requires gaps { WaysHaveGaps plan.now.ways gaps.now }
+        requires facts { IsNodeState gaps.now state.now }
+        ensures fixed { IfOk result (λ core. core.fixed ≡ fixed_of plan.now gaps.now) }
+        ensures stands { IfOk result (λ core. (slot : Slot) → IsStateBefore slot state.now → StandsAt core (node_rec state.now) slot) }
+        ensures before { IfOk result (λ core. (slot : Slot) → IsStateBefore slot state.now → SlotsBefore core slot) }
+    {
+        let code = Vec::from_slice(alloc, plan.image.code())?;
+        let ram = state.memory.copy(alloc)?;
+        Ok(Core {
+            program: Program::new(plan.id, plan.edition, code),
+            units: Processor::of_units(state.units(plan.id, ram)),
+            network: Network::of_state(
+                plan.id,
+                plan.ways,
+                plan.nets,
+                gaps,
+                &state.inputs,
+                &state.ends,
+            ),
+            levels: PinLevels::of_state(state.levels),
             rest: Rest::none(),
         })
     }
