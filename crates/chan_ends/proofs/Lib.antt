@@ -1,4 +1,3 @@
 pub mod Unused
 pub mod Marked
-pub mod Filled
 pub mod States

@@ -1,5 +1,4 @@
 pub mod First
 pub mod Disabled
 pub mod Wakes
-pub mod Made
 pub mod States

@@ -8,7 +8,7 @@ use Rattle.xs_model.specs.declared.dest.Dest.{Dest}
 use Rattle.xs_model.specs.Dests.{dest_of, id_of}
 use Rattle.xs_model.specs.Record.{InputRec, Idle, Head1, Head2, Want, Local, Out, Lost}
 use Rattle.net_model.specs.Chans.{is_chan_id}
-use Rattle.chan_ends.proofs.Filled.{filled_more}
+use Rattle.made_lists.proofs.Filled.{filled_more}
 use Rattle.link_ends.specs.Counts.{EndCounts}
 use Rattle.link_ends.specs.States.{end_state, absent_end, IsEndState}
 use Rattle.link_ends.proofs.States.{stands}

@@ -1,4 +1,3 @@
 pub mod Slaves
-pub mod Made
 pub mod Masks
 pub mod States

@@ -1,4 +1,3 @@
 pub mod AnyCondition
 pub mod Periods
-pub mod Made
 pub mod States

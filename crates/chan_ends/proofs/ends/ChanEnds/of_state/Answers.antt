@@ -2,7 +2,7 @@ use Rattle.std.proofs.Common.{◌∙◌, ap, length, arith}
 use Rattle.std.proofs.lemmas.List.{length-set}
 use Rattle.std.proofs.lemmas.List.Elements.{All-from_recursion}
 use Rattle.chan_ends.specs.States.{chan_of, IsChanState}
-use Rattle.chan_ends.proofs.Filled.{filled_more, filled_all}
+use Rattle.made_lists.proofs.Filled.{filled_more, filled_all}
 use Rattle.chan_ends.proofs.ends.ChanEnds.of_state.Goals as goal
 
 pub of_state-requires : goal.of_state-requires

@@ -5,7 +5,7 @@ use Rattle.std.proofs.lemmas.List.{length-set, get_or_default}
 use borrow.Author.Count.{below_more}
 use Rattle.xs_model.specs.Record.{unused_chan}
 use Rattle.chan_ends.specs.States.{chan_state, IsChan, IsChanState}
-use Rattle.chan_ends.proofs.Filled.{filled_more, filled_all}
+use Rattle.made_lists.proofs.Filled.{filled_more, filled_all}
 use Rattle.chan_ends.proofs.States.{states-of-each}
 use Rattle.chan_ends.proofs.ends.ChanEnds.state.Goals as goal
 

@@ -1,7 +1,7 @@
 use Rattle.std.proofs.Common.{length, map, ap, ◌∙◌, rules}
 use Rattle.xs_model.specs.Record.{not_enabled}
 use Rattle.event_unit.specs.States.{enable_state}
-use Rattle.event_unit.proofs.Made.{made_of}
+use Rattle.made_lists.proofs.Made.{made_of}
 use Rattle.event_unit.proofs.events.Events.state.Goals as goal
 
 pub returns : goal.returns

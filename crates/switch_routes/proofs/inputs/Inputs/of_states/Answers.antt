@@ -1,7 +1,7 @@
 use Rattle.std.proofs.Common.{◌∙◌, length, ap, arith}
 use Rattle.std.proofs.lemmas.List.{length-set}
 use Rattle.std.proofs.lemmas.List.Elements.{All-from_recursion}
-use Rattle.chan_ends.proofs.Filled.{filled_all}
+use Rattle.made_lists.proofs.Filled.{filled_all}
 use Rattle.switch_routes.specs.Inputs.{state_of}
 use Rattle.switch_routes.specs.States.{input_of, IsInputState}
 use Rattle.switch_routes.proofs.States.{placed_more}

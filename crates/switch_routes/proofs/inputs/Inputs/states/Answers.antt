@@ -1,6 +1,6 @@
 use Rattle.std.proofs.Common.{◌∙◌, arith}
 use Rattle.std.proofs.lemmas.List.{length-set}
-use Rattle.chan_ends.proofs.Filled.{filled_all}
+use Rattle.made_lists.proofs.Filled.{filled_all}
 use Rattle.switch_routes.specs.Inputs.{states_in}
 use Rattle.switch_routes.specs.States.{input_state}
 use Rattle.switch_routes.proofs.Marks.{length-states}

@@ -3,7 +3,7 @@ use Rattle.std.specs.Prelude.{map}
 use Rattle.std.specs.List.{AllByRecursion}
 use Rattle.std.proofs.lemmas.List.{length-set}
 use borrow.Author.Count.{below_more}
-use Rattle.chan_ends.proofs.Filled.{filled_all}
+use Rattle.made_lists.proofs.Filled.{filled_all}
 use Rattle.link_ends.specs.States.{IsEndState}
 use Rattle.link_ends.specs.declared.state.EndState.{EndState}
 use Rattle.switch_routes.specs.Rows.{AllCountsOf}

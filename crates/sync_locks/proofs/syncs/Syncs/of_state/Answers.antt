@@ -2,7 +2,7 @@ use Rattle.std.proofs.Common.{◌≡◌, map, List, None, false, ap₂, rules, a
 use Rattle.xs_model.specs.Record.{SyncRec, LockRec}
 use Rattle.sync_locks.specs.Syncs.{SyncsRec}
 use Rattle.sync_locks.specs.States.{sync_of, lock_of, unused_state}
-use Rattle.sync_locks.proofs.Made.{made_of}
+use Rattle.made_lists.proofs.Made.{made_of}
 use Rattle.sync_locks.proofs.syncs.Syncs.of_state.Goals as goal
 
 pub returns : goal.returns

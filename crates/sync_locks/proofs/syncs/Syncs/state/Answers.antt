@@ -1,7 +1,7 @@
 use Rattle.std.proofs.Common.{rules}
 use Rattle.xs_model.specs.Record.{unused_sync, unused_lock}
 use Rattle.sync_locks.specs.States.{sync_state, lock_state}
-use Rattle.sync_locks.proofs.Made.{made_of_each}
+use Rattle.made_lists.proofs.Made.{made_of_each}
 use Rattle.sync_locks.proofs.syncs.Syncs.state.Goals as goal
 
 pub returns : goal.returns

@@ -1,7 +1,7 @@
 use Rattle.std.proofs.Common.{rules}
 use Rattle.xs_model.specs.Record.{off_clock}
 use Rattle.timers_clocks.specs.States.{clock_state}
-use Rattle.timers_clocks.proofs.Made.{made_of_each}
+use Rattle.made_lists.proofs.Made.{made_of_each}
 use Rattle.timers_clocks.proofs.clocks.Clocks.state.Goals as goal
 
 pub returns : goal.returns

@@ -1,6 +1,6 @@
 use Rattle.std.proofs.Common.{rules, false, arith}
 use Rattle.timers_clocks.specs.States.{timer_of}
-use Rattle.timers_clocks.proofs.Made.{made_of}
+use Rattle.made_lists.proofs.Made.{made_of}
 use Rattle.timers_clocks.proofs.timers.Timers.of_state.Goals as goal
 
 pub returns : goal.returns

@@ -1,7 +1,7 @@
 use Rattle.std.proofs.Common.{rules}
 use Rattle.xs_model.specs.Record.{unused_timer}
 use Rattle.timers_clocks.specs.States.{timer_state}
-use Rattle.timers_clocks.proofs.Made.{made_of_each}
+use Rattle.made_lists.proofs.Made.{made_of_each}
 use Rattle.timers_clocks.proofs.timers.Timers.state.Goals as goal
 
 pub returns : goal.returns
