@@ -64,6 +64,14 @@ impl Ram {
             .copy_from_slice(other.bytes.as_slice());
     }
 
+    /// The 65,536 bytes, from that at 0x00010000 on.
+    pub fn bytes(&self) -> &[u8]
+        ensures value { result.now ≡ self.now }
+        ensures size { length self.now ≡ MEMORY_BYTES }
+    {
+        self.bytes.as_slice()
+    }
+
     /// The word at an address. `BadAddress` comes exactly where the address is outside the memory or no multiple
     /// of 4. See docs/MACHINE.md.
     #[inline]
