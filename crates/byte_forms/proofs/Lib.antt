@@ -2,5 +2,4 @@ pub mod Steps
 pub mod Fields
 pub mod Parts
 pub mod Lists
-pub mod Tokens
 pub mod Whole

@@ -1,4 +1,3 @@
 pub mod Forms
-pub mod Tokens
 pub mod Laws
 pub mod Reading

@@ -2,13 +2,10 @@
 #![tactic(auto)]
 
 mod fault;
-mod field;
 mod reader;
-mod token;
 mod writer;
 
 pub use fault::Fault;
-pub use field::{Field, read_elements, read_list, read_places, write_each};
 pub use reader::Reader;
 pub use writer::{
     write_byte, write_flag, write_half, write_long, write_option_byte, write_option_half,

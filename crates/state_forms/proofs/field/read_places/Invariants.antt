@@ -1,6 +1,6 @@
 use Rattle.std.proofs.Common.{◌≡◌, ◌-◌, [], length, map, take}
 use Rattle.byte_forms.specs.Forms.{read_chain}
-use Rattle.byte_forms.proofs.field.read_places.Given as goal
+use Rattle.state_forms.proofs.field.read_places.Given as goal
 
 abbrev pub invariant-loop-at : goal.invariant-loop-at
 invariant-loop-at g l =

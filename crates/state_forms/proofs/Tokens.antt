@@ -4,7 +4,7 @@ use Rattle.std.proofs.lemmas.Bool.{ltb-true}
 use Rattle.xs_base.specs.declared.token.Token.{Token}
 use Rattle.xs_base.specs.declared.token.Token.TheVariants.{Byte, Ctrl}
 use Rattle.byte_forms.specs.Laws.{Lawful}
-use Rattle.byte_forms.specs.Tokens.{token, token_of, kind_and_value}
+use Rattle.state_forms.specs.Tokens.{token, token_of, kind_and_value}
 use Rattle.byte_forms.proofs.Fields.{byte-lawful}
 use Rattle.byte_forms.proofs.Parts.{both-lawful, below-lawful, seen-lawful}
 

@@ -1,7 +1,7 @@
 use Rattle.std.proofs.Common.{◌≡◌, ◌-◌, [], map}
 use Rattle.arrayvec.specs.ArrayVec.{array_vec_len}
 use Rattle.byte_forms.specs.Forms.{read_chain}
-use Rattle.byte_forms.proofs.field.read_elements.Given as goal
+use Rattle.state_forms.proofs.field.read_elements.Given as goal
 
 abbrev pub invariant-loop : goal.invariant-loop
 invariant-loop g l =

@@ -1,11 +1,9 @@
 //! Tokens as bytes.
 ghost use Rattle.xs_base.specs.declared.token.Token.{Token};
-ghost use Rattle.byte_forms.specs.Tokens.{token};
+ghost use Rattle.state_forms.specs.Tokens.{token};
 
-use crate::fault::Fault;
 use crate::field::Field;
-use crate::reader::Reader;
-use crate::writer::write_byte;
+use byte_forms::{Fault, Reader, write_byte};
 use std::alloc::AllocError;
 use xs_base::{Text, Token};
 

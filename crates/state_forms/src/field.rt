@@ -3,9 +3,8 @@ ghost use Rattle.std.specs.Prelude.{◌≡◌, ◌≤◌, ◌++◌, length, map,
 ghost use Rattle.byte_forms.specs.Forms.{Form, repeat};
 ghost use Rattle.byte_forms.specs.Reading.{Gives};
 
-use crate::fault::Fault;
-use crate::reader::Reader;
 use arrayvec::ArrayVec;
+use byte_forms::{Fault, Reader};
 use std::alloc::{AllocError, Global};
 use xs_base::Text;
 

@@ -1,6 +1,6 @@
 use Rattle.std.proofs.Common.{◌≡◌, ◌++◌, [], map, take, drop}
 use Rattle.byte_forms.specs.Forms.{write_chain}
-use Rattle.byte_forms.proofs.field.write_each.Given as goal
+use Rattle.state_forms.proofs.field.write_each.Given as goal
 
 abbrev pub invariant-loop-element : goal.invariant-loop-element
 invariant-loop-element g l =

@@ -3,7 +3,7 @@ use Rattle.std.proofs.lemmas.Result.{err_from_is_err_and}
 use Rattle.std.proofs.lemmas.List.{length-set, map_push, take_all, take_more_set}
 use Rattle.byte_forms.specs.Forms.{Form, read_chain}
 use Rattle.byte_forms.proofs.Lists.{reads_on, refuses_all, reads_all}
-use Rattle.byte_forms.proofs.field.read_places.Goals as goal
+use Rattle.state_forms.proofs.field.read_places.Goals as goal
 
 pub returns-in_err-places : goal.returns-in_err-places
 returns-in_err-places g c =

@@ -1,6 +1,6 @@
 use Rattle.std.proofs.Common.{◌≡◌, ◌-◌, [], map}
 use Rattle.byte_forms.specs.Forms.{read_chain}
-use Rattle.byte_forms.proofs.field.read_list.Given as goal
+use Rattle.state_forms.proofs.field.read_list.Given as goal
 
 abbrev pub invariant-loop : goal.invariant-loop
 invariant-loop g l =

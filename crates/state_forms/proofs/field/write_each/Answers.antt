@@ -2,7 +2,7 @@ use Rattle.std.proofs.Common.{◌≡◌, ◌+◌, List, [], ◌∷◌, ◌++◌,
 use Rattle.std.proofs.lemmas.List.{map_push, take_more, drop_more, drop_all}
 use Rattle.byte_forms.specs.Forms.{Form, write_chain}
 use Rattle.byte_forms.proofs.Lists.{writes_on, writes_all}
-use Rattle.byte_forms.proofs.field.write_each.Goals as goal
+use Rattle.state_forms.proofs.field.write_each.Goals as goal
 
 pub loop-element-preserved : goal.loop-element-preserved
 loop-element-preserved g c =

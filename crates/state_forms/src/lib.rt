@@ -1,0 +1,7 @@
+//! How what a snapshot keeps of a node's units stands in bytes: a form for each plain type, and its reader and writer. See docs/SNAPSHOTS.md.
+#![tactic(auto)]
+
+mod field;
+mod token;
+
+pub use field::{Field, read_elements, read_list, read_places, write_each};
