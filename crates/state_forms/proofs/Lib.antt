@@ -1,1 +1,17 @@
+pub mod BufferFacts
+pub mod Buffers
+pub mod Chains
+pub mod ChanFacts
+pub mod Chans
+pub mod Enables
+pub mod Holding
+pub mod Locks
+pub mod Rest
+pub mod Slaves
+pub mod SyncFacts
+pub mod Syncs
+pub mod ThreadStates
+pub mod Threads
+pub mod Timers
 pub mod Tokens
+pub mod Zips

@@ -1,1 +1,9 @@
+pub mod Buffers
+pub mod Chans
+pub mod Enables
+pub mod Locks
+pub mod Rest
+pub mod Syncs
+pub mod Threads
+pub mod Timers
 pub mod Tokens

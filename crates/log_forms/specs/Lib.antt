@@ -1,0 +1,4 @@
+pub mod Entries
+pub mod Windows
+pub mod Logs
+pub mod InFlight
