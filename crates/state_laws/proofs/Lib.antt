@@ -1,0 +1,15 @@
+mod Lists
+mod Names
+mod Runs
+mod Changes
+mod Enabling
+mod Found
+mod PortWaits
+mod Walk
+mod Issue
+mod Inputs
+mod Switch
+mod Threads
+mod Before
+mod Owners
+mod Slaves

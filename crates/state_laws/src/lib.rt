@@ -1,4 +1,33 @@
 //! What is true of every node that a run reaches, so that a snapshot of it may be read again. See docs/SNAPSHOTS.md.
 #![tactic(auto)]
 
-ghost use Rattle.state_laws.specs.Laws.{KeptMayBeRead};
+ghost use Rattle.state_laws.specs.Facts.{IsCoreBefore, NamesThreads, SlavesFit, WaitAtWhatIsThere};
+ghost use Rattle.state_laws.specs.Laws.{IsSoAtFirst, KeptMayBeRead, StaysSo};
+
+/// Every slot that a core keeps, of its threads' last issues and of its last division, is before the slot that comes next: as a
+/// node starts it keeps none, and each slot leaves it so. It does nothing. See docs/THREADS.md.
+pub fn cores_keep_past_slots()
+    ensures first { IsSoAtFirst (λ rec. IsCoreBefore 0 rec.core) }
+    ensures slot { StaysSo (λ slot rec. IsCoreBefore slot rec.core) }
+{}
+
+/// What each paused thread waits at is there, whatever program runs: as a node starts no thread is paused, and each slot leaves
+/// it so. It does nothing. See docs/THREADS.md.
+pub fn threads_wait_at_what_is_there()
+    ensures first { IsSoAtFirst (λ rec. WaitAtWhatIsThere rec.core) }
+    ensures slot { StaysSo (λ slot rec. WaitAtWhatIsThere rec.core) }
+{}
+
+/// Who enabled what gives events and interrupts is one of the core's eight threads, and so is the owner of a lock: as a node
+/// starts there is none, and each slot leaves it so. It does nothing. See docs/EVENTS.md and docs/THREADS.md.
+pub fn cores_name_threads()
+    ensures first { IsSoAtFirst (λ rec. NamesThreads rec.core) }
+    ensures slot { StaysSo (λ slot rec. NamesThreads rec.core) }
+{}
+
+/// A synchroniser that is in use has a thread as its master, and one that is not has no slaves. Each slave is a thread, a slave
+/// of that synchroniser alone, and not free. So a node starts, and so each slot leaves it. It does nothing. See docs/THREADS.md.
+pub fn slaves_have_one_synchroniser()
+    ensures first { IsSoAtFirst (λ rec. SlavesFit rec.core) }
+    ensures slot { StaysSo (λ slot rec. SlavesFit rec.core) }
+{}
