@@ -13,3 +13,4 @@ mod Threads
 mod Before
 mod Owners
 mod Slaves
+mod Links

@@ -21,8 +21,8 @@ use Rattle.link_laws.specs.Windows.{IsNodeBefore}
 use Rattle.link_laws.proofs.SlotAtEndStep.{slot_at_link_end}
 use Rattle.link_laws.proofs.WindowStep.{step_stays_before}
 use Rattle.state_laws.specs.Facts.{end_is_there, HaveGaps, LinksFit}
-use Rattle.state_laws.specs.Laws.{IsSoAtFirstWith, StaysSoAsPlanned}
-use Rattle.state_laws.proofs.Switch.{arrived_many, before_fine}
+use Rattle.state_laws.specs.Laws.{IsSoAtFirstWith, StaysSoWith}
+use Rattle.state_laws.proofs.Switch.{any_before}
 
 -- at most eight are without a credit
 abbrev InWindow : LinkRec → Type 0
@@ -75,16 +75,16 @@ module _ (slot : Slot) where
 
   few_counted : (test : Slot → Bool) (slots : List Slot) → length (filter test slots) ≤ length slots
   few_counted test [] = omega arith
-  few_counted test (s ∷ slots) = by (test s)
+  few_counted test (s ∷ slots) = by (test s) (few_counted test slots)
     where
-      by : (passes : Bool) → length (if passes then s ∷ filter test slots else filter test slots) ≤ suc (length slots)
-      by true = omega (arith, few_counted test slots)
-      by false = omega (arith, few_counted test slots)
+      by : (passes : Bool) → length (filter test slots) ≤ length slots → length (if passes then s ∷ filter test slots else filter test slots) ≤ suc (length slots)
+      by true few = omega (arith, few)
+      by false few = omega (arith, few)
 
   may_has_room : (gap : ℕ) (link : LinkRec) → AllByRecursion (λ s. s < slot) link.sent → may_send gap slot link ≡ true → length link.sent < length link.credited + WINDOW_TOKENS
   may_has_room gap link before may =
-      let open = and_parts (nat_lt (length (filter (λ s. nat_lt s slot) link.sent)) (WINDOW_TOKENS + length (filter (λ s. nat_le s slot) link.credited))) (gap_is_over gap slot (latest link.sent)) may in
-      omega (arith, ltb-true _ _ open.0, all_counted link.sent before, few_counted (λ s. nat_le s slot) link.credited)
+      let opens = and_parts (nat_lt (length (filter (λ s. nat_lt s slot) link.sent)) (WINDOW_TOKENS + length (filter (λ s. nat_le s slot) link.credited))) (gap_is_over gap slot (latest link.sent)) may in
+      omega (arith, ltb-true _ _ opens.0, all_counted link.sent before, few_counted (λ s. nat_le s slot) link.credited)
 
   token_same : (token : Option Token) (link : LinkRec) → ((token_arrives token link).sent ≡ link.sent) × ((token_arrives token link).credited ≡ link.credited)
   token_same None link = (refl, refl)
@@ -141,9 +141,9 @@ module _ (fixed : Fixed) (rec : NodeRec) (slot : Slot) (arrivals : Arrivals) (pi
   -- a link end that is not there has no window
   at_end : LinksFit fixed.routes.gaps slot rec → HaveGaps fixed.routes.gaps after → length after.links ≡ LINK_ENDS → (e : EndNumber) → IfSome (link_at after e) InWindow
   at_end h gaps many e = elim (cases_Bool (end_is_there after e)) [
-    | inr no ↦ if_there (link_at after e) no
-    | inl yes ↦
-        let gap : 0 < slice_index fixed.routes.gaps e = (gaps e).0 yes in
+    | inr absent ↦ if_there (link_at after e) absent
+    | inl present ↦
+        let gap : 0 < slice_index fixed.routes.gaps e = (gaps e).0 present in
         elim (cases_lt e LINK_ENDS) [
           | inl low ↦
               slot_window slot (slice_index fixed.routes.gaps e) (link_at rec e) (link_at after e) (slice_index_or arrivals.tokens e None) _ _ (slice_index_or arrivals.credits e false)
@@ -154,3 +154,26 @@ module _ (fixed : Fixed) (rec : NodeRec) (slot : Slot) (arrivals : Arrivals) (pi
 
 same_gaps : (gaps : List ℕ) (rec after : NodeRec) → ((e : EndNumber) → end_is_there after e ≡ end_is_there rec e) → HaveGaps gaps rec → HaveGaps gaps after
 same_gaps gaps rec after same h e = (λ is. (h e).0 (sym (same e) ∙ is), λ some. same e ∙ (h e).1 some)
+
+-- the link ends after a slot, of which an issue changes none
+after_ends : (fixed : Fixed) (rec : NodeRec) (slot : Slot) (arrivals : Arrivals) (pins : PinView) (e : EndNumber) → end_is_there (node_step fixed rec slot arrivals pins).rec e ≡ end_is_there rec e
+unfolding node_step
+after_ends fixed rec slot arrivals pins e = (any_before fixed rec slot arrivals pins).ends e
+
+after_many : (fixed : Fixed) (rec : NodeRec) (slot : Slot) (arrivals : Arrivals) (pins : PinView) → length (node_step fixed rec slot arrivals pins).rec.links ≡ length rec.links
+unfolding node_step
+after_many fixed rec slot arrivals pins = (any_before fixed rec slot arrivals pins).as_many
+
+pub after_gaps : (fixed : Fixed) (rec : NodeRec) (slot : Slot) (arrivals : Arrivals) (pins : PinView) (gaps : List ℕ) → HaveGaps gaps rec → HaveGaps gaps (node_step fixed rec slot arrivals pins).rec
+after_gaps fixed rec slot arrivals pins gaps h = same_gaps gaps rec (node_step fixed rec slot arrivals pins).rec (after_ends fixed rec slot arrivals pins) h
+
+pub slot_links : StaysSoWith (λ gaps slot rec. LinksFit gaps slot rec)
+slot_links fixed rec slot arrivals pins h =
+    let gaps = after_gaps fixed rec slot arrivals pins fixed.routes.gaps h.ends in
+    let many = after_many fixed rec slot arrivals pins ∙ h.many in
+    record {
+      many = many;
+      windows = at_end fixed rec slot arrivals pins h gaps many;
+      before = step_stays_before fixed rec slot arrivals pins h.before;
+      ends = gaps;
+    }

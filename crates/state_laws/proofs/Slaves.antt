@@ -103,11 +103,11 @@ run_taken old new (inr is) h = is.1
 lowest_below : {A : Type 0} (test : A → Bool) (list : List A) (n j : ℕ) → lowest_free test list n ≡ Some j → j < n + length list
 unfolding lowest_free
 lowest_below test [] n j is = absurd (none-some j is)
-lowest_below test (a ∷ list) n j is = by (test a) is
+lowest_below test (a ∷ list) n j is = by (test a) is (lowest_below test list (n + 1) j)
   where
-    by : (taken : Bool) → cond taken (lowest_free test list (n + 1)) (Some n) ≡ Some j → j < n + suc (length list)
-    by true is = omega (arith, lowest_below test list (n + 1) j is)
-    by false is = let same : n ≡ j = cc in omega (arith, same)
+    by : (taken : Bool) → cond taken (lowest_free test list (n + 1)) (Some n) ≡ Some j → (lowest_free test list (n + 1) ≡ Some j → j < n + 1 + length list) → j < n + suc (length list)
+    by true is others = omega (arith, others is)
+    by false is others = let same : n ≡ j = cc in omega (arith, same)
 
 -- a thread that is got is one of eight, and bound to none
 module _ (threads : List Thread) (lasts : List (Option Slot)) (syncs : List SyncRec) (h : Fit threads lasts syncs) (j : ThreadNumber) (got : lowest_free (λ th. is_taken th.run) threads 0 ≡ Some j) where
@@ -135,8 +135,8 @@ among k slaves = list_any (λ slave. slave == k) slaves
 
 bound_or : (k j : ThreadNumber) (slaves : List ThreadNumber) → among k (with_slave j slaves) ≡ true → (k ≡ j) ⊎ (among k slaves ≡ true)
 unfolding with_slave
-bound_or k j [] is = elim (or_cases (j == k) false is) [ | inl same ↦ inl (sym (eqb-true j k same)) | inr no ↦ absurd (false≢true no) ]
-bound_or k j (slave ∷ slaves) is = by (nat_lt j slave) (j == slave) is
+bound_or k j [] is = elim (or_cases (j == k) false is) [ | inl same ↦ inl (sym (eqb-true j k same)) | inr other ↦ absurd (false≢true other) ]
+bound_or k j (slave ∷ slaves) is = by (nat_lt j slave) (j == slave) is (bound_or k j slaves)
   where
     first : (rest : List ThreadNumber) (b : Bool) → ((b || among k rest) ≡ true) → (b ≡ true) ⊎ (among k rest ≡ true)
     first rest b is = or_cases b (among k rest) is
@@ -145,13 +145,13 @@ bound_or k j (slave ∷ slaves) is = by (nat_lt j slave) (j == slave) is
     later (inl same) = inl same
     later (inr is) = inr (or_right (slave == k) (among k slaves) is)
 
-    by : (less same : Bool) → among k (if less then j ∷ slave ∷ slaves else (if same then slave ∷ slaves else slave ∷ with_slave j slaves)) ≡ true → (k ≡ j) ⊎ (among k (slave ∷ slaves) ≡ true)
-    by true same is = elim (first (slave ∷ slaves) (j == k) is) [ | inl e ↦ inl (sym (eqb-true j k e)) | inr rest ↦ inr rest ]
-    by false true is = inr is
-    by false false is =
+    by : (less same : Bool) → among k (if less then j ∷ slave ∷ slaves else (if same then slave ∷ slaves else slave ∷ with_slave j slaves)) ≡ true → (among k (with_slave j slaves) ≡ true → (k ≡ j) ⊎ (among k slaves ≡ true)) → (k ≡ j) ⊎ (among k (slave ∷ slaves) ≡ true)
+    by true same is others = elim (first (slave ∷ slaves) (j == k) is) [ | inl e ↦ inl (sym (eqb-true j k e)) | inr rest ↦ inr rest ]
+    by false true is others = inr is
+    by false false is others =
         elim (first (with_slave j slaves) (slave == k) is) [
           | inl e ↦ inr (or_left (slave == k) (among k slaves) e)
-          | inr rest ↦ later (bound_or k j slaves rest)
+          | inr rest ↦ later (others rest)
         ]
 
 -- ---- A thread that is bound to no synchroniser
@@ -266,7 +266,7 @@ master_is k None is none = false≢true is
 master_is k (Some m) is none = none-some m (sym none)
 
 not_bound : (slaves : List ThreadNumber) (k : ThreadNumber) → (among k slaves ≡ true → ⊥) → among k slaves ≡ false
-not_bound slaves k no = elim (cases_Bool (among k slaves)) [ | inl yes ↦ absurd (no yes) | inr is ↦ is ]
+not_bound slaves k never = elim (cases_Bool (among k slaves)) [ | inl mine ↦ absurd (never mine) | inr is ↦ is ]
 
 -- where a synchroniser is set to one without slaves and is the same as before, it had none
 bound_at_old : (syncs : List SyncRec) (n : ℕ) (k : ThreadNumber) → is_bound k (sync_at syncs n) ≡ true → is_bound k (sync_at (slice_set syncs n (unbound (sync_at syncs n))) n) ≡ true → ⊥

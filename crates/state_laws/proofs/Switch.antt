@@ -88,14 +88,14 @@ in_both a b e both = omega (arith, bit_at_and a b e, both)
 module _ (S : Type 0) (core : CoreRec) (used : ChanNumber → Bool) (there : EndNumber → Bool) (many : ℕ) where
   pub record Fits (rec : NodeRec) : Type 0 where
     pub chans : ChansFit rec.core
+    pub inputs : InputsFit used there rec.inputs
+
+  -- all but the channel ends of the core is as it was; those in use stay so, and the link ends stay there
+  pub record Fine (rec : NodeRec) : Type 0 where
+    pub rest : rec.core ≡ record core { chans = rec.core.chans }
     pub in_use : (c : ChanNumber) → chan_is_used rec.core c ≡ used c
     pub ends : (e : EndNumber) → end_is_there rec e ≡ there e
     pub as_many : length rec.links ≡ many
-    pub inputs : InputsFit used there rec.inputs
-
-  -- all but the channel ends of the core is as it was
-  pub record Fine (rec : NodeRec) : Type 0 where
-    pub rest : rec.core ≡ record core { chans = rec.core.chans }
     pub fits : S → Fits rec
 
   abbrev Good : AtWork → Type 0
@@ -112,43 +112,30 @@ module _ (S : Type 0) (core : CoreRec) (used : ChanNumber → Bool) (there : End
   chan_fine : (rec : NodeRec) (c : ChanNumber) (new : ChanRec) → (IsChan (chan_of rec.core c) → IsChan new) → new.used ≡ (chan_of rec.core c).used → Fine rec → Fine (node_with_chan rec c new)
   chan_fine rec c new is same h = record {
     rest = ap (λ (x : CoreRec). record x { chans = slice_set rec.core.chans c new }) h.rest;
+    in_use = λ d. used_set rec.core.chans c new d same ∙ h.in_use d;
+    ends = h.ends;
+    as_many = h.as_many;
     fits = λ s.
-        let f = h.fits s in
-        record {
-          chans = each_set IsChan unused_chan rec.core.chans c new f.chans (is (f.chans c));
-          in_use = λ d. used_set rec.core.chans c new d same ∙ f.in_use d;
-          ends = f.ends;
-          as_many = f.as_many;
-          inputs = f.inputs;
-        };
+        let f = h.fits s in record { chans = each_set IsChan unused_chan rec.core.chans c new f.chans (is (f.chans c)); inputs = f.inputs };
   }
 
   link_fine : (rec : NodeRec) (e : EndNumber) (new : Option LinkRec) → is_some new ≡ is_some (link_at rec e) → Fine rec → Fine (record rec { links = slice_set rec.links e new })
   link_fine rec e new same h = record {
     rest = h.rest;
-    fits = λ s.
-        let f = h.fits s in
-        record {
-          chans = f.chans;
-          in_use = f.in_use;
-          ends = λ d. there_set rec.links e new d same ∙ f.ends d;
-          as_many = length-set rec.links e new ∙ f.as_many;
-          inputs = f.inputs;
-        };
+    in_use = h.in_use;
+    ends = λ d. there_set rec.links e new d same ∙ h.ends d;
+    as_many = length-set rec.links e new ∙ h.as_many;
+    fits = λ s. let f = h.fits s in record { chans = f.chans; inputs = f.inputs };
   }
 
   state_fine : (i : InputNumber) (state : InputRec) (m : AtWork) → MayBe i state m.rec → Good m → Good (to_state i state m)
   state_fine i state m may h = record {
     rest = h.rest;
+    in_use = h.in_use;
+    ends = h.ends;
+    as_many = h.as_many;
     fits = λ s.
-        let f = h.fits s in
-        record {
-          chans = f.chans;
-          in_use = f.in_use;
-          ends = f.ends;
-          as_many = f.as_many;
-          inputs = set_fits i state m.rec.inputs used there (may s).0 (may s).1 f.inputs;
-        };
+        let f = h.fits s in record { chans = f.chans; inputs = set_fits i state m.rec.inputs used there (may s).0 (may s).1 f.inputs };
   }
 
   -- it may then be in another that is like it
@@ -266,7 +253,7 @@ module _ (S : Type 0) (core : CoreRec) (used : ChanNumber → Bool) (there : End
 
     -- a channel end that is held is there and in use, and nobody else's
     chan_may : (n : ChanNumber) (m : AtWork) → n < CHAN_ENDS → (chan_of m.rec.core n).used ≡ true → chan_is_held m.rec n ≡ false → Good m → MayBe i (Local n) m.rec
-    chan_may n m low in_use free h = λ s. ((low, sym ((h.fits s).in_use n) ∙ in_use), chan_not_held i n m.rec.inputs free)
+    chan_may n m low in_use free h = λ s. ((low, sym (h.in_use n) ∙ in_use), chan_not_held i n m.rec.inputs free)
 
     chan_way_fine : (dest : Dest) (m : AtWork) (low in_use held : Bool) → nat_lt dest.chan CHAN_ENDS ≡ low → (chan_of m.rec.core dest.chan).used ≡ in_use → chan_is_held m.rec dest.chan ≡ held → Good m
         → let next = to_state i (Local dest.chan) m in Good (if not low || not in_use then loses i dest m else (if held then m else local_step i dest.chan (waiting_at next.rec i) next))
@@ -357,19 +344,19 @@ module _ (S : Type 0) (fixed : Fixed) (rec : NodeRec) (slot : Slot) (arrivals : 
   before_fine nets ways chans inputs =
       let begun : FineBefore (ports_step slot pins (arrive slot arrivals (slot_begins rec))).rec = record {
         rest = refl;
-        fits = λ s. record {
-          chans = chans s;
-          in_use = λ c. refl;
-          ends = λ e. arrived_there slot arrivals.tokens arrivals.credits 0 rec.links e;
-          as_many = arrived_many slot arrivals.tokens arrivals.credits 0 rec.links;
-          inputs = inputs s;
-        };
+        in_use = λ c. refl;
+        ends = λ e. arrived_there slot arrivals.tokens arrivals.credits 0 rec.links e;
+        as_many = arrived_many slot arrivals.tokens arrivals.credits 0 rec.links;
+        fits = λ s. record { chans = chans s; inputs = inputs s };
       } in
       moves_fine S edged_core (chan_is_used rec.core) (end_is_there rec) (length rec.links) fixed.routes slot nets ways 0 INPUTS (ports_step slot pins (arrive slot arrivals (slot_begins rec))) begun
 
--- where nothing is asked of it: all of the core but its channel ends is as after the edges of its ports
+-- where nothing is asked of it
+pub any_before : (fixed : Fixed) (rec : NodeRec) (slot : Slot) (arrivals : Arrivals) (pins : PinView) → FineBefore ⊥ fixed rec slot arrivals pins (before_issue fixed rec slot arrivals pins).rec
+any_before fixed rec slot arrivals pins = before_fine ⊥ fixed rec slot arrivals pins (λ s. absurd s) (λ s. absurd s) (λ s. absurd s) (λ s. absurd s)
+
+-- all of the core but its channel ends is as after the edges of its ports
 pub core_before : (fixed : Fixed) (rec : NodeRec) (slot : Slot) (arrivals : Arrivals) (pins : PinView)
     → let moved = (before_issue fixed rec slot arrivals pins).rec.core in
     moved ≡ record rec.core { ports = (edges_from slot rec.core.clocks rec.levels 0 rec.core.ports pins.level).ports; chans = moved.chans }
-core_before fixed rec slot arrivals pins =
-    (before_fine ⊥ fixed rec slot arrivals pins (λ s. absurd s) (λ s. absurd s) (λ s. absurd s) (λ s. absurd s)).rest
+core_before fixed rec slot arrivals pins = (any_before fixed rec slot arrivals pins).rest

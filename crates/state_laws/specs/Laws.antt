@@ -26,6 +26,11 @@ abbrev pub StaysSo : (Slot → NodeRec → Type 0) → Type 0
 StaysSo IsSo = (fixed : Fixed) (rec : NodeRec) (slot : Slot) (arrivals : Arrivals) (pins : PinView) →
     IsSo slot rec → IsSo (slot + 1) (node_step fixed rec slot arrivals pins).rec
 
+-- the same of what speaks of the gaps of its link ends
+abbrev pub StaysSoWith : (List ℕ → Slot → NodeRec → Type 0) → Type 0
+StaysSoWith IsSo = (fixed : Fixed) (rec : NodeRec) (slot : Slot) (arrivals : Arrivals) (pins : PinView) →
+    IsSo fixed.routes.gaps slot rec → IsSo fixed.routes.gaps (slot + 1) (node_step fixed rec slot arrivals pins).rec
+
 -- the same where its plan is as every plan is, and each pin shows from outside what its port's width allows
 abbrev pub StaysSoAsPlanned : (List ℕ → Slot → NodeRec → Type 0) → Type 0
 StaysSoAsPlanned IsSo = (fixed : Fixed) (rec : NodeRec) (slot : Slot) (arrivals : Arrivals) (pins : PinView) →

@@ -1,8 +1,8 @@
 //! What is true of every node that a run reaches, so that a snapshot of it may be read again. See docs/SNAPSHOTS.md.
 #![tactic(auto)]
 
-ghost use Rattle.state_laws.specs.Facts.{IsCoreBefore, NamesThreads, SlavesFit, WaitAtWhatIsThere};
-ghost use Rattle.state_laws.specs.Laws.{IsSoAtFirst, KeptMayBeRead, StaysSo};
+ghost use Rattle.state_laws.specs.Facts.{IsCoreBefore, LinksFit, NamesThreads, SlavesFit, WaitAtWhatIsThere};
+ghost use Rattle.state_laws.specs.Laws.{IsSoAtFirst, IsSoAtFirstWith, KeptMayBeRead, StaysSo, StaysSoWith};
 
 /// Every slot that a core keeps, of its threads' last issues and of its last division, is before the slot that comes next: as a
 /// node starts it keeps none, and each slot leaves it so. It does nothing. See docs/THREADS.md.
@@ -30,4 +30,12 @@ pub fn cores_name_threads()
 pub fn slaves_have_one_synchroniser()
     ensures first { IsSoAtFirst (λ rec. SlavesFit rec.core) }
     ensures slot { StaysSo (λ slot rec. SlavesFit rec.core) }
+{}
+
+/// Of the tokens that a link end sent at most eight are without a credit, and every slot that it keeps is before the one that
+/// comes next; a link end is there where it has a gap. So a node starts, and so each slot leaves it. It does nothing. See
+/// docs/LINKS.md.
+pub fn link_ends_keep_their_windows()
+    ensures first { IsSoAtFirstWith (λ gaps rec. LinksFit gaps 0 rec) }
+    ensures slot { StaysSoWith (λ gaps slot rec. LinksFit gaps slot rec) }
 {}
