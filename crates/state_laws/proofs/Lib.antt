@@ -14,3 +14,4 @@ mod Before
 mod Owners
 mod Slaves
 mod Links
+mod Chans

@@ -1,6 +1,6 @@
 -- Of the tokens that a link end sent at most eight stay without a credit, and it stays there or not there.
-use Rattle.std.proofs.Common.{◌≡◌, ◌↔◌, ℕ, zero, suc, ◌+◌, ◌<◌, ◌≤◌, ◌==◌, ◌&&◌, nat_lt, nat_le, Bool, true, false, if◌then◌else◌, is_some, Option, Some, None, List, [], ◌∷◌, ◌++◌, length, map, filter, get_or, slice_index, slice_index_or, refl, sym, ap, subst, ◌∙◌, length-append, arith, inl, inr}
-use Rattle.std.proofs.lemmas.Bool.{lt-ltb, ltb-true, and_parts, cases_lt, cases_Bool, false≢true, both_ways, true_from_ne_false}
+use Rattle.std.proofs.Common.{◌≡◌, ◌≢◌, ◌↔◌, ℕ, zero, suc, ◌+◌, ◌<◌, ◌≤◌, ◌==◌, ◌&&◌, nat_lt, nat_le, Bool, true, false, if◌then◌else◌, is_some, Option, Some, None, List, [], ◌∷◌, ◌++◌, length, map, filter, get_or, slice_index, slice_index_or, refl, sym, ap, subst, ◌∙◌, length-append, arith, inl, inr}
+use Rattle.std.proofs.lemmas.Bool.{lt-ltb, ltb-true, and_parts, cases_lt, cases_Bool, false≢true, both_ways, true_from_ne_false, cond_both, eqb-true, eqb-false}
 use Rattle.std.proofs.lemmas.List.{length-map, get_or_past}
 use Rattle.std.proofs.lemmas.Option.{none-some}
 use Rattle.std.specs.List.{AllByRecursion}
@@ -31,8 +31,10 @@ InWindow link = length link.sent ≤ length link.credited + WINDOW_TOKENS
 -- ---- As a node starts
 
 there_by_gap : (gap : ℕ) → (is_some (link_with_gap gap) ≡ true) ↔ (0 < gap)
-there_by_gap zero = (λ is. absurd (false≢true is), λ some. absurd (omega (arith, some)))
-there_by_gap (suc gap) = (λ is. omega arith, λ some. refl)
+there_by_gap gap =
+    cond_both (gap == 0) None (Some fresh_link) (λ (link : Option LinkRec). (is_some link ≡ true) ↔ (0 < gap))
+    (λ none. let e : gap ≡ 0 = eqb-true gap 0 none in (λ is. absurd (false≢true is), λ some. absurd (omega (arith, some, e))))
+    (λ some. let e : gap ≢ 0 = eqb-false gap 0 some in (λ is. omega (arith, e), λ more. refl))
 
 pub first_gaps : (gaps : List ℕ) (e : ℕ) → (is_some (get_or (map link_with_gap gaps) e None) ≡ true) ↔ (0 < slice_index gaps e)
 first_gaps [] e = (λ is. absurd (false≢true is), λ some. absurd (omega (arith, some)))
@@ -40,8 +42,7 @@ first_gaps (gap ∷ gaps) zero = there_by_gap gap
 first_gaps (gap ∷ gaps) (suc e) = first_gaps gaps e
 
 gap_window : (gap : ℕ) → IfSome (link_with_gap gap) InWindow
-gap_window zero = tt
-gap_window (suc gap) = omega arith
+gap_window gap = cond_both (gap == 0) None (Some fresh_link) (λ (link : Option LinkRec). IfSome link InWindow) (λ none. tt) (λ some. omega arith)
 
 first_windows : (gaps : List ℕ) (e : ℕ) → IfSome (get_or (map link_with_gap gaps) e None) InWindow
 first_windows [] e = tt
@@ -49,8 +50,8 @@ first_windows (gap ∷ gaps) zero = gap_window gap
 first_windows (gap ∷ gaps) (suc e) = first_windows gaps e
 
 gap_before : (gap : ℕ) → IfSome (link_with_gap gap) (IsLinkBefore 0)
-gap_before zero = tt
-gap_before (suc gap) = record { sent = tt; credited = tt }
+gap_before gap =
+    cond_both (gap == 0) None (Some fresh_link) (λ (link : Option LinkRec). IfSome link (IsLinkBefore 0)) (λ none. tt) (λ some. record { sent = tt; credited = tt })
 
 first_before : (gaps : List ℕ) → AllByRecursion (λ link. IfSome link (IsLinkBefore 0)) (map link_with_gap gaps)
 first_before [] = tt
@@ -152,8 +153,8 @@ module _ (fixed : Fixed) (rec : NodeRec) (slot : Slot) (arrivals : Arrivals) (pi
         ]
   ]
 
-same_gaps : (gaps : List ℕ) (rec after : NodeRec) → ((e : EndNumber) → end_is_there after e ≡ end_is_there rec e) → HaveGaps gaps rec → HaveGaps gaps after
-same_gaps gaps rec after same h e = (λ is. (h e).0 (sym (same e) ∙ is), λ some. same e ∙ (h e).1 some)
+same_gaps : (gaps : List ℕ) (rec later : NodeRec) → ((e : EndNumber) → end_is_there later e ≡ end_is_there rec e) → HaveGaps gaps rec → HaveGaps gaps later
+same_gaps gaps rec later same h e = (λ is. (h e).0 (sym (same e) ∙ is), λ some. same e ∙ (h e).1 some)
 
 -- the link ends after a slot, of which an issue changes none
 after_ends : (fixed : Fixed) (rec : NodeRec) (slot : Slot) (arrivals : Arrivals) (pins : PinView) (e : EndNumber) → end_is_there (node_step fixed rec slot arrivals pins).rec e ≡ end_is_there rec e

@@ -1,8 +1,8 @@
 //! What is true of every node that a run reaches, so that a snapshot of it may be read again. See docs/SNAPSHOTS.md.
 #![tactic(auto)]
 
-ghost use Rattle.state_laws.specs.Facts.{IsCoreBefore, LinksFit, NamesThreads, SlavesFit, WaitAtWhatIsThere};
-ghost use Rattle.state_laws.specs.Laws.{IsSoAtFirst, IsSoAtFirstWith, KeptMayBeRead, StaysSo, StaysSoWith};
+ghost use Rattle.state_laws.specs.Facts.{IsCoreBefore, LinksFit, NamesThreads, SlavesFit, SwitchFits, WaitAtWhatIsThere};
+ghost use Rattle.state_laws.specs.Laws.{IsSoAtFirst, IsSoAtFirstWith, KeptMayBeRead, StaysSo, StaysSoAsPlanned, StaysSoWith};
 
 /// Every slot that a core keeps, of its threads' last issues and of its last division, is before the slot that comes next: as a
 /// node starts it keeps none, and each slot leaves it so. It does nothing. See docs/THREADS.md.
@@ -38,4 +38,13 @@ pub fn slaves_have_one_synchroniser()
 pub fn link_ends_keep_their_windows()
     ensures first { IsSoAtFirstWith (λ gaps rec. LinksFit gaps 0 rec) }
     ensures slot { StaysSoWith (λ gaps slot rec. LinksFit gaps slot rec) }
+{}
+
+/// A channel end's network is 0 to 3, its destination is some channel end's, and no token waits to leave one that has none. No
+/// channel end and no link end is held by two inputs of the switch, and each that is held is in use, or there; only the inputs of
+/// link ends take headers. So a node starts, and so each slot leaves it, where its ways lead to link ends that are there and its
+/// networks are 0 to 3. It does nothing. See docs/CHANNELS.md and docs/LINKS.md.
+pub fn switch_holds_each_once()
+    ensures first { IsSoAtFirstWith (λ gaps rec. SwitchFits gaps rec) }
+    ensures slot { StaysSoAsPlanned (λ gaps slot rec. SwitchFits gaps rec) }
 {}
