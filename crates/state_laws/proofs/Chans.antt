@@ -90,9 +90,9 @@ module _ (busy : ChanNumber → Bool) (held : ChanNumber → Type 0) (is_busy : 
 -- ---- The inputs
 
 -- some input holds a channel end
-record IsHeld (inputs : List InputRec) (c : ChanNumber) : Type 0 where
-  by : InputNumber
-  holds : is_local_to c (at inputs by) ≡ true
+pub record IsHeld (inputs : List InputRec) (c : ChanNumber) : Type 0 where
+  pub by : InputNumber
+  pub holds : is_local_to c (at inputs by) ≡ true
 
 held_is_busy : (rec : NodeRec) (c : ChanNumber) → IsHeld rec.inputs c → chan_is_busy rec c ≡ true
 held_is_busy rec c h = or_right (not (is_idle (at rec.inputs (input_of_chan c)))) (list_any (is_local_to c) rec.inputs) (some_passes (is_local_to c) rec.inputs h.by refl h.holds)
@@ -115,7 +115,7 @@ inputs_so used other there ends inputs held same h = record {
 }
 
 -- a channel end that is held is in use
-held_used : (used : ChanNumber → Bool) (there : EndNumber → Bool) (inputs : List InputRec) (c : ChanNumber) → InputsFit used there inputs → IsHeld inputs c → used c ≡ true
+pub held_used : (used : ChanNumber → Bool) (there : EndNumber → Bool) (inputs : List InputRec) (c : ChanNumber) → InputsFit used there inputs → IsHeld inputs c → used c ≡ true
 held_used used there inputs c all h = by (at inputs h.by) (all.each h.by) h.holds
   where
     by : (state : InputRec) → InputFits used there h.by state → is_local_to c state ≡ true → used c ≡ true

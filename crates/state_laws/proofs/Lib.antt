@@ -15,3 +15,7 @@ mod Owners
 mod Slaves
 mod Links
 mod Chans
+mod Settings
+mod Pins
+mod Gives
+mod Whole

@@ -1,5 +1,5 @@
 -- What each paused thread waits at stays there.
-use Rattle.std.proofs.Common.{◌≡◌, ℕ, List, [], ◌∷◌, get_or, slice_set, replicate, sym, subst, inl, inr}
+use Rattle.std.proofs.Common.{◌≡◌, ℕ, zero, suc, List, [], ◌∷◌, get_or, slice_set, replicate, sym, subst, inl, inr}
 use Rattle.xs_base.specs.Numbers.{Slot, ThreadNumber}
 use Rattle.xs_model.specs.declared.outside.Arrivals.{Arrivals}
 use Rattle.xs_model.specs.declared.outside.PinView.{PinView}
@@ -7,7 +7,7 @@ use Rattle.xs_model.specs.declared.thread.Thread.{Thread}
 use Rattle.xs_model.specs.declared.thread.Run.{Run}
 use Rattle.xs_model.specs.declared.thread.Run.TheVariants.{Free, Going}
 use Rattle.xs_model.specs.Threads.{fresh_thread}
-use Rattle.xs_model.specs.Record.{CoreRec, NodeRec, thread_of, sync_of}
+use Rattle.xs_model.specs.Record.{CoreRec, NodeRec, free_thread, thread_of, sync_of}
 use Rattle.step_model.specs.Effect.{Setting}
 use Rattle.step_model.specs.Fixed.{Fixed}
 use Rattle.step_model.specs.Step.{setting_of, before_issue, node_step}
@@ -15,11 +15,11 @@ use Rattle.step_model.specs.ThreadRows.{with_runs}
 use Rattle.step_laws.proofs.Phases.{before_issue_keeps}
 use Rattle.core_step.specs.ThreadStates.{IsRunState}
 use Rattle.state_laws.specs.Facts.{WaitAtWhatIsThere}
-use Rattle.state_laws.specs.Laws.{StaysSo}
+use Rattle.state_laws.specs.Laws.{IsSoAtFirst, StaysSo}
 use Rattle.state_laws.proofs.Changes.{Change, RunStays}
 use Rattle.state_laws.proofs.Changes as change
 use Rattle.state_laws.proofs.Issue.{issue_keeps}
-use Rattle.state_laws.proofs.Lists.{each_set}
+use Rattle.state_laws.proofs.Lists.{each_set, many_at}
 
 abbrev Waits : Thread → Type 0
 Waits th = IsRunState th.run
@@ -67,3 +67,10 @@ slot_waits fixed rec slot arrivals pins all =
     let here = setting_of fixed slot pins before.rec in
     issue_keeps fixed.code here before.rec.core WaitAtWhatIsThere (λ k core after changes. change_waits _ here k core after changes)
     (subst AllWait (sym (before_issue_keeps fixed rec slot arrivals pins).0) all)
+
+free_waits : (n i : ℕ) → Waits (get_or (replicate n free_thread) i fresh_thread)
+free_waits n i = many_at Waits fresh_thread n free_thread i tt tt
+
+pub first_waits : IsSoAtFirst (λ rec. WaitAtWhatIsThere rec.core)
+first_waits plan gaps zero = tt
+first_waits plan gaps (suc k) = free_waits 7 k

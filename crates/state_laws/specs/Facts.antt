@@ -4,6 +4,7 @@ use Rattle.std.specs.List.{AllByRecursion}
 use Rattle.xs_base.specs.Numbers.{Slot, ThreadNumber, ChanNumber, EndNumber, InputNumber, PortNumber}
 use Rattle.xs_base.specs.Ids.{port_width}
 use Rattle.xs_base.specs.declared.numbers.TheConstants.{THREADS, CHAN_ENDS, LINK_ENDS, HEADER_BYTES, WINDOW_TOKENS}
+use Rattle.xs_model.specs.declared.clock.Clock.{Clock}
 use Rattle.xs_model.specs.Record.{CoreRec, NodeRec, EnablingRec, EnabledRec, PortRec, InputRec, Idle, Head1, Head2, Want, Local, Out, Lost, not_enabled, thread_of, last_of, chan_of, sync_of, lock_of, port_of}
 use Rattle.xs_model.specs.Masks.{members}
 use Rattle.xs_model.specs.Outside.{LevelsFit}
@@ -115,14 +116,22 @@ pub record LinksFit (gaps : List ℕ) (slot : Slot) (rec : NodeRec) : Type 0 whe
 -- ---- Ports
 
 -- the clock of port p and its strobe are there, a transfer has one of five numbers of bits, and without buffers one beat
-pub record IsSet (p : PortNumber) (port : PortRec) : Type 0 where
-  pub clock : IsClock port.clock
-  pub strobe : IfSome port.strobe (IsStrobeState p)
-  pub transfer_width : port.on ≡ true → is_transfer_width (port_width p) port.transfer_width ≡ true
-  pub unbuffered : port.on ≡ true → port.buffered ≡ false → port.transfer_width ≡ port_width p
+pub record AreSettings (p : PortNumber) (on : Bool) (clock : Clock) (strobe : Option PortNumber) (transfer_width : ℕ) (buffered : Bool) : Type 0 where
+  pub goes_by : IsClock clock
+  pub let_by : IfSome strobe (IsStrobeState p)
+  pub width : on ≡ true → is_transfer_width (port_width p) transfer_width ≡ true
+  pub one_beat : on ≡ true → buffered ≡ false → transfer_width ≡ port_width p
+
+abbrev pub IsSet : PortNumber → PortRec → Type 0
+IsSet p port = AreSettings p port.on port.clock port.strobe port.transfer_width port.buffered
 
 abbrev pub PortsFit : CoreRec → Type 0
 PortsFit core = (p : PortNumber) → HasFacts (port_width p) (port_of core p) × IsSet p (port_of core p)
+
+-- what the pins showed fits them, and so does what their ports drive
+pub record PinsFit (rec : NodeRec) : Type 0 where
+  pub ports : PortsFit rec.core
+  pub levels : LevelsFit rec.levels
 
 -- ---- All of it
 
@@ -136,8 +145,7 @@ pub record MayBeKept (gaps : List ℕ) (slot : Slot) (rec : NodeRec) : Type 0 wh
   pub slaves : SlavesFit rec.core
   pub switch : SwitchFits gaps rec
   pub links : LinksFit gaps slot rec
-  pub ports : PortsFit rec.core
-  pub levels : LevelsFit rec.levels
+  pub pins : PinsFit rec
 
 -- What of a plan these facts rest on: the operands of the code are in their ranges, each link end that a way names is there, and
 -- the networks are 0 to 3. Every plan's nodes have it.

@@ -1,7 +1,7 @@
 //! What is true of every node that a run reaches, so that a snapshot of it may be read again. See docs/SNAPSHOTS.md.
 #![tactic(auto)]
 
-ghost use Rattle.state_laws.specs.Facts.{IsCoreBefore, LinksFit, NamesThreads, SlavesFit, SwitchFits, WaitAtWhatIsThere};
+ghost use Rattle.state_laws.specs.Facts.{IsCoreBefore, LinksFit, MayBeKept, NamesThreads, PinsFit, SlavesFit, SwitchFits, WaitAtWhatIsThere};
 ghost use Rattle.state_laws.specs.Laws.{IsSoAtFirst, IsSoAtFirstWith, KeptMayBeRead, StaysSo, StaysSoAsPlanned, StaysSoWith};
 
 /// Every slot that a core keeps, of its threads' last issues and of its last division, is before the slot that comes next: as a
@@ -47,4 +47,23 @@ pub fn link_ends_keep_their_windows()
 pub fn switch_holds_each_once()
     ensures first { IsSoAtFirstWith (λ gaps rec. SwitchFits gaps rec) }
     ensures slot { StaysSoAsPlanned (λ gaps slot rec. SwitchFits gaps rec) }
+{}
+
+/// A port is off and as it was at first; or it has what every port has that is on, its clock is one that the core has, its strobe
+/// is another port of one pin, and a transfer has 1, 4, 8, 16 or 32 bits, without buffers as many as the port is wide. What the
+/// pins show fits them. So a node starts, and so each slot leaves it, where the operands of its code are in their ranges and what
+/// comes from outside fits the pins. It does nothing. See docs/PORTS.md.
+pub fn ports_stay_as_they_may_be()
+    ensures first { IsSoAtFirst (λ rec. PinsFit rec) }
+    ensures slot { StaysSoAsPlanned (λ gaps slot rec. PinsFit rec) }
+{}
+
+/// A snapshot may be taken of a node before any slot of a run, and read again: a node as it starts is so, whatever its image, ways
+/// and gaps; each slot leaves it so, where the operands of its code are in their ranges, its ways lead to link ends that are there,
+/// its networks are 0 to 3, and what comes from outside fits the pins; and what a snapshot keeps of a node that is so says what a
+/// reader asks of it, and no slot that is not past. It does nothing. See docs/SNAPSHOTS.md.
+pub fn nodes_may_be_kept()
+    ensures first { IsSoAtFirstWith (λ gaps rec. MayBeKept gaps 0 rec) }
+    ensures slot { StaysSoAsPlanned (λ gaps slot rec. MayBeKept gaps slot rec) }
+    ensures read { KeptMayBeRead }
 {}
