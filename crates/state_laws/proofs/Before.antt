@@ -1,13 +1,9 @@
 -- Every slot that a core keeps stays before the next one.
-use Rattle.std.proofs.Common.{◌≡◌, ℕ, ◌+◌, ◌<◌, Option, Some, None, List, get_or, slice_set, replicate, refl, sym, ap, subst, arith}
+use Rattle.std.proofs.Common.{◌≡◌, ◌+◌, ◌<◌, Option, Some, None, List, get_or, slice_set, refl, sym, ap, subst, arith}
 use Rattle.std.specs.Prelude.{IfSome}
 use Rattle.xs_base.specs.Numbers.{Slot, ThreadNumber}
-use Rattle.xs_model.specs.declared.outside.Arrivals.{Arrivals}
-use Rattle.xs_model.specs.declared.outside.PinView.{PinView}
-use Rattle.xs_model.specs.Ports.{edges_from}
-use Rattle.xs_model.specs.Record.{CoreRec, NodeRec}
+use Rattle.xs_model.specs.Record.{CoreRec}
 use Rattle.step_model.specs.Effect.{Setting}
-use Rattle.step_model.specs.Fixed.{Fixed}
 use Rattle.step_model.specs.Step.{setting_of, before_issue, node_step}
 use Rattle.state_laws.specs.Facts.{IsCoreBefore}
 use Rattle.state_laws.specs.Laws.{IsSoAtFirst, StaysSo}

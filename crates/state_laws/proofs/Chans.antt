@@ -1,29 +1,28 @@
 -- Channel ends stay as they may be, and what the switch holds stays in use.
-use Rattle.std.proofs.Common.{◌≡◌, ◌≢◌, ◌⊎◌, inl, inr, ◌↔◌, ℕ, ◌+◌, ◌<◌, ◌||◌, not, Bool, true, false, is_some, Option, Some, None, List, get_or, slice_index, slice_set, replicate, refl, sym, ap, subst, ◌∙◌, arith}
+use Rattle.std.proofs.Common.{◌≡◌, ◌⊎◌, inl, inr, ℕ, ◌<◌, not, Bool, true, false, List, get_or, slice_index, slice_set, replicate, refl, sym, ap, subst, ◌∙◌, arith}
 use Rattle.std.proofs.lemmas.Bool.{both_ways, or_right, eq-eqb, eqb-true, false≢true}
 use Rattle.std.specs.Int.{bit_at}
-use Rattle.std.specs.List.{list_any, AllByRecursion}
+use Rattle.std.specs.List.{list_any}
 use Rattle.xs_base.specs.Numbers.{Slot, ChanNumber, EndNumber, InputNumber, ThreadNumber}
 use Rattle.xs_base.specs.declared.numbers.TheConstants.{LINK_ENDS}
 use Rattle.xs_model.specs.declared.outside.Arrivals.{Arrivals}
 use Rattle.xs_model.specs.declared.outside.PinView.{PinView}
 use Rattle.xs_model.specs.Record.{CoreRec, NodeRec, ChanRec, InputRec, Idle, Head1, Head2, Want, Local, Out, Lost, unused_chan, chan_of}
-use Rattle.xs_instructions.specs.Instr.{InRange}
 use Rattle.net_model.specs.Switch.{is_idle, is_local_to, input_of_chan, chan_is_busy}
 use Rattle.step_model.specs.Effect.{Setting}
 use Rattle.step_model.specs.Fixed.{Fixed}
 use Rattle.step_model.specs.Start.{node_of}
 use Rattle.step_model.specs.Step.{setting_of, before_issue, issued, node_step}
 use Rattle.chan_ends.specs.States.{IsChan}
-use Rattle.state_laws.specs.Facts.{ChansFit, InputFits, InputsFit, SwitchFits, HaveGaps, IsPlanned, chan_is_used, end_is_there}
-use Rattle.state_laws.specs.Laws.{IsSoAtFirst, IsSoAtFirstWith, StaysSoAsPlanned}
+use Rattle.state_laws.specs.Facts.{ChansFit, InputFits, InputsFit, SwitchFits, IsPlanned, chan_is_used, end_is_there}
+use Rattle.state_laws.specs.Laws.{IsSoAtFirstWith, StaysSoAsPlanned}
 use Rattle.state_laws.proofs.Changes.{Change, ChanStays}
 use Rattle.state_laws.proofs.Changes as change
 use Rattle.state_laws.proofs.Inputs.{at, some_passes, first_inputs}
 use Rattle.state_laws.proofs.Issue.{issue_keeps}
 use Rattle.state_laws.proofs.Links.{first_gaps, after_gaps}
 use Rattle.state_laws.proofs.Lists.{each_set, many_at, Placed, is_old, is_new, placed}
-use Rattle.state_laws.proofs.Switch.{Fits, Fine, FineBefore, before_fine, edged_core}
+use Rattle.state_laws.proofs.Switch.{FineBefore, before_fine}
 
 -- ---- The issue
 

@@ -1,5 +1,5 @@
 -- Who enabled what gives events stays a thread.
-use Rattle.std.proofs.Common.{◌≡◌, ℕ, ◌<◌, Bool, true, false, if◌then◌else◌, Option, Some, None, List, [], ◌∷◌, map, replicate}
+use Rattle.std.proofs.Common.{◌<◌, Bool, true, false, if◌then◌else◌, List, [], ◌∷◌}
 use Rattle.xs_base.specs.Numbers.{ThreadNumber}
 use Rattle.xs_base.specs.declared.numbers.TheConstants.{THREADS}
 use Rattle.xs_model.specs.declared.resource.Res.{Res}

@@ -1,6 +1,6 @@
 -- What a program finds at a channel end leaves what is true of it, and leaves it in use.
-use Rattle.std.proofs.Common.{◌≡◌, ℕ, ◌&&◌, not, ◌==◌, nat_lt, Bool, true, false, if◌then◌else◌, Option, Some, None, List, [], ◌∷◌, ◌++◌, length, take, refl, ap, sym, inl, inr, ◌∙◌, arith}
-use Rattle.std.proofs.lemmas.Bool.{cond_both, and_parts, ltb-true, false≢true}
+use Rattle.std.proofs.Common.{◌≡◌, ◌&&◌, ◌==◌, nat_lt, Bool, true, false, if◌then◌else◌, Option, Some, None, List, [], ◌∷◌, ◌++◌, length, take, refl, sym, inl, inr, ◌∙◌, arith}
+use Rattle.std.proofs.lemmas.Bool.{cond_both, ltb-true, false≢true}
 use Rattle.std.proofs.lemmas.Option.{none-some}
 use Rattle.std.specs.Prelude.{IfSome}
 use Rattle.std.specs.List.{list_any}

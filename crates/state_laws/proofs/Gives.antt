@@ -1,8 +1,7 @@
 -- What a snapshot keeps of a node of which all of it is true says what may be so of a node.
-use Rattle.std.proofs.Common.{◌≡◌, ◌≢◌, ◌↔◌, ℕ, zero, suc, ◌+◌, ◌-◌, ◌*◌, ◌%◌, ◌^◌, ◌<◌, ◌≤◌, ◌==◌, Bool, true, false, is_some, Option, Some, None, List, [], ◌∷◌, length, map, drop, get_or, slice_index, refl, sym, ap, subst, ◌∙◌, arith, inl, inr}
+use Rattle.std.proofs.Common.{◌≡◌, ℕ, zero, suc, ◌+◌, ◌-◌, ◌*◌, ◌%◌, ◌<◌, ◌≤◌, ◌==◌, Bool, true, false, is_some, Option, Some, None, List, [], ◌∷◌, length, map, drop, get_or, refl, sym, ap, subst, ◌∙◌, arith, inl, inr}
 use Rattle.std.specs.Prelude.{IfSome, option_map}
 use Rattle.std.specs.List.{All, AllByRecursion, list_any}
-use Rattle.std.specs.Int.{bit_at}
 use Rattle.std.proofs.lemmas.Bool.{false≢true, true≢false, eqb-true, cases_lt, both_ways}
 use Rattle.std.proofs.lemmas.List.{drop-map, get_or-drop}
 use Rattle.std.proofs.lemmas.List.Elements.{All-from_recursion}
@@ -11,40 +10,37 @@ use Rattle.std.proofs.lemmas.Nat.Bits.{bit_at_above}
 use Rattle.std.proofs.lemmas.Option.{none-some}
 use Rattle.xs_base.specs.Numbers.{Slot, ThreadNumber, ChanNumber, EndNumber, InputNumber, PortNumber}
 use Rattle.xs_base.specs.Ids.{port_width}
-use Rattle.xs_base.specs.declared.numbers.TheConstants.{THREADS, LINK_ENDS, CHAN_ENDS, HEADER_BYTES, PORTS}
-use Rattle.xs_model.specs.declared.thread.Thread.{Thread}
+use Rattle.xs_base.specs.declared.numbers.TheConstants.{LINK_ENDS}
 use Rattle.xs_model.specs.Threads.{fresh_thread}
-use Rattle.xs_model.specs.Masks.{in_mask, members}
+use Rattle.xs_model.specs.Masks.{in_mask}
 use Rattle.xs_model.specs.Bits.{value_of}
 use Rattle.xs_model.specs.Syncs.{is_bound}
-use Rattle.xs_model.specs.Record.{CoreRec, NodeRec, ChanRec, SyncRec, LockRec, EnablingRec, PortRec, TransferRec, LinkRec, InputRec, Idle, Head1, Head2, Want, Local, Out, Lost, unused_chan, unused_sync, unused_lock, not_enabled, off_port, thread_of, last_of, sync_of, lock_of, port_of}
+use Rattle.xs_model.specs.Record.{CoreRec, NodeRec, ChanRec, EnablingRec, PortRec, TransferRec, LinkRec, InputRec, Idle, Head1, Head2, Want, Local, Out, Lost, unused_chan, unused_sync, unused_lock, not_enabled, off_port, thread_of, sync_of, lock_of, port_of}
 use Rattle.net_model.specs.Links.{latest, IsLinkBefore}
 use Rattle.net_model.specs.Switch.{is_local_to, is_out_by, link_at}
 use Rattle.step_model.specs.ThreadRows.{is_taken}
 use Rattle.port_laws.specs.Facts.{Multiple, HasFacts, is_off, is_on, IsOn, IsTransfer}
-use Rattle.port_laws.specs.Facts.{AreBeats as BeatsOf}
 use Rattle.port_laws.proofs.Bits.{value_fits}
-use Rattle.chan_ends.specs.States.{chan_state, chan_of, IsChan, IsChanState}
-use Rattle.sync_locks.specs.States.{mask_of, sync_state, IsSyncState, unused_state, HaveOneSync, AreSyncStates, lock_state, IsLockState}
+use Rattle.chan_ends.specs.States.{chan_state, chan_of, IsChanState}
+use Rattle.sync_locks.specs.States.{mask_of, sync_state, IsSyncState, unused_state, AreSyncStates, lock_state, IsLockState}
 use Rattle.sync_locks.proofs.Masks.{mask-again}
 use Rattle.sync_locks.proofs.Slaves.{is_member}
 use Rattle.sync_locks.proofs.States.{is_sync_state}
 use Rattle.event_unit.specs.States.{enable_state, IsEnableState}
-use Rattle.single_port.specs.States.{port_state, off_state, transfer_state, AreBeats, IsTransferState, IsOnState, IsPortState}
+use Rattle.single_port.specs.States.{port_state, off_state, transfer_state, IsTransferState, IsOnState, IsPortState}
 use Rattle.single_port.proofs.States.{width_some, shift_is}
 use Rattle.buffered_ports.specs.States.{ArePortStates}
 use Rattle.link_ends.specs.States.{absent_end, IsEndState}
 use Rattle.link_ends.specs.declared.state.EndState.{EndState}
 use Rattle.switch_routes.specs.States.{input_state, input_of, in_header, IsInputState, AreInputStates}
-use Rattle.switch_routes.specs.declared.state.InputState.{InputState}
 use Rattle.switch_routes.proofs.States.{id-is, absent-fits}
 use Rattle.core_step.specs.Network.{EndsHaveGaps}
 use Rattle.core_step.specs.ThreadStates.{IsThreadState}
-use Rattle.core_step.specs.States.{link_state, node_state, AreHeldOnce, SlavesAreTaken, AreUnitStates, IsNodeState, IsStateBefore}
+use Rattle.core_step.specs.States.{link_state, node_state, AreHeldOnce}
 use Rattle.step_laws.specs.StatusBits.{AllKnown}
-use Rattle.state_laws.specs.Facts.{IsThread, WaitAtWhatIsThere, IsCoreBefore, NamesThreads, AreByThreads, SlavesFit, AreOfMask, ChansFit, InputFits, InputsFit, SwitchFits, HaveGaps, LinksFit, IsSet, PortsFit, MayBeKept, chan_is_used, end_is_there}
-use Rattle.state_laws.specs.Laws.{SaysWhatMayBe, KeptMayBeRead}
-use Rattle.state_laws.proofs.Chans.{IsHeld, held_used}
+use Rattle.state_laws.specs.Facts.{IsThread, WaitAtWhatIsThere, SlavesFit, AreOfMask, InputFits, InputsFit, HaveGaps, IsSet, PortsFit, chan_is_used, end_is_there}
+use Rattle.state_laws.specs.Laws.{KeptMayBeRead}
+use Rattle.state_laws.proofs.Chans.{held_used}
 use Rattle.state_laws.proofs.Inputs.{at}
 use Rattle.state_laws.proofs.Lists.{all_of_each}
 

@@ -1,10 +1,9 @@
 -- The inputs of the switch, where one of them changes.
-use Rattle.std.proofs.Common.{◌≡◌, ◌≢◌, ◌⊎◌, inl, inr, ℕ, zero, suc, ◌<◌, ◌≤◌, Bool, true, false, ◌||◌, if◌then◌else◌, Option, Some, None, List, [], ◌∷◌, get_or, slice_set, replicate, refl, sym, ap, subst, ◌∙◌, arith}
+use Rattle.std.proofs.Common.{◌≡◌, ℕ, zero, suc, Bool, true, false, List, [], ◌∷◌, get_or, slice_set, replicate, refl, sym, ap, subst, ◌∙◌}
 use Rattle.std.proofs.lemmas.Bool.{false≢true, or_parts, or_right, or_left, eqb-true}
 use Rattle.std.specs.List.{list_any}
 use Rattle.xs_base.specs.Numbers.{ChanNumber, EndNumber, InputNumber}
-use Rattle.xs_base.specs.declared.numbers.TheConstants.{LINK_ENDS}
-use Rattle.xs_model.specs.Record.{InputRec, Idle, Head1, Head2, Want, Local, Out, Lost}
+use Rattle.xs_model.specs.Record.{InputRec, Idle, Local}
 use Rattle.net_model.specs.Switch.{is_local_to, is_out_by}
 use Rattle.state_laws.specs.Facts.{InputFits, InputsFit}
 

@@ -1,16 +1,15 @@
 -- What the issue of a slot makes of a core, as changes.
-use Rattle.std.proofs.Common.{◌≡◌, ℕ, zero, suc, ◌<◌, ◌-◌, ◌/◌, ◌%◌, ◌==◌, ◌&&◌, nat_le, nat_lt, Bool, true, false, if◌then◌else◌, Option, Some, None, List, [], ◌∷◌, length, refl, inl, inr, arith}
+use Rattle.std.proofs.Common.{◌≡◌, ℕ, zero, suc, ◌<◌, ◌-◌, ◌/◌, Bool, true, false, if◌then◌else◌, Option, Some, None, List, [], ◌∷◌, length, refl, inl, inr, arith}
 use Rattle.std.specs.Prelude.{slice_get, IfSome}
 use Rattle.std.specs.List.{AllByRecursion}
 use Rattle.xs_base.specs.Numbers.{Slot, Word, ThreadNumber}
 use Rattle.xs_base.specs.declared.numbers.TheConstants.{THREADS}
 use Rattle.xs_model.specs.declared.event.Happen.{Happen}
-use Rattle.xs_model.specs.declared.event.Happen.TheVariants as happen
 use Rattle.xs_model.specs.declared.thread.Run.TheVariants.{Going, Paused, Halted}
 use Rattle.xs_model.specs.declared.thread.Thread.{Thread}
 use Rattle.xs_model.specs.declared.traps.TheConstants.{ILLEGAL_PC}
 use Rattle.xs_model.specs.Entry.{trapped, return_address, in_event, in_interrupt, entered}
-use Rattle.xs_model.specs.Record.{CoreRec, EnablingRec, thread_of, with_thread, with_run, with_last}
+use Rattle.xs_model.specs.Record.{CoreRec, EnablingRec, thread_of, with_last}
 use Rattle.xs_model.specs.Choices.{choice}
 use Rattle.xs_model.specs.Picks.{eligible, best_from, number_of_best, picked}
 use Rattle.xs_instructions.specs.Instr.{InRange}
@@ -22,7 +21,7 @@ use Rattle.step_model.specs.Step.{halt_unless, trap, settled, executed, issue_be
 use Rattle.step_laws.proofs.Best.{IsBest, best_is_best}
 use Rattle.state_laws.proofs.Changes.{Change, Changes, no_change, and_then, both}
 use Rattle.state_laws.proofs.Changes as change
-use Rattle.state_laws.proofs.Walk.{Goes, EffectGoes, effect_goes}
+use Rattle.state_laws.proofs.Walk.{EffectGoes, effect_goes}
 
 -- ---- The code
 

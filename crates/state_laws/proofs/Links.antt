@@ -1,8 +1,7 @@
 -- Of the tokens that a link end sent at most eight stay without a credit, and it stays there or not there.
 use Rattle.std.proofs.Common.{◌≡◌, ◌≢◌, ◌↔◌, ℕ, zero, suc, ◌+◌, ◌<◌, ◌≤◌, ◌==◌, ◌&&◌, nat_lt, nat_le, Bool, true, false, if◌then◌else◌, is_some, Option, Some, None, List, [], ◌∷◌, ◌++◌, length, map, filter, get_or, slice_index, slice_index_or, refl, sym, ap, subst, ◌∙◌, length-append, arith, inl, inr}
-use Rattle.std.proofs.lemmas.Bool.{lt-ltb, ltb-true, and_parts, cases_lt, cases_Bool, false≢true, both_ways, true_from_ne_false, cond_both, eqb-true, eqb-false}
+use Rattle.std.proofs.lemmas.Bool.{lt-ltb, ltb-true, and_parts, cases_lt, cases_Bool, false≢true, cond_both, eqb-true, eqb-false}
 use Rattle.std.proofs.lemmas.List.{length-map, get_or_past}
-use Rattle.std.proofs.lemmas.Option.{none-some}
 use Rattle.std.specs.List.{AllByRecursion}
 use Rattle.std.specs.Prelude.{IfSome}
 use Rattle.xs_base.specs.Numbers.{Slot, EndNumber}
@@ -14,10 +13,9 @@ use Rattle.xs_model.specs.Record.{NodeRec, LinkRec}
 use Rattle.net_model.specs.Links.{fresh_link, token_arrives, credit_arrives, link_after_arrivals, IsLinkBefore, latest, gap_is_over, may_send}
 use Rattle.net_model.specs.Switch.{link_at}
 use Rattle.step_model.specs.Fixed.{Fixed}
-use Rattle.step_model.specs.Start.{link_with_gap, node_of}
-use Rattle.step_model.specs.Step.{before_issue, node_step}
-use Rattle.link_laws.specs.LinkSlot.{slots_of, LinkSlot, LinkSlotAt}
-use Rattle.link_laws.specs.Windows.{IsNodeBefore}
+use Rattle.step_model.specs.Start.{link_with_gap}
+use Rattle.step_model.specs.Step.{node_step}
+use Rattle.link_laws.specs.LinkSlot.{LinkSlot, LinkSlotAt}
 use Rattle.link_laws.proofs.SlotAtEndStep.{slot_at_link_end}
 use Rattle.link_laws.proofs.WindowStep.{step_stays_before}
 use Rattle.state_laws.specs.Facts.{end_is_there, HaveGaps, LinksFit}

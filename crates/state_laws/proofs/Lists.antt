@@ -1,5 +1,5 @@
 -- What holds at every place of a list.
-use Rattle.std.proofs.Common.{◌≡◌, ◌≢◌, ℕ, zero, suc, ◌<◌, List, [], ◌∷◌, length, map, get_or, slice_set, replicate, refl, ap, arith}
+use Rattle.std.proofs.Common.{◌≡◌, ℕ, zero, suc, List, [], ◌∷◌, map, get_or, slice_set, replicate, refl, ap}
 use Rattle.std.specs.List.{AllByRecursion}
 
 module _ {A : Type 0} (P : A → Type 0) (d : A) where

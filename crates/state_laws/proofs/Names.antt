@@ -1,5 +1,5 @@
 -- What a word names is there: its number is below the count of its kind.
-use Rattle.std.proofs.Common.{◌≡◌, ℕ, ◌<◌, ◌/◌, ◌%◌, ◌==◌, ◌&&◌, true, false, nat_lt, if◌then◌else◌, Bool, Option, Some, None}
+use Rattle.std.proofs.Common.{ℕ, ◌<◌, ◌/◌, ◌%◌, ◌==◌, ◌&&◌, true, false, nat_lt, if◌then◌else◌, Bool, Option, Some, None}
 use Rattle.std.proofs.lemmas.Bool.{cond_both, and_parts, ltb-true}
 use Rattle.std.specs.Prelude.{IfSome}
 use Rattle.xs_base.specs.Numbers.{ChanNumber, PortNumber, NodeId, Kind, Identifier}

@@ -1,14 +1,10 @@
 -- Who enabled what gives events, and who owns a lock, stay threads.
-use Rattle.std.proofs.Common.{◌≡◌, ℕ, ◌<◌, Option, Some, None, List, length, get_or, slice_set, refl, sym, ap, subst, ◌∙◌, length-set}
+use Rattle.std.proofs.Common.{◌≡◌, ℕ, ◌<◌, Option, Some, None, List, length, get_or, slice_set, refl, sym, subst, ◌∙◌, length-set}
 use Rattle.std.specs.Prelude.{IfSome}
 use Rattle.xs_base.specs.Numbers.{Slot, ThreadNumber}
 use Rattle.xs_base.specs.declared.numbers.TheConstants.{THREADS}
-use Rattle.xs_model.specs.declared.outside.Arrivals.{Arrivals}
-use Rattle.xs_model.specs.declared.outside.PinView.{PinView}
-use Rattle.xs_model.specs.Ports.{edges_from}
-use Rattle.xs_model.specs.Record.{CoreRec, NodeRec, EnabledRec, LockRec, unused_lock, sync_of}
+use Rattle.xs_model.specs.Record.{CoreRec, EnabledRec, LockRec, unused_lock, sync_of}
 use Rattle.step_model.specs.Effect.{Setting}
-use Rattle.step_model.specs.Fixed.{Fixed}
 use Rattle.step_model.specs.Step.{setting_of, before_issue, node_step}
 use Rattle.state_laws.specs.Facts.{IsThread, AreByThreads, NamesThreads}
 use Rattle.state_laws.specs.Laws.{IsSoAtFirst, StaysSo}

@@ -1,6 +1,5 @@
 -- Ports, and what the pins show, stay as they may be.
-use Rattle.std.proofs.Common.{◌≡◌, ℕ, zero, suc, ◌+◌, ◌<◌, ◌≤◌, ◌^◌, Bool, true, false, Option, Some, None, List, [], ◌∷◌, length, map, get_or, slice_set, replicate, refl, sym, ap, subst, ◌∙◌, arith, inl, inr}
-use Rattle.std.proofs.lemmas.Bool.{false≢true}
+use Rattle.std.proofs.Common.{◌≡◌, ℕ, zero, suc, ◌+◌, ◌<◌, ◌^◌, Option, Some, None, List, [], ◌∷◌, get_or, slice_set, replicate, sym, ap, subst, arith}
 use Rattle.std.proofs.lemmas.Nat.{pow_pos}
 use Rattle.std.specs.Prelude.{IfSome}
 use Rattle.std.specs.List.{AllByRecursion}
@@ -14,13 +13,13 @@ use Rattle.xs_model.specs.Ports.{level_of, levels_of, edges_from}
 use Rattle.xs_model.specs.PortActions.{Acted, Did, Got, Waits, Refused, restarted}
 use Rattle.xs_instructions.specs.Instr.{InRange}
 use Rattle.port_laws.specs.Facts.{HasFacts, is_off, is_on}
-use Rattle.port_laws.specs.Ports.{LeavesFacts, EachKeeps, AllHaveFacts}
+use Rattle.port_laws.specs.Ports.{LeavesFacts, AllHaveFacts}
 use Rattle.port_laws.proofs.Edges.{slot_keeps}
 use Rattle.port_laws.proofs.Rows.{rows_keep}
 use Rattle.step_model.specs.Effect.{Setting}
 use Rattle.step_model.specs.Fixed.{Fixed}
 use Rattle.step_model.specs.Step.{setting_of, before_issue, issued, node_step}
-use Rattle.state_laws.specs.Facts.{IsSet, PortsFit, PinsFit, IsPlanned}
+use Rattle.state_laws.specs.Facts.{IsSet, PinsFit, IsPlanned}
 use Rattle.state_laws.specs.Laws.{IsSoAtFirst, StaysSoAsPlanned}
 use Rattle.state_laws.proofs.Changes.{Change, PortRow, Leaves}
 use Rattle.state_laws.proofs.Changes as change

@@ -1,5 +1,5 @@
 -- Where a row at a port waits.
-use Rattle.std.proofs.Common.{◌≡◌, ℕ, ◌<◌, ◌==◌, ◌&&◌, ◌||◌, not, nat_lt, is_some, Bool, true, false, if◌then◌else◌, Option, Some, None, length}
+use Rattle.std.proofs.Common.{ℕ, ◌<◌, ◌==◌, ◌&&◌, ◌||◌, not, is_some, Bool, true, false, if◌then◌else◌, Option, Some, None}
 use Rattle.xs_base.specs.Numbers.{Word, PortNumber}
 use Rattle.xs_base.specs.Ids.{port_width}
 use Rattle.xs_base.specs.declared.numbers.TheConstants.{PORTS}

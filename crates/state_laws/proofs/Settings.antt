@@ -1,5 +1,5 @@
 -- The clock of a port, its strobe and the width of its transfers stay as they may be: under rows that act on it, and under edges.
-use Rattle.std.proofs.Common.{◌≡◌, ℕ, zero, suc, ◌+◌, ◌<◌, ◌%◌, ◌==◌, ◌&&◌, ◌||◌, not, nat_lt, nat_le, Bool, true, false, if◌then◌else◌, is_some, Option, Some, None, List, [], ◌∷◌, length, map, get_or, refl, sym, ap, subst, ◌∙◌, arith}
+use Rattle.std.proofs.Common.{◌≡◌, ℕ, zero, suc, ◌+◌, ◌==◌, ◌&&◌, ◌||◌, not, nat_lt, Bool, true, false, if◌then◌else◌, is_some, Option, Some, None, List, [], ◌∷◌, length, get_or, refl}
 use Rattle.std.proofs.lemmas.Bool.{cond_both, and_parts, both_ways, false≢true, true≢false}
 use Rattle.std.specs.Prelude.{IfSome}
 use Rattle.xs_base.specs.Numbers.{Slot, Word, PortNumber}
@@ -9,10 +9,9 @@ use Rattle.xs_model.specs.declared.clock.Edge.{Edge}
 use Rattle.xs_model.specs.declared.clock.Edge.TheVariants as edge
 use Rattle.xs_model.specs.declared.modes.TheConstants.{OFF, ON, NO_CONDITION, EQUAL, NOT_EQUAL, CLEAR, NO_BUFFERS, BUFFERS}
 use Rattle.xs_model.specs.Record.{PortRec, TransferRec, ClockRec, Condition, Always, Equal, NotEqual, off_port}
-use Rattle.xs_model.specs.Bits.{bits_of}
 use Rattle.xs_model.specs.Time.{edge_at}
-use Rattle.xs_model.specs.Ports.{level_of, is_high, Edged, unchanged, counter_after, beat_out, is_due, next_out, outputs, falls, is_met, is_condition, takes_if_met, takes_in_time, takes_by_time, samples, is_complete, keeps_or_takes, completes, shifts_in, begins, samples_buffered, sampled, lets_sample, rises, at_edge, port_edge, edges_from}
-use Rattle.xs_model.specs.PortActions.{Acted, Did, Got, Waits, Refused, on_port, with_condition, set_mode, in_mode, is_transfer_width, has_left, is_idle, wanting, turned_in, take_transfer, turn_in, take_in, is_part, cut_short, end_transfer, turned_out, fill, put_bits, goes_by, restarted}
+use Rattle.xs_model.specs.Ports.{level_of, is_high, Edged, counter_after, is_due, next_out, outputs, falls, is_met, is_condition, takes_if_met, takes_in_time, takes_by_time, samples, is_complete, keeps_or_takes, completes, shifts_in, begins, samples_buffered, sampled, lets_sample, rises, at_edge, port_edge, edges_from}
+use Rattle.xs_model.specs.PortActions.{Acted, Did, Got, Waits, Refused, on_port, with_condition, set_mode, in_mode, is_transfer_width, has_left, is_idle, wanting, turned_in, take_transfer, turn_in, take_in, is_part, end_transfer, turned_out, fill, put_bits, goes_by, restarted}
 use Rattle.single_port.specs.Asks.{IsClock}
 use Rattle.single_port.specs.States.{IsStrobeState}
 use Rattle.state_laws.specs.Facts.{AreSettings, IsSet}

@@ -1,27 +1,23 @@
 -- The synchronisers of a core and their slaves stay as they may be.
-use Rattle.std.proofs.Common.{◌≡◌, ◌≢◌, ◌⊎◌, inl, inr, ℕ, zero, suc, ◌+◌, ◌*◌, ◌%◌, ◌^◌, ◌<◌, ◌≤◌, ◌==◌, ◌||◌, Bool, true, false, not, nat_lt, cond, if◌then◌else◌, Option, Some, None, is_some, List, [], ◌∷◌, length, get_or, slice_set, replicate, bit_or, refl, sym, ap, subst, ◌∙◌, length-set, arith}
+use Rattle.std.proofs.Common.{◌≡◌, ◌≢◌, ◌⊎◌, inl, inr, ℕ, zero, suc, ◌+◌, ◌*◌, ◌%◌, ◌^◌, ◌<◌, ◌==◌, ◌||◌, Bool, true, false, nat_lt, cond, if◌then◌else◌, Option, Some, None, List, [], ◌∷◌, length, get_or, slice_set, replicate, bit_or, refl, sym, ap, subst, ◌∙◌, length-set, arith}
 use Rattle.std.specs.List.{list_any}
-use Rattle.std.proofs.lemmas.Bool.{both_ways, cond_both, or_cases, or_left, or_right, or_parts, eqb-true, eqb-false, cases_Bool, cases_lt, false≢true}
+use Rattle.std.proofs.lemmas.Bool.{both_ways, or_cases, or_left, or_right, or_parts, eqb-true, eqb-false, cases_Bool, cases_lt, false≢true}
 use Rattle.std.proofs.lemmas.List.{get_or_past}
 use Rattle.std.proofs.lemmas.Nat.{widths}
 use Rattle.std.proofs.lemmas.Grind.{common_steps}
 use Rattle.std.proofs.lemmas.Option.{none-some}
 use Rattle.xs_base.specs.Numbers.{Slot, ThreadNumber}
 use Rattle.xs_base.specs.declared.numbers.TheConstants.{THREADS}
-use Rattle.xs_model.specs.declared.outside.Arrivals.{Arrivals}
-use Rattle.xs_model.specs.declared.outside.PinView.{PinView}
 use Rattle.xs_model.specs.declared.thread.Thread.{Thread}
 use Rattle.xs_model.specs.declared.thread.Run.{Run}
 use Rattle.xs_model.specs.declared.thread.Run.TheVariants.{Free, Going}
 use Rattle.xs_model.specs.Free.{lowest_free}
-use Rattle.xs_model.specs.Masks.{members}
 use Rattle.xs_model.specs.Threads.{fresh_thread}
-use Rattle.xs_model.specs.Record.{CoreRec, NodeRec, SyncRec, unused_sync, thread_of, sync_of}
+use Rattle.xs_model.specs.Record.{CoreRec, SyncRec, unused_sync, thread_of, sync_of}
 use Rattle.xs_model.specs.Syncs.{is_thread, is_bound, with_slave, with_bound, unbound, sync_with, got_sync}
 use Rattle.step_model.specs.Effect.{Setting}
-use Rattle.step_model.specs.Fixed.{Fixed}
 use Rattle.step_model.specs.Step.{setting_of, before_issue, node_step}
-use Rattle.step_model.specs.ThreadRows.{is_taken, thread_to_get, with_runs}
+use Rattle.step_model.specs.ThreadRows.{is_taken, with_runs}
 use Rattle.step_laws.proofs.Free.{lowest_is_free}
 use Rattle.bit_masks.proofs.Free.{none_found_exactly}
 use Rattle.sync_locks.proofs.Slaves.{members_with}
@@ -135,7 +131,7 @@ among k slaves = list_any (λ slave. slave == k) slaves
 
 bound_or : (k j : ThreadNumber) (slaves : List ThreadNumber) → among k (with_slave j slaves) ≡ true → (k ≡ j) ⊎ (among k slaves ≡ true)
 unfolding with_slave
-bound_or k j [] is = elim (or_cases (j == k) false is) [ | inl same ↦ inl (sym (eqb-true j k same)) | inr other ↦ absurd (false≢true other) ]
+bound_or k j [] is = elim (or_cases (j == k) false is) [ inl same ↦ inl (sym (eqb-true j k same)) | inr other ↦ absurd (false≢true other) ]
 bound_or k j (slave ∷ slaves) is = by (nat_lt j slave) (j == slave) is (bound_or k j slaves)
   where
     first : (rest : List ThreadNumber) (b : Bool) → ((b || among k rest) ≡ true) → (b ≡ true) ⊎ (among k rest ≡ true)
@@ -146,7 +142,7 @@ bound_or k j (slave ∷ slaves) is = by (nat_lt j slave) (j == slave) is (bound_
     later (inr is) = inr (or_right (slave == k) (among k slaves) is)
 
     by : (less same : Bool) → among k (if less then j ∷ slave ∷ slaves else (if same then slave ∷ slaves else slave ∷ with_slave j slaves)) ≡ true → (among k (with_slave j slaves) ≡ true → (k ≡ j) ⊎ (among k slaves ≡ true)) → (k ≡ j) ⊎ (among k (slave ∷ slaves) ≡ true)
-    by true same is others = elim (first (slave ∷ slaves) (j == k) is) [ | inl e ↦ inl (sym (eqb-true j k e)) | inr rest ↦ inr rest ]
+    by true same is others = elim (first (slave ∷ slaves) (j == k) is) [ inl e ↦ inl (sym (eqb-true j k e)) | inr rest ↦ inr rest ]
     by false true is others = inr is
     by false false is others =
         elim (first (with_slave j slaves) (slave == k) is) [
@@ -266,7 +262,7 @@ master_is k None is none = false≢true is
 master_is k (Some m) is none = none-some m (sym none)
 
 not_bound : (slaves : List ThreadNumber) (k : ThreadNumber) → (among k slaves ≡ true → ⊥) → among k slaves ≡ false
-not_bound slaves k never = elim (cases_Bool (among k slaves)) [ | inl mine ↦ absurd (never mine) | inr is ↦ is ]
+not_bound slaves k never = elim (cases_Bool (among k slaves)) [ inl mine ↦ absurd (never mine) | inr is ↦ is ]
 
 -- where a synchroniser is set to one without slaves and is the same as before, it had none
 bound_at_old : (syncs : List SyncRec) (n : ℕ) (k : ThreadNumber) → is_bound k (sync_at syncs n) ≡ true → is_bound k (sync_at (slice_set syncs n (unbound (sync_at syncs n))) n) ≡ true → ⊥

@@ -1,6 +1,6 @@
 -- What a slot does before its issue: the switch changes channel ends, inputs and link ends alone, and leaves what is true of them.
-use Rattle.std.proofs.Common.{◌≡◌, ℕ, zero, suc, ◌+◌, ◌<◌, ◌≤◌, ◌==◌, min, Bool, true, false, not, ◌||◌, ◌&&◌, nat_lt, is_some, if◌then◌else◌, Option, Some, None, List, [], ◌∷◌, ◌++◌, length, drop, get_or, slice_index, slice_index_or, slice_set, bit_and, refl, sym, ap, subst, ◌∙◌, arith, length-set}
-use Rattle.std.proofs.lemmas.Bool.{ltb-true, cond_both, and_parts, or_parts, not-true, not-false, eqb-true}
+use Rattle.std.proofs.Common.{◌≡◌, ℕ, zero, suc, ◌+◌, ◌<◌, ◌==◌, Bool, true, false, not, ◌||◌, ◌&&◌, nat_lt, is_some, if◌then◌else◌, Option, Some, None, List, [], ◌∷◌, ◌++◌, length, drop, get_or, slice_index, slice_set, bit_and, refl, sym, ap, ◌∙◌, arith, length-set}
+use Rattle.std.proofs.lemmas.Bool.{ltb-true, cond_both, and_parts, not-true, eqb-true}
 use Rattle.std.proofs.lemmas.Nat.Bits.{bit_at_and}
 use Rattle.std.specs.Int.{bit_at}
 use Rattle.std.specs.Prelude.{IfSome}
@@ -12,20 +12,20 @@ use Rattle.xs_model.specs.declared.event.Happen.TheVariants as happen
 use Rattle.xs_model.specs.declared.outside.Arrivals.{Arrivals}
 use Rattle.xs_model.specs.declared.outside.PinView.{PinView}
 use Rattle.xs_model.specs.declared.dest.Dest.{Dest}
-use Rattle.xs_model.specs.Dests.{dest_of, id_of}
+use Rattle.xs_model.specs.Dests.{dest_of}
 use Rattle.xs_model.specs.Record.{CoreRec, NodeRec, ChanRec, LinkRec, InputRec, Idle, Head1, Head2, Want, Local, Out, Lost, unused_chan, chan_of}
 use Rattle.xs_model.specs.Waits.{has_room}
 use Rattle.xs_model.specs.AtWork.{AtWork, slot_begins, it_happens}
 use Rattle.xs_model.specs.Ports.{edges_from}
 use Rattle.net_model.specs.Ways.{Way, Here, Behind, first_difference, ends_of_net, way_at, way_to}
 use Rattle.net_model.specs.Links.{link_after_arrivals, links_after_arrivals, arrive}
-use Rattle.net_model.specs.Switch.{Routes, is_link_input, chan_of_input, is_local_to, is_out_by, node_with_chan, chan_without_first, link_without_first, sent_in, to_state, waiting_at, state_at, chan_is_held, end_is_held, link_at, free_end, take_first, end_may_send, ends_packet, after_token, loses, put_into, send, start_packet, packet_step, after_header, header_byte, net_of_end, head_step, hold_end, is_pause, local_step, out_token, out_step, lost_step, want_way, want_step, step_at, moves_from}
+use Rattle.net_model.specs.Switch.{Routes, is_link_input, chan_of_input, node_with_chan, chan_without_first, link_without_first, sent_in, to_state, waiting_at, state_at, chan_is_held, end_is_held, link_at, free_end, take_first, end_may_send, ends_packet, after_token, loses, put_into, send, start_packet, packet_step, after_header, header_byte, net_of_end, head_step, hold_end, is_pause, local_step, out_token, out_step, lost_step, want_way, want_step, step_at, moves_from}
 use Rattle.step_model.specs.Fixed.{Fixed}
 use Rattle.step_model.specs.Step.{ports_step, before_issue}
 use Rattle.chan_ends.specs.States.{IsChan}
 use Rattle.state_laws.specs.Facts.{ChansFit, InputFits, InputsFit, chan_is_used, end_is_there}
 use Rattle.state_laws.proofs.Lists.{each_set}
-use Rattle.state_laws.proofs.Inputs.{at, NoOther, still_no_other, set_fits, holds_nothing, chan_not_held, end_not_held, as_it_is}
+use Rattle.state_laws.proofs.Inputs.{NoOther, still_no_other, set_fits, holds_nothing, chan_not_held, end_not_held, as_it_is}
 
 -- ---- One of some channel ends or link ends changes
 
@@ -65,8 +65,8 @@ free_is rec mask end zero below e = tt
 free_is rec mask end (suc count) below e =
     cond_both ((bit_at mask end == 1) && not (end_is_held rec end)) (Some end) _ (λ found. IfSome found (IsFreeEnd rec mask below))
     (λ yes.
-        let parts = and_parts (bit_at mask end == 1) (not (end_is_held rec end)) yes in
-        record { in_mask = eqb-true (bit_at mask end) 1 parts.0; free = not-true (end_is_held rec end) parts.1; low = omega (arith, e) })
+    let parts = and_parts (bit_at mask end == 1) (not (end_is_held rec end)) yes in
+    record { in_mask = eqb-true (bit_at mask end) 1 parts.0; free = not-true (end_is_held rec end) parts.1; low = omega (arith, e) })
     (λ no. free_is rec mask (end + 1) count below (omega (arith, e)))
 
 first_below : (n : ℕ) (a b : NodeId) → IfSome (first_difference n a b) (λ bit. bit < n)

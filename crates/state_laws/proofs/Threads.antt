@@ -1,15 +1,12 @@
 -- What each paused thread waits at stays there.
-use Rattle.std.proofs.Common.{◌≡◌, ℕ, zero, suc, List, [], ◌∷◌, get_or, slice_set, replicate, sym, subst, inl, inr}
-use Rattle.xs_base.specs.Numbers.{Slot, ThreadNumber}
-use Rattle.xs_model.specs.declared.outside.Arrivals.{Arrivals}
-use Rattle.xs_model.specs.declared.outside.PinView.{PinView}
+use Rattle.std.proofs.Common.{ℕ, zero, suc, List, [], ◌∷◌, get_or, slice_set, replicate, sym, subst, inl, inr}
+use Rattle.xs_base.specs.Numbers.{ThreadNumber}
 use Rattle.xs_model.specs.declared.thread.Thread.{Thread}
 use Rattle.xs_model.specs.declared.thread.Run.{Run}
 use Rattle.xs_model.specs.declared.thread.Run.TheVariants.{Free, Going}
 use Rattle.xs_model.specs.Threads.{fresh_thread}
-use Rattle.xs_model.specs.Record.{CoreRec, NodeRec, free_thread, thread_of, sync_of}
+use Rattle.xs_model.specs.Record.{CoreRec, free_thread, thread_of, sync_of}
 use Rattle.step_model.specs.Effect.{Setting}
-use Rattle.step_model.specs.Fixed.{Fixed}
 use Rattle.step_model.specs.Step.{setting_of, before_issue, node_step}
 use Rattle.step_model.specs.ThreadRows.{with_runs}
 use Rattle.step_laws.proofs.Phases.{before_issue_keeps}

@@ -1,21 +1,18 @@
 -- What each row of the instruction table makes of a core, as changes; and where its thread pauses, which is there.
-use Rattle.std.proofs.Common.{◌≡◌, ◌⊎◌, ℕ, zero, suc, ◌+◌, ◌<◌, ◌≤◌, ◌%◌, ◌-◌, Bool, true, false, not, ◌==◌, ◌&&◌, ◌||◌, is_some, is_none, nat_lt, length, slice_set, if◌then◌else◌, Option, Some, None, List, [], option_map, refl, sym, ap, subst, ◌∙◌, inl, inr, arith}
-use Rattle.std.proofs.lemmas.Bool.{cond_both, and_parts, eqb-true, ltb-true, not-true, eqb-false, false≢true}
-use Rattle.std.proofs.lemmas.Option.{none-some}
+use Rattle.std.proofs.Common.{◌≡◌, ℕ, zero, suc, ◌+◌, ◌<◌, ◌≤◌, ◌%◌, Bool, true, false, not, ◌==◌, ◌&&◌, ◌||◌, is_some, is_none, length, slice_set, if◌then◌else◌, Option, Some, None, [], option_map, refl, sym, subst, inl, inr, arith}
+use Rattle.std.proofs.lemmas.Bool.{cond_both, and_parts, eqb-true, not-true, eqb-false, false≢true}
 use Rattle.std.specs.Prelude.{IfSome, IsTrue}
-use Rattle.xs_base.specs.Numbers.{Slot, Word, Register, ThreadNumber, ChanNumber, PortNumber, Kind, Identifier, NodeId}
+use Rattle.xs_base.specs.Numbers.{Word, Register, ThreadNumber, ChanNumber, PortNumber, Kind, Identifier}
 use Rattle.xs_base.specs.Ids.{port_with, port_width}
 use Rattle.xs_base.specs.declared.token.Token.TheVariants.{Byte, Ctrl}
-use Rattle.xs_base.specs.declared.numbers.TheConstants.{PORTS, THREADS, CHAN_ENDS, CLOCK_BLOCKS, TIMER_KIND, CHAN_END_KIND, SYNCHRONISER_KIND, THREAD_KIND, LOCK_KIND}
+use Rattle.xs_base.specs.declared.numbers.TheConstants.{PORTS, THREADS, CHAN_ENDS, TIMER_KIND, CHAN_END_KIND, SYNCHRONISER_KIND, THREAD_KIND, LOCK_KIND}
 use Rattle.xs_model.specs.declared.clock.Clock.{Clock}
 use Rattle.xs_model.specs.declared.clock.Clock.TheVariants.{Reference, Block}
-use Rattle.xs_model.specs.declared.event.Happen.{Happen}
 use Rattle.xs_model.specs.declared.modes.TheConstants.{OFF, ON, NO_CONDITION, AFTER, EVENT, INTERRUPT, STOP, START}
 use Rattle.xs_model.specs.declared.traps.TheConstants.{ILLEGAL_RESOURCE, RESOURCE_DEPENDENCY}
 use Rattle.xs_model.specs.declared.status.TheConstants.{EEBLE, INENB}
 use Rattle.xs_model.specs.declared.thread.Thread.{Thread}
-use Rattle.xs_model.specs.declared.thread.Run.{Run}
-use Rattle.xs_model.specs.declared.thread.Run.TheVariants.{Going, AtSync}
+use Rattle.xs_model.specs.declared.thread.Run.TheVariants.{Going}
 use Rattle.xs_model.specs.declared.thread.Wait.{Wait}
 use Rattle.xs_model.specs.declared.thread.Wait.TheVariants as wait
 use Rattle.xs_model.specs.declared.resource.Res.{Res}
@@ -23,11 +20,11 @@ use Rattle.xs_model.specs.declared.resource.Res.TheVariants as res
 use Rattle.xs_model.specs.declared.resource.Resource.{Resource}
 use Rattle.xs_model.specs.declared.resource.Resource.TheVariants as resource
 use Rattle.xs_model.specs.Status.{without_bits}
-use Rattle.xs_model.specs.Threads.{fresh_thread, with_register}
-use Rattle.xs_model.specs.Record.{CoreRec, ChanRec, TimerRec, ClockRec, SyncRec, LockRec, PortRec, EnablingRec, EnabledRec, unused_sync, unused_lock, thread_of, chan_of, timer_of, clock_of, sync_of, lock_of, port_of, with_thread, with_run, with_chan, with_port, with_enabled}
-use Rattle.xs_model.specs.Syncs.{is_thread, sync_with, freed_sync, Claimed, Owns, IsHeld, IsRefused, free_lock, claimed_from, claimed, released, freed_lock}
-use Rattle.xs_model.specs.Time.{timer_holds, with_after, with_value, divided_by, on_clock, turned_off, started, stopped, freed_timer, got_timer}
-use Rattle.xs_model.specs.Enabling.{changed, with_vector, with_environment, in_mode as giving, enabled_for, forgotten, cleared_by}
+use Rattle.xs_model.specs.Threads.{with_register}
+use Rattle.xs_model.specs.Record.{CoreRec, ChanRec, TimerRec, ClockRec, SyncRec, LockRec, PortRec, EnablingRec, unused_sync, unused_lock, thread_of, chan_of, timer_of, clock_of, sync_of, lock_of, port_of, with_thread, with_run, with_chan, with_port, with_enabled}
+use Rattle.xs_model.specs.Syncs.{is_thread, freed_sync, Claimed, Owns, IsHeld, IsRefused, free_lock, claimed_from, claimed, released, freed_lock}
+use Rattle.xs_model.specs.Time.{timer_holds, with_value, divided_by, on_clock, turned_off, started, stopped, freed_timer, got_timer}
+use Rattle.xs_model.specs.Enabling.{with_vector, with_environment, in_mode as giving, enabled_for, forgotten}
 use Rattle.xs_model.specs.PortActions.{Acted, Did, Got as Gives, Waits as PausesAt, Refused as Refuses, in_mode, set_clock, set_strobe, may_strobe, set_value, tell_value, take_in, take_part, put_out, end_in, sync, tell_stamp, set_time, clear_time}
 use Rattle.xs_model.specs.Waits.{is_in, all_in, division_is_over, is_waited_at, is_paused_on}
 use Rattle.xs_instructions.specs.Instr.{InRange, is_width}
@@ -42,18 +39,17 @@ use Rattle.net_model.specs.Chans.{Found, Got, Waits, Refused, chan_named, freed_
 use Rattle.step_model.specs.Effect.{Setting, Effect, Done, Pause, Trap, Gone, Leaving, Leaves, Traps, Own, own_of, on_own, on_registers, reg, after_it, goes_on, goes_on_with, goes_on_in, pauses_at}
 use Rattle.step_model.specs.DividerRows.{shares_divider, on_divider, words_effect}
 use Rattle.step_model.specs.Named.{resource_named}
-use Rattle.step_model.specs.ThreadRows.{is_taken, thread_to_get, slave_got, by_master, as_master, slaves_go, slaves_are_freed, thread_is_freed, when_all_in, on_named_thread, on_thread, is_slave, may_start, sets_other, threads_row}
+use Rattle.step_model.specs.ThreadRows.{thread_to_get, slave_got, by_master, as_master, slaves_go, slaves_are_freed, thread_is_freed, when_all_in, on_named_thread, on_thread, is_slave, may_start, sets_other, threads_row}
 use Rattle.step_model.specs.TimeRows.{timer_becomes, clock_becomes, takes_time}
 use Rattle.step_model.specs.EventRows.{eventful, with_changed, sets_events, clears, waits_where}
 use Rattle.step_model.specs.ModeRows.{in_event_mode, timer_in_mode, with_restarted, clock_in_mode, resource_in_mode, turns_port, port_in_mode, sets_mode}
 use Rattle.step_model.specs.PortRows.{clock_if_on, clock_named, strobe_if_allowed, strobe_named, ends_at_port, at_port, at_named_port, on_port, takes_no_word, takes_word, shifts_in_from_above, shifts_out_below, sets_where, sets_clock, sets_strobe, sets_transfer_width, puts_word, puts_part, peeks, at_any}
 use Rattle.step_model.specs.ResourceRows.{resources_row, resource_got, chan_was_got, sync_was_got, thread_was_got, timer_was_got, lock_was_got, without_chan, without_timer, without_sync, without_lock, without, freed, claimed_there, takes_in, puts_out, sets_data, tells_data, named_in, found_there, on_named, room, tokens, no_wait, takes_nothing, takes_into}
-use Rattle.step_model.specs.Rows.{own_row, effect}
+use Rattle.step_model.specs.Rows.{effect}
 use Rattle.step_laws.proofs.Named.{IsPort, port_is_there}
 use Rattle.single_port.specs.Asks.{IsClock}
 use Rattle.single_port.specs.States.{IsStrobeState}
 use Rattle.core_step.specs.ThreadStates.{IsWaitState}
-use Rattle.state_laws.specs.Facts.{AreByThreads}
 use Rattle.state_laws.proofs.Changes.{Change, Changes, no_change, and_then, PortRow}
 use Rattle.state_laws.proofs.Changes as change
 use Rattle.state_laws.proofs.Enabling.{IsByThread, changed_by, forgotten_by, enabled_by, cleared_stays}

@@ -1,5 +1,4 @@
 -- All of it together.
-use Rattle.xs_model.specs.Record.{NodeRec}
 use Rattle.step_laws.proofs.Slot.{slot_known}
 use Rattle.step_laws.proofs.Threads.{first_known}
 use Rattle.xs_instructions.specs.Image.{entry_of}

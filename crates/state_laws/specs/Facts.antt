@@ -1,17 +1,17 @@
 -- What is true of every node that a run reaches, unit by unit.
-use Rattle.std.specs.Prelude.{ℕ, ◌≡◌, ◌<◌, ◌≤◌, ◌+◌, ◌^◌, ◌↔◌, Bool, true, false, Option, Some, None, is_some, IfSome, List, [], length, slice_index, slice_index_or}
+use Rattle.std.specs.Prelude.{ℕ, ◌≡◌, ◌<◌, ◌≤◌, ◌+◌, ◌^◌, ◌↔◌, Bool, true, false, Option, None, is_some, IfSome, List, [], length, slice_index, slice_index_or}
 use Rattle.std.specs.List.{AllByRecursion}
 use Rattle.xs_base.specs.Numbers.{Slot, ThreadNumber, ChanNumber, EndNumber, InputNumber, PortNumber}
 use Rattle.xs_base.specs.Ids.{port_width}
 use Rattle.xs_base.specs.declared.numbers.TheConstants.{THREADS, CHAN_ENDS, LINK_ENDS, HEADER_BYTES, WINDOW_TOKENS}
 use Rattle.xs_model.specs.declared.clock.Clock.{Clock}
-use Rattle.xs_model.specs.Record.{CoreRec, NodeRec, EnablingRec, EnabledRec, PortRec, InputRec, Idle, Head1, Head2, Want, Local, Out, Lost, not_enabled, thread_of, last_of, chan_of, sync_of, lock_of, port_of}
+use Rattle.xs_model.specs.Record.{CoreRec, NodeRec, EnabledRec, PortRec, InputRec, Idle, Head1, Head2, Want, Local, Out, Lost, not_enabled, thread_of, last_of, chan_of, sync_of, lock_of, port_of}
 use Rattle.xs_model.specs.Masks.{members}
 use Rattle.xs_model.specs.Outside.{LevelsFit}
 use Rattle.xs_model.specs.PortActions.{is_transfer_width}
 use Rattle.xs_model.specs.Syncs.{is_bound}
 use Rattle.xs_instructions.specs.Instr.{InRange}
-use Rattle.net_model.specs.Switch.{is_local_to, is_out_by, link_at, state_at}
+use Rattle.net_model.specs.Switch.{is_local_to, is_out_by, link_at}
 use Rattle.step_model.specs.Fixed.{Fixed}
 use Rattle.step_model.specs.Start.{WaysHaveGaps}
 use Rattle.step_model.specs.ThreadRows.{is_taken}
