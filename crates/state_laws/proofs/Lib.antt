@@ -19,3 +19,5 @@ mod Settings
 mod Pins
 mod Gives
 mod Whole
+mod Plans
+mod Serial

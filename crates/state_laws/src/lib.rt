@@ -2,6 +2,7 @@
 #![tactic(auto)]
 
 ghost use Rattle.state_laws.specs.Facts.{IsCoreBefore, LinksFit, MayBeKept, NamesThreads, PinsFit, SlavesFit, SwitchFits, WaitAtWhatIsThere};
+ghost use Rattle.state_laws.specs.Runs.{KeptInEveryRun};
 ghost use Rattle.state_laws.specs.Laws.{IsSoAtFirst, IsSoAtFirstWith, KeptMayBeRead, StaysSo, StaysSoAsPlanned, StaysSoWith};
 
 /// Every slot that a core keeps, of its threads' last issues and of its last division, is before the slot that comes next: as a
@@ -66,4 +67,10 @@ pub fn nodes_may_be_kept()
     ensures first { IsSoAtFirstWith (λ gaps rec. MayBeKept gaps 0 rec) }
     ensures slot { StaysSoAsPlanned (λ gaps slot rec. MayBeKept gaps slot rec) }
     ensures read { KeptMayBeRead }
+{}
+
+/// So it is of every node of every plan, before every slot of the serial machine, where the operands of its nodes' code are in their
+/// ranges, as those of every image are. It does nothing. See docs/SNAPSHOTS.md.
+pub fn nodes_of_runs_may_be_kept()
+    ensures run { KeptInEveryRun }
 {}
