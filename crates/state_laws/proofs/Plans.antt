@@ -1,15 +1,13 @@
 -- A node of a plan is planned as its step asks: its ways lead to link ends that have a gap, and its networks are 0 to 3.
-use Rattle.std.proofs.Common.{rules, ◌≡◌, ℕ, zero, suc, ◌+◌, ◌<◌, ◌≤◌, ◌==◌, Bool, true, false, if◌then◌else◌, Option, Some, None, List, [], ◌∷◌, ◌++◌, length, map, get_or, slice_index, refl, sym, ap, subst, ◌∙◌, arith}
+use Rattle.std.proofs.Common.{rules, ◌≡◌, ℕ, zero, suc, ◌+◌, ◌<◌, Bool, true, false, if◌then◌else◌, Option, Some, None, List, [], ◌∷◌, length, map, slice_index, refl, sym, ap, subst, arith}
 use Rattle.std.specs.Prelude.{IsSome, slice_get}
-use Rattle.std.specs.Int.{bit_at}
 use Rattle.std.specs.List.{AllByRecursion}
 use Rattle.std.proofs.lemmas.Option.{none-some, same_Some}
 use Rattle.xs_base.specs.declared.numbers.TheConstants.{LINK_ENDS}
-use Rattle.xs_instructions.specs.Instr.{InRange}
 use Rattle.sys_plan.specs.declared.LinkPlan.{LinkPlan}
 use Rattle.sys_plan.specs.declared.NodePlan.{NodePlan}
 use Rattle.sys_plan.specs.declared.WirePlan.{WirePlan}
-use Rattle.sys_plan.specs.Plan.{PlanRec, Arc, IsPlan, IsLink, link_arcs, wire_arcs, arcs, outgoing, gap_of, gap_by, gaps_of, link_ends, WaysLead, AllWaysLead, is_at, net_at, nets_at, AllKnowNets}
+use Rattle.sys_plan.specs.Plan.{PlanRec, Arc, IsPlan, IsLink, link_arcs, wire_arcs, arcs, outgoing, gap_by, gaps_of, link_ends, WaysLead, AllWaysLead, is_at, net_at, AllKnowNets}
 use Rattle.sys_plan.proofs.Routes.{at-link-end, leads-from, LeadsFrom, all-get, all-both}
 use Rattle.step_model.specs.Start.{fixed_of, WaysHaveGaps}
 use Rattle.state_laws.specs.Facts.{IsPlanned}

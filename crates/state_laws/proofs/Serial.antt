@@ -1,17 +1,15 @@
 -- Every node of the serial machine may be kept, before every slot.
-use Rattle.std.proofs.Common.{◌≡◌, ℕ, zero, suc, ◌+◌, ◌<◌, List, [], ◌∷◌, length, map, get_or, refl, sym, ap, subst, ◌∙◌, arith}
+use Rattle.std.proofs.Common.{◌≡◌, ℕ, zero, suc, ◌+◌, ◌<◌, List, [], ◌∷◌, length, map, get_or, refl, subst, arith}
 use Rattle.xs_base.specs.Numbers.{Slot, Position}
-use Rattle.xs_base.specs.declared.entry.Entry.{Entry}
 use Rattle.xs_model.specs.Record.{NodeRec, first_node}
-use Rattle.xs_model.specs.Outside.{LevelsFit}
 use Rattle.sys_plan.specs.declared.NodePlan.{NodePlan}
 use Rattle.sys_plan.specs.Plan.{PlanRec, IsPlan, gaps_of}
 use Rattle.step_model.specs.Start.{fixed_of}
 use Rattle.step_model.specs.Step.{Stepped}
-use Rattle.serial_model.specs.Serial.{nodes_at_start, steps_from, coming_at, pins_at, step_by, serial}
+use Rattle.serial_model.specs.Serial.{nodes_at_start, steps_from, coming_at, step_by, serial}
 use Rattle.locality_laws.specs.Levels.{ShownLevelsFit}
 use Rattle.state_laws.specs.Facts.{MayBeKept}
-use Rattle.state_laws.specs.Runs.{RunInRange, KeptInEveryRun}
+use Rattle.state_laws.specs.Runs.{KeptInEveryRun}
 use Rattle.state_laws.proofs.Plans.{AllPlanned, nodes_planned}
 use Rattle.state_laws.proofs.Whole.{first_kept, slot_kept}
 
@@ -33,10 +31,9 @@ module _ (shown : ShownLevelsFit) (plan : PlanRec) (is : IsPlan plan) where
   steps_kept slot n (node ∷ nodes) [] planned kept = absurd kept
   steps_kept slot n (node ∷ nodes) (rec ∷ recs) planned kept =
       let coming = coming_at plan (serial plan slot).histories slot n in
-      let next : slot + 1 ≡ suc slot = omega arith in
-      (
+      let next : slot + 1 ≡ suc slot = omega arith in (
         subst (λ (s : Slot). MayBeKept (gaps_of plan n) s (step_by plan n node slot coming rec).rec) next
-        (slot_kept (fixed_of node (gaps_of plan n)) rec slot coming.arrivals coming.pins planned.0 (shown plan n slot is) kept.0),
+            (slot_kept (fixed_of node (gaps_of plan n)) rec slot coming.arrivals coming.pins planned.0 (shown plan n slot is) kept.0),
         steps_kept slot (n + 1) nodes recs planned.1 kept.1,
       )
 
