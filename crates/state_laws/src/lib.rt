@@ -44,7 +44,7 @@ pub fn link_ends_keep_their_windows()
 /// A channel end's network is 0 to 3, its destination is some channel end's, and no token waits to leave one that has none. No
 /// channel end and no link end is held by two inputs of the switch, and each that is held is in use, or there; only the inputs of
 /// link ends take headers. So a node starts, and so each slot leaves it, where its ways lead to link ends that are there and its
-/// networks are 0 to 3. It does nothing. See docs/CHANNELS.md and docs/LINKS.md.
+/// networks are 0 to 3. It does nothing. See docs/NETWORKS.md and docs/LINKS.md.
 pub fn switch_holds_each_once()
     ensures first { IsSoAtFirstWith (λ gaps rec. SwitchFits gaps rec) }
     ensures slot { StaysSoAsPlanned (λ gaps slot rec. SwitchFits gaps rec) }
