@@ -1,1 +1,4 @@
+pub mod Enables
+pub mod Threads
+pub mod Timers
 pub mod Tokens

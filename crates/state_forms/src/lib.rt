@@ -1,7 +1,11 @@
 //! How what a snapshot keeps of a node's units stands in bytes: a form for each plain type, and its reader and writer. See docs/SNAPSHOTS.md.
 #![tactic(auto)]
 
+mod enable;
 mod field;
+mod thread;
+mod timer;
 mod token;
 
 pub use field::{Field, read_elements, read_list, read_places, write_each};
+pub use thread::{read_thread, read_threads, write_thread, write_threads};
