@@ -2,11 +2,15 @@
 use Rattle.std.proofs.Common.{◌≡◌, ℕ, ◌+◌, ◌-◌, ◌<◌, IsTrue, false, ltb, eqb, List, ◌++◌, length, Option, Some, None, Ok, Err}
 use Rattle.std.proofs.Common.{refl, sym, ap, subst, ◌∙◌, arith, inl, inr}
 use Rattle.std.proofs.lemmas.Bool.{ltb-true, cases_lt, cases_eq, ne_eqb, lt-ltb, le-ltb}
+use Rattle.std.specs.Prelude.{IfSome}
+use Rattle.event_unit.specs.declared.state.EnableState.{EnableState}
+use Rattle.event_unit.specs.States.{IsEnableState}
 use Rattle.byte_forms.specs.Forms.{Form, seen_as}
 use Rattle.byte_forms.specs.Laws.{Lawful}
 use Rattle.byte_forms.proofs.Steps.{ok_is, bind_ok, bind_err}
 use Rattle.byte_forms.proofs.Fields.{byte-lawful, word-lawful}
 use Rattle.byte_forms.proofs.Parts.{both-lawful, below-lawful, flag-lawful, seen-lawful}
+use Rattle.state_forms.proofs.Holding.{flag_holds}
 use Rattle.state_forms.specs.Enables.{thread_before, byte_after, enabler, enable_of_fields, enable_fields, enable}
 
 -- `to` and `from` lead back to where they began, of the values of the form alone
@@ -64,3 +68,32 @@ unfolding enable
 enable-lawful =
     seen-lawful enable_of_fields enable_fields (both-lawful word-lawful (λ vector. both-lawful word-lawful (λ env. both-lawful flag-lawful (λ interrupt. enabler-lawful))))
     (λ p h. refl) (λ state. refl)
+
+-- ---- Which have the form: those that a thread enabled, or none
+
+enabler_holds : (by : Option ℕ) → enabler.Holds by → IfSome by (λ k. k < 8)
+unfolding enabler
+enabler_holds None h = tt
+enabler_holds (Some k) h =
+    elim (cases_lt k 8) [
+      | inl lt ↦ lt
+      | inr le ↦
+          let no : ltb k 8 ≡ false = le-ltb k 8 le in
+          let read : IsTrue (ltb 255 9) = rw no at h.1 in
+          absurd cc
+    ]
+
+enabler_of : (by : Option ℕ) → IfSome by (λ k. k < 8) → enabler.Holds by
+unfolding enabler
+enabler_of None h = (omega arith, refl)
+enabler_of (Some k) h =
+    let here : byte_after (Some k) ≡ k + 1 = rw (lt-ltb k 8 h) refl in
+    subst (λ (n : ℕ). (n < 256) × IsTrue (ltb n 9)) (sym here) (omega arith, lt-ltb (k + 1) 9 (omega arith))
+
+pub enable_holds : (state : EnableState) → enable.Holds state → IsEnableState state
+unfolding enable
+enable_holds state h = enabler_holds state.by h.1.1.1
+
+pub enable_of : (state : EnableState) → state.vector < 4294967296 → state.env < 4294967296 → IsEnableState state → enable.Holds state
+unfolding enable
+enable_of state vector env h = (vector, (env, (flag_holds state.interrupt, enabler_of state.by h)))

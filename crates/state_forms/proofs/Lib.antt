@@ -1,6 +1,8 @@
 pub mod Enables
+pub mod Holding
 pub mod Locks
 pub mod Rest
+pub mod ThreadStates
 pub mod Threads
 pub mod Timers
 pub mod Tokens
