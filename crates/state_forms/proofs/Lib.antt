@@ -1,1 +1,9 @@
+pub mod Enables
+pub mod Holding
+pub mod Locks
+pub mod Rest
+pub mod ThreadStates
+pub mod Threads
+pub mod Timers
 pub mod Tokens
+pub mod Zips

@@ -1,1 +1,6 @@
+pub mod Enables
+pub mod Locks
+pub mod Rest
+pub mod Threads
+pub mod Timers
 pub mod Tokens

@@ -1,7 +1,16 @@
 //! How what a snapshot keeps of a node's units stands in bytes: a form for each plain type, and its reader and writer. See docs/SNAPSHOTS.md.
 #![tactic(auto)]
 
+mod enable;
 mod field;
+mod lock;
+mod node_rest;
+mod thread;
+mod timer;
 mod token;
 
 pub use field::{Field, read_elements, read_list, read_places, write_each};
+pub use node_rest::{
+    read_division, read_levels, read_memory, write_division, write_levels, write_memory,
+};
+pub use thread::{read_thread, read_threads, write_thread, write_threads};
