@@ -2,6 +2,7 @@
 #![tactic(auto)]
 
 mod field;
+mod port;
 mod token;
 
 pub use field::{Field, read_elements, read_list, read_places, write_each};
