@@ -1,8 +1,9 @@
 -- The laws of ports.
-use Rattle.std.proofs.Common.{◌≡◌, ℕ, zero, suc, ◌+◌, ◌-◌, ◌%◌, ◌<◌, ◌≤◌, ◌^◌, Bool, true, false, IsTrue, cond, eqb, ltb, List, [], ◌∷◌, ◌++◌, length, get_or, Option, Some, None, Ok, Err}
+use Rattle.std.proofs.Common.{◌≡◌, ◌≢◌, ℕ, zero, suc, ◌+◌, ◌-◌, ◌%◌, ◌<◌, ◌≤◌, ◌^◌, Bool, true, false, IsTrue, cond, eqb, ltb, List, [], ◌∷◌, ◌++◌, length, get_or, Option, Some, None, Ok, Err, is_some}
 use Rattle.std.proofs.Common.{refl, sym, ap, subst, ◌∙◌, append_assoc, arith, inl, inr}
 use Rattle.std.proofs.Math.Nat.{mod-eq_of_lt}
-use Rattle.std.proofs.lemmas.Bool.{eqb-true, ltb-true, and_parts}
+use Rattle.std.proofs.lemmas.Bool.{cases_Bool, eqb-true, eqb-false, ne_eqb, ltb-true}
+use Rattle.xs_base.specs.Ids.{port_width}
 use Rattle.xs_model.specs.declared.clock.Clock.{Clock}
 use Rattle.xs_model.specs.declared.clock.Clock.TheVariants.{Reference, Block}
 use Rattle.single_port.specs.declared.state.Condition.{Condition}
@@ -68,12 +69,18 @@ option_where-lawful {f} allowed limit law =
 -- ---- Groups
 
 clock_back : (n : ℕ) → clock_number (clock_of n) ≡ n
-clock_back zero = refl
-clock_back (suc n) = omega arith
+clock_back n =
+    elim (cases_Bool (eqb n 0)) [
+      | inl e ↦ rw e (sym (eqb-true n 0 e))
+      | inr e ↦ let some : n ≢ 0 = eqb-false n 0 e in rw e (omega arith)
+    ]
 
 clock_again : (c : Clock) → clock_of (clock_number c) ≡ c
 clock_again Reference = refl
-clock_again (Block k) = refl
+clock_again (Block k) =
+    let some : eqb (1 + k) 0 ≡ false = ne_eqb (1 + k) 0 (λ e. omega (arith, e)) in
+    let same : 1 + k - 1 ≡ k = omega arith in
+    rw some (ap (λ (n : ℕ). Block n) same)
 
 clock-lawful : (on : Bool) → Lawful (clock on)
 unfolding clock
@@ -125,3 +132,71 @@ shift-lawful : (p : ℕ) (output : Bool) (tw : ℕ) → Lawful (shift p output t
 unfolding shift
 shift-lawful p output tw =
     seen-lawful shift_of shift_parts (both-lawful (below-lawful (sr_limit output tw) word-lawful) (λ sr. where-lawful (is_count p output tw sr) byte-lawful)) (λ p h. refl) (λ s. refl)
+
+transfer_back : (p : ℕ) (tw : ℕ) (value : Option ℕ) (bits : ℕ) (time : Option ℕ) → IsTrue (are_bits p tw value bits) → (option_where (is_some value) half (2 ^ 16)).Holds time
+    → transfer_parts (transfer_of (value, (bits, time))) ≡ (value, (bits, time))
+transfer_back p tw (Some value) bits time h k = refl
+transfer_back p tw None bits None h k =
+    let none : bits ≡ 0 = eqb-true bits 0 h in
+    rw none refl
+transfer_back p tw None bits (Some t) h k = absurd (omega (arith, ltb-true 1 1 k.0.1))
+
+transfer_again : (tr : Option Transfer) → transfer_of (transfer_parts tr) ≡ tr
+transfer_again None = refl
+transfer_again (Some t) = refl
+
+transfer-lawful : (p : ℕ) (on : Bool) (tw : ℕ) → Lawful (transfer p on tw)
+unfolding transfer
+transfer-lawful p on tw =
+    seen-lawful transfer_of transfer_parts
+    (both-lawful (option_where-lawful on (2 ^ 32) word-lawful) (λ value.
+    both-lawful (where-lawful (are_bits p tw value) byte-lawful) (λ bits.
+    option_where-lawful (is_some value) (2 ^ 16) half-lawful)))
+    (λ x h. transfer_back p tw x.0 x.1.0 x.1.1 h.1.0.1 h.1.1) transfer_again
+
+strobe_back : (n : ℕ) → strobe_number (strobe_of n) ≡ n
+strobe_back n =
+    elim (cases_Bool (eqb n 0)) [
+      | inl e ↦ rw e (sym (eqb-true n 0 e))
+      | inr e ↦ let some : n ≢ 0 = eqb-false n 0 e in rw e (omega arith)
+    ]
+
+strobe_again : (s : Option ℕ) → strobe_of (strobe_number s) ≡ s
+strobe_again None = refl
+strobe_again (Some k) =
+    let some : eqb (1 + k) 0 ≡ false = ne_eqb (1 + k) 0 (λ e. omega (arith, e)) in
+    let same : 1 + k - 1 ≡ k = omega arith in
+    rw some (ap (λ (n : ℕ). Some n) same)
+
+strobe-lawful : (p : ℕ) (on : Bool) → Lawful (strobe p on)
+unfolding strobe
+strobe-lawful p on = seen-lawful strobe_of strobe_number (where-lawful (is_strobe p on) low_byte-lawful) (λ n h. strobe_back n) strobe_again
+
+tail-lawful : (p : ℕ) (on : Bool) → Lawful (tail p on)
+unfolding tail
+tail-lawful p on =
+    seen-lawful tail_of tail_parts
+    (both-lawful (flag_where-lawful on) (λ held.
+    both-lawful (below-lawful (limit_where on (2 ^ 16)) half-lawful) (λ sample_stamp.
+    both-lawful (below-lawful (limit_where on (2 ^ 16)) half-lawful) (λ stamp.
+    both-lawful (strobe-lawful p on) (λ strobe.
+    option_where-lawful on (2 ^ port_width p) word-lawful)))))
+    (λ x h. refl) (λ t. refl)
+
+-- ---- Ports
+
+pub port-lawful : (p : ℕ) → Lawful (port p)
+unfolding port
+port-lawful p =
+    seen-lawful port_of port_parts
+    (both-lawful basics-lawful (λ b.
+    both-lawful (widths-lawful p b.on) (λ w.
+    both-lawful (trigger-lawful b.on) (λ t.
+    both-lawful (shift-lawful p b.output w.tw) (λ s.
+    both-lawful (transfer-lawful p b.on w.tw) (λ tr.
+    tail-lawful p b.on))))))
+    (λ x h. refl) (λ s. refl)
+
+pub ports-lawful : Lawful ports
+unfolding ports
+ports-lawful = chain-lawful (λ before. port-lawful (length before)) 29

@@ -1,5 +1,5 @@
 -- How ports stand in bytes.
-use Rattle.std.specs.Prelude.{ℕ, ◌<◌, ◌+◌, ◌-◌, ◌%◌, ◌^◌, Bool, true, false, ◌&&◌, ◌||◌, not, ◌==◌, nat_lt, nat_le, if◌then◌else◌, List, [], ◌∷◌, length, Option, Some, None, is_some}
+use Rattle.std.specs.Prelude.{ℕ, ◌<◌, ◌+◌, ◌-◌, ◌%◌, ◌^◌, Bool, true, false, ◌&&◌, ◌||◌, not, ◌==◌, nat_lt, nat_le, if◌then◌else◌, List, [], ◌∷◌, length, Option, Some, None, is_some, IfSome}
 use Rattle.xs_base.specs.Numbers.{PortNumber}
 use Rattle.xs_base.specs.Ids.{port_width}
 use Rattle.xs_base.specs.declared.numbers.TheConstants.{CLOCK_BLOCKS, PORTS}
@@ -237,6 +237,18 @@ port p = seen_as
     tail p b.on))))))
     port_of port_parts
 
+-- the port that comes after these
+abbrev pub next_port : List PortState → Form PortState
+next_port before = port (length before)
+
 -- all ports, by number
 unfoldable pub ports : Form (List PortState)
-ports = chain PORTS (λ before. port (length before))
+ports = chain PORTS next_port
+
+-- the counter, the times and the stamps of a state are numbers of 16 bits
+pub record AreHalves (state : PortState) : Type 0 where
+  pub counter : state.counter < 2 ^ 16
+  pub time : IfSome state.time (λ t. t < 2 ^ 16)
+  pub transfer_time : IfSome state.tr (λ tr. IfSome tr.time (λ t. t < 2 ^ 16))
+  pub sample_stamp : state.sample_stamp < 2 ^ 16
+  pub stamp : state.stamp < 2 ^ 16

@@ -6,3 +6,4 @@ mod port;
 mod token;
 
 pub use field::{Field, read_elements, read_list, read_places, write_each};
+pub use port::{read_port, read_ports, write_port, write_ports};

@@ -1,5 +1,5 @@
 //! Ports as bytes.
-ghost use Rattle.std.specs.Prelude.{ℕ, Bool, ◌≡◌, ◌<◌, ◌≤◌, ◌++◌, ◌-◌, ◌%◌, ◌^◌, ◌&&◌, ◌==◌, nat_lt, if◌then◌else◌, OnOk, IfOk};
+ghost use Rattle.std.specs.Prelude.{true, ◌≡◌, ◌<◌, ◌≤◌, ◌++◌, ◌-◌, ◌%◌, ◌^◌, ◌&&◌, ◌==◌, nat_lt, if◌then◌else◌, OnOk, IfOk};
 ghost use Rattle.xs_base.specs.Numbers.{PortNumber};
 ghost use Rattle.xs_base.specs.Ids.{port_width};
 ghost use Rattle.xs_base.specs.declared.numbers.TheConstants.{PORTS};
@@ -151,10 +151,10 @@ fn read_clock(from: &mut Reader, on: bool) -> Result<Clock, Fault>
 }
 
 #[tactic(auto, unfolding(crate::specs::Ports::clock))]
-fn write_clock(out: &mut Text, clock: Clock) -> Result<(), AllocError>
-    ensures value { (on : Bool) → OnOk result (out.new ≡ out.old ++ (clock on).write clock) }
+fn write_clock(out: &mut Text, value: Clock) -> Result<(), AllocError>
+    ensures value { OnOk result (out.new ≡ out.old ++ (clock true).write value) }
 {
-    match clock {
+    match value {
         Clock::Reference => write_byte(out, 0),
         Clock::Block(k) => write_low_byte(out, 1 + u32::from(k)),
     }
@@ -176,6 +176,7 @@ fn read_basics(from: &mut Reader) -> Result<Basics, Fault>
     })
 }
 
+#[tactic(auto, unfolding(crate::specs::Ports::basics, crate::specs::Ports::clock))]
 fn write_basics(out: &mut Text, state: &PortState) -> Result<(), AllocError>
     ensures value { OnOk result (out.new ≡ out.old ++ basics.write (basics_in state.now)) }
 {
@@ -251,8 +252,9 @@ fn read_widths(from: &mut Reader, p: u8, on: bool) -> Result<Widths, Fault>
     })
 }
 
+#[tactic(auto, unfolding(crate::specs::Ports::widths))]
 fn write_widths(out: &mut Text, state: &PortState) -> Result<(), AllocError>
-    ensures value { (p : PortNumber) (on : Bool) → OnOk result (out.new ≡ out.old ++ (widths p on).write (widths_in state.now)) }
+    ensures value { OnOk result (out.new ≡ out.old ++ (widths 0 true).write (widths_in state.now)) }
 {
     write_flag(out, state.buffers)?;
     write_low_byte(out, state.tw)?;
@@ -275,12 +277,12 @@ fn read_condition(from: &mut Reader, on: bool) -> Result<Condition, Fault>
 }
 
 #[tactic(auto, unfolding(crate::specs::Ports::condition))]
-fn write_condition(out: &mut Text, condition: Condition) -> Result<(), AllocError>
-    ensures value { (on : Bool) → OnOk result (out.new ≡ out.old ++ (condition on).write condition) }
+fn write_condition(out: &mut Text, value: Condition) -> Result<(), AllocError>
+    ensures value { OnOk result (out.new ≡ out.old ++ (condition true).write value) }
 {
     write_byte(
         out,
-        match condition {
+        match value {
             Condition::None => 0,
             Condition::Equal => 1,
             Condition::NotEqual => 2,
@@ -297,8 +299,9 @@ fn read_trigger(from: &mut Reader, on: bool) -> Result<Trigger, Fault>
     Ok(Trigger { condition, time })
 }
 
+#[tactic(auto, unfolding(crate::specs::Ports::trigger))]
 fn write_trigger(out: &mut Text, state: &PortState) -> Result<(), AllocError>
-    ensures value { (on : Bool) → OnOk result (out.new ≡ out.old ++ (trigger on).write (trigger_in state.now)) }
+    ensures value { OnOk result (out.new ≡ out.old ++ (trigger true).write (trigger_in state.now)) }
 {
     write_condition(out, state.condition)?;
     write_option_half(out, state.time)
@@ -359,10 +362,9 @@ fn read_shift(from: &mut Reader, p: u8, output: bool, tw: u32) -> Result<Shift, 
     Ok(Shift { sr, count })
 }
 
+#[tactic(auto, unfolding(crate::specs::Ports::shift))]
 fn write_shift(out: &mut Text, state: &PortState) -> Result<(), AllocError>
-    ensures value {
-        (p : PortNumber) (output : Bool) (tw : ℕ) → OnOk result (out.new ≡ out.old ++ (shift p output tw).write (shift_in state.now))
-    }
+    ensures value { OnOk result (out.new ≡ out.old ++ (shift 0 true 0).write (shift_in state.now)) }
 {
     write_word(out, state.sr)?;
     write_byte(out, state.count)
@@ -418,8 +420,9 @@ fn read_transfer(from: &mut Reader, p: u8, on: bool, tw: u32) -> Result<Option<T
     })
 }
 
+#[tactic(auto, unfolding(crate::specs::Ports::transfer))]
 fn write_transfer(out: &mut Text, tr: Option<Transfer>) -> Result<(), AllocError>
-    ensures value { (p : PortNumber) (on : Bool) (tw : ℕ) → OnOk result (out.new ≡ out.old ++ (transfer p on tw).write tr) }
+    ensures value { OnOk result (out.new ≡ out.old ++ (transfer 0 true 0).write tr) }
 {
     match tr {
         None => write_transfer_parts(out, None, 0, None),
@@ -433,7 +436,7 @@ fn write_transfer_parts(
     bits: u8,
     time: Option<u16>,
 ) -> Result<(), AllocError>
-    ensures value { OnOk result (out.new ≡ out.old ++ (option word any).write value ++ byte.write bits ++ (option half any).write time) }
+    ensures value { OnOk result (out.new ≡ out.old ++ (option word any).write value ++ (byte.write bits ++ (option half any).write time)) }
 {
     write_option_word(out, value)?;
     write_byte(out, bits)?;
@@ -464,10 +467,10 @@ fn read_strobe(from: &mut Reader, p: u8, on: bool) -> Result<Option<u8>, Fault>
 }
 
 #[tactic(auto, unfolding(crate::specs::Ports::strobe))]
-fn write_strobe(out: &mut Text, strobe: Option<u8>) -> Result<(), AllocError>
-    ensures value { (p : PortNumber) (on : Bool) → OnOk result (out.new ≡ out.old ++ (strobe p on).write strobe) }
+fn write_strobe(out: &mut Text, value: Option<u8>) -> Result<(), AllocError>
+    ensures value { OnOk result (out.new ≡ out.old ++ (strobe 0 true).write value) }
 {
-    match strobe {
+    match value {
         None => write_byte(out, 0),
         Some(s) => write_low_byte(out, 1 + u32::from(s)),
     }
@@ -492,8 +495,9 @@ fn read_tail(from: &mut Reader, p: u8, on: bool) -> Result<Tail, Fault>
     })
 }
 
+#[tactic(auto, unfolding(crate::specs::Ports::tail))]
 fn write_tail(out: &mut Text, state: &PortState) -> Result<(), AllocError>
-    ensures value { (p : PortNumber) (on : Bool) → OnOk result (out.new ≡ out.old ++ (tail p on).write (tail_in state.now)) }
+    ensures value { OnOk result (out.new ≡ out.old ++ (tail 0 true).write (tail_in state.now)) }
 {
     write_flag(out, state.held)?;
     write_half(out, state.sample_stamp)?;
@@ -536,4 +540,37 @@ pub fn read_port(from: &mut Reader, p: u8) -> Result<PortState, Fault>
         strobe: tail.strobe,
         driven: tail.driven,
     })
+}
+
+/// Writes a port, whatever its number is. The error is want of memory. See docs/SNAPSHOTS.md.
+pub fn write_port(out: &mut Text, state: &PortState) -> Result<(), AllocError>
+    ensures value { (p : PortNumber) → OnOk result (out.new ≡ out.old ++ (port p).write state.now) }
+{
+    write_basics(out, state)?;
+    write_widths(out, state)?;
+    write_trigger(out, state)?;
+    write_shift(out, state)?;
+    write_transfer(out, state.tr)?;
+    write_tail(out, state)
+}
+
+/// Reads all ports, by number. See docs/SNAPSHOTS.md.
+pub fn read_ports(from: &mut Reader) -> Result<[PortState; 29], Fault>
+    ensures value { Gives ports (λ x. x) from.old result from.new }
+{
+    let mut states = [PortState::off(); 29];
+    for p in 0..PORTS {
+        states[p as usize] = read_port(from, p)?;
+    }
+    Ok(states)
+}
+
+/// Writes all ports, by number. The error is want of memory. See docs/SNAPSHOTS.md.
+pub fn write_ports(out: &mut Text, states: &[PortState; 29]) -> Result<(), AllocError>
+    ensures value { OnOk result (out.new ≡ out.old ++ ports.write states.now) }
+{
+    for p in 0..PORTS {
+        write_port(out, &states[p as usize])?;
+    }
+    Ok(())
 }
