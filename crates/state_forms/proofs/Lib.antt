@@ -7,3 +7,5 @@ pub mod Threads
 pub mod Timers
 pub mod Tokens
 pub mod Zips
+pub mod Ports
+pub mod PortFacts

@@ -4,3 +4,4 @@ pub mod Rest
 pub mod Threads
 pub mod Timers
 pub mod Tokens
+pub mod Ports

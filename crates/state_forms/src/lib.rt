@@ -14,3 +14,5 @@ pub use node_rest::{
     read_division, read_levels, read_memory, write_division, write_levels, write_memory,
 };
 pub use thread::{read_thread, read_threads, write_thread, write_threads};
+mod port;
+pub use port::{read_port, read_ports, write_port, write_ports};
