@@ -40,7 +40,7 @@ tag_back (suc (suc (suc zero))) h = refl
 tag_back (suc (suc (suc (suc zero)))) h = refl
 tag_back (suc (suc (suc (suc (suc zero))))) h = refl
 tag_back (suc (suc (suc (suc (suc (suc zero)))))) h = refl
-tag_back (suc (suc (suc (suc (suc (suc (suc n))))))) h = absurd (omega (arith, ltb-true (n + 7) 7 h))
+tag_back (suc (suc (suc (suc (suc (suc (suc n))))))) h = absurd (omega (arith, ltb-true (suc (suc (suc (suc (suc (suc (suc n))))))) 7 h))
 
 tag_again : (t : Tag) → tag_of (number_of t) ≡ t
 tag_again tag.Idle = refl

@@ -3,4 +3,5 @@ pub mod Buffers
 pub mod Chans
 pub mod Ends
 pub mod Syncs
+pub mod Slaves
 pub mod Inputs

@@ -1,5 +1,5 @@
 -- How the inputs of the switch stand in bytes.
-use Rattle.std.specs.Prelude.{ℕ, ◌≡◌, ◌*◌, ◌+◌, ◌/◌, ◌%◌, Bool, true, false, ◌&&◌, not, ◌==◌, nat_lt, nat_le, List, [], ◌∷◌, length, slice_index_or, Ok}
+use Rattle.std.specs.Prelude.{ℕ, ◌≡◌, ◌<◌, ◌*◌, ◌+◌, ◌/◌, ◌%◌, Bool, true, false, ◌&&◌, not, ◌==◌, nat_lt, nat_le, List, [], ◌∷◌, length, slice_index_or, Ok}
 use Rattle.std.specs.List.{list_any}
 use Rattle.xs_base.specs.Numbers.{ChanNumber, EndNumber, InputNumber}
 use Rattle.xs_base.specs.declared.numbers.TheConstants.{LINK_ENDS, CHAN_ENDS, INPUTS, HEADER_BYTES}
@@ -58,6 +58,11 @@ is_operand used there before tag.Head2 n = nat_lt n 65536
 is_operand used there before tag.Local n = may_hold_chan used before n
 is_operand used there before tag.Out n = may_hold_end there before (n / 256) && nat_le (n % 256) HEADER_BYTES
 is_operand used there before _ n = n == 0
+
+-- an operand is two bytes, and that of a channel end one
+abbrev pub OperandFits : Tag → ℕ → Type 0
+OperandFits tag.Local n = n < 256
+OperandFits _ n = n < 65536
 
 -- the destination of a packet that wants to go, or goes out
 abbrev pub is_dest : Tag → ℕ → Bool
