@@ -43,7 +43,7 @@ pub fn read_inputs(
 }
 
 /// Writes the inputs of a switch. The error is want of memory.
-pub fn write_inputs(out: &mut Text, states: &[InputState; 40]) -> Result<(), AllocError>
+pub fn write_inputs(out: &mut Text, states: &[InputState]) -> Result<(), AllocError>
     ensures value { OnOk result ((used there : List Bool) → out.new ≡ out.old ++ (inputs used there).write states.now) }
 {
     for state in states {

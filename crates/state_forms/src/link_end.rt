@@ -28,7 +28,7 @@ pub fn read_link_ends(
 }
 
 /// Writes the link ends of a node. The error is want of memory.
-pub fn write_link_ends(out: &mut Text, ends: &[EndState; 8]) -> Result<(), AllocError>
+pub fn write_link_ends(out: &mut Text, ends: &[EndState]) -> Result<(), AllocError>
     ensures value { OnOk result ((there : List Bool) (slot : ℕ) → out.new ≡ out.old ++ (link_ends there slot).write ends.now) }
 {
     for end in ends {

@@ -30,7 +30,7 @@ pub fn read_syncs(
 }
 
 /// Writes the synchronisers of a core. The error is want of memory.
-pub fn write_syncs(out: &mut Text, states: &[SyncState; 7]) -> Result<(), AllocError>
+pub fn write_syncs(out: &mut Text, states: &[SyncState]) -> Result<(), AllocError>
     ensures value { OnOk result ((taken : List Bool) → out.new ≡ out.old ++ (syncs taken).write states.now) }
 {
     for state in states {
