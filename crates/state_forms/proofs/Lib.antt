@@ -9,3 +9,9 @@ pub mod Tokens
 pub mod Zips
 pub mod Ports
 pub mod PortFacts
+pub mod Buffers
+pub mod Chans
+pub mod Ends
+pub mod Syncs
+pub mod Slaves
+pub mod Inputs

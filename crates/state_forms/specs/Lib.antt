@@ -5,3 +5,8 @@ pub mod Threads
 pub mod Timers
 pub mod Tokens
 pub mod Ports
+pub mod Buffers
+pub mod Chans
+pub mod Ends
+pub mod Syncs
+pub mod Inputs

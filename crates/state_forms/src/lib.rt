@@ -16,3 +16,11 @@ pub use node_rest::{
 pub use thread::{read_thread, read_threads, write_thread, write_threads};
 mod port;
 pub use port::{read_port, read_ports, write_port, write_ports};
+mod buffer;
+mod chan;
+mod input;
+mod link_end;
+mod sync;
+pub use input::{read_inputs, write_inputs};
+pub use link_end::{read_link_ends, write_link_ends};
+pub use sync::{read_syncs, write_syncs};

@@ -1,0 +1,12 @@
+use Rattle.std.proofs.Common.{◌≡◌, ◌-◌, false, [], length, take}
+use Rattle.std.specs.Prelude.{slice_index_or}
+use Rattle.byte_forms.specs.Forms.{read_chain}
+use Rattle.state_forms.specs.Inputs.{input}
+use Rattle.state_forms.proofs.input.read_inputs.Given as goal
+
+abbrev pub invariant-loop-at : goal.invariant-loop-at
+invariant-loop-at l =
+    record {
+      len : length l.states ≡ 40;
+      so_far : read_chain (λ before. input l.used l.there before) (40 - l.at) (take l.at l.states) l.from ≡ read_chain (λ before. input l.used l.there before) 40 [] l.fn.from;
+    }
