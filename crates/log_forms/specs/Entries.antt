@@ -95,8 +95,11 @@ may_follow None at kind = true
 may_follow (Some last) at kind = if last.slot == at then is_token last.what && (kind == 2) else true
 
 -- a token's value is a byte, and a credit's is 0
+abbrev pub value_limit : ℕ → ℕ
+value_limit kind = if kind == 2 then 1 else 256
+
 unfoldable pub link_value : ℕ → Form ℕ
-link_value kind = below word (if kind == 2 then 1 else 256)
+link_value kind = below word (value_limit kind)
 
 -- a level of a pin of this width
 unfoldable pub level : ℕ → Form ℕ

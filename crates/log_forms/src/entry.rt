@@ -2,7 +2,7 @@
 ghost use Rattle.std.specs.Prelude.{◌≡◌, ◌≤◌, ◌<◌, ◌^◌, [], ◌∷◌, ◌++◌, List, IfOk, OnOk};
 ghost use Rattle.xs_base.specs.declared.entry.Entry.{Entry};
 ghost use Rattle.byte_forms.specs.Reading.{Gives};
-ghost use Rattle.log_forms.specs.Entries.{any_entry, before_of, entry_of, is_after, is_in_flight, is_not_before, kind_of, level, link_slot, link_value, may_follow, value_of, what_of, wire_entry, wire_kind, wire_slot};
+ghost use Rattle.log_forms.specs.Entries.{any_entry, before_of, entry_of, is_after, is_in_flight, is_not_before, kind_of, level, link_slot, link_value, may_follow, value_limit, value_of, what_of, wire_entry, wire_kind, wire_slot};
 ghost use Rattle.log_forms.specs.Windows.{law_holds, link_count, link_entry, link_kind};
 
 use crate::counts::Counts;
@@ -177,12 +177,19 @@ fn read_link_kind(
     }
 }
 
+// What the value of a token, or of a credit, is below.
+fn value_limit(kind: u8) -> u64
+    ensures value { result ≡ value_limit kind }
+{
+    if kind == 2 { 1 } else { 256 }
+}
+
 #[tactic(auto, unfolding(crate::specs::Entries::link_value))]
 fn read_link_value(from: &mut Reader, kind: u8) -> Result<u32, Fault>
     ensures value { Gives (link_value kind) (λ x. x) from.old result from.new }
     ensures byte { IfOk result (λ n. n < 256) }
 {
-    from.read_word_below(if kind == 2 { 1 } else { 256 })
+    from.read_word_below(value_limit(kind))
 }
 
 #[tactic(auto, unfolding(crate::specs::Entries::wire_kind))]

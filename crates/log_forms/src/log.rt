@@ -7,9 +7,7 @@ ghost use Rattle.log_forms.specs.Windows.{EndsRec};
 ghost use Rattle.log_forms.specs.Logs.{link_entries, link_log, seen, sums, wire_entries, wire_log};
 
 use crate::ends::Ends;
-use crate::entry::{
-    Before, read_link_count, read_link_entry, read_wire_entry, write_entry,
-};
+use crate::entry::{Before, read_link_count, read_link_entry, read_wire_entry, write_entry};
 use byte_forms::{Fault, Reader, write_long, write_word};
 use snap_parts::SnapLog;
 use std::alloc::{AllocError, Global};
@@ -79,12 +77,12 @@ pub fn read_link_log(
     from: &mut Reader,
     slot: u32,
     delay: u32,
-    ends: Option<Ends>,
+    ends: &Option<Ends>,
 ) -> Result<SnapLog, Fault>
-    ensures value { Gives (link_log slot delay ends) seen from.old result from.new }
+    ensures value { Gives (link_log slot delay ends.now) seen from.old result from.new }
 {
-    let count = read_link_count(from, &ends)?;
-    let entries = read_link_entries(alloc, from, slot, delay, &ends, count)?;
+    let count = read_link_count(from, ends)?;
+    let entries = read_link_entries(alloc, from, slot, delay, ends, count)?;
     let (totals, level) = read_sums(from, 1)?;
     Ok(SnapLog {
         entries,
