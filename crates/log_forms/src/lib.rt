@@ -1,0 +1,10 @@
+//! How what a snapshot keeps of directed links and wires stands in bytes: a form for each, and its reader and writer. See docs/SNAPSHOTS.md.
+#![tactic(auto)]
+
+mod counts;
+mod ends;
+mod entry;
+mod log;
+
+pub use ends::{Ends, Held};
+pub use log::{read_link_log, read_wire_log, write_log};
