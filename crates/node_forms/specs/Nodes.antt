@@ -1,5 +1,5 @@
 -- How what a snapshot keeps of a node stands in bytes: its parts, one after another.
-use Rattle.std.specs.Prelude.{ℕ, ◌^◌, Bool, Option, List, map, zip}
+use Rattle.std.specs.Prelude.{ℕ, ◌+◌, ◌^◌, Bool, Option, List, map, zip}
 use Rattle.xs_base.specs.Numbers.{Slot}
 use Rattle.xs_base.specs.declared.numbers.TheConstants.{THREADS, CHAN_ENDS, TIMERS, CLOCK_BLOCKS, LOCKS, PORTS}
 use Rattle.xs_model.specs.declared.thread.Thread.{Thread}
@@ -9,14 +9,14 @@ use Rattle.timers_clocks.specs.declared.state.TimerState.{TimerState}
 use Rattle.timers_clocks.specs.declared.state.ClockState.{ClockState}
 use Rattle.sync_locks.specs.declared.state.SyncState.{SyncState}
 use Rattle.sync_locks.specs.declared.state.LockState.{LockState}
-use Rattle.single_port.specs.declared.snapshot.PortState.{PortState}
+use Rattle.single_port.specs.declared.state.PortState.{PortState}
 use Rattle.event_unit.specs.declared.state.EnableState.{EnableState}
 use Rattle.switch_routes.specs.declared.state.InputState.{InputState}
 use Rattle.link_ends.specs.declared.state.EndState.{EndState}
 use Rattle.core_step.specs.declared.node_state.NodeState.{NodeState}
 use Rattle.snap_parts.specs.declared.node.SnapNode.{SnapNode}
 use Rattle.xs_model.specs.FirstEvents.{kept_at_most}
-use Rattle.byte_forms.specs.Forms.{Form, word, long, below, both, repeat, seen_as, told_by}
+use Rattle.byte_forms.specs.Forms.{Form, word, long, below, both, repeat, seen_as}
 use Rattle.state_forms.specs.Threads.{thread}
 use Rattle.state_forms.specs.Chans.{chan}
 use Rattle.state_forms.specs.Timers.{timer, clock}
@@ -24,7 +24,7 @@ use Rattle.state_forms.specs.Syncs.{syncs}
 use Rattle.state_forms.specs.Locks.{lock}
 use Rattle.state_forms.specs.Ports.{ports}
 use Rattle.state_forms.specs.Enables.{enable}
-use Rattle.state_forms.specs.Inputs.{inputs}
+use Rattle.state_forms.specs.Inputs.{inputs, told_by}
 use Rattle.state_forms.specs.Ends.{link_ends}
 use Rattle.state_forms.specs.Rest.{division, levels, memory}
 
@@ -91,10 +91,18 @@ state_of_fields f = record {
   memory = f.1.1.1.1.1.1;
 }
 
+-- the parts of a state
+abbrev pub core_in : NodeState → CoreFields
+core_in s = (zip s.threads s.last, (s.chans, (s.timers, (s.clocks, (s.syncs, (s.locks, s.ports))))))
+
+abbrev pub enables_in : NodeState → EnableFields
+enables_in s = (s.chan_enables, (s.timer_enables, s.port_enables))
+
+abbrev pub net_in : NodeState → NetFields
+net_in s = (s.inputs, (s.ends, (s.division, (s.levels, s.memory))))
+
 abbrev pub fields_of_state : NodeState → NodeFields
-fields_of_state s =
-    ((zip s.threads s.last, (s.chans, (s.timers, (s.clocks, (s.syncs, (s.locks, s.ports)))))),
-    ((s.chan_enables, (s.timer_enables, s.port_enables)), (s.inputs, (s.ends, (s.division, (s.levels, s.memory))))))
+fields_of_state s = (core_in s, (enables_in s, net_in s))
 
 -- the state of a node whose link ends are these, in a snapshot of this slot
 unfoldable pub node_state : List Bool → Slot → Form NodeState

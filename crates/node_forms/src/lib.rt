@@ -2,5 +2,6 @@
 #![tactic(auto)]
 
 mod node;
+mod places;
 
-pub use node::{read_node, write_node};
+pub use node::read_node;
