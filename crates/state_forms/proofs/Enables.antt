@@ -1,34 +1,19 @@
 -- The law of what resources give.
-use Rattle.std.proofs.Common.{◌≡◌, ℕ, ◌+◌, ◌-◌, ◌<◌, IsTrue, false, ltb, eqb, List, ◌++◌, length, Option, Some, None, Ok, Err}
-use Rattle.std.proofs.Common.{refl, sym, ap, subst, ◌∙◌, arith, inl, inr}
+use Rattle.std.proofs.Common.{◌≡◌, ℕ, ◌+◌, ◌-◌, ◌<◌, IsTrue, false, ltb, eqb, List, length, Option, Some, None}
+use Rattle.std.proofs.Common.{refl, sym, ap, subst, arith, inl, inr}
 use Rattle.std.proofs.lemmas.Bool.{ltb-true, cases_lt, cases_eq, ne_eqb, lt-ltb, le-ltb}
+use Rattle.std.proofs.lemmas.List.Elements.{All-from_recursion, recursion_from_All}
 use Rattle.std.specs.Prelude.{IfSome}
+use Rattle.std.specs.List.{All}
 use Rattle.event_unit.specs.declared.state.EnableState.{EnableState}
-use Rattle.event_unit.specs.States.{IsEnableState}
-use Rattle.byte_forms.specs.Forms.{Form, seen_as}
+use Rattle.event_unit.specs.States.{IsEnableState, AreEnableStates}
+use Rattle.byte_forms.specs.Forms.{repeat}
 use Rattle.byte_forms.specs.Laws.{Lawful}
-use Rattle.byte_forms.proofs.Steps.{ok_is, bind_ok, bind_err}
 use Rattle.byte_forms.proofs.Fields.{byte-lawful, word-lawful}
 use Rattle.byte_forms.proofs.Parts.{both-lawful, below-lawful, flag-lawful, seen-lawful}
-use Rattle.state_forms.proofs.Holding.{flag_holds}
+use Rattle.state_forms.proofs.Holding.{flag_holds, repeat_holds, repeat_of, each_as}
+use Rattle.state_forms.proofs.Seen.{seen-held}
 use Rattle.state_forms.specs.Enables.{thread_before, byte_after, enabler, enable_of_fields, enable_fields, enable}
-
--- `to` and `from` lead back to where they began, of the values of the form alone
-seen-held : {A B : Type 0} {f : Form A} (to : A → B) (from : B → A) → Lawful f → ((a : A) → f.Holds a → from (to a) ≡ a) → ((b : B) → f.Holds (from b) → to (from b) ≡ b) → Lawful (seen_as f to from)
-seen-held {A} {B} {f} to from law back again = record {
-  found = λ bytes v rest fit e.
-      let b = bind_ok (f.read bytes) (λ x. Ok (to x.0, x.1)) (v, rest) e in
-      let t = law.found bytes b.0.0 b.0.1 fit b.1 in
-      let same : b.0.0 ≡ from (to b.0.0) = sym (back b.0.0 t.1) in
-      let here = subst (λ (a : A). (bytes ≡ f.write a ++ b.0.1) × f.Holds a) same t in
-      subst (λ (x : B × List ℕ). (bytes ≡ f.write (from x.0) ++ x.1) × f.Holds (from x.0)) (ok_is (to b.0.0, b.0.1) (v, rest) b.2) here;
-  again = λ v rest h. rw (law.again (from v) rest h, again v h) refl;
-  within = λ bytes left fit e.
-      elim (bind_err (f.read bytes) (λ x. Ok (to x.0, x.1)) left e) [
-        | inl h ↦ law.within bytes left fit h
-        | inr h ↦ let k = h.2 in absurd cc
-      ];
-}
 
 -- ---- Who enabled a resource
 
@@ -97,3 +82,14 @@ enable_holds state h = enabler_holds state.by h.1.1.1
 pub enable_of : (state : EnableState) → state.vector < 4294967296 → state.env < 4294967296 → IsEnableState state → enable.Holds state
 unfolding enable
 enable_of state vector env h = (vector, (env, (flag_holds state.interrupt, enabler_of state.by h)))
+
+pub enables_hold : (n : ℕ) (states : List EnableState) → (repeat n enable).Holds states → AreEnableStates states
+enables_hold n states h = All-from_recursion IsEnableState states (each_as enable_holds states (repeat_holds enable n states h))
+
+pub enables_of : (n : ℕ) (states : List EnableState) → length states ≡ n
+    → All (λ (state : EnableState). (state.vector < 4294967296) × (state.env < 4294967296)) states → AreEnableStates states
+    → (repeat n enable).Holds states
+enables_of n states len fits h =
+    let both : All (λ (state : EnableState). ((state.vector < 4294967296) × (state.env < 4294967296)) × IsEnableState state) states = λ k d lt. (fits k d lt, h k d lt) in
+    repeat_of enable n states len (each_as (λ state k. enable_of state k.0.0 k.0.1 k.1) states
+    (recursion_from_All (λ (state : EnableState). ((state.vector < 4294967296) × (state.env < 4294967296)) × IsEnableState state) states both))

@@ -2,6 +2,7 @@ pub mod Enables
 pub mod Holding
 pub mod Locks
 pub mod Rest
+pub mod Seen
 pub mod ThreadStates
 pub mod Threads
 pub mod Timers

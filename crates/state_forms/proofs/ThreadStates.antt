@@ -1,5 +1,5 @@
 -- Which threads have the form: those with the seven status bits only, and with what they wait at there.
-use Rattle.std.proofs.Common.{◌≡◌, ℕ, ◌+◌, ◌<◌, ◌↔◌, ◌||◌, true, IsTrue, eqb, ltb, List, [], ◌∷◌, length, get_or, Option, Some, None, min, refl, sym, arith, inl, inr}
+use Rattle.std.proofs.Common.{◌≡◌, ℕ, ◌<◌, ◌↔◌, ◌||◌, true, eqb, List, length, get_or, Option, refl, arith, inl, inr}
 use Rattle.std.proofs.lemmas.Bool.{ltb-true, eqb-true, lt-ltb, eq-eqb, or_cases}
 use Rattle.std.proofs.lemmas.Nat.{and_le_r}
 use Rattle.std.proofs.lemmas.Slice.Zip.{length-zip}
@@ -10,10 +10,9 @@ use Rattle.xs_model.specs.declared.status.Status.{Status}
 use Rattle.xs_model.specs.declared.thread.Thread.{Thread}
 use Rattle.xs_model.specs.declared.thread.Run.{Run}
 use Rattle.xs_model.specs.declared.thread.Run.TheVariants.{Free, Unstarted, AtSync, Going, Paused, Halted}
-use Rattle.xs_model.specs.declared.thread.Wait.{Wait}
 use Rattle.xs_model.specs.declared.thread.Wait.TheVariants.{Room, Tokens, PortFull, PortEmpty, PortIdle, Timer, Lock, Slaves, Choice, Divider}
 use Rattle.xs_model.specs.Status.{IsKnown}
-use Rattle.byte_forms.specs.Forms.{Form, word, repeat, HoldInChain}
+use Rattle.byte_forms.specs.Forms.{word, repeat}
 use Rattle.state_forms.specs.Threads.{status_word, run, pointers_of, traps_of, thread_state, thread}
 use Rattle.state_forms.proofs.Holding.{option_below_holds, option_below_of, repeat_holds, repeat_of, words_fit, each_as}
 use Rattle.state_forms.proofs.Zips.{unzip_all, zip_all}

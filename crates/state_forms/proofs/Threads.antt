@@ -1,5 +1,5 @@
 -- The law of threads.
-use Rattle.std.proofs.Common.{◌≡◌, ℕ, zero, suc, IsTrue, ltb, eqb, List, [], ◌∷◌, length, get_or, refl, sym, arith}
+use Rattle.std.proofs.Common.{◌≡◌, ℕ, zero, suc, IsTrue, ltb, eqb, List, [], ◌∷◌, length, get_or, refl, arith}
 use Rattle.std.proofs.lemmas.Bool.{ltb-true, eqb-true}
 use Rattle.xs_model.specs.declared.thread.Run.{Run}
 use Rattle.xs_model.specs.declared.thread.Run.TheVariants.{Free, Unstarted, AtSync, Going, Paused, Halted}
@@ -21,7 +21,8 @@ status_word-lawful = seen-lawful status bits_of (where-lawful is_status_word wor
 
 -- ---- What a thread does
 
-wait_back : (kind number count : ℕ) → IsTrue (ltb kind 10) → IsTrue (ltb number (things_of kind)) → IsTrue (is_wait_count 4 kind count) → wait_fields (wait_of kind number count) ≡ (kind, (number, count))
+wait_back : (kind number count : ℕ) → IsTrue (ltb kind 10) → IsTrue (ltb number (things_of kind)) → IsTrue (is_wait_count 4 kind count)
+    → wait_fields (wait_of kind number count) ≡ (kind, (number, count))
 wait_back zero number count h n c = refl
 wait_back (suc zero) number count h n c = refl
 wait_back (suc (suc zero)) number count h n c = rw (eqb-true count 0 c) refl
@@ -59,8 +60,8 @@ nothing tag kind number count k n c =
     let no_number : number ≡ 0 = omega (arith, ltb-true number 1 n) in
     rw (no_kind, no_number, eqb-true count 0 c) refl
 
-run_back : (tag kind number count : ℕ) → IsTrue (ltb tag 6) → IsTrue (ltb kind (wait_kinds tag)) → IsTrue (ltb number (wait_numbers tag kind)) → IsTrue (is_wait_count tag kind count)
-    → run_fields (run_of (tag, (kind, (number, count)))) ≡ (tag, (kind, (number, count)))
+run_back : (tag kind number count : ℕ) → IsTrue (ltb tag 6) → IsTrue (ltb kind (wait_kinds tag))
+    → IsTrue (ltb number (wait_numbers tag kind)) → IsTrue (is_wait_count tag kind count) → run_fields (run_of (tag, (kind, (number, count)))) ≡ (tag, (kind, (number, count)))
 run_back zero kind number count t k n c = nothing 0 kind number count k n c
 run_back (suc zero) kind number count t k n c = nothing 1 kind number count k n c
 run_back (suc (suc zero)) kind number count t k n c = nothing 2 kind number count k n c

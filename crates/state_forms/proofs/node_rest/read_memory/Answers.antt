@@ -1,4 +1,4 @@
-use Rattle.std.proofs.Common.{◌≡◌, ◌∙◌, length, arith}
+use Rattle.std.proofs.Common.{◌∙◌, arith}
 use Rattle.state_forms.specs.Rest.{memory}
 use Rattle.state_forms.proofs.Rest.{length_read, fills}
 use Rattle.state_forms.proofs.node_rest.read_memory.Goals as goal

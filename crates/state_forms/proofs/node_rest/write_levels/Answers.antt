@@ -1,4 +1,4 @@
-use Rattle.std.proofs.Common.{◌≡◌, ◌+◌, [], ◌∷◌, ◌++◌, get_or, take, drop, arith}
+use Rattle.std.proofs.Common.{◌+◌, [], ◌++◌, get_or, take, drop, arith}
 use Rattle.std.proofs.lemmas.List.{take_more, drop_more, drop_all}
 use Rattle.byte_forms.specs.Forms.{write_chain}
 use Rattle.byte_forms.proofs.Lists.{writes_on, writes_all}
