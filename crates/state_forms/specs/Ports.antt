@@ -1,5 +1,5 @@
 -- How ports stand in bytes.
-use Rattle.std.specs.Prelude.{ℕ, ◌<◌, ◌+◌, ◌-◌, ◌%◌, ◌^◌, Bool, true, false, ◌&&◌, ◌||◌, not, ◌==◌, nat_lt, nat_le, if◌then◌else◌, List, [], ◌∷◌, length, Option, Some, None, is_some, IfSome}
+use Rattle.std.specs.Prelude.{ℕ, ◌<◌, ◌+◌, ◌-◌, ◌%◌, ◌^◌, Bool, true, false, ◌&&◌, ◌||◌, not, ◌==◌, nat_lt, nat_le, if◌then◌else◌, List, [], ◌∷◌, length, Option, Some, None, is_some, IfSome, option_map, slice_index_or}
 use Rattle.xs_base.specs.Numbers.{PortNumber}
 use Rattle.xs_base.specs.Ids.{port_width}
 use Rattle.xs_base.specs.declared.numbers.TheConstants.{CLOCK_BLOCKS, PORTS}
@@ -10,12 +10,13 @@ use Rattle.single_port.specs.declared.state.Condition.{Condition}
 use Rattle.single_port.specs.declared.state.Condition.TheVariants as conditions
 use Rattle.single_port.specs.declared.state.Transfer.{Transfer}
 use Rattle.single_port.specs.declared.state.PortState.{PortState}
+use Rattle.single_port.specs.States.{off_state}
 use Rattle.byte_forms.specs.Forms.{Form, read_byte, byte, half, word, flag, flag_of, byte_of_flag, option_of, flag_and_value, below, where_is, both, seen_as, chain}
-use Rattle.state_forms.specs.declared.port.Basics.{Basics}
-use Rattle.state_forms.specs.declared.port.Widths.{Widths}
-use Rattle.state_forms.specs.declared.port.Trigger.{Trigger}
-use Rattle.state_forms.specs.declared.port.Shift.{Shift}
-use Rattle.state_forms.specs.declared.port.Tail.{Tail}
+use Rattle.state_forms.specs.declared.port_parts.Basics.{Basics}
+use Rattle.state_forms.specs.declared.port_parts.Widths.{Widths}
+use Rattle.state_forms.specs.declared.port_parts.Trigger.{Trigger}
+use Rattle.state_forms.specs.declared.port_parts.Shift.{Shift}
+use Rattle.state_forms.specs.declared.port_parts.Tail.{Tail}
 
 -- ---- Fields
 
@@ -132,11 +133,7 @@ are_bits p tw None bits = bits == 0
 are_bits p tw (Some value) bits = are_beats (port_width p) tw bits && (nat_lt 0 bits && nat_lt value (2 ^ bits))
 
 abbrev pub transfer_of : Option ℕ × (ℕ × Option ℕ) → Option Transfer
-transfer_of p = transfer_with p.1.0 p.1.1 p.0
-  where
-    transfer_with : ℕ → Option ℕ → Option ℕ → Option Transfer
-    transfer_with bits time None = None
-    transfer_with bits time (Some value) = Some (record { value = value; bits = bits; time = time })
+transfer_of p = option_map (λ (value : ℕ). record { value = value; bits = p.1.0; time = p.1.1 }) p.0
 
 abbrev pub transfer_parts : Option Transfer → Option ℕ × (ℕ × Option ℕ)
 transfer_parts None = (None, (0, None))
@@ -246,9 +243,13 @@ unfoldable pub ports : Form (List PortState)
 ports = chain PORTS next_port
 
 -- the counter, the times and the stamps of a state are numbers of 16 bits
-pub record AreHalves (state : PortState) : Type 0 where
+pub record FitsHalves (state : PortState) : Type 0 where
   pub counter : state.counter < 2 ^ 16
   pub time : IfSome state.time (λ t. t < 2 ^ 16)
   pub transfer_time : IfSome state.tr (λ tr. IfSome tr.time (λ t. t < 2 ^ 16))
   pub sample_stamp : state.sample_stamp < 2 ^ 16
   pub stamp : state.stamp < 2 ^ 16
+
+-- those of each of them
+abbrev pub FitHalves : List PortState → Type 0
+FitHalves states = (p : PortNumber) → p < PORTS → FitsHalves (slice_index_or states p off_state)

@@ -3,7 +3,9 @@
 
 mod field;
 mod port;
+mod port_fields;
+mod port_parts;
 mod token;
 
 pub use field::{Field, read_elements, read_list, read_places, write_each};
-pub use port::{read_port, read_ports, write_port, write_ports};
+pub use port::{ports_are_lawful, read_port, read_ports, write_port, write_ports};
