@@ -1,13 +1,11 @@
 -- What has the form of a port is what a snapshot may say of it, and the other way round.
-use Rattle.std.proofs.Common.{◌≡◌, ◌≢◌, ℕ, zero, suc, ◌+◌, ◌-◌, ◌%◌, ◌<◌, ◌≤◌, ◌^◌, Bool, true, false, IsTrue, cond, eqb, ltb, List, [], ◌∷◌, ◌++◌, length, get_or, Option, Some, None}
-use Rattle.std.proofs.Common.{refl, sym, ap, subst, ◌∙◌, arith, inl, inr}
-use Rattle.std.specs.Prelude.{◌&&◌, ◌||◌, ◌==◌, not, nat_lt, nat_le, is_some, IfSome}
+use Rattle.std.proofs.Common.{◌≡◌, ◌≢◌, ℕ, zero, suc, ◌+◌, ◌-◌, ◌%◌, ◌<◌, ◌≤◌, ◌^◌, Bool, true, false, IsTrue, ltb, List, [], ◌∷◌, ◌++◌, length, get_or, Option, Some, None}
+use Rattle.std.proofs.Common.{refl, sym, ap, subst, arith, inl, inr}
+use Rattle.std.specs.Prelude.{◌&&◌, ◌||◌, ◌==◌, not, nat_lt, nat_le, IfSome}
 use Rattle.std.proofs.Math.Nat.{pow-le-pow_right, zero-mod}
-use Rattle.std.proofs.lemmas.Bool.{cases_Bool, cases_lt, true≢false, false≢true, eqb-true, ltb-true, leb-true, lt-ltb, le-leb, eq-eqb, ne_eqb, eqb-false, not-true, and_parts, and_from, or_cases, or_left, or_right, not_from_false}
-use Rattle.std.proofs.lemmas.Nat.{pow_pos}
+use Rattle.std.proofs.lemmas.Bool.{cases_Bool, true≢false, eqb-true, ltb-true, leb-true, lt-ltb, le-leb, eq-eqb, ne_eqb, eqb-false, not-true, and_parts, and_from, not_from_false}
 use Rattle.std.proofs.lemmas.List.{length-append}
 use Rattle.xs_base.specs.Ids.{port_width}
-use Rattle.xs_base.specs.declared.numbers.TheConstants.{PORTS}
 use Rattle.xs_model.specs.declared.clock.Clock.{Clock}
 use Rattle.xs_model.specs.declared.clock.Clock.TheVariants.{Reference, Block}
 use Rattle.xs_model.specs.PortActions.{is_transfer_width}
@@ -17,15 +15,15 @@ use Rattle.single_port.specs.declared.state.Transfer.{Transfer}
 use Rattle.single_port.specs.declared.state.PortState.{PortState}
 use Rattle.single_port.specs.Asks.{IsClock}
 use Rattle.single_port.specs.States.{off_state, IsShiftState, AreBeats, IsTransferState, IsStrobeState, IsOnState, IsPortState}
-use Rattle.single_port.proofs.States.{width_some, width_narrow, transfer_most}
+use Rattle.single_port.proofs.States.{width_narrow, transfer_most}
 use Rattle.buffered_ports.specs.States.{ArePortStates}
-use Rattle.byte_forms.specs.Forms.{Form, byte, half, word, flag, below, where_is, both, seen_as, HoldInChain, chain}
+use Rattle.byte_forms.specs.Forms.{Form, half, word, flag, below, HoldInChain}
 use Rattle.state_forms.specs.declared.port_parts.Basics.{Basics}
 use Rattle.state_forms.specs.declared.port_parts.Widths.{Widths}
 use Rattle.state_forms.specs.declared.port_parts.Trigger.{Trigger}
 use Rattle.state_forms.specs.declared.port_parts.Shift.{Shift}
 use Rattle.state_forms.specs.declared.port_parts.Tail.{Tail}
-use Rattle.state_forms.specs.Ports.{low_byte, limit_where, flag_where, option_where, are_beats, clock, basics, is_tw, widths, condition, trigger, sr_limit, is_count, shift, are_bits, transfer, is_strobe, strobe, tail}
+use Rattle.state_forms.specs.Ports.{limit_where, flag_where, option_where, are_beats, clock, basics, widths, condition, trigger, is_count, shift, transfer, strobe, tail}
 use Rattle.state_forms.specs.Ports.{basics_in, widths_in, trigger_in, shift_in, tail_in, port, next_port, ports, FitsHalves, FitHalves}
 
 -- ---- Fields

@@ -1,5 +1,5 @@
 -- How ports stand in bytes.
-use Rattle.std.specs.Prelude.{ℕ, ◌<◌, ◌+◌, ◌-◌, ◌%◌, ◌^◌, Bool, true, false, ◌&&◌, ◌||◌, not, ◌==◌, nat_lt, nat_le, if◌then◌else◌, List, [], ◌∷◌, length, Option, Some, None, is_some, IfSome, option_map, slice_index_or}
+use Rattle.std.specs.Prelude.{ℕ, ◌<◌, ◌+◌, ◌-◌, ◌%◌, ◌^◌, Bool, ◌&&◌, ◌||◌, not, ◌==◌, nat_lt, nat_le, if◌then◌else◌, List, [], ◌∷◌, length, Option, Some, None, is_some, IfSome, option_map, slice_index_or}
 use Rattle.xs_base.specs.Numbers.{PortNumber}
 use Rattle.xs_base.specs.Ids.{port_width}
 use Rattle.xs_base.specs.declared.numbers.TheConstants.{CLOCK_BLOCKS, PORTS}
