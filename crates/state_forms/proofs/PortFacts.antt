@@ -1,9 +1,10 @@
 -- What has the form of a port is what a snapshot may say of it, and the other way round.
-use Rattle.std.proofs.Common.{◌≡◌, ◌≢◌, ℕ, zero, suc, ◌+◌, ◌-◌, ◌%◌, ◌<◌, ◌≤◌, ◌^◌, Bool, true, false, IsTrue, ltb, List, [], ◌∷◌, ◌++◌, length, get_or, Option, Some, None}
+use Rattle.std.proofs.Common.{◌≡◌, ◌≢◌, ℕ, zero, suc, ◌+◌, ◌-◌, ◌%◌, ◌<◌, ◌≤◌, ◌^◌, Bool, true, false, IsTrue, ltb}
+use Rattle.std.proofs.Common.{List, [], ◌∷◌, ◌++◌, length, get_or, Option, Some, None}
 use Rattle.std.proofs.Common.{refl, sym, ap, subst, arith, inl, inr}
 use Rattle.std.specs.Prelude.{◌&&◌, ◌||◌, ◌==◌, not, nat_lt, nat_le, IfSome}
 use Rattle.std.proofs.Math.Nat.{pow-le-pow_right, zero-mod}
-use Rattle.std.proofs.lemmas.Bool.{cases_Bool, true≢false, eqb-true, ltb-true, leb-true, lt-ltb, le-leb, eq-eqb, ne_eqb, eqb-false, not-true, and_parts, and_from, not_from_false}
+use Rattle.std.proofs.lemmas.Bool.{cases_Bool, true≢false, eqb-true, eqb-false, eq-eqb, ne_eqb, ltb-true, lt-ltb, leb-true, le-leb, not-true, not_from_false, and_parts, and_from}
 use Rattle.std.proofs.lemmas.List.{length-append}
 use Rattle.xs_base.specs.Ids.{port_width}
 use Rattle.xs_model.specs.declared.clock.Clock.{Clock}

@@ -1,4 +1,4 @@
-//! Fields that have to be 0 where nothing may stand.
+//! Fields that have to be 0 where they are not allowed.
 ghost use Rattle.std.specs.Prelude.{◌≡◌, ◌≤◌, ◌++◌, ◌^◌, OnOk};
 ghost use Rattle.byte_forms.specs.Forms.{half, word, below};
 ghost use Rattle.byte_forms.specs.Reading.{Gives};
@@ -30,7 +30,7 @@ pub fn limit_of_bits(bits: u32) -> u64
     1 << bits
 }
 
-/// Reads a flag, 0 where none may stand.
+/// Reads a flag, 0 where it is not allowed.
 pub fn read_flag_where(from: &mut Reader, allowed: bool) -> Result<bool, Fault>
     ensures value { Gives (flag_where allowed) (λ x. x) from.old result from.new }
 {
@@ -38,7 +38,7 @@ pub fn read_flag_where(from: &mut Reader, allowed: bool) -> Result<bool, Fault>
     Ok(b == 1)
 }
 
-/// Reads a number of two bytes, 0 where none may stand.
+/// Reads a number of two bytes, 0 where it is not allowed.
 pub fn read_half_where(from: &mut Reader, allowed: bool) -> Result<u16, Fault>
     ensures value { Gives (below half (limit_where allowed (2 ^ 16))) (λ x. x) from.old result from.new }
 {
@@ -51,7 +51,7 @@ pub fn read_half_where(from: &mut Reader, allowed: bool) -> Result<u16, Fault>
     }
 }
 
-/// Reads a flag, 0 where none may stand, and a number of two bytes, 0 where the flag is 0.
+/// Reads a flag, 0 where it is not allowed, and a number of two bytes, 0 where the flag is 0.
 pub fn read_option_half_where(from: &mut Reader, allowed: bool) -> Result<Option<u16>, Fault>
     ensures value { Gives (option_where allowed half (2 ^ 16)) (λ x. x) from.old result from.new }
 {
@@ -60,7 +60,7 @@ pub fn read_option_half_where(from: &mut Reader, allowed: bool) -> Result<Option
     Ok(if there { Some(n) } else { None })
 }
 
-/// Reads a flag, 0 where none may stand, and a number of four bytes below a limit, 0 where the flag is 0.
+/// Reads a flag, 0 where it is not allowed, and a number of four bytes below a limit, 0 where the flag is 0.
 pub fn read_option_word_where(
     from: &mut Reader,
     allowed: bool,
