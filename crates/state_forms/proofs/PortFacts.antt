@@ -1,13 +1,12 @@
 -- What has the form of a port is what a snapshot may say of it, and the other way round.
-use Rattle.std.proofs.Common.{◌≡◌, ◌≢◌, ℕ, zero, suc, ◌+◌, ◌-◌, ◌%◌, ◌<◌, ◌≤◌, ◌^◌, Bool, true, false, IsTrue, cond, eqb, ltb, List, [], ◌∷◌, ◌++◌, length, get_or, Option, Some, None}
-use Rattle.std.proofs.Common.{refl, sym, ap, subst, ◌∙◌, arith, inl, inr}
-use Rattle.std.specs.Prelude.{◌&&◌, ◌||◌, ◌==◌, not, nat_lt, nat_le, is_some, IfSome}
+use Rattle.std.proofs.Common.{◌≡◌, ◌≢◌, ℕ, zero, suc, ◌+◌, ◌-◌, ◌%◌, ◌<◌, ◌≤◌, ◌^◌, Bool, true, false, IsTrue, ltb}
+use Rattle.std.proofs.Common.{List, [], ◌∷◌, ◌++◌, length, get_or, Option, Some, None}
+use Rattle.std.proofs.Common.{refl, sym, ap, subst, arith, inl, inr}
+use Rattle.std.specs.Prelude.{◌&&◌, ◌||◌, ◌==◌, not, nat_lt, nat_le, IfSome}
 use Rattle.std.proofs.Math.Nat.{pow-le-pow_right, zero-mod}
-use Rattle.std.proofs.lemmas.Bool.{cases_Bool, cases_lt, true≢false, false≢true, eqb-true, ltb-true, leb-true, lt-ltb, le-leb, eq-eqb, ne_eqb, eqb-false, not-true, and_parts, and_from, or_cases, or_left, or_right, not_from_false}
-use Rattle.std.proofs.lemmas.Nat.{pow_pos}
+use Rattle.std.proofs.lemmas.Bool.{cases_Bool, true≢false, eqb-true, eqb-false, eq-eqb, ne_eqb, ltb-true, lt-ltb, leb-true, le-leb, not-true, not_from_false, and_parts, and_from}
 use Rattle.std.proofs.lemmas.List.{length-append}
 use Rattle.xs_base.specs.Ids.{port_width}
-use Rattle.xs_base.specs.declared.numbers.TheConstants.{PORTS}
 use Rattle.xs_model.specs.declared.clock.Clock.{Clock}
 use Rattle.xs_model.specs.declared.clock.Clock.TheVariants.{Reference, Block}
 use Rattle.xs_model.specs.PortActions.{is_transfer_width}
@@ -17,16 +16,16 @@ use Rattle.single_port.specs.declared.state.Transfer.{Transfer}
 use Rattle.single_port.specs.declared.state.PortState.{PortState}
 use Rattle.single_port.specs.Asks.{IsClock}
 use Rattle.single_port.specs.States.{off_state, IsShiftState, AreBeats, IsTransferState, IsStrobeState, IsOnState, IsPortState}
-use Rattle.single_port.proofs.States.{width_some, width_narrow, transfer_most}
+use Rattle.single_port.proofs.States.{width_narrow, transfer_most}
 use Rattle.buffered_ports.specs.States.{ArePortStates}
-use Rattle.byte_forms.specs.Forms.{Form, byte, half, word, flag, below, where_is, both, seen_as, HoldInChain, chain}
-use Rattle.state_forms.specs.declared.port.Basics.{Basics}
-use Rattle.state_forms.specs.declared.port.Widths.{Widths}
-use Rattle.state_forms.specs.declared.port.Trigger.{Trigger}
-use Rattle.state_forms.specs.declared.port.Shift.{Shift}
-use Rattle.state_forms.specs.declared.port.Tail.{Tail}
-use Rattle.state_forms.specs.Ports.{low_byte, limit_where, flag_where, option_where, are_beats, clock, basics, is_tw, widths, condition, trigger, sr_limit, is_count, shift, are_bits, transfer, is_strobe, strobe, tail}
-use Rattle.state_forms.specs.Ports.{basics_in, widths_in, trigger_in, shift_in, tail_in, port, next_port, ports, AreHalves}
+use Rattle.byte_forms.specs.Forms.{Form, half, word, flag, below, HoldInChain}
+use Rattle.state_forms.specs.declared.port_parts.Basics.{Basics}
+use Rattle.state_forms.specs.declared.port_parts.Widths.{Widths}
+use Rattle.state_forms.specs.declared.port_parts.Trigger.{Trigger}
+use Rattle.state_forms.specs.declared.port_parts.Shift.{Shift}
+use Rattle.state_forms.specs.declared.port_parts.Tail.{Tail}
+use Rattle.state_forms.specs.Ports.{limit_where, flag_where, option_where, are_beats, clock, basics, widths, condition, trigger, is_count, shift, transfer, strobe, tail}
+use Rattle.state_forms.specs.Ports.{basics_in, widths_in, trigger_in, shift_in, tail_in, port, next_port, ports, FitsHalves, FitHalves}
 
 -- ---- Fields
 
@@ -202,23 +201,22 @@ port_off p state h off =
 -- nothing but 0 stands there
 off_has : (p : ℕ) → (port p).Holds off_state
 unfolding port basics clock widths trigger condition shift transfer strobe tail
-off_has p =
+off_has p = (
+  (flag_is false, (flag_none false, ((omega arith, refl), (omega arith, refl)))),
+  (
+    (flag_none false, ((omega arith, refl), ((omega arith, beats_0 (port_width p) 0), (omega arith, refl)))),
     (
-      (flag_is false, (flag_none false, ((omega arith, refl), (omega arith, refl)))),
+      ((omega arith, refl), option_none half false (2 ^ 16) half_0),
       (
-        (flag_none false, ((omega arith, refl), ((omega arith, beats_0 (port_width p) 0), (omega arith, refl)))),
+        ((omega arith, refl), (omega arith, count_0 p)),
         (
-          ((omega arith, refl), option_none half false (2 ^ 16) half_0),
-          (
-            ((omega arith, refl), (omega arith, count_0 p)),
-            (
-              (option_none word false (2 ^ 32) word_0, ((omega arith, refl), option_none half false (2 ^ 16) half_0)),
-              (flag_none false, ((omega arith, refl), ((omega arith, refl), ((omega arith, refl), option_none word false (2 ^ port_width p) word_0))))
-            )
-          )
-        )
-      )
-    )
+          (option_none word false (2 ^ 32) word_0, ((omega arith, refl), option_none half false (2 ^ 16) half_0)),
+          (flag_none false, ((omega arith, refl), ((omega arith, refl), ((omega arith, refl), option_none word false (2 ^ port_width p) word_0)))),
+        ),
+      ),
+    ),
+  ),
+)
   where
     count_0 : (p : ℕ) → IsTrue (is_count p false 0 0 0)
     count_0 p = and_from (are_beats (port_width p) 0 0) true (beats_0 (port_width p) 0) refl
@@ -272,16 +270,15 @@ widths_have : (p : ℕ) (w : Widths) → AreWidths p w → (widths p true).Holds
 unfolding widths
 widths_have p w are =
     let most : w.tw ≤ 32 = transfer_most (port_width p) w.tw are.transfer_width in
-    let tw = and_from (is_transfer_width (port_width p) w.tw) (w.buffers || (w.tw == port_width p)) are.transfer_width (unbuffered_of w.buffers w.tw (port_width p) are.unbuffered) in
-    (
+    let tw = and_from (is_transfer_width (port_width p) w.tw) (w.buffers || (w.tw == port_width p)) are.transfer_width (unbuffered_of w.buffers w.tw (port_width p) are.unbuffered) in (
       flag_on w.buffers,
       (
         (omega (arith, most), tw),
         (
           (omega (arith, most, are.want.most), are_beats_of (port_width p) w.tw w.want are.want),
-          (omega (arith, are.value, width_limit p), lt-ltb w.value (2 ^ port_width p) are.value)
-        )
-      )
+          (omega (arith, are.value, width_limit p), lt-ltb w.value (2 ^ port_width p) are.value),
+        ),
+      ),
     )
 
 condition_has : (c : Condition) → (condition true).Holds c
@@ -311,20 +308,18 @@ shift_has : (p : ℕ) (output : Bool) (tw : ℕ) (s : Shift) → tw ≤ 32 → A
 unfolding shift
 shift_has p true tw s most beats is =
     let few : s.count ≤ 32 = omega (arith, most, beats.most) in
-    let sr : s.sr < 2 ^ 32 = of_word s.sr s.count few is in
-    (
+    let sr : s.sr < 2 ^ 32 = of_word s.sr s.count few is in (
       (omega (arith, sr), lt-ltb s.sr (2 ^ 32) sr),
-      (omega (arith, few), and_from (are_beats (port_width p) tw s.count) (nat_lt s.sr (2 ^ s.count)) (are_beats_of (port_width p) tw s.count beats) (lt-ltb s.sr (2 ^ s.count) is))
+      (omega (arith, few), and_from (are_beats (port_width p) tw s.count) (nat_lt s.sr (2 ^ s.count)) (are_beats_of (port_width p) tw s.count beats) (lt-ltb s.sr (2 ^ s.count) is)),
     )
 shift_has p false tw s most beats is =
     let few : s.count ≤ 32 = omega (arith, most, beats.most) in
-    let sr : s.sr < 2 ^ 32 = of_word s.sr tw most is.0 in
-    (
+    let sr : s.sr < 2 ^ 32 = of_word s.sr tw most is.0 in (
       (omega (arith, sr), lt-ltb s.sr (2 ^ tw) is.0),
       (
         omega (arith, few),
-        and_from (are_beats (port_width p) tw s.count) (s.sr % 2 ^ (tw - s.count) == 0) (are_beats_of (port_width p) tw s.count beats) (eq-eqb (s.sr % 2 ^ (tw - s.count)) 0 is.1)
-      )
+        and_from (are_beats (port_width p) tw s.count) (s.sr % 2 ^ (tw - s.count) == 0) (are_beats_of (port_width p) tw s.count beats) (eq-eqb (s.sr % 2 ^ (tw - s.count)) 0 is.1),
+      ),
     )
 
 transfer_is : (p tw : ℕ) (tr : Option Transfer) → (transfer p true tw).Holds tr → IfSome tr (IsTransferState (port_width p) tw)
@@ -341,13 +336,12 @@ transfer_has p tw None most is times = (option_none word true (2 ^ 32) word_0, (
 transfer_has p tw (Some t) most is times =
     let few : t.bits ≤ 32 = omega (arith, most, is.beats.most) in
     let value : t.value < 2 ^ 32 = of_word t.value t.bits few is.value in
-    let fits = and_from (nat_lt 0 t.bits) (nat_lt t.value (2 ^ t.bits)) (lt-ltb 0 t.bits is.some) (lt-ltb t.value (2 ^ t.bits) is.value) in
-    (
+    let fits = and_from (nat_lt 0 t.bits) (nat_lt t.value (2 ^ t.bits)) (lt-ltb 0 t.bits is.some) (lt-ltb t.value (2 ^ t.bits) is.value) in (
       (flag_on true, (omega (arith, value), lt-ltb t.value (2 ^ 32) value)),
       (
         (omega (arith, few), and_from (are_beats (port_width p) tw t.bits) (nat_lt 0 t.bits && nat_lt t.value (2 ^ t.bits)) (are_beats_of (port_width p) tw t.bits is.beats) fits),
-        option_on half (2 ^ 16) t.time half_0 (halves t.time times)
-      )
+        option_on half (2 ^ 16) t.time half_0 (halves t.time times),
+      ),
     )
 
 strobe_is : (p : ℕ) (s : Option ℕ) → (strobe p true).Holds s → IfSome s (IsStrobeState p)
@@ -374,14 +368,13 @@ tail_is p t h = (strobe_is p t.strobe h.1.1.1.0, option_fits word (2 ^ port_widt
 
 tail_has : (p : ℕ) (t : Tail) → t.sample_stamp < 2 ^ 16 → t.stamp < 2 ^ 16 → IfSome t.strobe (IsStrobeState p) → IfSome t.driven (λ n. n < 2 ^ port_width p) → (tail p true).Holds t
 unfolding tail
-tail_has p t sample stamp is driven =
-    (
-      flag_on t.held,
-      (
-        half_on t.sample_stamp sample,
-        (half_on t.stamp stamp, (strobe_has p t.strobe is, option_on word (2 ^ port_width p) t.driven word_0 (words (2 ^ port_width p) t.driven (width_limit p) driven)))
-      )
-    )
+tail_has p t sample stamp is driven = (
+  flag_on t.held,
+  (
+    half_on t.sample_stamp sample,
+    (half_on t.stamp stamp, (strobe_has p t.strobe is, option_on word (2 ^ port_width p) t.driven word_0 (words (2 ^ port_width p) t.driven (width_limit p) driven))),
+  ),
+)
 
 port_on : (p : ℕ) (state : PortState) → (port p).Holds state → state.on ≡ true → IsOnState p state
 unfolding port basics
@@ -404,14 +397,13 @@ port_on p state h on =
       driven = t.1;
     }
 
-on_has : (p : ℕ) (state : PortState) → state.on ≡ true → IsOnState p state → AreHalves state → (port p).Holds state
+on_has : (p : ℕ) (state : PortState) → state.on ≡ true → IsOnState p state → FitsHalves state → (port p).Holds state
 unfolding port
 on_has p state on is halves =
     let most : state.tw ≤ 32 = transfer_most (port_width p) state.tw is.transfer_width in
     let w = widths_have p (widths_in state) (record { transfer_width = is.transfer_width; unbuffered = is.unbuffered; want = is.want; value = is.value }) in
     let tr = transfer_has p state.tw state.tr most is.transfer halves.transfer_time in
-    let t = tail_has p (tail_in state) halves.sample_stamp halves.stamp is.strobe is.driven in
-    (
+    let t = tail_has p (tail_in state) halves.sample_stamp halves.stamp is.strobe is.driven in (
       basics_has (basics_in state) on is.clock halves.counter,
       (
         subst (λ (o : Bool). (widths p o).Holds (widths_in state)) (sym on) w,
@@ -419,21 +411,21 @@ on_has p state on is halves =
           subst (λ (o : Bool). (trigger o).Holds (trigger_in state)) (sym on) (trigger_has (trigger_in state) halves.time),
           (
             shift_has p state.output state.tw (shift_in state) most is.count is.shift,
-            (subst (λ (o : Bool). (transfer p o state.tw).Holds state.tr) (sym on) tr, subst (λ (o : Bool). (tail p o).Holds (tail_in state)) (sym on) t)
-          )
-        )
-      )
+            (subst (λ (o : Bool). (transfer p o state.tw).Holds state.tr) (sym on) tr, subst (λ (o : Bool). (tail p o).Holds (tail_in state)) (sym on) t),
+          ),
+        ),
+      ),
     )
 
 -- ---- Ports
 
 -- what has the form is what a snapshot may say
-pub port_holds : (p : ℕ) (state : PortState) → (port p).Holds state → IsPortState p state
-port_holds p state h = record { off = port_off p state h; on = port_on p state h }
+pub port_is : (p : ℕ) (state : PortState) → (port p).Holds state → IsPortState p state
+port_is p state h = record { off = port_off p state h; on = port_on p state h }
 
 -- what a snapshot may say has the form, where its numbers are those of their types
-pub port_of_facts : (p : ℕ) (state : PortState) → IsPortState p state → AreHalves state → (port p).Holds state
-port_of_facts p state is halves =
+pub port_has : (p : ℕ) (state : PortState) → IsPortState p state → FitsHalves state → (port p).Holds state
+port_has p state is halves =
     elim (cases_Bool state.on) [
       | inl on ↦ on_has p state on (is.on on) halves
       | inr off ↦ subst (λ (s : PortState). (port p).Holds s) (sym (is.off off)) (off_has p)
@@ -456,23 +448,26 @@ unfolding HoldInChain
 chain_of before [] each = tt
 chain_of before (s ∷ states) each =
     let here : length before + 0 ≡ length before = omega arith in
-    let there : (i : ℕ) → length before + suc i ≡ length (before ++ s ∷ []) + i = λ i. omega (arith, length-append before (s ∷ [])) in
-    (
+    let there : (i : ℕ) → length before + suc i ≡ length (before ++ s ∷ []) + i = λ i. omega (arith, length-append before (s ∷ [])) in (
       subst (λ (n : ℕ). (port n).Holds s) here (each 0 (omega arith)),
-      chain_of (before ++ s ∷ []) states (λ i lt. subst (λ (n : ℕ). (port n).Holds (get_or states i off_state)) (there i) (each (suc i) (omega (arith, lt))))
+      chain_of (before ++ s ∷ []) states (λ i lt. subst (λ (n : ℕ). (port n).Holds (get_or states i off_state)) (there i) (each (suc i) (omega (arith, lt)))),
     )
 
-pub ports_hold : (states : List PortState) → ports.Holds states → (length states ≡ 29) × ArePortStates states
+pub ports_are : (states : List PortState) → ports.Holds states → (length states ≡ 29) × ArePortStates states
 unfolding ports
-ports_hold states h =
-    (h.0, λ p lt.
-    let place : 0 + p ≡ p = omega arith in
-    port_holds p (get_or states p off_state) (subst (λ (n : ℕ). (port n).Holds (get_or states p off_state)) place (chain_holds [] states h.1 p (omega (arith, lt, h.0)))))
+ports_are states h = (
+  h.0,
+  λ p lt.
+      let place : 0 + p ≡ p = omega arith in
+      port_is p (get_or states p off_state) (subst (λ (n : ℕ). (port n).Holds (get_or states p off_state)) place (chain_holds [] states h.1 p (omega (arith, lt, h.0)))),
+)
 
-pub ports_of_facts : (states : List PortState) → length states ≡ 29 → ArePortStates states → ((p : ℕ) → p < 29 → AreHalves (get_or states p off_state)) → ports.Holds states
+pub ports_have : (states : List PortState) → length states ≡ 29 → ArePortStates states → FitHalves states → ports.Holds states
 unfolding ports
-ports_of_facts states len are fit =
-    (len, chain_of [] states (λ p lt.
-    let place : p ≡ 0 + p = omega arith in
-    let within : p < 29 = omega (arith, lt, len) in
-    subst (λ (n : ℕ). (port n).Holds (get_or states p off_state)) place (port_of_facts p (get_or states p off_state) (are p within) (fit p within))))
+ports_have states len are fit = (
+  len,
+  chain_of [] states (λ p lt.
+      let place : p ≡ 0 + p = omega arith in
+      let within : p < 29 = omega (arith, lt, len) in
+      subst (λ (n : ℕ). (port n).Holds (get_or states p off_state)) place (port_has p (get_or states p off_state) (are p within) (fit p within))),
+)

@@ -1,6 +1,6 @@
 -- The laws of ports.
-use Rattle.std.proofs.Common.{◌≡◌, ◌≢◌, ℕ, zero, suc, ◌+◌, ◌-◌, ◌%◌, ◌<◌, ◌≤◌, ◌^◌, Bool, true, false, IsTrue, cond, eqb, ltb, List, [], ◌∷◌, ◌++◌, length, get_or, Option, Some, None, Ok, Err, is_some}
-use Rattle.std.proofs.Common.{refl, sym, ap, subst, ◌∙◌, append_assoc, arith, inl, inr}
+use Rattle.std.proofs.Common.{◌≡◌, ◌≢◌, ℕ, zero, suc, ◌+◌, ◌-◌, ◌%◌, ◌<◌, ◌^◌, Bool, true, false, IsTrue, eqb, ltb, ◌∷◌, length, Option, Some, None, is_some}
+use Rattle.std.proofs.Common.{refl, sym, ap, subst, arith, inl, inr}
 use Rattle.std.proofs.Math.Nat.{mod-eq_of_lt}
 use Rattle.std.proofs.lemmas.Bool.{cases_Bool, eqb-true, eqb-false, ne_eqb, ltb-true}
 use Rattle.xs_base.specs.Ids.{port_width}
@@ -9,8 +9,7 @@ use Rattle.xs_model.specs.declared.clock.Clock.TheVariants.{Reference, Block}
 use Rattle.single_port.specs.declared.state.Condition.{Condition}
 use Rattle.single_port.specs.declared.state.Condition.TheVariants as conditions
 use Rattle.single_port.specs.declared.state.Transfer.{Transfer}
-use Rattle.single_port.specs.declared.state.PortState.{PortState}
-use Rattle.byte_forms.specs.Forms.{Form, byte, half, word, flag_of, byte_of_flag, option_of, flag_and_value, below, where_is, both, seen_as, chain}
+use Rattle.byte_forms.specs.Forms.{Form, half, flag_of, byte_of_flag, option_of, flag_and_value}
 use Rattle.byte_forms.specs.Laws.{Lawful}
 use Rattle.byte_forms.proofs.Fields.{byte-lawful, half-lawful, word-lawful}
 use Rattle.byte_forms.proofs.Parts.{where-lawful, both-lawful, seen-lawful, below-lawful, flag-lawful}

@@ -1,5 +1,6 @@
 -- How ports stand in bytes.
-use Rattle.std.specs.Prelude.{ℕ, ◌<◌, ◌+◌, ◌-◌, ◌%◌, ◌^◌, Bool, true, false, ◌&&◌, ◌||◌, not, ◌==◌, nat_lt, nat_le, if◌then◌else◌, List, [], ◌∷◌, length, Option, Some, None, is_some, IfSome}
+use Rattle.std.specs.Prelude.{ℕ, ◌<◌, ◌+◌, ◌-◌, ◌%◌, ◌^◌, Bool, ◌&&◌, ◌||◌, not, ◌==◌, nat_lt, nat_le, if◌then◌else◌}
+use Rattle.std.specs.Prelude.{List, [], ◌∷◌, length, slice_index_or, Option, Some, None, is_some, IfSome, option_map}
 use Rattle.xs_base.specs.Numbers.{PortNumber}
 use Rattle.xs_base.specs.Ids.{port_width}
 use Rattle.xs_base.specs.declared.numbers.TheConstants.{CLOCK_BLOCKS, PORTS}
@@ -10,12 +11,13 @@ use Rattle.single_port.specs.declared.state.Condition.{Condition}
 use Rattle.single_port.specs.declared.state.Condition.TheVariants as conditions
 use Rattle.single_port.specs.declared.state.Transfer.{Transfer}
 use Rattle.single_port.specs.declared.state.PortState.{PortState}
+use Rattle.single_port.specs.States.{off_state}
 use Rattle.byte_forms.specs.Forms.{Form, read_byte, byte, half, word, flag, flag_of, byte_of_flag, option_of, flag_and_value, below, where_is, both, seen_as, chain}
-use Rattle.state_forms.specs.declared.port.Basics.{Basics}
-use Rattle.state_forms.specs.declared.port.Widths.{Widths}
-use Rattle.state_forms.specs.declared.port.Trigger.{Trigger}
-use Rattle.state_forms.specs.declared.port.Shift.{Shift}
-use Rattle.state_forms.specs.declared.port.Tail.{Tail}
+use Rattle.state_forms.specs.declared.port_parts.Basics.{Basics}
+use Rattle.state_forms.specs.declared.port_parts.Widths.{Widths}
+use Rattle.state_forms.specs.declared.port_parts.Trigger.{Trigger}
+use Rattle.state_forms.specs.declared.port_parts.Shift.{Shift}
+use Rattle.state_forms.specs.declared.port_parts.Tail.{Tail}
 
 -- ---- Fields
 
@@ -23,15 +25,15 @@ use Rattle.state_forms.specs.declared.port.Tail.{Tail}
 abbrev pub low_byte : Form ℕ
 low_byte = record { read = read_byte; write = λ n. n % 256 ∷ []; Holds = λ n. n < 256 }
 
--- numbers that may stand there are below a limit, and others are 0
+-- a number's limit, which is 1 where the number has to be 0
 abbrev pub limit_where : Bool → ℕ → ℕ
 limit_where allowed limit = if allowed then limit else 1
 
--- a flag, 0 where none may stand
+-- a flag, 0 where it is not allowed
 abbrev pub flag_where : Bool → Form Bool
 flag_where allowed = seen_as (below byte (limit_where allowed 2)) flag_of byte_of_flag
 
--- A flag, 0 where none may stand, and a number below a limit, which is 0 where the flag is 0.
+-- a flag, 0 where it is not allowed, and a number below a limit, 0 where the flag is 0
 abbrev pub option_where : Bool → Form ℕ → ℕ → Form (Option ℕ)
 option_where allowed f limit = seen_as (both (flag_where allowed) (λ there. below f (limit_where there limit))) option_of flag_and_value
 
@@ -58,12 +60,13 @@ basics_of p = record { on = p.0; output = p.1.0; clock = p.1.1.0; counter = p.1.
 abbrev pub basics_parts : Basics → Bool × (Bool × (Clock × ℕ))
 basics_parts b = (b.on, (b.output, (b.clock, b.counter)))
 
+-- Whether it is on, its direction, 0 for input and 1 for output, its clock and its counter. From here on all fields of a port that is off are 0.
 unfoldable pub basics : Form Basics
 basics = seen_as (both flag (λ on. both (flag_where on) (λ output. both (clock on) (λ clock. below half (limit_where on (2 ^ 16)))))) basics_of basics_parts
 
 -- ---- Buffers, transfer width, wanted bits, value
 
--- A port that is on has the width of a transfer, which is its own where it has no buffers. One that is off has 0.
+-- a transfer width, which is the port's own where it has no buffers, and 0 where it is off
 abbrev pub is_tw : (p : PortNumber) (on buffers : Bool) (tw : ℕ) → Bool
 is_tw p on buffers tw = if on then is_transfer_width (port_width p) tw && (buffers || (tw == port_width p)) else tw == 0
 
@@ -73,7 +76,7 @@ widths_of p = record { buffers = p.0; tw = p.1.0; want = p.1.1.0; value = p.1.1.
 abbrev pub widths_parts : Widths → Bool × (ℕ × (ℕ × ℕ))
 widths_parts w = (w.buffers, (w.tw, (w.want, w.value)))
 
--- Where the port is off, its transfer width is 0, and so is what is wanted.
+-- Whether it has buffers, its transfer width, what is wanted, and the condition's value. What is wanted is 0 where the transfer width is 0.
 unfoldable pub widths : (p : PortNumber) (on : Bool) → Form Widths
 widths p on = seen_as
     (both (flag_where on) (λ buffers.
@@ -92,6 +95,7 @@ condition_number conditions.None = 0
 condition_number conditions.Equal = 1
 condition_number conditions.NotEqual = 2
 
+-- 0 for none, 1 for equal, 2 for not equal
 unfoldable pub condition : Bool → Form Condition
 condition on = seen_as (below byte (limit_where on 3)) condition_of condition_number
 
@@ -101,16 +105,17 @@ trigger_of p = record { condition = p.0; time = p.1 }
 abbrev pub trigger_parts : Trigger → Condition × Option ℕ
 trigger_parts t = (t.condition, t.time)
 
+-- its condition and an optional time
 unfoldable pub trigger : Bool → Form Trigger
 trigger on = seen_as (both (condition on) (λ condition. option_where on half (2 ^ 16))) trigger_of trigger_parts
 
 -- ---- Shift register
 
--- The number is, in direction input, one of the transfer's bits. In direction output it is held against the count alone.
+-- In direction input the number has no bits above a transfer's. In direction output its limit depends on the count, which follows it.
 abbrev pub sr_limit : (output : Bool) (tw : ℕ) → ℕ
 sr_limit output tw = if output then 2 ^ 32 else 2 ^ tw
 
--- So many bits may be in the register with this number: in direction output the lowest, and in direction input the highest of a transfer.
+-- The register may have so many bits and this number: in direction output they are its lowest, and in direction input the highest of a transfer.
 abbrev pub is_count : (p : PortNumber) (output : Bool) (tw sr count : ℕ) → Bool
 is_count p output tw sr count = are_beats (port_width p) tw count && (if output then nat_lt sr (2 ^ count) else (sr % 2 ^ (tw - count) == 0))
 
@@ -120,23 +125,19 @@ shift_of p = record { sr = p.0; count = p.1 }
 abbrev pub shift_parts : Shift → ℕ × ℕ
 shift_parts s = (s.sr, s.count)
 
--- A port that is off has direction input and transfer width 0, and so 0 here.
+-- The register as a number, and how many bits it has. A port that is off has direction input and transfer width 0, and so 0 for both.
 unfoldable pub shift : (p : PortNumber) (output : Bool) (tw : ℕ) → Form Shift
 shift p output tw = seen_as (both (below word (sr_limit output tw)) (λ sr. where_is byte (is_count p output tw sr))) shift_of shift_parts
 
 -- ---- Transfer register
 
--- So many bits may be in the register with this value. An empty one has 0.
+-- the register may have so many bits and this value, and 0 bits where it is empty
 abbrev pub are_bits : (p : PortNumber) (tw : ℕ) (value : Option ℕ) (bits : ℕ) → Bool
 are_bits p tw None bits = bits == 0
 are_bits p tw (Some value) bits = are_beats (port_width p) tw bits && (nat_lt 0 bits && nat_lt value (2 ^ bits))
 
 abbrev pub transfer_of : Option ℕ × (ℕ × Option ℕ) → Option Transfer
-transfer_of p = transfer_with p.1.0 p.1.1 p.0
-  where
-    transfer_with : ℕ → Option ℕ → Option ℕ → Option Transfer
-    transfer_with bits time None = None
-    transfer_with bits time (Some value) = Some (record { value = value; bits = bits; time = time })
+transfer_of p = option_map (λ (value : ℕ). record { value = value; bits = p.1.0; time = p.1.1 }) p.0
 
 abbrev pub transfer_parts : Option Transfer → Option ℕ × (ℕ × Option ℕ)
 transfer_parts None = (None, (0, None))
@@ -152,7 +153,7 @@ transfer p on tw = seen_as
 
 -- ---- Held, stamps, strobe, driven value
 
--- A port that is on has no strobe, told as 0, or another port of one pin, told as 1 + its number.
+-- 0 for no strobe, or 1 + the number of another port of one pin; 0 where the port is off
 abbrev pub is_strobe : (p : PortNumber) (on : Bool) (n : ℕ) → Bool
 is_strobe p on n = if on then nat_le n 16 && not (n == 1 + p) else n == 0
 
@@ -172,6 +173,7 @@ tail_of p = record { held = p.0; sample_stamp = p.1.0; stamp = p.1.1.0; strobe =
 abbrev pub tail_parts : Tail → Bool × (ℕ × (ℕ × (Option ℕ × Option ℕ)))
 tail_parts t = (t.held, (t.sample_stamp, (t.stamp, (t.strobe, t.driven))))
 
+-- whether it is held, its sample stamp, its stamp, its strobe, and an optional driven value
 unfoldable pub tail : (p : PortNumber) (on : Bool) → Form Tail
 tail p on = seen_as
     (both (flag_where on) (λ held.
@@ -246,9 +248,13 @@ unfoldable pub ports : Form (List PortState)
 ports = chain PORTS next_port
 
 -- the counter, the times and the stamps of a state are numbers of 16 bits
-pub record AreHalves (state : PortState) : Type 0 where
+pub record FitsHalves (state : PortState) : Type 0 where
   pub counter : state.counter < 2 ^ 16
   pub time : IfSome state.time (λ t. t < 2 ^ 16)
   pub transfer_time : IfSome state.tr (λ tr. IfSome tr.time (λ t. t < 2 ^ 16))
   pub sample_stamp : state.sample_stamp < 2 ^ 16
   pub stamp : state.stamp < 2 ^ 16
+
+-- those of each of them
+abbrev pub FitHalves : List PortState → Type 0
+FitHalves states = (p : PortNumber) → p < PORTS → FitsHalves (slice_index_or states p off_state)

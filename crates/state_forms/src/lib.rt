@@ -24,3 +24,6 @@ mod sync;
 pub use input::{read_inputs, write_inputs};
 pub use link_end::{read_link_ends, write_link_ends};
 pub use sync::{read_syncs, write_syncs};
+mod port_fields;
+mod port_parts;
+pub use port::{ports_are_lawful, read_port, read_ports, write_port, write_ports};

@@ -5,8 +5,8 @@ use Rattle.state_forms.specs.Ports.{basics, basics_in, widths_in, trigger_in, sh
 use Rattle.state_forms.proofs.port.write_port.Goals as goal
 
 -- what was written one after the other
-joined : (out a b c d e f b_out c_out d_out e_out f_out new : List ℕ) → b_out ≡ out ++ a → c_out ≡ b_out ++ b → d_out ≡ c_out ++ c → e_out ≡ d_out ++ d → f_out ≡ e_out ++ e → new ≡ f_out ++ f
-    → new ≡ out ++ (a ++ (b ++ (c ++ (d ++ (e ++ f)))))
+joined : (out a b c d e f b_out c_out d_out e_out f_out new : List ℕ)
+    → b_out ≡ out ++ a → c_out ≡ b_out ++ b → d_out ≡ c_out ++ c → e_out ≡ d_out ++ d → f_out ≡ e_out ++ e → new ≡ f_out ++ f → new ≡ out ++ (a ++ (b ++ (c ++ (d ++ (e ++ f)))))
 joined out a b c d e f b_out c_out d_out e_out f_out new e1 e2 e3 e4 e5 e6 = rw (e6, e5, e4, e3, e2, e1) (simp append_assoc)
 
 on_ok : {T E P Q : Type 0} (r : Result T E) → (P → Q) → OnOk r P → OnOk r Q
