@@ -1,7 +1,12 @@
-pub mod Tokens
+pub mod BufferFacts
 pub mod Buffers
+pub mod Chains
+pub mod ChanFacts
 pub mod Chans
+pub mod EndFacts
 pub mod Ends
-pub mod Syncs
-pub mod Slaves
+pub mod Holding
 pub mod Inputs
+pub mod Slaves
+pub mod Syncs
+pub mod Tokens

@@ -1,6 +1,6 @@
-pub mod Tokens
 pub mod Buffers
 pub mod Chans
 pub mod Ends
-pub mod Syncs
 pub mod Inputs
+pub mod Syncs
+pub mod Tokens
