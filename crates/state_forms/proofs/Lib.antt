@@ -8,5 +8,6 @@ pub mod Ends
 pub mod Holding
 pub mod Inputs
 pub mod Slaves
+pub mod SyncFacts
 pub mod Syncs
 pub mod Tokens

@@ -1,3 +1,4 @@
+use Rattle.state_forms.proofs.SyncFacts.{syncs_hold, syncs_of, slaves_pass, slaves_by}
 use Rattle.state_forms.proofs.Inputs.{inputs-lawful}
 use Rattle.state_forms.proofs.Ends.{link_ends-lawful}
 use Rattle.state_forms.proofs.Chans.{chan-lawful}
