@@ -26,12 +26,14 @@ none items lt = nil_from_length items (omega arith)
 -- where none may be there, there is none
 pub buffer_holds : (may_have : Bool) (tokens : ArrayVec Token) → (buffer may_have).Holds tokens → BufferFits tokens × (may_have ≡ false → tokens.items ≡ [])
 unfolding buffer
-buffer_holds true tokens h =
-    (record { count = let lt = ltb-true (length tokens.items) 9 h.0.1 in omega arith; tokens = each_as token_holds tokens.items (repeat_holds token (length tokens.items) tokens.items h.1) },
-    λ never. absurd cc)
-buffer_holds false tokens h =
-    (record { count = let lt = ltb-true (length tokens.items) 1 h.0.1 in omega arith; tokens = each_as token_holds tokens.items (repeat_holds token (length tokens.items) tokens.items h.1) },
-    λ _. none tokens.items (ltb-true (length tokens.items) 1 h.0.1))
+buffer_holds true tokens h = (
+  record { count = let lt = ltb-true (length tokens.items) 9 h.0.1 in omega arith; tokens = each_as token_holds tokens.items (repeat_holds token (length tokens.items) tokens.items h.1) },
+  λ never. absurd cc,
+)
+buffer_holds false tokens h = (
+  record { count = let lt = ltb-true (length tokens.items) 1 h.0.1 in omega arith; tokens = each_as token_holds tokens.items (repeat_holds token (length tokens.items) tokens.items h.1) },
+  λ _. none tokens.items (ltb-true (length tokens.items) 1 h.0.1),
+)
 
 pub buffer_of : (may_have : Bool) (tokens : ArrayVec Token) → BufferFits tokens → (may_have ≡ false → tokens.items ≡ []) → (buffer may_have).Holds tokens
 unfolding buffer

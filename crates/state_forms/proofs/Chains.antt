@@ -15,9 +15,10 @@ module _ {A : Type 0} (form : List A → Form A) where
   pub chain_of : (d : A) (before xs : List A) → ((i : ℕ) → i < length xs → (form (before ++ take i xs)).Holds (get_or xs i d)) → HoldInChain form before xs
   unfolding HoldInChain
   chain_of d before [] all = tt
-  chain_of d before (x ∷ xs) all =
-      (subst (λ (b : List A). (form b).Holds x) (append-nil before) (all 0 (omega arith)),
-      chain_of d (before ++ x ∷ []) xs (λ i lt. subst (λ (b : List A). (form b).Holds (get_or xs i d)) (sym (append_assoc before (x ∷ []) (take i xs))) (all (suc i) (omega (arith, lt)))))
+  chain_of d before (x ∷ xs) all = (
+    subst (λ (b : List A). (form b).Holds x) (append-nil before) (all 0 (omega arith)),
+    chain_of d (before ++ x ∷ []) xs (λ i lt. subst (λ (b : List A). (form b).Holds (get_or xs i d)) (sym (append_assoc before (x ∷ []) (take i xs))) (all (suc i) (omega (arith, lt)))),
+  )
 
 -- what holds at each place
 module _ {A : Type 0} (P : A → Type 0) where

@@ -45,9 +45,16 @@ pub record ChanFits (state : ChanState) : Type 0 where
 pub chan_of : (state : ChanState) → ChanFits state → IsChanState state → chan.Holds state
 unfolding chan
 chan_of state fits is =
-    let net = is.net in
-    (flag_holds state.used, ((omega arith, lt-ltb state.net 4 net), (dest_of state.dest is.dest fits.dest,
-    (buffer_of (is_some state.dest) state.output fits.output (λ none. is.output (is_none state.dest none)), buffer_of true state.input fits.input (λ never. absurd cc)))))
+    let net = is.net in (
+      flag_holds state.used,
+      (
+        (omega arith, lt-ltb state.net 4 net),
+        (
+          dest_of state.dest is.dest fits.dest,
+          (buffer_of (is_some state.dest) state.output fits.output (λ none. is.output (is_none state.dest none)), buffer_of true state.input fits.input (λ never. absurd cc)),
+        ),
+      ),
+    )
 
 -- ---- All of them
 

@@ -73,9 +73,16 @@ end_by : (there : Bool) (slot : ℕ) (present : Bool) (tokens : List Token) (win
     → IsEnd there slot (the_end present tokens window last) → (link_end there slot).Holds (the_end present tokens window last)
 unfolding link_end
 end_by true slot true tokens window last long fits h =
-    let window_fits = h.is.window in
-    ((flag_holds true, refl), (buffer_of true (record { items = tokens }) fits (λ never. absurd cc), ((omega arith, lt-ltb window 9 (omega arith)),
-    ((flag_holds (flag_and_value last).0, sent_of window last h.is.never), last_of slot last long h.last))))
+    let window_fits = h.is.window in (
+      (flag_holds true, refl),
+      (
+        buffer_of true (record { items = tokens }) fits (λ never. absurd cc),
+        (
+          (omega arith, lt-ltb window 9 (omega arith)),
+          ((flag_holds (flag_and_value last).0, sent_of window last h.is.never), last_of slot last long h.last),
+        ),
+      ),
+    )
 end_by true slot false tokens window last long fits h = let p = h.present in absurd cc
 end_by false slot true tokens window last long fits h = let p = h.present in absurd cc
 end_by false slot false tokens window last long fits h =
@@ -100,8 +107,8 @@ module _ (there : List Bool) (slot : ℕ) (states : List EndState) where
   pub ends_hold : (link_ends there slot).Holds states → AreEnds there slot states
   ends_hold h =
       let at : (i : ℕ) → i < length states → IsEnd (get_or there i false) slot (end_at i) = λ i lt.
-          subst (λ (k : ℕ). IsEnd (get_or there k false) slot (end_at i)) (length-take-le i states (omega (arith, lt)))
-          (end_holds (get_or there (length (take i states)) false) slot (end_at i) (chain_at (λ before. link_end (get_or there (length before) false) slot) [] states h.1 i absent_end lt)) in
+      subst (λ (k : ℕ). IsEnd (get_or there k false) slot (end_at i)) (length-take-le i states (omega (arith, lt)))
+      (end_holds (get_or there (length (take i states)) false) slot (end_at i) (chain_at (λ before. link_end (get_or there (length before) false) slot) [] states h.1 i absent_end lt)) in
       let len = h.0 in
       record {
         each = each_of IsEndState absent_end states (λ i lt. (at i lt).is);
@@ -110,11 +117,13 @@ module _ (there : List Bool) (slot : ℕ) (states : List EndState) where
       }
 
   pub ends_of : length states ≡ 8 → slot ≤ 4294967296 → AllByRecursion (λ state. BufferFits state.buffer) states → AreEnds there slot states → (link_ends there slot).Holds states
-  ends_of len long fits h =
-      (len, chain_of (λ before. link_end (get_or there (length before) false) slot) absent_end [] states (λ i lt.
-      subst (λ (k : ℕ). (link_end (get_or there k false) slot).Holds (end_at i)) (sym (length-take-le i states (omega (arith, lt))))
-      (end_of (get_or there i false) slot (end_at i) long (each_at (λ state. BufferFits state.buffer) states fits i absent_end lt) (record {
-        is = each_at IsEndState states h.each i absent_end lt;
-        present = h.present i (omega (arith, lt, len));
-        last = each_at (λ state. IfSome state.last (λ s. s < slot)) states h.last i absent_end lt;
-      }))))
+  ends_of len long fits h = (
+    len,
+    chain_of (λ before. link_end (get_or there (length before) false) slot) absent_end [] states (λ i lt.
+        subst (λ (k : ℕ). (link_end (get_or there k false) slot).Holds (end_at i)) (sym (length-take-le i states (omega (arith, lt))))
+        (end_of (get_or there i false) slot (end_at i) long (each_at (λ state. BufferFits state.buffer) states fits i absent_end lt) (record {
+          is = each_at IsEndState states h.each i absent_end lt;
+          present = h.present i (omega (arith, lt, len));
+          last = each_at (λ state. IfSome state.last (λ s. s < slot)) states h.last i absent_end lt;
+        }))),
+  )

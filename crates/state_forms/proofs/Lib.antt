@@ -5,7 +5,9 @@ pub mod ChanFacts
 pub mod Chans
 pub mod EndFacts
 pub mod Ends
+pub mod HeldFacts
 pub mod Holding
+pub mod InputFacts
 pub mod Inputs
 pub mod Slaves
 pub mod SyncFacts

@@ -63,10 +63,11 @@ module _ (taken : List Bool) (before : List SyncState) where
   sync_holds state h = sync_is state.used state.master state.slaves h.1.1.0 h.1.0.1 h.1.1.1
 
   sync_by : (used : Bool) (master slaves : ℕ) → IsSync taken before (state_of used master slaves) → IsTrue (is_master used master) × IsTrue (are_slaves taken before used slaves)
-  sync_by true master slaves h =
-      (lt-ltb master 8 h.is.master,
-      not_from_false (list_any (cannot_be_slave taken before) (members slaves)) (none_by taken before slaves (λ k lt its.
-      or_from (not (get_or taken k false)) (is_slave_of before k) (not_from_true (get_or taken k false) (h.not_free k its)) (h.alone k its))))
+  sync_by true master slaves h = (
+    lt-ltb master 8 h.is.master,
+    not_from_false (list_any (cannot_be_slave taken before) (members slaves)) (none_by taken before slaves (λ k lt its.
+        or_from (not (get_or taken k false)) (is_slave_of before k) (not_from_true (get_or taken k false) (h.not_free k its)) (h.alone k its))),
+  )
   sync_by false master slaves h = let none = h.is.unused refl in (eq-eqb master 0 none.0, eq-eqb slaves 0 none.1)
 
   pub sync_of : (state : SyncState) → IsSync taken before state → (sync taken before).Holds state
@@ -142,13 +143,15 @@ module _ (taken : List Bool) (states : List SyncState) where
       ])
 
   pub syncs_of : length states ≡ 7 → AllByRecursion (λ state. state.slaves < 256) states → AreSyncs taken states → (syncs taken).Holds states
-  syncs_of len fit h =
-      (len, chain_of (sync taken) unused_state [] states (λ i lt. sync_of taken (take i states) (sync_at i) (record {
-        is = h.are.each i unused_state lt;
-        fits = each_at (λ (state : SyncState). state.slaves < 256) states fit i unused_state lt;
-        not_free = λ k its. h.not_free k i its;
-        alone = alone_at h i lt;
-      })))
+  syncs_of len fit h = (
+    len,
+    chain_of (sync taken) unused_state [] states (λ i lt. sync_of taken (take i states) (sync_at i) (record {
+      is = h.are.each i unused_state lt;
+      fits = each_at (λ (state : SyncState). state.slaves < 256) states fit i unused_state lt;
+      not_free = λ k its. h.not_free k i its;
+      alone = alone_at h i lt;
+    })),
+  )
 
 -- ---- Where the threads are told by a test
 

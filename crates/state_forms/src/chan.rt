@@ -5,15 +5,6 @@ ghost use Rattle.chan_ends.specs.declared.state.ChanState.{ChanState};
 ghost use Rattle.byte_forms.specs.Forms.{word, option};
 ghost use Rattle.byte_forms.specs.Reading.{Gives};
 ghost use Rattle.state_forms.specs.Chans.{chan};
-ghost use Rattle.byte_forms.specs.Forms.{repeat};
-ghost use Rattle.byte_forms.specs.Laws.{Lawful};
-ghost use Rattle.std.specs.Prelude.{ℕ, Bool, List};
-ghost use Rattle.std.specs.List.{AllByRecursion};
-ghost use Rattle.state_forms.specs.Inputs.{inputs};
-ghost use Rattle.state_forms.specs.Ends.{link_ends};
-ghost use Rattle.link_ends.specs.declared.state.EndState.{EndState};
-ghost use Rattle.link_ends.specs.States.{IsEndState};
-ghost use Rattle.chan_ends.specs.States.{IsChanState};
 
 use crate::buffer::{read_buffer, write_buffer};
 use crate::field::Field;
@@ -22,13 +13,6 @@ use chan_ends::ChanState;
 use std::alloc::AllocError;
 use xs_base::Text;
 use xs_base::numbers::CHAN_END_KIND;
-
-fn try_all()
-    ensures a { (used there : List Bool) → Lawful (inputs used there) }
-    ensures b { (there : List Bool) (slot : ℕ) (states : List EndState) → (link_ends there slot).Holds states → AllByRecursion IsEndState states }
-    ensures c { (n : ℕ) (states : List ChanState) → (repeat n chan).Holds states → AllByRecursion IsChanState states }
-{
-}
 
 impl Field for ChanState {
     ghost Value = { ChanState };
