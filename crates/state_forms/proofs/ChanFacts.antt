@@ -1,5 +1,5 @@
 -- Channel ends that have the form are those that a state may have.
-use Rattle.std.proofs.Common.{◌≡◌, ℕ, ◌<◌, Bool, true, false, IsTrue, Option, Some, None, List, [], length, refl, arith}
+use Rattle.std.proofs.Common.{◌≡◌, ℕ, ◌<◌, true, false, Option, Some, None, List, refl, arith}
 use Rattle.std.proofs.lemmas.Bool.{ltb-true, lt-ltb}
 use Rattle.std.specs.Prelude.{is_some, IfSome}
 use Rattle.std.specs.List.{AllByRecursion}
@@ -9,7 +9,7 @@ use Rattle.chan_ends.specs.States.{IsChanState}
 use Rattle.byte_forms.specs.Forms.{word, option, repeat}
 use Rattle.state_forms.specs.Buffers.{BufferFits}
 use Rattle.state_forms.specs.Chans.{chan}
-use Rattle.state_forms.proofs.Holding.{flag_holds, repeat_holds, repeat_of, each_as}
+use Rattle.state_forms.proofs.Holding.{flag_holds, repeat_holds, each_as}
 use Rattle.state_forms.proofs.BufferFacts.{buffer_holds, buffer_of}
 
 dest_holds : (dest : Option ℕ) → (option word is_chan_id).Holds dest → IfSome dest (λ id. is_chan_id id ≡ true)

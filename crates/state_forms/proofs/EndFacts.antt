@@ -1,15 +1,14 @@
 -- Link ends that have the form are those that a state may have.
-use Rattle.std.proofs.Common.{◌≡◌, ℕ, ◌+◌, ◌<◌, ◌≤◌, Bool, true, false, IsTrue, cond, eqb, ltb, Option, Some, None, List, [], length, get_or, take, refl, sym, ap, subst, ◌∙◌, arith}
+use Rattle.std.proofs.Common.{◌≡◌, ℕ, ◌<◌, ◌≤◌, Bool, true, false, IsTrue, cond, ltb, Option, Some, None, List, [], length, get_or, take, refl, sym, ap, subst, ◌∙◌, arith}
 use Rattle.std.proofs.lemmas.Bool.{eqb-true, ltb-true, lt-ltb, eq-eqb}
 use Rattle.std.proofs.lemmas.List.{length-take-le}
 use Rattle.std.specs.Prelude.{IfSome, slice_index_or}
 use Rattle.std.specs.List.{AllByRecursion}
-use Rattle.arrayvec.specs.ArrayVec.{ArrayVec}
 use Rattle.xs_base.specs.declared.token.Token.{Token}
 use Rattle.link_ends.specs.declared.state.EndState.{EndState}
 use Rattle.link_ends.specs.States.{absent_end, IsEndState}
 use Rattle.byte_forms.specs.Forms.{flag_and_value}
-use Rattle.state_forms.specs.Buffers.{buffer, BufferFits}
+use Rattle.state_forms.specs.Buffers.{BufferFits}
 use Rattle.state_forms.specs.Ends.{is_there, may_have_sent, is_last, link_end, link_ends}
 use Rattle.state_forms.proofs.Holding.{flag_holds}
 use Rattle.state_forms.proofs.Chains.{chain_at, chain_of, each_of, each_at}

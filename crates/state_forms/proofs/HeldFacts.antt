@@ -1,18 +1,17 @@
 -- What inputs of the switch hold is in use, or there: by the channel ends and the link ends of the node.
-use Rattle.std.proofs.Common.{◌≡◌, ℕ, zero, suc, ◌<◌, Bool, true, false, List, [], ◌∷◌, length, get_or, map, refl, sym, ap, subst, ◌∙◌, arith}
+use Rattle.std.proofs.Common.{◌≡◌, ℕ, zero, suc, ◌<◌, Bool, true, false, List, [], ◌∷◌, get_or, map, refl, sym, ◌∙◌}
 use Rattle.std.specs.Prelude.{slice_index_or}
-use Rattle.std.proofs.lemmas.Bool.{eqb-true, false≢true}
+use Rattle.std.proofs.lemmas.Bool.{false≢true}
 use Rattle.xs_model.specs.Record.{unused_chan}
 use Rattle.net_model.specs.Switch.{is_local_to, is_out_by}
 use Rattle.chan_ends.specs.declared.state.ChanState.{ChanState}
 use Rattle.chan_ends.specs.States.{chan_of}
 use Rattle.link_ends.specs.declared.state.EndState.{EndState}
 use Rattle.link_ends.specs.States.{absent_end}
-use Rattle.switch_routes.specs.States.{input_of, IsInputState, AreInputStates}
+use Rattle.switch_routes.specs.States.{IsInputState, AreInputStates}
 use Rattle.switch_routes.specs.declared.state.InputState.{InputState}
 use Rattle.switch_routes.specs.declared.state.InputState.TheVariants as kept
 use Rattle.state_forms.proofs.Chains.{each_at}
-use Rattle.state_forms.proofs.EndFacts.{AreEnds}
 use Rattle.state_forms.proofs.InputFacts.{input_at, AreHeld, out_below, within, passes_here}
 
 -- a test of what elements stand for, told as a list of its answers

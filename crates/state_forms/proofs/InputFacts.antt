@@ -1,5 +1,5 @@
 -- Inputs of the switch that have the form are those that a node may have.
-use Rattle.std.proofs.Common.{◌≡◌, ℕ, zero, suc, ◌+◌, ◌-◌, ◌*◌, ◌/◌, ◌%◌, ◌<◌, ◌≤◌, Bool, true, false, not, ◌&&◌, IsTrue, eqb, ltb, leb, List, [], ◌∷◌, length, get_or, take, drop, map, refl, sym, ap, subst, ◌∙◌, arith, inl, inr}
+use Rattle.std.proofs.Common.{◌≡◌, ℕ, ◌+◌, ◌-◌, ◌*◌, ◌/◌, ◌%◌, ◌<◌, ◌≤◌, Bool, true, false, not, ◌&&◌, IsTrue, eqb, ltb, leb, List, [], length, get_or, take, drop, map, refl, sym, ap, subst, ◌∙◌, arith, inl, inr}
 use Rattle.std.specs.Prelude.{slice_index_or}
 use Rattle.std.specs.List.{list_any, AllByRecursion}
 use Rattle.std.proofs.lemmas.Bool.{eqb-true, eq-eqb, ltb-true, lt-ltb, leb-true, le-leb, and_parts, and_from, not_from_false, cases_Bool, cases_order, cases_lt, false≢true}
@@ -10,8 +10,6 @@ use Rattle.net_model.specs.Switch.{is_local_to, is_out_by}
 use Rattle.switch_routes.specs.States.{input_of, in_header, IsInputState, AreInputStates}
 use Rattle.switch_routes.specs.declared.state.InputState.{InputState}
 use Rattle.switch_routes.specs.declared.state.InputState.TheVariants as kept
-use Rattle.state_forms.specs.declared.input.Tag.{Tag}
-use Rattle.state_forms.specs.declared.input.Tag.TheVariants as tag
 use Rattle.state_forms.specs.Inputs.{may_be_at, tag_at, may_hold_chan, may_hold_end, is_operand, is_dest, is_net, input_of_fields, fields_of_input, input, inputs, InputFits}
 use Rattle.state_forms.proofs.Chains.{chain_at, chain_of, each_of, each_at}
 
