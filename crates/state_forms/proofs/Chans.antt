@@ -1,5 +1,5 @@
 -- The law of channel ends, and that those which have the form are those that a state may have.
-use Rattle.std.proofs.Common.{◌≡◌, ◌<◌, refl}
+use Rattle.std.proofs.Common.{refl}
 use Rattle.std.specs.Prelude.{is_some}
 use Rattle.net_model.specs.Chans.{is_chan_id}
 use Rattle.byte_forms.specs.Laws.{Lawful}

@@ -1,10 +1,10 @@
 -- The law of link ends, and that those which have the form are those that a state may have.
-use Rattle.std.proofs.Common.{◌≡◌, ℕ, ◌+◌, Bool, true, false, IsTrue, cond, eqb, ltb, Option, Some, None, List, length, get_or, refl, sym, ap}
+use Rattle.std.proofs.Common.{◌≡◌, ℕ, ◌+◌, Bool, true, false, IsTrue, cond, Option, Some, None, List, length, refl, sym, ap}
 use Rattle.std.proofs.lemmas.Bool.{eqb-true}
 use Rattle.std.specs.Prelude.{slice_index_or}
 use Rattle.byte_forms.specs.Forms.{option_of, flag_and_value}
 use Rattle.byte_forms.specs.Laws.{Lawful}
-use Rattle.state_forms.specs.Ends.{EndFields, end_of_fields, fields_of_end, is_there, may_have_sent, is_last, link_end, link_ends}
+use Rattle.state_forms.specs.Ends.{end_of_fields, fields_of_end, is_there, may_have_sent, is_last, link_end, link_ends}
 use Rattle.byte_forms.proofs.Fields.{byte-lawful, word-lawful}
 use Rattle.byte_forms.proofs.Parts.{where-lawful, both-lawful, seen-lawful, below-lawful, flag-lawful}
 use Rattle.byte_forms.proofs.Lists.{chain-lawful}

@@ -1,10 +1,10 @@
 -- The law of the inputs of the switch, and that those which have the form are those that a node may have.
-use Rattle.std.proofs.Common.{◌≡◌, ℕ, zero, suc, ◌+◌, ◌*◌, ◌/◌, ◌%◌, ◌<◌, Bool, true, false, ◌&&◌, IsTrue, eqb, ltb, List, ◌++◌, length, Ok, refl, sym, ap, subst, ◌∙◌, arith, inl, inr}
+use Rattle.std.proofs.Common.{◌≡◌, ℕ, zero, suc, ◌*◌, ◌/◌, ◌%◌, Bool, ◌&&◌, IsTrue, eqb, ltb, List, ◌++◌, length, Ok, refl, sym, ap, subst, arith, inl, inr}
 use Rattle.std.proofs.lemmas.Bool.{eqb-true, ltb-true, and_parts}
 use Rattle.switch_routes.specs.declared.state.InputState.{InputState}
 use Rattle.state_forms.specs.declared.input.Tag.{Tag}
 use Rattle.state_forms.specs.declared.input.Tag.TheVariants as tag
-use Rattle.byte_forms.specs.Forms.{Form, ◌>>=◌, AreBytes}
+use Rattle.byte_forms.specs.Forms.{Form}
 use Rattle.byte_forms.specs.Laws.{Lawful}
 use Rattle.state_forms.specs.Inputs.{number_of, tag_of, may_be_at, tag_at, is_operand, is_dest, is_net, InputFields, input_said, input_of_fields, fields_of_input, told_by, input_fields, input, inputs}
 use Rattle.byte_forms.proofs.Steps.{ok_is, bind_ok, bind_err}

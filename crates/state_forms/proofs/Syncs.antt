@@ -1,5 +1,5 @@
 -- The law of synchronisers, and that those which have the form are those that a core may have.
-use Rattle.std.proofs.Common.{◌≡◌, ℕ, Bool, List, refl}
+use Rattle.std.proofs.Common.{Bool, List, refl}
 use Rattle.sync_locks.specs.declared.state.SyncState.{SyncState}
 use Rattle.byte_forms.specs.Laws.{Lawful}
 use Rattle.state_forms.specs.Syncs.{sync_of_fields, fields_of_sync, is_master, are_slaves, sync, syncs}

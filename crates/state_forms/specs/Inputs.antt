@@ -122,3 +122,11 @@ input used there before = told_by (input_fields used there before) input_of_fiel
 -- the inputs of a switch
 abbrev pub inputs : List Bool → List Bool → Form (List InputState)
 inputs used there = chain INPUTS (input used there)
+
+-- what every input has: its numbers are of their types
+abbrev pub InputFits : InputState → Type 0
+InputFits (Head1 first) = first < 256
+InputFits (Head2 first second) = (first < 256) × (second < 256)
+InputFits (Want dest net) = dest < 4294967296
+InputFits (Out end count dest) = dest < 4294967296
+InputFits _ = Unit {0}

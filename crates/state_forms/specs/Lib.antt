@@ -8,5 +8,6 @@ pub mod Ports
 pub mod Buffers
 pub mod Chans
 pub mod Ends
-pub mod Syncs
 pub mod Inputs
+pub mod Syncs
+pub mod Tokens

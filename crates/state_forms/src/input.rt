@@ -188,7 +188,8 @@ fn is_operand(
         Tag::Head1 => operand < 65536 && operand % 256 == 0,
         Tag::Head2 => operand < 65536,
         Tag::Local => may_hold_chan(used, before, operand),
-        Tag::Out => may_hold_end(there, before, operand / 256) && operand % 256 <= u32::from(HEADER_BYTES),
+        Tag::Out => may_hold_end(there, before, operand / 256)
+            && operand % 256 <= u32::from(HEADER_BYTES),
         _ => operand == 0,
     }
 }

@@ -41,11 +41,7 @@ pub fn write_syncs(out: &mut Text, states: &[SyncState]) -> Result<(), AllocErro
 
 // Reads a synchroniser after those before it.
 #[tactic(auto, unfolding(crate::specs::Syncs::sync))]
-fn read_sync(
-    from: &mut Reader,
-    taken: &[bool; 8],
-    before: &[SyncState],
-) -> Result<SyncState, Fault>
+fn read_sync(from: &mut Reader, taken: &[bool; 8], before: &[SyncState]) -> Result<SyncState, Fault>
     ensures value { Gives (sync taken.now before.now) (λ s. s) from.old result from.new }
 {
     let used = from.read_flag()?;
@@ -130,8 +126,7 @@ fn is_wrong_slave(taken: &[bool; 8], before: &[SyncState], slaves: u8, thread: u
     requires { thread < THREADS }
     ensures { result ≡ (in_mask slaves thread && cannot_be_slave taken.now before.now thread) }
 {
-    has_bit(u32::from(slaves), thread)
-        && (!taken[thread as usize] || is_slave_of(before, thread))
+    has_bit(u32::from(slaves), thread) && (!taken[thread as usize] || is_slave_of(before, thread))
 }
 
 // Whether a thread is a slave of one of these.

@@ -1,10 +1,8 @@
-use Rattle.std.proofs.Common.{◌≡◌, ◌+◌, ℕ, false, List, [], ◌∷◌, ◌++◌, length, take, set, Ok, sym, subst, ap, ◌∙◌, arith}
-use Rattle.std.specs.Prelude.{slice_index_or}
+use Rattle.std.proofs.Common.{◌≡◌, ◌+◌, List, [], ◌∷◌, ◌++◌, take, set, Ok, subst, ◌∙◌, arith}
 use Rattle.std.proofs.lemmas.Result.{err_from_is_err_and}
-use Rattle.std.proofs.lemmas.List.{length-set, length-take, take_all, take_more_set}
+use Rattle.std.proofs.lemmas.List.{length-set, take_all, take_more_set}
 use Rattle.sync_locks.specs.declared.state.SyncState.{SyncState}
 use Rattle.byte_forms.specs.Forms.{Form, read_chain}
-use Rattle.byte_forms.specs.Reading.{Refuses}
 use Rattle.byte_forms.proofs.Lists.{reads_on, refuses_all, reads_all}
 use Rattle.state_forms.specs.Syncs.{sync}
 use Rattle.state_forms.proofs.sync.read_syncs.Goals as goal

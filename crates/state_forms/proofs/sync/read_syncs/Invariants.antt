@@ -1,5 +1,4 @@
-use Rattle.std.proofs.Common.{◌≡◌, ◌-◌, false, [], length, take}
-use Rattle.std.specs.Prelude.{slice_index_or}
+use Rattle.std.proofs.Common.{◌≡◌, ◌-◌, [], length, take}
 use Rattle.byte_forms.specs.Forms.{read_chain}
 use Rattle.state_forms.specs.Syncs.{sync}
 use Rattle.state_forms.proofs.sync.read_syncs.Given as goal

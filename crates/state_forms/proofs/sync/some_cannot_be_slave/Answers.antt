@@ -1,4 +1,4 @@
-use Rattle.std.proofs.Common.{◌≡◌, sym, ◌∙◌, arith}
+use Rattle.std.proofs.Common.{sym, ◌∙◌, arith}
 use Rattle.state_forms.proofs.Slaves.{some_more, some_here, none_of}
 use Rattle.state_forms.proofs.sync.some_cannot_be_slave.Goals as goal
 

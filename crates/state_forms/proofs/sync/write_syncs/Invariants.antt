@@ -1,5 +1,4 @@
-use Rattle.std.proofs.Common.{◌≡◌, ◌++◌, ℕ, Bool, false, List, [], length, take, drop}
-use Rattle.std.specs.Prelude.{slice_index_or}
+use Rattle.std.proofs.Common.{◌≡◌, ◌++◌, Bool, List, [], take, drop}
 use Rattle.byte_forms.specs.Forms.{write_chain}
 use Rattle.state_forms.specs.Syncs.{sync}
 use Rattle.state_forms.proofs.sync.write_syncs.Given as goal
