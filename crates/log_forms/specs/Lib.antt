@@ -1,3 +1,4 @@
 pub mod Entries
 pub mod Windows
 pub mod Logs
+pub mod InFlight

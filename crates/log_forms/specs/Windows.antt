@@ -26,7 +26,8 @@ abbrev pub windows_fit : EndsRec → Counts → Bool
 windows_fit ends back =
     is_open ends.a.window (counts_of ends.forth).tokens ends.b.buffered back.credits
     && is_open ends.b.window back.tokens ends.a.buffered (counts_of ends.forth).credits
-    && (nat_le ends.a.window WINDOW_TOKENS && nat_le ends.b.window WINDOW_TOKENS)
+    && nat_le ends.a.window WINDOW_TOKENS
+    && nat_le ends.b.window WINDOW_TOKENS
 
 -- of a link's first directed link nothing is asked
 abbrev pub law_holds : Option EndsRec → Counts → Bool

@@ -4,7 +4,9 @@
 mod counts;
 mod ends;
 mod entry;
+mod facts;
 mod log;
 
 pub use ends::{Ends, Held};
+pub use facts::{logs_are_lawful, logs_have_facts};
 pub use log::{read_link_log, read_wire_log, write_log};

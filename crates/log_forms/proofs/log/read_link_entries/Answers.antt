@@ -1,9 +1,9 @@
-use Rattle.std.proofs.Common.{◌≡◌, ◌<◌, List, [], ◌∷◌, ◌++◌, length, subst, sym, ap, ◌∙◌, arith}
+use Rattle.std.proofs.Common.{◌≡◌, List, [], ◌∷◌, ◌++◌, ap, ◌∙◌, arith}
 use Rattle.std.proofs.lemmas.Result.{err_from_is_err_and}
 use Rattle.xs_base.specs.declared.entry.Entry.{Entry}
 use Rattle.byte_forms.specs.Forms.{Form}
 use Rattle.byte_forms.proofs.Lists.{reads_on, refuses_all, reads_all}
-use Rattle.log_forms.specs.Entries.{kind_of, before_of}
+use Rattle.log_forms.specs.Entries.{before_of}
 use Rattle.log_forms.specs.Windows.{link_entry}
 use Rattle.log_forms.proofs.Pushes.{length_push}
 use Rattle.log_forms.proofs.log.read_link_entries.Goals as goal

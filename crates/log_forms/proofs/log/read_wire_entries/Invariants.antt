@@ -1,4 +1,4 @@
-use Rattle.std.proofs.Common.{◌≡◌, ◌-◌, None, [], length}
+use Rattle.std.proofs.Common.{◌≡◌, ◌-◌, None, []}
 use Rattle.std.specs.List.{last_or}
 use Rattle.byte_forms.specs.Forms.{read_chain}
 use Rattle.log_forms.specs.Entries.{wire_entry}

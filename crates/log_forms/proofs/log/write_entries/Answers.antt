@@ -1,8 +1,8 @@
-use Rattle.std.proofs.Common.{◌≡◌, ◌+◌, List, [], ◌∷◌, ◌++◌, get_or, take, drop, sym, ap, ◌∙◌}
-use Rattle.std.proofs.lemmas.List.{take_more, drop_more, drop_all}
+use Rattle.std.proofs.Common.{List, [], ◌++◌, take}
+use Rattle.std.proofs.lemmas.List.{drop_all}
 use Rattle.xs_base.specs.declared.entry.Entry.{Entry}
 use Rattle.byte_forms.specs.Forms.{Form, write_chain}
-use Rattle.byte_forms.proofs.Lists.{writes_on, writes_all}
+use Rattle.byte_forms.proofs.Lists.{writes_all}
 use Rattle.log_forms.specs.Entries.{any_entry}
 use Rattle.log_forms.proofs.Writes.{writes_more}
 use Rattle.log_forms.proofs.log.write_entries.Goals as goal

@@ -1,4 +1,3 @@
-use Rattle.std.proofs.Common.{sym, ◌∙◌}
 use Rattle.std.proofs.lemmas.Result.{on_ok_weaker}
 use Rattle.log_forms.specs.Logs.{seen}
 use Rattle.log_forms.proofs.Writes.{log_written, link_bytes, wire_bytes}
