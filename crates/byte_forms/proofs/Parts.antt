@@ -3,7 +3,7 @@ use Rattle.std.proofs.Common.{◌≡◌, ℕ, zero, suc, ◌≤◌, Bool, true, 
 use Rattle.std.proofs.Common.{refl, sym, ap, subst, ◌∙◌, append_assoc, arith, inl, inr}
 use Rattle.std.proofs.lemmas.Bool.{eqb-true, ltb-true}
 use Rattle.std.proofs.lemmas.List.{length-append}
-use Rattle.byte_forms.specs.Forms.{Form, ◌>>=◌, where_is, both, seen_as, below, flag_of, byte_of_flag, flag, option_of, flag_and_value, option, option_below}
+use Rattle.byte_forms.specs.Forms.{Form, ◌>>=◌, where_is, both, seen_as, told_by, below, flag_of, byte_of_flag, flag, option_of, flag_and_value, option, option_below}
 use Rattle.byte_forms.specs.Laws.{Lawful}
 use Rattle.byte_forms.proofs.Steps.{ok_is, bind_ok, bind_err, fact_ok, fact_err, bytes_after}
 use Rattle.byte_forms.proofs.Fields.{byte-lawful}
@@ -69,6 +69,24 @@ seen-lawful-where {A} {B} {f} to from law back again = record {
 -- the same, where `from` leads back of all values
 pub seen-lawful : {A B : Type 0} {f : Form A} (to : A → B) (from : B → A) → Lawful f → ((a : A) → f.Holds a → from (to a) ≡ a) → ((b : B) → to (from b) ≡ b) → Lawful (seen_as f to from)
 seen-lawful to from law back again = seen-lawful-where to from law back (λ b h. again b)
+
+-- of a type that has other values too
+pub told-lawful : {A B : Type 0} {f : Form A} (to : A → B) (from : B → A) → Lawful f → ((a : A) → f.Holds a → from (to a) ≡ a) → Lawful (told_by f to from)
+told-lawful {A} {B} {f} to from law back = record {
+  found = λ bytes v rest fit e.
+      let b = bind_ok (f.read bytes) (λ x. Ok (to x.0, x.1)) (v, rest) e in
+      let t = law.found bytes b.0.0 b.0.1 fit b.1 in
+      let same : b.0.0 ≡ from (to b.0.0) = sym (back b.0.0 t.1) in
+      let here = subst (λ (a : A). (bytes ≡ f.write a ++ b.0.1) × f.Holds a) same t in
+      subst (λ (x : B × List ℕ). (bytes ≡ f.write (from x.0) ++ x.1) × (f.Holds (from x.0) × (to (from x.0) ≡ x.0))) (ok_is (to b.0.0, b.0.1) (v, rest) b.2)
+      (here.0, (here.1, ap to (sym same)));
+  again = λ v rest h. rw (law.again (from v) rest h.0, h.1) refl;
+  within = λ bytes left fit e.
+      elim (bind_err (f.read bytes) (λ x. Ok (to x.0, x.1)) left e) [
+        | inl h ↦ law.within bytes left fit h
+        | inr h ↦ let k = h.2 in absurd cc
+      ];
+}
 
 pub below-lawful : {f : Form ℕ} (limit : ℕ) → Lawful f → Lawful (below f limit)
 below-lawful limit law = where-lawful (λ n. ltb n limit) law

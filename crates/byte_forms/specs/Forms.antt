@@ -79,6 +79,14 @@ seen_as f to from = record {
   Holds = λ b. f.Holds (from b);
 }
 
+-- the same of a type that has other values too, which have no form
+abbrev pub told_by : {A B : Type 0} → Form A → (A → B) → (B → A) → Form B
+told_by f to from = record {
+  read = λ bytes. f.read bytes >>= λ x. Ok (to x.0, x.1);
+  write = λ b. f.write (from b);
+  Holds = λ b. f.Holds (from b) × (to (from b) ≡ b);
+}
+
 -- a number below a limit
 abbrev pub below : Form ℕ → ℕ → Form ℕ
 below f limit = where_is f (λ n. nat_lt n limit)

@@ -16,16 +16,16 @@ use Rattle.link_ends.specs.declared.state.EndState.{EndState}
 use Rattle.core_step.specs.declared.node_state.NodeState.{NodeState}
 use Rattle.snap_parts.specs.declared.node.SnapNode.{SnapNode}
 use Rattle.xs_model.specs.FirstEvents.{kept_at_most}
-use Rattle.byte_forms.specs.Forms.{Form, word, long, below, both, repeat, seen_as}
+use Rattle.byte_forms.specs.Forms.{Form, word, long, below, both, repeat, seen_as, told_by}
 use Rattle.state_forms.specs.Threads.{thread}
 use Rattle.state_forms.specs.Chans.{chan}
 use Rattle.state_forms.specs.Timers.{timer, clock}
 use Rattle.state_forms.specs.Syncs.{syncs}
 use Rattle.state_forms.specs.Locks.{lock}
-use Rattle.state_forms.specs.Ports.{ports}
+use Rattle.port_forms.specs.Ports.{ports}
 use Rattle.state_forms.specs.Enables.{enable}
-use Rattle.state_forms.specs.Inputs.{inputs, told_by}
-use Rattle.state_forms.specs.Ends.{link_ends}
+use Rattle.switch_forms.specs.Inputs.{inputs}
+use Rattle.switch_forms.specs.Ends.{link_ends}
 use Rattle.state_forms.specs.Rest.{division, levels, memory}
 
 -- ---- Threads and resources

@@ -3,15 +3,16 @@ ghost use Rattle.std.specs.Prelude.{◌≡◌, length};
 ghost use Rattle.byte_forms.specs.Reading.{Gives};
 ghost use Rattle.node_forms.specs.Nodes.{core_fields, core_in, enable_fields, enables_in, net_fields, net_in, node_state, snap_node, used_of};
 
-use crate::places::{read_chans, read_clocks, read_enables, read_locks, read_timers, taken_of, used_of};
+use crate::places::{
+    read_chans, read_clocks, read_enables, read_locks, read_timers, taken_of, used_of,
+};
 use byte_forms::{Fault, Reader};
 use core_step::NodeState;
+use port_forms::read_ports;
 use snap_parts::SnapNode;
-use state_forms::{
-    read_division, read_inputs, read_levels, read_link_ends, read_memory, read_ports, read_syncs,
-    read_threads,
-};
+use state_forms::{read_division, read_levels, read_memory, read_syncs, read_threads};
 use std::alloc::Global;
+use switch_forms::{read_inputs, read_link_ends};
 
 /// Reads the block of a node of which the plan has these link ends, in a snapshot of this slot. See docs/SNAPSHOTS.md.
 #[tactic(auto, unfolding(crate::specs::Nodes::snap_node))]
@@ -56,7 +57,11 @@ fn read_core(from: &mut Reader, slot: u32, state: &mut NodeState) -> Result<(), 
     read_chans(from, &mut state.chans)?;
     read_timers(from, &mut state.timers)?;
     read_clocks(from, &mut state.clocks)?;
-    read_syncs(from, &taken_of(&state.threads, &state.last), &mut state.syncs)?;
+    read_syncs(
+        from,
+        &taken_of(&state.threads, &state.last),
+        &mut state.syncs,
+    )?;
     read_locks(from, &mut state.locks)?;
     state.ports = read_ports(from)?;
     Ok(())

@@ -10,9 +10,8 @@ use Rattle.event_unit.specs.States.{IsEnableState, AreEnableStates}
 use Rattle.byte_forms.specs.Forms.{repeat}
 use Rattle.byte_forms.specs.Laws.{Lawful}
 use Rattle.byte_forms.proofs.Fields.{byte-lawful, word-lawful}
-use Rattle.byte_forms.proofs.Parts.{both-lawful, below-lawful, flag-lawful, seen-lawful}
+use Rattle.byte_forms.proofs.Parts.{both-lawful, below-lawful, flag-lawful, seen-lawful, seen-lawful-where}
 use Rattle.state_forms.proofs.Holding.{flag_holds, repeat_holds, repeat_of, each_as}
-use Rattle.state_forms.proofs.Seen.{seen-held}
 use Rattle.state_forms.specs.Enables.{thread_before, byte_after, enabler, enable_of_fields, enable_fields, enable}
 
 -- ---- Who enabled a resource
@@ -44,7 +43,7 @@ thread_again (Some k) h =
 
 pub enabler-lawful : Lawful enabler
 unfolding enabler
-enabler-lawful = seen-held thread_before byte_after (below-lawful 9 byte-lawful) (λ n h. byte_back n h.1) (λ by h. thread_again by h.1)
+enabler-lawful = seen-lawful-where thread_before byte_after (below-lawful 9 byte-lawful) (λ n h. byte_back n h.1) (λ by h. thread_again by h.1)
 
 -- ---- What a resource gives
 

@@ -1,13 +1,9 @@
+pub mod Buffers
+pub mod Chans
 pub mod Enables
 pub mod Locks
 pub mod Rest
+pub mod Syncs
 pub mod Threads
 pub mod Timers
-pub mod Tokens
-pub mod Ports
-pub mod Buffers
-pub mod Chans
-pub mod Ends
-pub mod Inputs
-pub mod Syncs
 pub mod Tokens

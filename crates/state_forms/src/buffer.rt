@@ -20,7 +20,7 @@ fn limit(may_have: bool) -> u8
 
 /// Reads a buffer, which has tokens only where it may have some.
 #[tactic(auto, unfolding(crate::specs::Buffers::buffer))]
-pub(crate) fn read_buffer(from: &mut Reader, may_have: bool) -> Result<ArrayVec<Token, 8>, Fault>
+pub fn read_buffer(from: &mut Reader, may_have: bool) -> Result<ArrayVec<Token, 8>, Fault>
     ensures value { Gives (buffer may_have) (λ tokens. tokens) from.old result from.new }
 {
     let count = from.read_byte_below(limit(may_have))?;
@@ -29,7 +29,7 @@ pub(crate) fn read_buffer(from: &mut Reader, may_have: bool) -> Result<ArrayVec<
 
 /// Writes a buffer.
 #[tactic(auto, unfolding(crate::specs::Buffers::buffer))]
-pub(crate) fn write_buffer(out: &mut Text, tokens: &ArrayVec<Token, 8>) -> Result<(), AllocError>
+pub fn write_buffer(out: &mut Text, tokens: &ArrayVec<Token, 8>) -> Result<(), AllocError>
     ensures value { OnOk result ((may_have : Bool) → out.new ≡ out.old ++ (buffer may_have).write tokens.now) }
 {
     write_byte(out, tokens.len() as u8)?;

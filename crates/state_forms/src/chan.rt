@@ -68,8 +68,8 @@ fn is_dest(there: bool, id: u32) -> bool
     if there { is_chan_id(id) } else { id == 0 }
 }
 
-// Whether an identifier's low byte is that of channel ends.
-pub(crate) fn is_chan_id(id: u32) -> bool
+/// Whether an identifier's low byte is that of channel ends.
+pub fn is_chan_id(id: u32) -> bool
     ensures { result ≡ is_chan_id id }
 {
     id % 256 == u32::from(CHAN_END_KIND)

@@ -280,6 +280,7 @@ pub fn read_threads(
     last: &mut [Option<u32>; 8],
 ) -> Result<(), Fault>
     ensures value { Gives (repeat 8 (thread slot)) (λ _. zip threads.new last.new) from.old result from.new }
+    ensures long { length threads.new ≡ length last.new }
 {
     for k in 0..8 {
         let (th, its_last) = read_thread(from, slot)?;

@@ -7,5 +7,16 @@ pub returns : goal.returns
 unfolding node_state
 returns c =
     let s = c.read_net.new.state in
-    record { value = grind (c.in_ok-read_core.ensures.value, c.in_ok-read_all_enables.ensures.value, c.in_ok-read_all_enables.ensures.core, c.in_ok-read_net.ensures.value, c.in_ok-read_net.ensures.core,
-    c.in_ok-read_net.ensures.enables, firsts s.threads s.last c.read_net.ensures.long, seconds s.threads s.last c.read_net.ensures.long, common_steps) }
+    record {
+      value = grind (
+        c.in_ok-read_core.ensures.value,
+        c.in_ok-read_all_enables.ensures.value,
+        c.in_ok-read_all_enables.ensures.core,
+        c.in_ok-read_net.ensures.value,
+        c.in_ok-read_net.ensures.core,
+        c.in_ok-read_net.ensures.enables,
+        firsts s.threads s.last c.read_net.ensures.long,
+        seconds s.threads s.last c.read_net.ensures.long,
+        common_steps,
+      );
+    }

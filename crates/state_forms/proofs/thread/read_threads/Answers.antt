@@ -1,4 +1,4 @@
-use Rattle.std.proofs.Common.{◌≡◌, ℕ, ◌+◌, List, [], ◌∷◌, ◌++◌, Option, length, take, set, ◌∙◌, arith}
+use Rattle.std.proofs.Common.{◌≡◌, ℕ, ◌+◌, List, [], ◌∷◌, ◌++◌, Option, length, take, set, sym, ◌∙◌, arith}
 use Rattle.std.proofs.lemmas.Result.{err_from_is_err_and}
 use Rattle.std.proofs.lemmas.List.{length-set, length-take, take_all, take_more_set}
 use Rattle.std.specs.List.{zip}
@@ -15,7 +15,7 @@ returns-in_err-th c =
     let form : List (Thread × Option ℕ) → Form (Thread × Option ℕ) = λ before. thread c.args.slot in
     let refused = refuses_all form 8 c.loop-k.k (zip (take c.loop-k.k c.loop-k.threads) (take c.loop-k.k c.loop-k.last)) c.loop-k.from c.args.from.now
     c.loop-k.invariant.so_far c.in_err-th.field-0.0 (omega arith) c.in_err-th.ensures.value in
-    rw (p.1, p.2) (record { value = refused })
+    rw (p.1, p.2) (record { value = refused; long = c.loop-k.invariant.threads ∙ sym c.loop-k.invariant.last })
 
 pub loop-k-preserved : goal.loop-k-preserved
 loop-k-preserved c =
@@ -40,4 +40,7 @@ returns c =
     let form : List (Thread × Option ℕ) → Form (Thread × Option ℕ) = λ before. thread c.args.slot in
     let k = c.loop-k.k in
     let all = reads_all form 8 k (zip (take k c.loop-k.threads) (take k c.loop-k.last)) c.loop-k.from c.args.from.now c.loop-k.invariant.so_far (omega arith) in
-    record { value = rw (take_all k c.loop-k.threads (omega arith), take_all k c.loop-k.last (omega arith)) at all }
+    record {
+      value = rw (take_all k c.loop-k.threads (omega arith), take_all k c.loop-k.last (omega arith)) at all;
+      long = c.loop-k.invariant.threads ∙ sym c.loop-k.invariant.last;
+    }

@@ -1,0 +1,5 @@
+pub mod Inputs
+pub mod InputFacts
+pub mod Ends
+pub mod EndFacts
+pub mod HeldFacts
