@@ -4,4 +4,4 @@
 mod node;
 mod places;
 
-pub use node::read_node;
+pub use node::{read_node, write_node};

@@ -1,18 +1,24 @@
 //! The block of a node.
-ghost use Rattle.std.specs.Prelude.{◌≡◌, length};
+ghost use Rattle.std.specs.Prelude.{◌≡◌, ◌++◌, List, Bool, length, OnOk};
+ghost use Rattle.xs_base.specs.Numbers.{Slot};
 ghost use Rattle.byte_forms.specs.Reading.{Gives};
 ghost use Rattle.node_forms.specs.Nodes.{core_fields, core_in, enable_fields, enables_in, net_fields, net_in, node_state, snap_node, used_of};
 
 use crate::places::{
-    read_chans, read_clocks, read_enables, read_locks, read_timers, taken_of, used_of,
+    read_chans, read_clocks, read_enables, read_locks, read_timers, taken_of, used_of, write_chans,
+    write_clocks, write_enables, write_locks, write_timers,
 };
-use byte_forms::{Fault, Reader};
+use byte_forms::{Fault, Reader, write_long, write_word};
 use core_step::NodeState;
-use port_forms::read_ports;
+use port_forms::{read_ports, write_ports};
 use snap_parts::SnapNode;
-use state_forms::{read_division, read_levels, read_memory, read_syncs, read_threads};
-use std::alloc::Global;
-use switch_forms::{read_inputs, read_link_ends};
+use state_forms::{
+    read_division, read_levels, read_memory, read_syncs, read_threads, write_division,
+    write_levels, write_memory, write_syncs, write_threads,
+};
+use std::alloc::{AllocError, Global};
+use switch_forms::{read_inputs, read_link_ends, write_inputs, write_link_ends};
+use xs_base::Text;
 
 /// Reads the block of a node of which the plan has these link ends, in a snapshot of this slot. See docs/SNAPSHOTS.md.
 #[tactic(auto, unfolding(crate::specs::Nodes::snap_node))]
@@ -99,4 +105,60 @@ fn read_net(
     read_levels(from, &mut state.levels)?;
     state.memory = read_memory(alloc, from)?;
     Ok(())
+}
+
+/// Writes the block of a node. The error is want of memory. See docs/SNAPSHOTS.md.
+#[tactic(auto, unfolding(crate::specs::Nodes::snap_node))]
+pub fn write_node(out: &mut Text, node: &SnapNode) -> Result<(), AllocError>
+    ensures value { OnOk result ((there : List Bool) (slot : Slot) → out.new ≡ out.old ++ (snap_node there slot).write node.now) }
+{
+    write_word(out, node.kept)?;
+    write_long(out, node.more)?;
+    write_state(out, &node.state)
+}
+
+// Writes the state of a node.
+#[tactic(auto, unfolding(crate::specs::Nodes::node_state))]
+fn write_state(out: &mut Text, state: &NodeState) -> Result<(), AllocError>
+    ensures { OnOk result ((there : List Bool) (slot : Slot) → out.new ≡ out.old ++ (node_state there slot).write state.now) }
+{
+    write_core(out, state)?;
+    write_all_enables(out, state)?;
+    write_net(out, state)
+}
+
+// Writes the threads and the resources.
+#[tactic(auto, unfolding(crate::specs::Nodes::core_fields))]
+fn write_core(out: &mut Text, state: &NodeState) -> Result<(), AllocError>
+    ensures { OnOk result ((slot : Slot) → out.new ≡ out.old ++ (core_fields slot).write (core_in state.now)) }
+{
+    write_threads(out, &state.threads, &state.last)?;
+    write_chans(out, &state.chans)?;
+    write_timers(out, &state.timers)?;
+    write_clocks(out, &state.clocks)?;
+    write_syncs(out, &state.syncs)?;
+    write_locks(out, &state.locks)?;
+    write_ports(out, &state.ports)
+}
+
+// Writes what the resources give.
+#[tactic(auto, unfolding(crate::specs::Nodes::enable_fields))]
+fn write_all_enables(out: &mut Text, state: &NodeState) -> Result<(), AllocError>
+    ensures { OnOk result (out.new ≡ out.old ++ enable_fields.write (enables_in state.now)) }
+{
+    write_enables(out, &state.chan_enables)?;
+    write_enables(out, &state.timer_enables)?;
+    write_enables(out, &state.port_enables)
+}
+
+// Writes the inputs of the switch, the link ends and all the rest.
+#[tactic(auto, unfolding(crate::specs::Nodes::net_fields))]
+fn write_net(out: &mut Text, state: &NodeState) -> Result<(), AllocError>
+    ensures { OnOk result ((used there : List Bool) (slot : Slot) → out.new ≡ out.old ++ (net_fields used there slot).write (net_in state.now)) }
+{
+    write_inputs(out, &state.inputs)?;
+    write_link_ends(out, &state.ends)?;
+    write_division(out, state.division)?;
+    write_levels(out, &state.levels)?;
+    write_memory(out, &state.memory)
 }

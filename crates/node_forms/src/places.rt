@@ -1,5 +1,5 @@
 //! Rows of fields of one kind, and what other fields ask of them.
-ghost use Rattle.std.specs.Prelude.{◌≡◌, length, zip};
+ghost use Rattle.std.specs.Prelude.{◌≡◌, ◌++◌, ℕ, length, zip, OnOk};
 ghost use Rattle.xs_base.specs.declared.numbers.TheConstants.{CHAN_ENDS, TIMERS, CLOCK_BLOCKS, LOCKS};
 ghost use Rattle.step_model.specs.ThreadRows.{is_taken};
 ghost use Rattle.byte_forms.specs.Forms.{repeat};
@@ -13,9 +13,11 @@ ghost use Rattle.node_forms.specs.Nodes.{taken_of, used_of};
 use byte_forms::{Fault, Reader};
 use chan_ends::ChanState;
 use event_unit::EnableState;
-use state_forms::read_places;
+use state_forms::{read_places, write_each};
+use std::alloc::AllocError;
 use sync_locks::LockState;
 use timers_clocks::{ClockState, TimerState};
+use xs_base::Text;
 use xs_base::numbers::CHAN_ENDS;
 use xs_model::{Run, Thread};
 
@@ -53,6 +55,41 @@ pub(crate) fn read_enables(from: &mut Reader, enables: &mut [EnableState]) -> Re
     ensures count { length enables.new ≡ length enables.old }
 {
     read_places(from, enables)
+}
+
+/// Writes the channel ends. The error is want of memory, as of all that write here.
+pub(crate) fn write_chans(out: &mut Text, chans: &[ChanState; 32]) -> Result<(), AllocError>
+    ensures { OnOk result (out.new ≡ out.old ++ (repeat CHAN_ENDS chan).write chans.now) }
+{
+    write_each(out, chans)
+}
+
+/// Writes the timers.
+pub(crate) fn write_timers(out: &mut Text, timers: &[TimerState; 10]) -> Result<(), AllocError>
+    ensures { OnOk result (out.new ≡ out.old ++ (repeat TIMERS timer).write timers.now) }
+{
+    write_each(out, timers)
+}
+
+/// Writes the clock blocks.
+pub(crate) fn write_clocks(out: &mut Text, clocks: &[ClockState; 6]) -> Result<(), AllocError>
+    ensures { OnOk result (out.new ≡ out.old ++ (repeat CLOCK_BLOCKS clock).write clocks.now) }
+{
+    write_each(out, clocks)
+}
+
+/// Writes the locks.
+pub(crate) fn write_locks(out: &mut Text, locks: &[LockState; 4]) -> Result<(), AllocError>
+    ensures { OnOk result (out.new ≡ out.old ++ (repeat LOCKS lock).write locks.now) }
+{
+    write_each(out, locks)
+}
+
+/// Writes what some resources give.
+pub(crate) fn write_enables(out: &mut Text, enables: &[EnableState]) -> Result<(), AllocError>
+    ensures { OnOk result ((n : ℕ) → out.new ≡ out.old ++ (repeat n enable).write enables.now) }
+{
+    write_each(out, enables)
 }
 
 /// Which channel ends are in use.

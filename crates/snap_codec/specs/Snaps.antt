@@ -27,10 +27,9 @@ text_at = 19
 
 -- ---- Snapshots
 
--- a system text, its plan, and what a run of it has come to
+-- a system text, and what a run of it has come to
 pub record SnapRec : Type 0 where
   pub text : List ℕ
-  pub plan : PlanRec
   pub body : BodyRec
 
 -- what bytes stand for: a snapshot, or a fault at a byte
@@ -38,14 +37,14 @@ pub data SnapRead : Type 0 where
   Snap : SnapRec → SnapRead
   Fault : (byte : ℕ) (kind : SnapKind) → SnapRead
 
--- what is left of the bytes stands for all but the text, which has this plan; they are so many in all
-abbrev pub snap_with : ℕ → List ℕ → PlanRec → Result BodyRec ℕ → SnapRead
-snap_with count text plan (Ok body) = Snap (record { text = text; plan = plan; body = body })
-snap_with count text plan (Err left) = Fault (count - left) BadSnapshot
+-- what is left of so many bytes in all, where the text stands for a plan
+abbrev pub snap_with : ℕ → List ℕ → Result BodyRec ℕ → SnapRead
+snap_with count text (Ok body) = Snap (record { text = text; body = body })
+snap_with count text (Err left) = Fault (count - left) BadSnapshot
 
 -- the same, by what the text stands for: a system that is refused is told at the first byte of its text
 abbrev pub snap_by : ℕ → List ℕ → List ℕ → System → SnapRead
-snap_by count text rest (stands.Plan plan) = snap_with count text plan (read_whole (body plan) rest)
+snap_by count text rest (stands.Plan plan) = snap_with count text (read_whole (body plan) rest)
 snap_by count text rest _ = Fault text_at SystemRefused
 
 abbrev pub snap_after : ℕ → Result (List ℕ × List ℕ) ℕ → SnapRead
@@ -62,13 +61,12 @@ snap_of bytes = if nat_lt longest_snapshot (length bytes) then Fault 0 TooLong e
 
 -- ---- Written
 
--- the bytes of a snapshot
-abbrev pub snap_bytes : SnapRec → List ℕ
-snap_bytes snap = head.write snap.text ++ (body snap.plan).write snap.body
+-- the bytes of a snapshot whose text has this plan
+abbrev pub snap_bytes : PlanRec → SnapRec → List ℕ
+snap_bytes plan snap = head.write snap.text ++ (body plan).write snap.body
 
--- a snapshot that bytes may be of: its text is that of its plan, and the rest has its form
-pub record IsSnap (snap : SnapRec) : Type 0 where
-  pub text : system_of snap.text ≡ stands.Plan snap.plan
+-- a snapshot that bytes stand for: its text has this plan, and all else the form
+pub record IsSnap (plan : PlanRec) (snap : SnapRec) : Type 0 where
+  pub text : system_of snap.text ≡ stands.Plan plan
   pub head : head.Holds snap.text
-  pub body : (body snap.plan).Holds snap.body
-  pub short : length (snap_bytes snap) ≤ longest_snapshot
+  pub body : (body plan).Holds snap.body
