@@ -5,7 +5,8 @@ use Rattle.std.specs.Prelude.{Option}
 use Rattle.xs_base.specs.Numbers.{Slot}
 use Rattle.xs_model.specs.declared.thread.Thread.{Thread}
 use Rattle.step_model.specs.ThreadRows.{is_taken}
-use Rattle.node_forms.specs.Nodes.{taken_of}
+use Rattle.core_step.specs.declared.node_state.NodeState.{NodeState}
+use Rattle.node_forms.specs.Nodes.{taken_of, state_of_fields, fields_of_state}
 
 -- the threads alone tell which are not free
 pub taken_alone : (threads : List Thread) (last : List (Option Slot)) → length threads ≡ length last → map (λ th. is_taken th.run) threads ≡ taken_of (zip threads last)
@@ -24,3 +25,7 @@ seconds [] [] long = refl
 seconds [] (y ∷ ys) long = absurd (omega (arith, long))
 seconds (x ∷ xs) [] long = absurd (omega (arith, long))
 seconds (x ∷ xs) (y ∷ ys) long = ap (λ rest. y ∷ rest) (seconds xs ys (omega (arith, long)))
+
+-- a state with as many last issues as threads is that of its parts
+pub state_again : (s : NodeState) → length s.threads ≡ length s.last → state_of_fields (fields_of_state s) ≡ s
+state_again s long = λ i. record s { threads = firsts s.threads s.last long i; last = seconds s.threads s.last long i }

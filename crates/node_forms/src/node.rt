@@ -78,7 +78,8 @@ fn read_core(from: &mut Reader, slot: u32, state: &mut NodeState) -> Result<(), 
 fn read_all_enables(from: &mut Reader, state: &mut NodeState) -> Result<(), Fault>
     ensures value { Gives enable_fields (λ _. enables_in state.new) from.old result from.new }
     ensures core { core_in state.new ≡ core_in state.old }
-    ensures long { length state.new.threads ≡ length state.new.last }
+    ensures threads { state.new.threads ≡ state.old.threads }
+    ensures last { state.new.last ≡ state.old.last }
 {
     read_enables(from, &mut state.chan_enables)?;
     read_enables(from, &mut state.timer_enables)?;
@@ -96,7 +97,8 @@ fn read_net(
 ) -> Result<(), Fault>
     ensures value { Gives (net_fields (used_of state.old.chans) there.now slot) (λ _. net_in state.new) from.old result from.new }
     ensures core { core_in state.new ≡ core_in state.old }
-    ensures long { length state.new.threads ≡ length state.new.last }
+    ensures threads { state.new.threads ≡ state.old.threads }
+    ensures last { state.new.last ≡ state.old.last }
     ensures enables { enables_in state.new ≡ enables_in state.old }
 {
     read_inputs(from, &used_of(&state.chans), there, &mut state.inputs)?;

@@ -1,5 +1,5 @@
 //! Rows of fields of one kind, and what other fields ask of them.
-ghost use Rattle.std.specs.Prelude.{◌≡◌, ◌++◌, ℕ, length, zip, OnOk};
+ghost use Rattle.std.specs.Prelude.{◌≡◌, ◌++◌, length, zip, OnOk};
 ghost use Rattle.xs_base.specs.declared.numbers.TheConstants.{CHAN_ENDS, TIMERS, CLOCK_BLOCKS, LOCKS};
 ghost use Rattle.step_model.specs.ThreadRows.{is_taken};
 ghost use Rattle.byte_forms.specs.Forms.{repeat};
@@ -87,7 +87,7 @@ pub(crate) fn write_locks(out: &mut Text, locks: &[LockState; 4]) -> Result<(), 
 
 /// Writes what some resources give.
 pub(crate) fn write_enables(out: &mut Text, enables: &[EnableState]) -> Result<(), AllocError>
-    ensures { OnOk result ((n : ℕ) → out.new ≡ out.old ++ (repeat n enable).write enables.now) }
+    ensures { OnOk result (out.new ≡ out.old ++ (repeat (length enables.now) enable).write enables.now) }
 {
     write_each(out, enables)
 }

@@ -10,8 +10,9 @@ loop-c-init c = record { long = refl; done = refl }
 pub loop-c-preserved : goal.loop-c-preserved
 loop-c-preserved c =
     record {
-      long = length-set c.loop-c.used c.loop-c.c c.index-chans-c.result.now.used ∙ c.loop-c.invariant.long;
-      done = filled_more (λ (chan : ChanState). chan.used) c.args.chans.now c.loop-c.used c.loop-c.c _ (omega arith) (omega arith) c.index-chans-c.is c.loop-c.invariant.done;
+      long = length-set c.loop-c.used c.loop-c.c _ ∙ c.loop-c.invariant.long;
+      done = rw (← c.index-chans-c.is) (filled_more (λ (chan : ChanState). chan.used) c.args.chans.now c.loop-c.used c.loop-c.c c.index-chans-c.result (omega arith) (omega arith) c.index-chans-c.is
+          c.loop-c.invariant.done);
     }
 
 pub returns : goal.returns
