@@ -330,7 +330,8 @@ transfer_is p tw (Some t) h =
     let more = and_parts (nat_lt 0 t.bits) (nat_lt t.value (2 ^ t.bits)) parts.1 in
     record { beats = beats_are (port_width p) tw t.bits parts.0; some = ltb-true 0 t.bits more.0; value = ltb-true t.value (2 ^ t.bits) more.1 }
 
-transfer_has : (p tw : ℕ) (tr : Option Transfer) → tw ≤ 32 → IfSome tr (IsTransferState (port_width p) tw) → IfSome tr (λ t. IfSome t.time (λ n. n < 2 ^ 16)) → (transfer p true tw).Holds tr
+transfer_has : (p tw : ℕ) (tr : Option Transfer) → tw ≤ 32 → IfSome tr (IsTransferState (port_width p) tw)
+    → IfSome tr (λ t. IfSome t.time (λ n. n < 2 ^ 16)) → (transfer p true tw).Holds tr
 unfolding transfer
 transfer_has p tw None most is times = (option_none word true (2 ^ 32) word_0, ((omega arith, refl), option_none half false (2 ^ 16) half_0))
 transfer_has p tw (Some t) most is times =

@@ -14,9 +14,16 @@ use Rattle.byte_forms.specs.Laws.{Lawful}
 use Rattle.byte_forms.proofs.Fields.{byte-lawful, half-lawful, word-lawful}
 use Rattle.byte_forms.proofs.Parts.{where-lawful, both-lawful, seen-lawful, below-lawful, flag-lawful}
 use Rattle.byte_forms.proofs.Lists.{chain-lawful}
+<<<<<<< HEAD:crates/port_forms/proofs/Ports.antt
 use Rattle.port_forms.specs.Ports.{low_byte, limit_where, flag_where, option_where, are_beats, clock_of, clock_number, clock, basics_of, basics_parts, basics, is_tw, widths_of, widths_parts, widths}
 use Rattle.port_forms.specs.Ports.{condition_of, condition_number, condition, trigger_of, trigger_parts, trigger, sr_limit, is_count, shift_of, shift_parts, shift}
 use Rattle.port_forms.specs.Ports.{are_bits, transfer_of, transfer_parts, transfer, is_strobe, strobe_of, strobe_number, strobe, tail_of, tail_parts, tail, port_of, port_parts, port, ports}
+=======
+use Rattle.state_forms.specs.Ports.{low_byte, limit_where, flag_where, option_where, are_beats, clock_of, clock_number, clock, basics_of, basics_parts, basics}
+use Rattle.state_forms.specs.Ports.{is_tw, widths_of, widths_parts, widths, condition_of, condition_number, condition, trigger_of, trigger_parts, trigger}
+use Rattle.state_forms.specs.Ports.{sr_limit, is_count, shift_of, shift_parts, shift, are_bits, transfer_of, transfer_parts, transfer}
+use Rattle.state_forms.specs.Ports.{is_strobe, strobe_of, strobe_number, strobe, tail_of, tail_parts, tail, port_of, port_parts, port, ports}
+>>>>>>> cpo:crates/state_forms/proofs/Ports.antt
 
 -- ---- Fields
 
@@ -93,7 +100,7 @@ basics-lawful =
     both-lawful (flag_where-lawful on) (λ output.
     both-lawful (clock-lawful on) (λ clock.
     below-lawful (limit_where on (2 ^ 16)) half-lawful))))
-    (λ p h. refl) (λ b. refl)
+    (λ x h. refl) (λ b. refl)
 
 widths-lawful : (p : ℕ) (on : Bool) → Lawful (widths p on)
 unfolding widths
@@ -103,7 +110,7 @@ widths-lawful p on =
     both-lawful (where-lawful (is_tw p on buffers) low_byte-lawful) (λ tw.
     both-lawful (where-lawful (are_beats (port_width p) tw) low_byte-lawful) (λ want.
     below-lawful (limit_where on (2 ^ port_width p)) word-lawful))))
-    (λ p h. refl) (λ w. refl)
+    (λ x h. refl) (λ w. refl)
 
 condition_back : (n : ℕ) → n < 3 → condition_number (condition_of n) ≡ n
 condition_back zero h = refl
@@ -125,12 +132,16 @@ condition-lawful on =
 trigger-lawful : (on : Bool) → Lawful (trigger on)
 unfolding trigger
 trigger-lawful on =
-    seen-lawful trigger_of trigger_parts (both-lawful (condition-lawful on) (λ condition. option_where-lawful on (2 ^ 16) half-lawful)) (λ p h. refl) (λ t. refl)
+    seen-lawful trigger_of trigger_parts
+    (both-lawful (condition-lawful on) (λ condition. option_where-lawful on (2 ^ 16) half-lawful))
+    (λ x h. refl) (λ t. refl)
 
 shift-lawful : (p : ℕ) (output : Bool) (tw : ℕ) → Lawful (shift p output tw)
 unfolding shift
 shift-lawful p output tw =
-    seen-lawful shift_of shift_parts (both-lawful (below-lawful (sr_limit output tw) word-lawful) (λ sr. where-lawful (is_count p output tw sr) byte-lawful)) (λ p h. refl) (λ s. refl)
+    seen-lawful shift_of shift_parts
+    (both-lawful (below-lawful (sr_limit output tw) word-lawful) (λ sr. where-lawful (is_count p output tw sr) byte-lawful))
+    (λ x h. refl) (λ s. refl)
 
 transfer_back : (p : ℕ) (tw : ℕ) (value : Option ℕ) (bits : ℕ) (time : Option ℕ) → IsTrue (are_bits p tw value bits) → (option_where (is_some value) half (2 ^ 16)).Holds time
     → transfer_parts (transfer_of (value, (bits, time))) ≡ (value, (bits, time))

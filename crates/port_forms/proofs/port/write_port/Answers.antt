@@ -19,9 +19,10 @@ returns c =
     let s = c.args.state.now in
     record {
       value = λ p. on_ok c.write_tail.result
-          (joined c.args.out.now (basics.write (basics_in s)) ((widths 0 true).write (widths_in s)) ((trigger true).write (trigger_in s)) ((shift 0 true 0).write (shift_in s))
-          ((transfer 0 true 0).write s.tr) ((tail 0 true).write (tail_in s)) c.write_basics.new.out c.write_widths.new.out c.write_trigger.new.out c.write_shift.new.out c.write_transfer.new.out
-          c.write_tail.new.out c.in_ok-write_basics.ensures.value c.in_ok-write_widths.ensures.value c.in_ok-write_trigger.ensures.value c.in_ok-write_shift.ensures.value
+          (joined c.args.out.now (basics.write (basics_in s)) ((widths 0 true).write (widths_in s)) ((trigger true).write (trigger_in s))
+          ((shift 0 true 0).write (shift_in s)) ((transfer 0 true 0).write s.tr) ((tail 0 true).write (tail_in s))
+          c.write_basics.new.out c.write_widths.new.out c.write_trigger.new.out c.write_shift.new.out c.write_transfer.new.out c.write_tail.new.out
+          c.in_ok-write_basics.ensures.value c.in_ok-write_widths.ensures.value c.in_ok-write_trigger.ensures.value c.in_ok-write_shift.ensures.value
           c.in_ok-write_transfer.ensures.value)
           c.write_tail.ensures.value;
     }
