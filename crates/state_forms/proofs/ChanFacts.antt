@@ -7,7 +7,6 @@ use Rattle.net_model.specs.Chans.{is_chan_id}
 use Rattle.chan_ends.specs.declared.state.ChanState.{ChanState}
 use Rattle.chan_ends.specs.States.{IsChanState}
 use Rattle.byte_forms.specs.Forms.{word, option, repeat}
-use Rattle.state_forms.specs.Buffers.{BufferFits}
 use Rattle.state_forms.specs.Chans.{chan, ChanFits}
 use Rattle.state_forms.proofs.Holding.{flag_holds, repeat_holds, each_as}
 use Rattle.state_forms.proofs.BufferFacts.{buffer_holds, buffer_of}

@@ -1,4 +1,4 @@
-use Rattle.std.proofs.Common.{ℕ, ◌≡◌, ◌<◌, get_or, subst, arith, inl, inr}
+use Rattle.std.proofs.Common.{ℕ, ◌≡◌, get_or, subst, arith, inl, inr}
 use Rattle.std.proofs.lemmas.Bool.{cases_lt}
 use Rattle.xs_base.specs.declared.token.Token.TheVariants.{Byte}
 use Rattle.state_forms.specs.Buffers.{TokenFits}
