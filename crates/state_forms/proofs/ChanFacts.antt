@@ -7,8 +7,7 @@ use Rattle.net_model.specs.Chans.{is_chan_id}
 use Rattle.chan_ends.specs.declared.state.ChanState.{ChanState}
 use Rattle.chan_ends.specs.States.{IsChanState}
 use Rattle.byte_forms.specs.Forms.{word, option, repeat}
-use Rattle.state_forms.specs.Buffers.{BufferFits}
-use Rattle.state_forms.specs.Chans.{chan}
+use Rattle.state_forms.specs.Chans.{chan, ChanFits}
 use Rattle.state_forms.proofs.Holding.{flag_holds, repeat_holds, each_as}
 use Rattle.state_forms.proofs.BufferFacts.{buffer_holds, buffer_of}
 
@@ -35,12 +34,6 @@ chan_holds state h = record {
   dest = dest_holds state.dest h.1.1.0;
   output = λ none. (buffer_holds (is_some state.dest) state.output h.1.1.1.0).1 (no_dest state.dest none);
 }
-
--- what every state of a channel end has
-pub record ChanFits (state : ChanState) : Type 0 where
-  pub dest : IfSome state.dest (λ id. id < 4294967296)
-  pub output : BufferFits state.output
-  pub input : BufferFits state.input
 
 pub chan_of : (state : ChanState) → ChanFits state → IsChanState state → chan.Holds state
 unfolding chan

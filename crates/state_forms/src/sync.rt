@@ -15,7 +15,7 @@ use sync_locks::SyncState;
 use xs_base::Text;
 use xs_base::numbers::THREADS;
 
-/// Reads the synchronisers of a core on which these threads are not free.
+/// Reads the synchronisers of a core on which these threads are not free. A fault is at the first field that is wrong.
 pub fn read_syncs(
     from: &mut Reader,
     taken: &[bool; 8],

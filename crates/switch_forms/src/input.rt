@@ -27,7 +27,8 @@ pub(crate) enum Tag {
     Lost,
 }
 
-/// Reads the inputs of the switch of a node whose channel ends in use and whose link ends are these.
+/// Reads the inputs of the switch of a node whose channel ends in use and whose link ends are these. A fault is at the first field that is
+/// wrong.
 pub fn read_inputs(
     from: &mut Reader,
     used: &[bool; 32],

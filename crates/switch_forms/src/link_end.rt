@@ -12,7 +12,7 @@ use std::alloc::AllocError;
 use xs_base::Text;
 use xs_base::numbers::WINDOW_TOKENS;
 
-/// Reads the link ends of a node, of which the plan has these, in a snapshot of this slot.
+/// Reads the link ends of a node, of which the plan has these, in a snapshot of this slot. A fault is at the first field that is wrong.
 pub fn read_link_ends(
     from: &mut Reader,
     there: &[bool; 8],

@@ -8,5 +8,6 @@ abbrev pub invariant-loop-end : goal.invariant-loop-end
 invariant-loop-end l =
     record {
       len : length l.ends ≡ 8;
-      so_far : read_chain (λ before. link_end (slice_index_or l.there (length before) false) l.slot) (8 - l.end) (take l.end l.ends) l.from ≡ read_chain (λ before. link_end (slice_index_or l.there (length before) false) l.slot) 8 [] l.fn.from;
+      so_far : read_chain (λ before. link_end (slice_index_or l.there (length before) false) l.slot) (8 - l.end) (take l.end l.ends) l.from
+          ≡ read_chain (λ before. link_end (slice_index_or l.there (length before) false) l.slot) 8 [] l.fn.from;
     }

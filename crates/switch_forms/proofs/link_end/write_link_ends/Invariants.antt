@@ -6,4 +6,6 @@ use Rattle.switch_forms.proofs.link_end.write_link_ends.Given as goal
 
 abbrev pub invariant-loop-end : goal.invariant-loop-end
 invariant-loop-end l =
-    (there : List Bool) (slot : ℕ) → l.out ++ write_chain (λ before. link_end (slice_index_or there (length before) false) slot) (take l.end-index l.ends) (drop l.end-index l.ends) ≡ l.fn.out ++ write_chain (λ before. link_end (slice_index_or there (length before) false) slot) [] l.ends
+    (there : List Bool) (slot : ℕ) →
+    l.out ++ write_chain (λ before. link_end (slice_index_or there (length before) false) slot) (take l.end-index l.ends) (drop l.end-index l.ends)
+    ≡ l.fn.out ++ write_chain (λ before. link_end (slice_index_or there (length before) false) slot) [] l.ends
