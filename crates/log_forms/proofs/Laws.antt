@@ -12,7 +12,8 @@ use Rattle.byte_forms.proofs.Fields.{byte-lawful, word-lawful, long-lawful}
 use Rattle.byte_forms.proofs.Parts.{where-lawful, both-lawful, seen-lawful, below-lawful}
 use Rattle.byte_forms.proofs.Lists.{chain-lawful, counted-lawful}
 use Rattle.log_forms.specs.declared.entry.Before.{Before}
-use Rattle.log_forms.specs.Entries.{kind_of, value_of, what_of, entry_of, fields_of_entry, counts_with, before_of, is_in_flight, is_not_before, is_after, link_slot, wire_slot, may_follow, value_limit, link_value, level, wire_kind, wire_entry}
+use Rattle.log_forms.specs.Entries.{kind_of, value_of, what_of, entry_of, fields_of_entry, counts_with, before_of}
+use Rattle.log_forms.specs.Entries.{is_in_flight, is_not_before, is_after, link_slot, wire_slot, may_follow, value_limit, link_value, level, wire_kind, wire_entry}
 use Rattle.log_forms.specs.Windows.{EndsRec, law_holds, link_count, link_kind, link_entry}
 use Rattle.log_forms.specs.Logs.{log_of, fields_of_log, sums, link_log, wire_log}
 

@@ -81,9 +81,11 @@ abbrev pub is_after : Option Entry → Slot → Bool
 is_after None at = true
 is_after (Some last) at = nat_lt last.slot at
 
+-- the slot of an entry of a directed link, after this one
 unfoldable pub link_slot : Slot → ℕ → Option Entry → Form Slot
 link_slot slot delay last = where_is word (λ at. is_in_flight slot delay at && is_not_before last at)
 
+-- the slot of an entry of a wire, after this one
 unfoldable pub wire_slot : Slot → ℕ → Option Entry → Form Slot
 wire_slot slot delay last = where_is word (λ at. is_in_flight slot delay at && is_after last at)
 
@@ -94,10 +96,11 @@ abbrev pub may_follow : Option Entry → Slot → ℕ → Bool
 may_follow None at kind = true
 may_follow (Some last) at kind = if last.slot == at then is_token last.what && (kind == 2) else true
 
--- a token's value is a byte, and a credit's is 0
-abbrev pub value_limit : ℕ → ℕ
+-- what a value is below: a token's is a byte, and a credit's is 0
+abbrev pub value_limit : (kind : ℕ) → ℕ
 value_limit kind = if kind == 2 then 1 else 256
 
+-- the value that stands after a kind of a directed link
 unfoldable pub link_value : ℕ → Form ℕ
 link_value kind = below word (value_limit kind)
 

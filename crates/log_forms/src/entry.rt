@@ -2,7 +2,8 @@
 ghost use Rattle.std.specs.Prelude.{◌≡◌, ◌≤◌, ◌<◌, ◌^◌, [], ◌∷◌, ◌++◌, List, IfOk, OnOk};
 ghost use Rattle.xs_base.specs.declared.entry.Entry.{Entry};
 ghost use Rattle.byte_forms.specs.Reading.{Gives};
-ghost use Rattle.log_forms.specs.Entries.{any_entry, before_of, entry_of, is_after, is_in_flight, is_not_before, kind_of, level, link_slot, link_value, may_follow, value_limit, value_of, what_of, wire_entry, wire_kind, wire_slot};
+ghost use Rattle.log_forms.specs.Entries.{before_of, is_after, is_in_flight, is_not_before, kind_of, may_follow, value_limit, value_of, what_of};
+ghost use Rattle.log_forms.specs.Entries.{any_entry, level, link_slot, link_value, wire_entry, wire_kind, wire_slot};
 ghost use Rattle.log_forms.specs.Windows.{law_holds, link_count, link_entry, link_kind};
 
 use crate::counts::Counts;
