@@ -14,16 +14,10 @@ use Rattle.byte_forms.specs.Laws.{Lawful}
 use Rattle.byte_forms.proofs.Fields.{byte-lawful, half-lawful, word-lawful}
 use Rattle.byte_forms.proofs.Parts.{where-lawful, both-lawful, seen-lawful, below-lawful, flag-lawful}
 use Rattle.byte_forms.proofs.Lists.{chain-lawful}
-<<<<<<< HEAD:crates/port_forms/proofs/Ports.antt
-use Rattle.port_forms.specs.Ports.{low_byte, limit_where, flag_where, option_where, are_beats, clock_of, clock_number, clock, basics_of, basics_parts, basics, is_tw, widths_of, widths_parts, widths}
-use Rattle.port_forms.specs.Ports.{condition_of, condition_number, condition, trigger_of, trigger_parts, trigger, sr_limit, is_count, shift_of, shift_parts, shift}
-use Rattle.port_forms.specs.Ports.{are_bits, transfer_of, transfer_parts, transfer, is_strobe, strobe_of, strobe_number, strobe, tail_of, tail_parts, tail, port_of, port_parts, port, ports}
-=======
-use Rattle.state_forms.specs.Ports.{low_byte, limit_where, flag_where, option_where, are_beats, clock_of, clock_number, clock, basics_of, basics_parts, basics}
-use Rattle.state_forms.specs.Ports.{is_tw, widths_of, widths_parts, widths, condition_of, condition_number, condition, trigger_of, trigger_parts, trigger}
-use Rattle.state_forms.specs.Ports.{sr_limit, is_count, shift_of, shift_parts, shift, are_bits, transfer_of, transfer_parts, transfer}
-use Rattle.state_forms.specs.Ports.{is_strobe, strobe_of, strobe_number, strobe, tail_of, tail_parts, tail, port_of, port_parts, port, ports}
->>>>>>> cpo:crates/state_forms/proofs/Ports.antt
+use Rattle.port_forms.specs.Ports.{low_byte, limit_where, flag_where, option_where, are_beats, clock_of, clock_number, clock, basics_of, basics_parts, basics}
+use Rattle.port_forms.specs.Ports.{is_tw, widths_of, widths_parts, widths, condition_of, condition_number, condition, trigger_of, trigger_parts, trigger}
+use Rattle.port_forms.specs.Ports.{sr_limit, is_count, shift_of, shift_parts, shift, are_bits, transfer_of, transfer_parts, transfer}
+use Rattle.port_forms.specs.Ports.{is_strobe, strobe_of, strobe_number, strobe, tail_of, tail_parts, tail, port_of, port_parts, port, ports}
 
 -- ---- Fields
 

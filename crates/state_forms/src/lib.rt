@@ -8,9 +8,6 @@ mod enable;
 mod field;
 mod lock;
 mod node_rest;
-mod fits;
-mod input;
-mod link_end;
 mod sync;
 mod thread;
 mod timer;
@@ -22,8 +19,5 @@ pub use field::{Field, read_elements, read_list, read_places, write_each};
 pub use node_rest::{
     read_division, read_levels, read_memory, write_division, write_levels, write_memory,
 };
-pub use fits::{buffer_fits, chan_fits, input_fits};
-pub use input::{read_inputs, write_inputs};
-pub use link_end::{read_link_ends, write_link_ends};
 pub use sync::{read_syncs, write_syncs};
 pub use thread::{read_thread, read_threads, write_thread, write_threads};
