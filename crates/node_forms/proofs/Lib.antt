@@ -1,2 +1,4 @@
 pub mod Threads
 pub mod Written
+pub mod Lawfulness
+pub mod Facts
