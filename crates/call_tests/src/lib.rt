@@ -1,5 +1,5 @@
 //! Tests of the program's call and of the sources and sinks that it reads and writes: each file has those of the crate whose
-//! name it bears. They show what no contract says, and what the cases of case_runs cannot try: faults of the source and of the
+//! name it bears. They show what no contract says, and what the cases of gate_runs cannot try: faults of the source and of the
 //! sink, the longest input, and that workers run at the same time.
 #![tactic(auto)]
 

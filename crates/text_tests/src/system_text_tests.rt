@@ -1,4 +1,4 @@
-//! System texts that are read and some that are refused. The cases of case_runs try the others.
+//! System texts that are read and some that are refused. The cases of gate_runs try the others.
 use crate::refusals::each_is_refused;
 use std::alloc::Global;
 use std::test::Fail;

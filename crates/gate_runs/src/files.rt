@@ -1,0 +1,17 @@
+//! The files that the program reads.
+
+use anyhow::Result;
+use std::fs;
+
+/// The names of the files of a folder with this ending, in order and without it.
+pub fn names(rt: &HostRuntime, folder: &str, ending: &str) -> Result<Vec<String>> {
+    let mut names = Vec::new(rt.alloc());
+    for entry in fs::read_dir(rt, folder)? {
+        let entry = entry?;
+        if let Some(name) = entry.file_name().strip_suffix(ending) {
+            names.push(name.to_string(rt.alloc())?)?;
+        }
+    }
+    names.sort()?;
+    Ok(names)
+}
