@@ -26,6 +26,7 @@ pub fn run_all(rt: &HostRuntime) -> Result<()> {
 }
 
 // How many cases were tried so far, and how many of them were answered as they say.
+#[derive(Drop)]
 struct Tried {
     cases: u32,
     agreed: u32,

@@ -36,12 +36,12 @@ pub fn run_all(rt: &HostRuntime) -> Result<()> {
 }
 
 // The bytes of an example's file with this ending.
-fn read(rt: &HostRuntime, name: &str, ending: &str) -> Result<Vec<u8>, io::Error> {
+fn read(rt: &HostRuntime, name: &str, ending: &str) -> io::Result<Vec<u8>> {
     fs::read(rt, format!(in rt.alloc(); "examples/{name}{ending}")?)
 }
 
 // Its text.
-fn read_text(rt: &HostRuntime, name: &str, ending: &str) -> Result<String, io::Error> {
+fn read_text(rt: &HostRuntime, name: &str, ending: &str) -> io::Result<String> {
     fs::read_to_string(rt, format!(in rt.alloc(); "examples/{name}{ending}")?)
 }
 

@@ -34,11 +34,14 @@ pub fn run_all(rt: &HostRuntime) -> Result<()> {
 
 // Tells whether the program answers as the trial says.
 fn run(rt: &HostRuntime, name: &str, trial: Result<Trial, AllocError>) -> Result<()> {
-    let trial = trial?;
-    let words = words_of(rt.alloc(), trial.words)?;
-    let input = trial.input.into_bytes();
-    let reply = reply_to(rt, rt.alloc(), &words, input, LONGEST_TEXT)?;
-    let as_expected = reply.number == trial.status.number()
-        && reply.bytes() == trial.text.as_bytes();
+    let Trial {
+        words,
+        input,
+        status,
+        text,
+    } = trial?;
+    let words = words_of(rt.alloc(), words)?;
+    let reply = reply_to(rt, rt.alloc(), &words, input.into_bytes(), LONGEST_TEXT)?;
+    let as_expected = reply.number == status.number() && reply.bytes() == text.as_bytes();
     tell(rt, name, as_expected)
 }

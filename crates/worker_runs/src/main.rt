@@ -3,34 +3,24 @@
 //! each of them has seen.
 #![tactic(auto)]
 
+mod cases;
 mod gates;
-mod pairs;
-mod rows;
+mod hands;
 mod sleepers;
-mod turns;
 mod workers;
 
 use anyhow::Result;
-use pairs::{Case, holds_of_pair};
-use rows::stops_in_row;
 use sleepers::wakes;
 use std::alloc::AllocError;
 
 fn main(rt: HostRuntime) -> Result<()> {
     let alloc = rt.alloc();
-    for (name, case) in [
-        ("two nodes run ahead of each other", Case::Ahead),
-        ("a node stops where its neighbour did", Case::Stop),
-        ("each turn passes the gate", Case::Gate),
-        ("a run ends with the last slot", Case::LastSlot),
-    ] {
-        tell(&rt, name, holds_of_pair(&rt, alloc, case))?;
+    for case in &cases::of_two() {
+        tell(&rt, case.name, case.holds_of_two(&rt, alloc))?;
     }
-    let stops = stops_in_row(&rt, alloc);
-    tell(&rt, "a run stops where its neighbour did", stops)?;
-    let wakes = wakes(&rt, alloc);
-    tell(&rt, "a node that sleeps wakes at news", wakes)?;
-    Ok(())
+    let case = cases::of_three();
+    tell(&rt, case.name, case.holds_of_three(&rt, alloc))?;
+    tell(&rt, "a node that sleeps wakes at news", wakes(&rt, alloc))
 }
 
 // Tells whether a case holds.

@@ -1,9 +1,7 @@
 //! What is tried with two workers in two threads, of which one sleeps.
-ghost use Rattle.std.specs.Prelude.{All};
-ghost use Rattle.core_workers.specs.Worker.{IsOpen};
-
-use crate::workers::{LIMIT, last_worker};
-use core_workers::{Ended, Lanes, Worker};
+use crate::hands::{Does, Hand};
+use crate::workers::{LIMIT, hands_of_two};
+use core_workers::{Ended, Lanes};
 use std::alloc::{AllocError, Global};
 use std::sync::{Arc, Wait};
 use std::thread::{self, Threads};
@@ -15,23 +13,22 @@ use xs_edge::OpenGate;
 /// sleep for ever where a publish did not wake it. The error is want of memory.
 pub fn wakes<R: Threads + Wait + Clock + Sync>(rt: &R, alloc: Global) -> Result<bool, AllocError> {
     let plan = Arc::new(alloc, pair(alloc, 5)?)?;
-    let (lanes, mut ends) = Lanes::new(alloc, &plan)?;
-    let sleeper = last_worker(alloc, &plan, &lanes, &mut ends, 1, LIMIT)?;
-    let late = last_worker(alloc, &plan, &lanes, &mut ends, 0, LIMIT)?;
-    let (slept, began) = thread::join(rt, || run(rt, sleeper), || run_late(rt, late));
-    Ok(slept == Ended::Finished && began == Ended::Finished)
+    let (lanes, ends) = Lanes::new(alloc, &plan)?;
+    let mut hands = hands_of_two(alloc, &plan, &lanes, ends, LIMIT)?;
+    let (Some(sleeper), Some(late)) = (hands.pop(), hands.pop()) else {
+        return Ok(false);
+    };
+    let (slept, began) = thread::join(rt, || finishes(rt, sleeper), || finishes_late(rt, late));
+    Ok(slept && began)
 }
 
-fn run<R: Wait>(rt: &R, mut worker: Worker<'_>) -> Ended
-    requires { All IsOpen worker.ends.outgoing.items }
-{
-    worker.run(rt, &OpenGate)
+fn finishes<R: Wait>(rt: &R, hand: Hand<'_>) -> bool {
+    let mut hand = hand;
+    hand.does(rt, &OpenGate, Does::Runs(Ended::Finished))
 }
 
 // Begins when the other sleeps.
-fn run_late<R: Wait + Clock>(rt: &R, worker: Worker<'_>) -> Ended
-    requires { All IsOpen worker.ends.outgoing.items }
-{
+fn finishes_late<R: Wait + Clock>(rt: &R, hand: Hand<'_>) -> bool {
     thread::sleep(rt, Duration::from_millis(100));
-    run(rt, worker)
+    finishes(rt, hand)
 }

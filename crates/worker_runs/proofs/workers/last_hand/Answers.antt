@@ -1,4 +1,4 @@
-use Rattle.std.proofs.Common.{◌≡◌, ℕ, zero, suc, ◌+◌, Some, List, [], ◌∷◌, ◌++◌, All, length, slice_get, sym, ap, subst, arith}
+use Rattle.std.proofs.Common.{◌≡◌, ℕ, zero, suc, ◌+◌, Some, List, [], ◌∷◌, ◌++◌, All, length, slice_get, sym, ap, ◌∙◌, subst, arith}
 use Rattle.std.specs.List.{AllByRecursion}
 use Rattle.std.proofs.lemmas.List.{length_push}
 use Rattle.std.proofs.lemmas.List.Elements.{All-from_recursion}
@@ -9,9 +9,9 @@ use Rattle.link_logs.specs.Logs.{WriteRec}
 use Rattle.plan_cells.specs.declared.ends.Outgoing.{Outgoing}
 use Rattle.plan_cells.specs.declared.ends.Ends.{Ends}
 use Rattle.plan_cells.specs.Ends.{CellsRec, AreNewEnds, IsNewOutgoing}
-use Rattle.node_runners.specs.Runner.{RunnerRec}
+use Rattle.node_runners.specs.Runner.{RunnerRec, new_runner}
 use Rattle.core_workers.specs.Worker.{WorkerRec, IsOpen}
-use Rattle.worker_runs.proofs.workers.last_worker.Goals as goal
+use Rattle.worker_runs.proofs.workers.last_hand.Goals as goal
 
 earlier : {X : Type 0} (xs ys : List X) (k : ℕ) (x : X) → slice_get xs k ≡ Some x → slice_get (xs ++ ys) k ≡ Some x
 earlier [] ys k x is = absurd (omega (arith, slice_get_within [] k x is))
@@ -41,20 +41,33 @@ new_open plan (o ∷ os) all = (ap (λ (w : WriteRec PlanRec). w.cause) all.0, n
 opens : (cells : CellsRec) (n : Position) (ends : Ends) → AreNewEnds cells n ends → All IsOpen ends.outgoing.items
 opens cells n ends new = All-from_recursion IsOpen ends.outgoing.items (new_open cells.plan ends.outgoing.items new.outgoing_new)
 
+-- a new runner by what it says of itself
+by_itself : (cells : CellsRec) (plan : PlanRec) (limit node : ℕ) (r : RunnerRec) → cells.plan ≡ plan → r ≡ new_runner plan limit node → r ≡ new_runner cells.plan r.horizon.limit r.node
+by_itself cells plan limit node r of_plan new =
+    let node_is : r.node ≡ node = ap (λ (x : RunnerRec). x.node) new in
+    let limit_is : r.horizon.limit ≡ limit = ap (λ (x : RunnerRec). x.horizon.limit) new in
+    new ∙ (λ i. new_runner (sym of_plan i) (sym limit_is i) (sym node_is i))
+
 pub returns-in_err-runner-clause-ends : goal.returns-in_err-runner-clause-ends
 returns-in_err-runner-clause-ends c = λ n e is. c.requires.ends n e (stood c.args.ends.now.items c.pop.new.self.items _ n e c.pop.ensures.items is)
+
+pub new-requires-2-clause-new_runner : goal.new-requires-2-clause-new_runner
+new-requires-2-clause-new_runner c =
+    by_itself c.args.lanes.now c.args.plan.now c.args.limit c.args.node c.in_ok-runner.runner c.requires.plan c.in_ok-runner.ensures.new
 
 pub new-requires-2-clause-new_ends : goal.new-requires-2-clause-new_ends
 new-requires-2-clause-new_ends c =
     last_new c.args.lanes.now c.args.ends.now.items c.pop.new.self.items c.in-Some.last c.args.node c.in_ok-runner.runner.node c.requires.ends c.in-Some.ensures.items c.requires.count
     (ap (λ (r : RunnerRec). r.node) c.in_ok-runner.ensures.new)
 
-pub returns-clause-open : goal.returns-clause-open
-returns-clause-open c =
-    subst (λ (w : WorkerRec). All IsOpen w.ends.outgoing.items) (sym c.new-2.ensures.made)
-    (opens c.args.lanes.now c.in_ok-runner.runner.node c.in-Some.last
-    (last_new c.args.lanes.now c.args.ends.now.items c.pop.new.self.items c.in-Some.last c.args.node c.in_ok-runner.runner.node c.requires.ends c.in-Some.ensures.items c.requires.count
-    (ap (λ (r : RunnerRec). r.node) c.in_ok-runner.ensures.new)))
+pub new-requires-3 : goal.new-requires-3
+new-requires-3 c = record {
+  open =
+      subst (λ (w : WorkerRec). All IsOpen w.ends.outgoing.items) (sym c.new-2.ensures.made)
+      (opens c.args.lanes.now c.in_ok-runner.runner.node c.in-Some.last
+      (last_new c.args.lanes.now c.args.ends.now.items c.pop.new.self.items c.in-Some.last c.args.node c.in_ok-runner.runner.node c.requires.ends c.in-Some.ensures.items c.requires.count
+      (ap (λ (r : RunnerRec). r.node) c.in_ok-runner.ensures.new)));
+}
 
 pub returns-clause-ends : goal.returns-clause-ends
 returns-clause-ends c = λ n e is. c.requires.ends n e (stood c.args.ends.now.items c.pop.new.self.items _ n e c.pop.ensures.items is)
