@@ -7,12 +7,17 @@ use crate::case::Case;
 use crate::files::names;
 use anyhow::{Context, Result};
 use std::fs;
+use std::rt::Files;
+use std::sync::Wait;
+use std::thread::Threads;
 
 /// The text of no case is longer, in bytes.
 const LONGEST_TEXT: usize = 65_536;
 
 /// Tells which cases differ, and how many agree.
-pub fn run_all(rt: &HostRuntime) -> Result<()> {
+pub fn run_all<R: Threads + Wait + Sync + Files + Print + Clone + AllocGlobal>(
+    rt: &R,
+) -> Result<()> {
     let mut tried = Tried {
         cases: 0,
         agreed: 0,
@@ -34,7 +39,11 @@ struct Tried {
 
 impl Tried {
     // Tries cases, one a line, and tells those that were answered otherwise.
-    fn try_lines(&mut self, rt: &HostRuntime, lines: &str) -> Result<()> {
+    fn try_lines<R: Threads + Wait + Sync + Print + AllocGlobal>(
+        &mut self,
+        rt: &R,
+        lines: &str,
+    ) -> Result<()> {
         for line in lines.lines() {
             let case = Case::read(rt.alloc(), line).context("a line of the cases is no case")?;
             self.cases = self.cases.saturating_add(1);
@@ -49,7 +58,7 @@ impl Tried {
 }
 
 // Whether the program answers the case as it says: a case that runs its system in threads is tried by the serial machine and by rounds too.
-fn agrees(rt: &HostRuntime, case: &Case) -> Result<bool> {
+fn agrees<R: Threads + Wait + Sync + AllocGlobal>(rt: &R, case: &Case) -> Result<bool> {
     let mut all = answers_to(rt, case, &case.words)?;
     if let [command, slots] = case.words.as_slice()
         && command.as_str() == "run"
@@ -66,7 +75,11 @@ fn agrees(rt: &HostRuntime, case: &Case) -> Result<bool> {
 }
 
 // Whether the program, given these words and the input of the case, ends with its status and writes its text.
-fn answers_to(rt: &HostRuntime, case: &Case, words: &[String]) -> Result<bool> {
+fn answers_to<R: Threads + Wait + Sync + AllocGlobal>(
+    rt: &R,
+    case: &Case,
+    words: &[String],
+) -> Result<bool> {
     let input = case.input_bytes(rt.alloc())?;
     let reply = reply_to(rt, rt.alloc(), words, input, LONGEST_TEXT)?;
     Ok(reply.number == case.status && case.has_text(reply.bytes()))

@@ -9,6 +9,9 @@ use crate::stepped::steps_as;
 use crate::tell;
 use crate::timeline::text_after;
 use anyhow::{Context, Result};
+use std::rt::Files;
+use std::sync::Wait;
+use std::thread::Threads;
 use std::{fs, io};
 use xs1_top::Status;
 
@@ -19,7 +22,9 @@ const LONGEST_TEXT: usize = 65_536;
 const TIMELINE_SLOTS: u32 = 40;
 
 /// Tells the verdict on each example, and then on the timeline, on the pictures and on the counts.
-pub fn run_all(rt: &HostRuntime) -> Result<()> {
+pub fn run_all<R: Threads + Wait + Sync + Files + Print + Clone + AllocGlobal>(
+    rt: &R,
+) -> Result<()> {
     for name in names(rt, "examples", ".args")? {
         tell(rt, &name, is_as_expected(rt, &name)?)?;
     }
@@ -36,17 +41,20 @@ pub fn run_all(rt: &HostRuntime) -> Result<()> {
 }
 
 // The bytes of an example's file with this ending.
-fn read(rt: &HostRuntime, name: &str, ending: &str) -> io::Result<Vec<u8>> {
+fn read<R: Files + AllocGlobal>(rt: &R, name: &str, ending: &str) -> io::Result<Vec<u8>> {
     fs::read(rt, format!(in rt.alloc(); "examples/{name}{ending}")?)
 }
 
 // Its text.
-fn read_text(rt: &HostRuntime, name: &str, ending: &str) -> io::Result<String> {
+fn read_text<R: Files + AllocGlobal>(rt: &R, name: &str, ending: &str) -> io::Result<String> {
     fs::read_to_string(rt, format!(in rt.alloc(); "examples/{name}{ending}")?)
 }
 
 // Whether the run ends and writes as it should.
-fn is_as_expected(rt: &HostRuntime, name: &str) -> Result<bool> {
+fn is_as_expected<R: Threads + Wait + Sync + Files + AllocGlobal>(
+    rt: &R,
+    name: &str,
+) -> Result<bool> {
     let line = read_text(rt, name, ".args")?;
     let expected = read(rt, name, ".txt")?;
     writes(rt, system_of(name), &line, &expected, status_of(rt, name)?)
@@ -61,7 +69,7 @@ fn system_of(name: &str) -> &str {
 }
 
 // The number that the example is to end with: that of its file, or 0 where it has none.
-fn status_of(rt: &HostRuntime, name: &str) -> Result<u8> {
+fn status_of<R: Files + AllocGlobal>(rt: &R, name: &str) -> Result<u8> {
     match read_text(rt, name, ".status") {
         Ok(number) => Ok(number.trim().parse()?),
         Err(error) if error.kind() == io::ErrorKind::NotFound => Ok(Status::Done.number()),
@@ -70,7 +78,7 @@ fn status_of(rt: &HostRuntime, name: &str) -> Result<u8> {
 }
 
 // Whether the pair, after each number of slots, wrote what its timeline says.
-fn timeline_is_as_expected(rt: &HostRuntime) -> Result<bool> {
+fn timeline_is_as_expected<R: Threads + Wait + Sync + Files + AllocGlobal>(rt: &R) -> Result<bool> {
     let timeline = read_text(rt, "pair", ".timeline")?;
     for slots in 0..=TIMELINE_SLOTS {
         let line = format!(in rt.alloc(); "run {slots}")?;
@@ -84,21 +92,30 @@ fn timeline_is_as_expected(rt: &HostRuntime) -> Result<bool> {
 }
 
 // Whether the threads of a system issue in those slots in which the pictures of its file have it.
-fn slots_are_as_expected(rt: &HostRuntime, name: &str) -> Result<bool> {
+fn slots_are_as_expected<R: Files + AllocGlobal>(rt: &R, name: &str) -> Result<bool> {
     let system = read(rt, name, ".xs1")?;
     let expected = read_text(rt, name, ".slots")?;
     Ok(pictures_as(rt.alloc(), &system, &expected).context(name)? == expected)
 }
 
 // Whether the nodes of a system step as many slots as the counts of its file have it.
-fn counts_are_as_expected(rt: &HostRuntime, name: &str) -> Result<bool> {
+fn counts_are_as_expected<R: Threads + Wait + Sync + Files + AllocGlobal>(
+    rt: &R,
+    name: &str,
+) -> Result<bool> {
     let system = read(rt, name, ".xs1")?;
     let counts = read_text(rt, name, ".stepped")?;
     steps_as(rt, &system, &counts)
 }
 
 // Whether the example, given to the program with the words of a line, ends with this number and writes this text.
-fn writes(rt: &HostRuntime, name: &str, line: &str, expected: &[u8], number: u8) -> Result<bool> {
+fn writes<R: Threads + Wait + Sync + Files + AllocGlobal>(
+    rt: &R,
+    name: &str,
+    line: &str,
+    expected: &[u8],
+    number: u8,
+) -> Result<bool> {
     let words = words_of(rt.alloc(), line)?;
     let input = read(rt, name, ".xs1")?;
     let reply = reply_to(rt, rt.alloc(), &words, input, LONGEST_TEXT)?;

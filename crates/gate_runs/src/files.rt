@@ -2,9 +2,14 @@
 
 use anyhow::Result;
 use std::fs;
+use std::rt::Files;
 
 /// The names of the files of a folder with this ending, in order and without it.
-pub fn names(rt: &HostRuntime, folder: &str, ending: &str) -> Result<Vec<String>> {
+pub fn names<R: Files + Clone + AllocGlobal>(
+    rt: &R,
+    folder: &str,
+    ending: &str,
+) -> Result<Vec<String>> {
     let mut names = Vec::new(rt.alloc());
     for entry in fs::read_dir(rt, folder)? {
         let entry = entry?;

@@ -30,7 +30,7 @@ fn main(rt: HostRuntime) -> Result<()> {
 }
 
 /// Tells the verdict on what has this name.
-pub(crate) fn tell(rt: &HostRuntime, name: &str, as_expected: bool) -> Result<()> {
+pub(crate) fn tell<R: Print>(rt: &R, name: &str, as_expected: bool) -> Result<()> {
     let verdict = if as_expected {
         "as expected"
     } else {

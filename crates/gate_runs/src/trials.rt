@@ -6,12 +6,14 @@ use crate::trial::Trial;
 use crate::{big_source, counter, labels, schedule, script, stream, tell};
 use anyhow::Result;
 use std::alloc::AllocError;
+use std::sync::Wait;
+use std::thread::Threads;
 
 /// The text of no trial is longer, in bytes.
 const LONGEST_TEXT: usize = 1_048_576;
 
 /// Tells the verdict on each trial.
-pub fn run_all(rt: &HostRuntime) -> Result<()> {
+pub fn run_all<R: Threads + Wait + Sync + Print + AllocGlobal>(rt: &R) -> Result<()> {
     let alloc = rt.alloc();
     run(rt, "two nodes over 100,000 slots", stream::trial(alloc))?;
     run(rt, "a schedule of 12,000 steps", schedule::trial(alloc))?;
@@ -33,7 +35,11 @@ pub fn run_all(rt: &HostRuntime) -> Result<()> {
 }
 
 // Tells whether the program answers as the trial says.
-fn run(rt: &HostRuntime, name: &str, trial: Result<Trial, AllocError>) -> Result<()> {
+fn run<R: Threads + Wait + Sync + Print + AllocGlobal>(
+    rt: &R,
+    name: &str,
+    trial: Result<Trial, AllocError>,
+) -> Result<()> {
     let Trial {
         words,
         input,
