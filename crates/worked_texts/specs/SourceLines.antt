@@ -145,7 +145,8 @@ pub record WorkedRanges : Type 0 where
   pub align_0 : assembled (codes ".align 0") ≡ Fault 1 NumberOutOfRange
   pub align_1025 : assembled (codes ".align 1025") ≡ Fault 1 NumberOutOfRange
   pub space_past : assembled (codes ".data\n.space 65537") ≡ Fault 2 NumberOutOfRange
-  pub word_edges : bytes_of_source (codes ".data\n.word 4294967295, -2147483648, - 5, -0, 0x12345678") ≡ Some (255 ∷ 255 ∷ 255 ∷ 255 ∷ 0 ∷ 0 ∷ 0 ∷ 128 ∷ 251 ∷ 255 ∷ 255 ∷ 255 ∷ 0 ∷ 0 ∷ 0 ∷ 0 ∷ 120 ∷ 86 ∷ 52 ∷ 18 ∷ [])
+  pub word_edges : bytes_of_source (codes ".data\n.word 4294967295, -2147483648, - 5, -0, 0x12345678")
+      ≡ Some (255 ∷ 255 ∷ 255 ∷ 255 ∷ 0 ∷ 0 ∷ 0 ∷ 128 ∷ 251 ∷ 255 ∷ 255 ∷ 255 ∷ 0 ∷ 0 ∷ 0 ∷ 0 ∷ 120 ∷ 86 ∷ 52 ∷ 18 ∷ [])
   pub word_past : assembled (codes ".data\n.word 4294967296") ≡ Fault 2 NumberOutOfRange
   pub word_below : assembled (codes ".data\n.word -2147483649") ≡ Fault 2 NumberOutOfRange
   pub short_edges : bytes_of_source (codes ".data\n.short 65535, -32768, 258") ≡ Some (255 ∷ 255 ∷ 0 ∷ 128 ∷ 2 ∷ 1 ∷ [])
@@ -301,7 +302,8 @@ pub record WorkedOffsets : Type 0 where
   pub whole_below : assembled (codes "ldw r3, cp[d]\n.data\nd: .byte 1") ≡ Fault 1 NumberOutOfRange
   pub reserved : assembled (codes "ldw r3, cp[sr]") ≡ Fault 1 WrongOperands
   -- the last word that a name may stand for, and the first that is too far
-  pub last_word : of_source (λ image. take 1 image.code) (assembled (codes "ldw r0, dp[x]\n" ++ (blocks 15 ++ codes ".align 381\nnop\n.align 381\nnop\n.align 381\nx:"))) ≡ Some (Memory (LdwDp 0 65535) ∷ [])
+  pub last_word : of_source (λ image. take 1 image.code)
+      (assembled (codes "ldw r0, dp[x]\n" ++ (blocks 15 ++ codes ".align 381\nnop\n.align 381\nnop\n.align 381\nx:"))) ≡ Some (Memory (LdwDp 0 65535) ∷ [])
   pub too_far : assembled (full_from (codes "ldw r0, dp[x]") ++ codes "x:") ≡ Fault 1 NumberOutOfRange
 
 -- limits
