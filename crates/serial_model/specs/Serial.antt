@@ -89,20 +89,35 @@ level_after level (e ∷ es) = level_after (level_or e.what level) es
 abbrev pub arrived_by : Slot → ℕ → List Entry → List Entry
 arrived_by slot delay history = filter (λ (e : Entry). nat_le (e.slot + delay) slot) history
 
--- what a wire with this history shows at its second end in a slot: the level that the last entry that has arrived leaves, else 0
-abbrev pub wire_level : Slot → ℕ → List Entry → Word
-wire_level slot delay history = level_after 0 (arrived_by slot delay history)
+-- what a wire with this history shows at its second end in a slot: the level that the last entry that has arrived leaves, else the one that
+-- it showed before
+abbrev pub level_on : Word → Slot → ℕ → List Entry → Word
+level_on before slot delay history = level_after before (arrived_by slot delay history)
+
+-- what each arc, by number, showed at its second end before anything of its history arrived: 0 where the list ends. Only wires show levels
+abbrev pub shown_of : List Word → LinkNumber → Word
+shown_of shown wire = slice_index_or shown wire 0
 
 -- what a pin of a node of a plan shows in a slot, where its port does not drive it: by the wire that comes to it, where one does, and
 -- then no line of the script tells; else by the script
-abbrev pub pin_level : PlanRec → List (List Entry) → Position → Slot → PortNumber → Option LinkNumber → Word
-pin_level plan histories node slot port None = pin_at plan.script (slice_index (node_numbers plan) node) port slot
-pin_level plan histories node slot port (Some wire) = wire_level slot (delay_of plan wire) (slice_index_or histories wire [])
+abbrev pub pin_level_on : List Word → PlanRec → List (List Entry) → Position → Slot → PortNumber → Option LinkNumber → Word
+pin_level_on shown plan histories node slot port None = pin_at plan.script (slice_index (node_numbers plan) node) port slot
+pin_level_on shown plan histories node slot port (Some wire) = level_on (shown_of shown wire) slot (delay_of plan wire) (slice_index_or histories wire [])
 
 -- what the pins of the node at a position show in a slot, where its ports do not drive them, when the arcs have these histories
+abbrev pub pins_on : List Word → PlanRec → List (List Entry) → Position → Slot → PinView
+pins_on shown plan histories node slot =
+    record { level = map (λ port. pin_level_on shown plan histories node slot port (wire_to plan node port)) port_numbers }
+
+-- the same, where the histories are whole: before them a wire shows 0
+abbrev pub wire_level : Slot → ℕ → List Entry → Word
+wire_level slot delay history = level_on 0 slot delay history
+
+abbrev pub pin_level : PlanRec → List (List Entry) → Position → Slot → PortNumber → Option LinkNumber → Word
+pin_level plan histories node slot port wire = pin_level_on [] plan histories node slot port wire
+
 abbrev pub pins_at : PlanRec → List (List Entry) → Position → Slot → PinView
-pins_at plan histories node slot =
-    record { level = map (λ port. pin_level plan histories node slot port (wire_to plan node port)) port_numbers }
+pins_at plan histories node slot = pins_on [] plan histories node slot
 
 -- what comes to a node in a slot: what arrives by its link ends, and what its pins show from outside, by the script and by wires
 pub record Coming : Type 0 where
@@ -110,23 +125,32 @@ pub record Coming : Type 0 where
   pub pins : PinView
 
 -- what comes in a slot to the node at a position, when the arcs have these histories
+abbrev pub coming_on : List Word → PlanRec → List (List Entry) → Slot → Position → Coming
+coming_on shown plan histories slot node = record { arrivals = arrivals_at plan histories slot node; pins = pins_on shown plan histories node slot }
+
 abbrev pub coming_at : PlanRec → List (List Entry) → Slot → Position → Coming
-coming_at plan histories slot node = record { arrivals = arrivals_at plan histories slot node; pins = pins_at plan histories node slot }
+coming_at plan histories slot node = coming_on [] plan histories slot node
 
 -- the step of a node of a plan, at a position, in a slot in which this comes to it
 abbrev pub step_by : PlanRec → Position → NodePlan → Slot → Coming → NodeRec → Stepped
 step_by plan n node slot coming rec = node_step (fixed_of node (gaps_of plan n)) rec slot coming.arrivals coming.pins
 
 -- the step of each node in a slot, the first of which stands at position n
+abbrev pub steps_from_on : List Word → PlanRec → List (List Entry) → Slot → Position → List NodePlan → List NodeRec → List Stepped
+steps_from_on shown plan histories slot n (node ∷ nodes) (rec ∷ recs) =
+    step_by plan n node slot (coming_on shown plan histories slot n) rec
+    ∷ steps_from_on shown plan histories slot (n + 1) nodes recs
+steps_from_on shown plan histories slot n _ _ = []
+
 abbrev pub steps_from : PlanRec → List (List Entry) → Slot → Position → List NodePlan → List NodeRec → List Stepped
-steps_from plan histories slot n (node ∷ nodes) (rec ∷ recs) =
-    step_by plan n node slot (coming_at plan histories slot n) rec
-    ∷ steps_from plan histories slot (n + 1) nodes recs
-steps_from plan histories slot n _ _ = []
+steps_from plan histories slot n nodes recs = steps_from_on [] plan histories slot n nodes recs
 
 -- the steps of all nodes in a slot
+abbrev pub steps_on : List Word → PlanRec → Slot → SystemRec → List Stepped
+steps_on shown plan slot system = steps_from_on shown plan system.histories slot 0 plan.nodes system.nodes
+
 abbrev pub steps_of : PlanRec → Slot → SystemRec → List Stepped
-steps_of plan slot system = steps_from plan system.histories slot 0 plan.nodes system.nodes
+steps_of plan slot system = steps_on [] plan slot system
 
 abbrev pub token_entries : Slot → Option Token → List Entry
 token_entries slot None = []
@@ -188,13 +212,31 @@ system_after plan slot system steps = record {
 }
 
 -- one slot of the whole system
+abbrev pub step_on : List Word → PlanRec → Slot → SystemRec → SystemRec
+step_on shown plan slot system = system_after plan slot system (steps_on shown plan slot system)
+
 abbrev pub system_step : PlanRec → Slot → SystemRec → SystemRec
-system_step plan slot system = system_after plan slot system (steps_of plan slot system)
+system_step plan slot system = step_on [] plan slot system
 
 -- the system after so many slots
 unfoldable pub serial : PlanRec → Slot → SystemRec
 serial plan zero = system_at_start plan
 serial plan (suc slot) = system_step plan slot (serial plan slot)
+
+-- a system before a slot, from which on it is stepped, and what each arc showed before anything of these histories arrived
+pub record Begun : Type 0 where
+  pub slot : Slot
+  pub system : SystemRec
+  pub shown : List Word
+
+-- a system as it starts
+abbrev pub begun_at_start : PlanRec → Begun
+begun_at_start plan = record { slot = 0; system = system_at_start plan; shown = [] }
+
+-- the system so many slots later
+unfoldable pub since : PlanRec → Begun → ℕ → SystemRec
+since plan begun zero = begun.system
+since plan begun (suc n) = step_on begun.shown plan (begun.slot + n) (since plan begun n)
 
 -- whether an entry was sent in a slot from one on and before another
 abbrev pub is_sent_within : Slot → Slot → Entry → Bool
