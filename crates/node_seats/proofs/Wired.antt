@@ -16,9 +16,9 @@ use Rattle.pin_scripts.specs.Script.{view_at, pin_at, port_numbers}
 use Rattle.sys_plan.specs.declared.LinkPlan.{LinkPlan}
 use Rattle.sys_plan.specs.declared.WirePlan.{WirePlan}
 use Rattle.sys_plan.specs.Plan.{PlanRec, IsWire, forth, back, link_arcs, wire_arcs, first_arc, comes_to_pin, wire_to, delay_of, node_numbers}
-use Rattle.serial_model.specs.Serial.{pin_level, pins_at, wire_level}
+use Rattle.serial_model.specs.Serial.{pin_level_on, pins_on, pins_at, wire_level}
 use Rattle.node_seats.specs.declared.pins.Pins.{Pins}
-use Rattle.node_seats.specs.Shown.{ArePins, HaveCome, joins_pin, shown_by}
+use Rattle.node_seats.specs.Shown.{ArePins, HaveCome, HaveComeOn, joins_pin, shown_by}
 
 -- ---- The pins of a node to which wires come
 
@@ -46,7 +46,8 @@ wired-is plan n port = by-arcs n port plan.links plan.wires 0
 -- ---- What the pins show
 
 -- the pins of a plan's node show what the serial machine hands to the node, where what came by wires is what they show
-module _ (plan : PlanRec) (histories : List (List Entry)) (n slot here : ℕ) (pins : Pins) (are : ArePins plan n slot pins) (come : HaveCome plan histories n here pins.levels) where
+module _ (shown : List Word) (plan : PlanRec) (histories : List (List Entry)) (n slot here : ℕ) (pins : Pins) (are : ArePins plan n slot pins)
+    (come : HaveComeOn shown plan histories n here pins.levels) where
   abbrev scripted : List Word
   scripted = (view_at pins.script pins.number here).level
 
@@ -56,17 +57,20 @@ module _ (plan : PlanRec) (histories : List (List Entry)) (n slot here : ℕ) (p
       ∙ (λ i. pin_at (are.script i) (are.number i) port here)
 
   of-wire : (port : PortNumber) → port < 29 → (wire : Option LinkNumber) → wire_to plan n port ≡ wire
-      → cond (is_some wire) (get_or pins.levels port 0) (get_or scripted port 0) ≡ pin_level plan histories n here port wire
+      → cond (is_some wire) (get_or pins.levels port 0) (get_or scripted port 0) ≡ pin_level_on shown plan histories n here port wire
   of-wire port within None is = script-at port within
   of-wire port within (Some wire) is = come port wire within is
 
-  of-port : (port : PortNumber) → port < 29 → level_over pins.wired pins.levels scripted port ≡ pin_level plan histories n here port (wire_to plan n port)
+  of-port : (port : PortNumber) → port < 29 → level_over pins.wired pins.levels scripted port ≡ pin_level_on shown plan histories n here port (wire_to plan n port)
   of-port port within =
       ap (λ b. cond b (get_or pins.levels port 0) (get_or scripted port 0)) (are.wired port within) ∙ of-wire port within (wire_to plan n port) refl
 
-  pub shows : shown_by pins here ≡ pins_at plan histories n here
-  shows = ap (λ (levels : List Word). record { level = levels })
-      (over-by pins.wired pins.levels scripted (λ port. pin_level plan histories n here port (wire_to plan n port)) of-port)
+  pub shows-on : shown_by pins here ≡ pins_on shown plan histories n here
+  shows-on = ap (λ (levels : List Word). record { level = levels })
+      (over-by pins.wired pins.levels scripted (λ port. pin_level_on shown plan histories n here port (wire_to plan n port)) of-port)
+
+pub shows : (plan : PlanRec) (histories : List (List Entry)) (n slot here : ℕ) (pins : Pins) → ArePins plan n slot pins → HaveCome plan histories n here pins.levels → shown_by pins here ≡ pins_at plan histories n here
+shows = shows-on []
 
 -- before anything was sent, nothing came
 all-same : {X : Type 0} (count port : ℕ) (x : X) → get_or (replicate count x) port x ≡ x

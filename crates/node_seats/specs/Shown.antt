@@ -10,7 +10,7 @@ use Rattle.pin_wires.specs.Wires.{levels_over}
 use Rattle.pin_scripts.specs.Script.{view_at}
 use Rattle.sys_plan.specs.declared.WirePlan.{WirePlan}
 use Rattle.sys_plan.specs.Plan.{PlanRec, node_numbers, wire_to, delay_of}
-use Rattle.serial_model.specs.Serial.{wire_level}
+use Rattle.serial_model.specs.Serial.{level_on, shown_of}
 use Rattle.node_seats.specs.declared.pins.Pins.{Pins}
 
 -- the slot of a change, 2 ^ 32 - 1, which is no slot of a run, where none comes
@@ -31,9 +31,13 @@ abbrev pub joins_pin : Position → PortNumber → WirePlan → Bool
 joins_pin n port wire = (wire.b == n) && (wire.b_port == port)
 
 -- these levels, by port number, are those that wires show at the pins of the node of a plan in a slot, when the arcs have these histories
+-- and showed this before
+abbrev pub HaveComeOn : List Word → PlanRec → List (List Entry) → Position → Slot → List Word → Type 0
+HaveComeOn shown plan histories n slot levels = (port : PortNumber) (wire : LinkNumber) → port < PORTS → wire_to plan n port ≡ Some wire →
+    slice_index_or levels port 0 ≡ level_on (shown_of shown wire) slot (delay_of plan wire) (slice_index_or histories wire [])
+
 abbrev pub HaveCome : PlanRec → List (List Entry) → Position → Slot → List Word → Type 0
-HaveCome plan histories n slot levels = (port : PortNumber) (wire : LinkNumber) → port < PORTS → wire_to plan n port ≡ Some wire →
-    slice_index_or levels port 0 ≡ wire_level slot (delay_of plan wire) (slice_index_or histories wire [])
+HaveCome plan histories n slot levels = HaveComeOn [] plan histories n slot levels
 
 -- from a slot on, until the next change, the pins show what is kept, unless more comes by a wire. The next change may have come before this
 -- slot
@@ -46,8 +50,8 @@ pub record IsShown (slot : Slot) (pins : Pins) : Type 0 where
   pub steady : IsSteady slot pins
   pub next : slot ≤ pins.next
 
--- these are the pins of the node of a plan at a position, before a slot. What they show in it is `pins_at` of the serial machine, where
--- `HaveCome` holds of what came by wires
+-- these are the pins of the node of a plan at a position, before a slot. What they show in it is `pins_on` of the serial machine, where
+-- `HaveComeOn` holds of what came by wires
 pub record ArePins (plan : PlanRec) (n : Position) (slot : Slot) (pins : Pins) : Type 0 where
   pub script : pins.script ≡ plan.script
   pub number : pins.number ≡ slice_index (node_numbers plan) n

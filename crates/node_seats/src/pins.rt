@@ -42,20 +42,30 @@ impl Pins {
         ensures levels { IfOk result (λ pins. pins.levels ≡ replicate PORTS 0) }
         ensures due { IfOk result (λ pins. pins.next ≡ 0) }
     {
+        Pins::before(plan, n, 0)
+    }
+
+    /// The same before any slot.
+    pub fn before(plan: &Plan, n: u8, slot: u32) -> Result<Pins, AllocError>
+        requires node { n < length plan.now.nodes }
+        ensures pins { IfOk result (λ pins. ArePins plan.now n slot pins) }
+        ensures levels { IfOk result (λ pins. pins.levels ≡ replicate PORTS 0) }
+        ensures due { IfOk result (λ pins. pins.next ≡ slot) }
+    {
         let script = plan.script().clone()?;
         let nodes = plan.nodes();
         let node = &nodes[n as usize];
-        Ok(Pins::by_script(script, node.number, wired_at(plan, n)))
+        Ok(Pins::by_script(script, node.number, wired_at(plan, n), slot))
     }
 
-    // The pins of the node with a number, before slot 0.
-    fn by_script(script: Script, number: u8, wired: u32) -> Pins
+    // The pins of the node with a number, before a slot.
+    fn by_script(script: Script, number: u8, wired: u32, slot: u32) -> Pins
         ensures script { result.script ≡ script }
         ensures number { result.number ≡ number }
         ensures wired { result.wired ≡ wired }
         ensures levels { result.levels ≡ replicate PORTS 0 }
-        ensures shown { IsShown 0 result }
-        ensures due { result.next ≡ 0 }
+        ensures shown { IsShown slot result }
+        ensures due { result.next ≡ slot }
     {
         Pins {
             script,
@@ -63,7 +73,7 @@ impl Pins {
             wired,
             levels: Levels::new(),
             view: PinView { level: [0; 29] },
-            next: 0,
+            next: slot,
         }
     }
 

@@ -18,9 +18,10 @@ ghost use Rattle.quiet_laws.specs.Quiet.{StirsFirst};
 ghost use Rattle.core_step.specs.Core.{NothingArrives, StandsAt};
 ghost use Rattle.core_step.specs.Quiet.{IsQuietTo};
 ghost use Rattle.core_step.specs.PinLevels.{from_outside};
+ghost use Rattle.core_step.specs.States.{node_rec, IsNodeState, IsStateBefore};
 ghost use Rattle.node_seats.specs.Seats.{IsSeat, HasEventRoom, SameSeat, StepsOn, SkipsOn, Plays};
 
-use core_step::Core;
+use core_step::{Core, NodeState};
 use std::alloc::{AllocError, Global};
 use sys_plan::{NodePlan, Plan};
 use trace_lines::{Emissions, NodeEvents};
@@ -46,6 +47,24 @@ impl Seat {
     {
         let nodes = plan.nodes();
         seat_of(alloc, plan, n, &nodes[n as usize])
+    }
+
+    /// The node of a plan at a position that a snapshot says, without events. It stands before each slot that is after all slots in the
+    /// state. The error is want of memory. See docs/SNAPSHOTS.md.
+    pub fn of_state(
+        alloc: Global,
+        plan: &Plan,
+        n: u8,
+        state: &NodeState,
+    ) -> Result<Seat, AllocError>
+        requires node { n < length plan.now.nodes }
+        requires facts { IsNodeState (gaps_of plan.now n) state.now }
+        ensures plays { IfOk result (λ seat. (node : NodePlan) (slot : Slot) → slice_get plan.now.nodes n ≡ Some node → IsStateBefore slot state.now →
+            Plays plan.now slot n node seat (node_rec state.now) []) }
+        ensures ready { IfOk result (λ seat. (slot : Slot) → IsStateBefore slot state.now → IsSeat slot seat) }
+    {
+        let nodes = plan.nodes();
+        seat_of_state(alloc, plan, n, &nodes[n as usize], state)
     }
 
     /// Makes room for the events of one slot. The error is want of memory, and changes nothing.
@@ -153,6 +172,27 @@ fn seat_of(alloc: Global, plan: &Plan, n: u8, node: &NodePlan) -> Result<Seat, A
     ensures ready { IfOk result (λ seat. IsSeat 0 seat) }
 {
     let core = Core::boot(alloc, node, &plan.gaps(n))?;
+    Ok(Seat {
+        core,
+        events: NodeEvents::new(alloc),
+        given: Emissions::new(),
+    })
+}
+
+// The node at a position that a snapshot says.
+fn seat_of_state(
+    alloc: Global,
+    plan: &Plan,
+    n: u8,
+    node: &NodePlan,
+    state: &NodeState,
+) -> Result<Seat, AllocError>
+    requires node { WaysLead plan.now n node.now.ways }
+    requires facts { IsNodeState (gaps_of plan.now n) state.now }
+    ensures plays { IfOk result (λ seat. (slot : Slot) → IsStateBefore slot state.now → Plays plan.now slot n node.now seat (node_rec state.now) []) }
+    ensures ready { IfOk result (λ seat. (slot : Slot) → IsStateBefore slot state.now → IsSeat slot seat) }
+{
+    let core = Core::of_state(alloc, node, &plan.gaps(n), state)?;
     Ok(Seat {
         core,
         events: NodeEvents::new(alloc),
