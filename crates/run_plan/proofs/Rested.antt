@@ -16,13 +16,16 @@ use Rattle.step_model.specs.Start.{fixed_of}
 use Rattle.step_model.specs.Step.{Stepped, node_step}
 use Rattle.step_laws.specs.EightSlots.{after_slots}
 use Rattle.step_laws.specs.Pins.{SlotTellsDriven, driven_after}
+use Rattle.step_laws.specs.Shape.{HasShape, SlotKeepsShape}
 use Rattle.quiet_model.specs.Stirs.{stirs}
 use Rattle.quiet_laws.specs.Undisturbed.{no_arrivals, undisturbed_run, undisturbed_until, IsWhole}
 use Rattle.quiet_laws.specs.Quiet.{QuietSlotOnlyCounts, IsQuietUntil}
-use Rattle.busy_slots.specs.Serial.{NodesAreWhole}
-use Rattle.serial_model.specs.Serial.{SystemRec, serial, system_step, system_after, steps_from, sent_by, token_entries, credit_entries, longer_histories, longer_events, pins_at, arrivals_at}
+use Rattle.serial_model.specs.Serial.{SystemRec, Begun, since, step_on, system_after, steps_from_on, sent_by, token_entries, credit_entries, longer_histories, longer_events, pins_on, arrivals_at}
 use Rattle.serial_model.specs.Serial.{carried_by, level_entries, driven_level, node_by}
-use Rattle.run_plan.proofs.Steps.{serial_next}
+use Rattle.std.specs.List.{AllByRecursion}
+
+pub whole_by : {rec : NodeRec} → HasShape rec → IsWhole rec.core
+whole_by has = record { ports = has.ports; last = has.threads }
 
 -- ---- Steps that give nothing
 
@@ -74,12 +77,12 @@ histories_stay slot nodes recs drive (d ∷ ds) (h ∷ hs) same =
     let rest = histories_stay slot nodes recs drive ds hs (omega (arith, same)) in
     λ i. here i ∷ rest i
 
-module _ (plan : PlanRec) (from : Slot) (histories : List (List Entry)) where
+module _ (shown : List Word) (plan : PlanRec) (from : Slot) (histories : List (List Entry)) where
   -- ---- Nodes at which nothing arrives
 
   -- a node, at a position, before a later slot
   abbrev pub rested : Slot → Position → NodePlan → NodeRec → NodeRec
-  rested slot n node rec = undisturbed_until (fixed_of node (gaps_of plan n)) rec from (pins_at plan histories n) slot
+  rested slot n node rec = undisturbed_until (fixed_of node (gaps_of plan n)) rec from (pins_on shown plan histories n) slot
 
   -- these nodes, the first of which stands at position n
   abbrev pub all_rested : Slot → Position → List NodePlan → List NodeRec → List NodeRec
@@ -94,12 +97,12 @@ module _ (plan : PlanRec) (from : Slot) (histories : List (List Entry)) where
   abbrev pub AllQuietUntil : Slot → Position → List NodePlan → List NodeRec → List (List Event) → Type 0
   AllQuietUntil to n [] [] [] = Unit {0}
   AllQuietUntil to n (node ∷ nodes) (rec ∷ recs) (es ∷ events) =
-      IsQuietUntil (fixed_of node (gaps_of plan n)) rec from (pins_at plan histories n) to × AllQuietUntil to (n + 1) nodes recs events
+      IsQuietUntil (fixed_of node (gaps_of plan n)) rec from (pins_on shown plan histories n) to × AllQuietUntil to (n + 1) nodes recs events
   AllQuietUntil to n _ _ _ = ⊥
 
   none_yet : (n : Position) (node : NodePlan) (rec : NodeRec) → rested from n node rec ≡ rec
   unfolding after_slots
-  none_yet n node rec = let none : from - from ≡ 0 = omega arith in ap (after_slots (undisturbed_run (fixed_of node (gaps_of plan n)) rec from (pins_at plan histories n))) none
+  none_yet n node rec = let none : from - from ≡ 0 = omega arith in ap (after_slots (undisturbed_run (fixed_of node (gaps_of plan n)) rec from (pins_on shown plan histories n))) none
 
   all_not_yet : (to : Slot) (n : Position) (nodes : List NodePlan) (recs : List NodeRec) (events : List (List Event)) → AllQuietUntil to n nodes recs events → all_rested from n nodes recs ≡ recs
   all_not_yet to n [] [] [] quiet = refl
@@ -110,38 +113,46 @@ module _ (plan : PlanRec) (from : Slot) (histories : List (List Entry)) where
   all_not_yet to n _ _ _ quiet = absurd quiet
 
   next_rested : (slot : Slot) (n : Position) (node : NodePlan) (rec : NodeRec) → from ≤ slot
-      → (node_step (fixed_of node (gaps_of plan n)) (rested slot n node rec) slot no_arrivals (pins_at plan histories n slot)).rec ≡ rested (suc slot) n node rec
+      → (node_step (fixed_of node (gaps_of plan n)) (rested slot n node rec) slot no_arrivals (pins_on shown plan histories n slot)).rec ≡ rested (suc slot) n node rec
   unfolding after_slots
   next_rested slot n node rec on =
       let fixed = fixed_of node (gaps_of plan n) in
-      let run = undisturbed_run fixed rec from (pins_at plan histories n) in
+      let run = undisturbed_run fixed rec from (pins_on shown plan histories n) in
       let more : suc (slot - from) ≡ suc slot - from = omega (arith, on) in
       let here : slot ≡ from + (slot - from) = omega (arith, on) in
-      ap (λ s. (node_step fixed (rested slot n node rec) s no_arrivals (pins_at plan histories n s)).rec) here ∙ ap (after_slots run) more
+      ap (λ s. (node_step fixed (rested slot n node rec) s no_arrivals (pins_on shown plan histories n s)).rec) here ∙ ap (after_slots run) more
+
+  -- each keeps its shape
+  next_have : SlotKeepsShape → (slot : Slot) → from ≤ slot → (n : Position) (nodes : List NodePlan) (recs : List NodeRec) → AllByRecursion HasShape (all_rested slot n nodes recs)
+      → AllByRecursion HasShape (all_rested (suc slot) n nodes recs)
+  next_have keeps slot on n [] recs have = tt
+  next_have keeps slot on n (node ∷ nodes) [] have = tt
+  next_have keeps slot on n (node ∷ nodes) (rec ∷ recs) have =
+      (subst HasShape (next_rested slot n node rec on) (keeps _ (rested slot n node rec) slot _ _ have.0), next_have keeps slot on (n + 1) nodes recs have.1)
 
   -- ---- One slot
 
   module _ (counts : QuietSlotOnlyCounts) (slot : Slot) (on : from ≤ slot) where
-    rests_one : (n : Position) (node : NodePlan) (rec : NodeRec) (arrivals : Arrivals) → IsWhole (rested slot n node rec).core → stirs (rested slot n node rec) slot ≡ false → arrivals ≡ no_arrivals
-        → node_step (fixed_of node (gaps_of plan n)) (rested slot n node rec) slot arrivals (pins_at plan histories n slot) ≡ given_nothing (rested (suc slot) n node rec)
-    rests_one n node rec arrivals whole calm nothing =
+    rests_one : (n : Position) (node : NodePlan) (rec : NodeRec) (arrivals : Arrivals) → HasShape (rested slot n node rec) → stirs (rested slot n node rec) slot ≡ false → arrivals ≡ no_arrivals
+        → node_step (fixed_of node (gaps_of plan n)) (rested slot n node rec) slot arrivals (pins_on shown plan histories n slot) ≡ given_nothing (rested (suc slot) n node rec)
+    rests_one n node rec arrivals has calm nothing =
         let fixed = fixed_of node (gaps_of plan n) in
         let now = rested slot n node rec in
-        let alike = ap (λ a. node_step fixed now slot a (pins_at plan histories n slot)) nothing in
+        let alike = ap (λ a. node_step fixed now slot a (pins_on shown plan histories n slot)) nothing in
         let next = ap (λ (s : Stepped). s.rec) alike ∙ next_rested slot n node rec on in
-        let none = ap (λ (s : Stepped). s.emitted) alike ∙ ap (λ (s : Stepped). s.emitted) (counts fixed now slot (pins_at plan histories n slot) whole refl calm) in
+        let none = ap (λ (s : Stepped). s.emitted) alike ∙ ap (λ (s : Stepped). s.emitted) (counts fixed now slot (pins_on shown plan histories n slot) (whole_by has) refl calm) in
         λ i. record { rec = next i; emitted = none i }
 
     module _ (to : Slot) (before : slot < to) (nothing : (n : Position) → arrivals_at plan histories slot n ≡ no_arrivals) where
       all_step : (n : Position) (nodes : List NodePlan) (recs : List NodeRec) (events : List (List Event)) → AllQuietUntil to n nodes recs events
-          → ((k : ℕ) → IsWhole (get_or (all_rested slot n nodes recs) k (first_node 0 0 [])).core)
-          → steps_from plan histories slot n nodes (all_rested slot n nodes recs) ≡ map given_nothing (all_rested (suc slot) n nodes recs)
-      all_step n [] [] [] quiet whole = refl
-      all_step n (node ∷ nodes) (rec ∷ recs) (es ∷ events) quiet whole =
-          let here = rests_one n node rec (arrivals_at plan histories slot n) (whole 0) (quiet.0 slot on before) (nothing n) in
-          let rest = all_step (n + 1) nodes recs events quiet.1 (λ k. whole (suc k)) in
+          → AllByRecursion HasShape (all_rested slot n nodes recs)
+          → steps_from_on shown plan histories slot n nodes (all_rested slot n nodes recs) ≡ map given_nothing (all_rested (suc slot) n nodes recs)
+      all_step n [] [] [] quiet has = refl
+      all_step n (node ∷ nodes) (rec ∷ recs) (es ∷ events) quiet has =
+          let here = rests_one n node rec (arrivals_at plan histories slot n) has.0 (quiet.0 slot on before) (nothing n) in
+          let rest = all_step (n + 1) nodes recs events quiet.1 has.1 in
           λ i. here i ∷ rest i
-      all_step n _ _ _ quiet whole = absurd quiet
+      all_step n _ _ _ quiet has = absurd quiet
 
       events_stay : (n : Position) (nodes : List NodePlan) (recs : List NodeRec) (events : List (List Event)) → AllQuietUntil to n nodes recs events
           → longer_events (map given_nothing (all_rested (suc slot) n nodes recs)) events ≡ events
@@ -154,37 +165,37 @@ module _ (plan : PlanRec) (from : Slot) (histories : List (List Entry)) where
 
       -- each port drives what it drove, as no event tells of another level
       module _ (tells : SlotTellsDriven) where
-        drives-one : (n : Position) (node : NodePlan) (rec : NodeRec) → IsWhole (rested slot n node rec).core → stirs (rested slot n node rec) slot ≡ false → (p : PortNumber)
+        drives-one : (n : Position) (node : NodePlan) (rec : NodeRec) → HasShape (rested slot n node rec) → stirs (rested slot n node rec) slot ≡ false → (p : PortNumber)
             → driven_level (rested (suc slot) n node rec) p ≡ driven_level (rested slot n node rec) p
-        drives-one n node rec whole calm p =
+        drives-one n node rec has calm p =
             let fixed = fixed_of node (gaps_of plan n) in
             let now = rested slot n node rec in
             let arrivals = arrivals_at plan histories slot n in
-            let step = rests_one n node rec arrivals whole calm (nothing n) in
+            let step = rests_one n node rec arrivals has calm (nothing n) in
             ap (λ (driven : Option Word). level_of driven 0)
             (ap (λ (s : Stepped). (port_of s.rec.core p).driven) (sym step)
-            ∙ tells fixed now slot arrivals (pins_at plan histories n slot) p
+            ∙ tells fixed now slot arrivals (pins_on shown plan histories n slot) p
             ∙ ap (λ (s : Stepped). driven_after p (port_of now.core p).driven s.emitted.events) step)
 
         drives-all : (n : Position) (nodes : List NodePlan) (recs : List NodeRec) (events : List (List Event)) → AllQuietUntil to n nodes recs events
-            → ((k : ℕ) → IsWhole (get_or (all_rested slot n nodes recs) k (first_node 0 0 [])).core) → DriveTheSame (all_rested slot n nodes recs) (all_rested (suc slot) n nodes recs)
-        drives-all n [] [] [] quiet whole k p = refl
-        drives-all n (node ∷ nodes) (rec ∷ recs) (es ∷ events) quiet whole zero p = drives-one n node rec (whole 0) (quiet.0 slot on before) p
-        drives-all n (node ∷ nodes) (rec ∷ recs) (es ∷ events) quiet whole (suc k) p = drives-all (n + 1) nodes recs events quiet.1 (λ j. whole (suc j)) k p
-        drives-all n _ _ _ quiet whole k p = absurd quiet
+            → AllByRecursion HasShape (all_rested slot n nodes recs) → DriveTheSame (all_rested slot n nodes recs) (all_rested (suc slot) n nodes recs)
+        drives-all n [] [] [] quiet has k p = refl
+        drives-all n (node ∷ nodes) (rec ∷ recs) (es ∷ events) quiet has zero p = drives-one n node rec has.0 (quiet.0 slot on before) p
+        drives-all n (node ∷ nodes) (rec ∷ recs) (es ∷ events) quiet has (suc k) p = drives-all (n + 1) nodes recs events quiet.1 has.1 k p
+        drives-all n _ _ _ quiet has k p = absurd quiet
 
     module _ (tells : SlotTellsDriven) (to : Slot) (system : SystemRec) (here : system.histories ≡ histories) (before : slot < to) (same : length histories ≡ length (arcs plan))
         (nothing : (n : Position) → arrivals_at plan histories slot n ≡ no_arrivals) (quiet : AllQuietUntil to 0 plan.nodes system.nodes system.events)
-        (whole : (k : ℕ) → IsWhole (get_or (all_rested slot 0 plan.nodes system.nodes) k (first_node 0 0 [])).core) where
+        (has : AllByRecursion HasShape (all_rested slot 0 plan.nodes system.nodes)) where
       drive_rests : DriveTheSame (all_rested slot 0 plan.nodes system.nodes) (all_rested (suc slot) 0 plan.nodes system.nodes)
-      drive_rests = drives-all to before nothing tells 0 plan.nodes system.nodes system.events quiet whole
+      drive_rests = drives-all to before nothing tells 0 plan.nodes system.nodes system.events quiet has
 
-      system_rests : system_step plan slot (system_rested slot system) ≡ system_rested (suc slot) system
+      system_rests : step_on shown plan slot (system_rested slot system) ≡ system_rested (suc slot) system
       system_rests =
           let now = all_rested slot 0 plan.nodes system.nodes in
           let next = all_rested (suc slot) 0 plan.nodes system.nodes in
           let steps =
-          ap (λ hs. steps_from plan hs slot 0 plan.nodes now) here ∙ all_step to before nothing 0 plan.nodes system.nodes system.events quiet whole in
+          ap (λ hs. steps_from_on shown plan hs slot 0 plan.nodes now) here ∙ all_step to before nothing 0 plan.nodes system.nodes system.events quiet has in
           let nodes = recs_of next in
           let stay = ap (longer_histories slot now (map given_nothing next) (arcs plan)) here ∙ histories_stay slot now next drive_rests (arcs plan) histories same ∙ sym here in
           let events = events_stay to before nothing 0 plan.nodes system.nodes system.events quiet in
@@ -192,51 +203,57 @@ module _ (plan : PlanRec) (from : Slot) (histories : List (List Entry)) where
 
 -- ---- All the slots
 
--- where a system has gone over some slots in which nothing happened: to what, and what its ports then drive
-record HasRested (plan : PlanRec) (from slot : Slot) : Type 0 where
-  system : serial plan slot ≡ system_rested plan from (serial plan from).histories slot (serial plan from)
-  drive : DriveTheSame (serial plan from).nodes (all_rested plan from (serial plan from).histories slot 0 plan.nodes (serial plan from).nodes)
+-- a system that begins before this slot
+abbrev pub begun_by : List Word → Slot → SystemRec → Begun
+begun_by shown from start = record { slot = from; system = start; shown = shown }
 
-module _ (plan : PlanRec) (from : Slot) (counts : QuietSlotOnlyCounts) (tells : SlotTellsDriven) (whole : NodesAreWhole) (to : Slot) (same : length (serial plan from).histories ≡ length (arcs plan))
-    (nothing : (slot : Slot) → from ≤ slot → slot < to → (n : Position) → arrivals_at plan (serial plan from).histories slot n ≡ no_arrivals)
-    (quiet : AllQuietUntil plan from (serial plan from).histories to 0 plan.nodes (serial plan from).nodes (serial plan from).events) where
-  abbrev start : SystemRec
-  start = serial plan from
+-- where it has gone over so many slots in which nothing happened: to what, what its ports then drive, and that its nodes have their shape
+record HasRested (shown : List Word) (plan : PlanRec) (from : Slot) (start : SystemRec) (count : ℕ) (slot : Slot) : Type 0 where
+  system : since plan (begun_by shown from start) count ≡ system_rested shown plan from start.histories slot start
+  drive : DriveTheSame start.nodes (all_rested shown plan from start.histories slot 0 plan.nodes start.nodes)
+  shapes : AllByRecursion HasShape (all_rested shown plan from start.histories slot 0 plan.nodes start.nodes)
 
-  abbrev later : Slot → SystemRec
-  later slot = system_rested plan from start.histories slot start
+module _ (shown : List Word) (plan : PlanRec) (from : Slot) (start : SystemRec) where
+  abbrev later : Slot → List NodeRec
+  later slot = all_rested shown plan from start.histories slot 0 plan.nodes start.nodes
 
-  after_some : (count : ℕ) → from + count ≤ to → HasRested plan from (from + count)
-  after_some zero within =
-      let none : from + 0 ≡ from = omega arith in
-      let yet = all_not_yet plan from start.histories to 0 plan.nodes start.nodes start.events quiet in
-      subst (HasRested plan from) (sym none) (record {
-        system = λ i. record start { nodes = sym yet i };
-        drive = λ n p. ap (λ (nodes : List NodeRec). driven_level (node_by nodes n) p) yet;
-      })
-  after_some (suc count) within =
-      let slot = from + count in
-      let one : suc slot ≡ from + suc count = omega arith in
-      let up : suc slot ≡ slot + 1 = omega arith in
-      let so_far = after_some count (omega (arith, within)) in
-      let all = λ (k : ℕ). subst (λ (s : SystemRec). IsWhole (get_or s.nodes k (first_node 0 0 [])).core) so_far.system (whole plan k slot) in
-      let before : slot < to = omega (arith, within) in
-      let on : from ≤ slot = omega arith in
-      let step = system_rests plan from start.histories counts slot on tells to start refl before same (nothing slot on before) quiet all in
-      let drive = drive_rests plan from start.histories counts slot on tells to start refl before same (nothing slot on before) quiet all in
-      subst (HasRested plan from) one (record {
-        system =
-            ap (serial plan) up ∙ (sym (serial_next plan slot) ∙ (ap (system_step plan slot) so_far.system ∙ step));
-        drive = λ n p. drive n p ∙ so_far.drive n p;
-      })
+  module _ (counts : QuietSlotOnlyCounts) (tells : SlotTellsDriven) (keeps : SlotKeepsShape) (has : AllByRecursion HasShape start.nodes) (to : Slot) (same : length start.histories ≡ length (arcs plan))
+      (nothing : (slot : Slot) → from ≤ slot → slot < to → (n : Position) → arrivals_at plan start.histories slot n ≡ no_arrivals)
+      (quiet : AllQuietUntil shown plan from start.histories to 0 plan.nodes start.nodes start.events) where
+    after_some : (count : ℕ) → from + count ≤ to → HasRested shown plan from start count (from + count)
+    unfolding since
+    after_some zero within =
+        let none : from + 0 ≡ from = omega arith in
+        let yet = all_not_yet shown plan from start.histories to 0 plan.nodes start.nodes start.events quiet in
+        subst (HasRested shown plan from start 0) (sym none) (record {
+          system = λ i. record start { nodes = sym yet i };
+          drive = λ n p. ap (λ (nodes : List NodeRec). driven_level (node_by nodes n) p) yet;
+          shapes = subst (AllByRecursion HasShape) (sym yet) has;
+        })
+    after_some (suc count) within =
+        let slot = from + count in
+        let one : suc slot ≡ from + suc count = omega arith in
+        let so_far = after_some count (omega (arith, within)) in
+        let before : slot < to = omega (arith, within) in
+        let on : from ≤ slot = omega arith in
+        let step = system_rests shown plan from start.histories counts slot on tells to start refl before same (nothing slot on before) quiet so_far.shapes in
+        let drive = drive_rests shown plan from start.histories counts slot on tells to start refl before same (nothing slot on before) quiet so_far.shapes in
+        subst (HasRested shown plan from start (suc count)) one (record {
+          system = ap (step_on shown plan slot) so_far.system ∙ step;
+          drive = λ n p. drive n p ∙ so_far.drive n p;
+          shapes = next_have shown plan from start.histories keeps slot on 0 plan.nodes start.nodes so_far.shapes;
+        })
 
-  after_all : from ≤ to → HasRested plan from to
-  after_all on =
-      let there : from + (to - from) ≡ to = omega (arith, on) in
-      subst (HasRested plan from) there (after_some (to - from) (omega (arith, there)))
+    after_all : from ≤ to → HasRested shown plan from start (to - from) to
+    after_all on =
+        let there : from + (to - from) ≡ to = omega (arith, on) in
+        subst (HasRested shown plan from start (to - from)) there (after_some (to - from) (omega (arith, there)))
 
-  pub all_after : from ≤ to → serial plan to ≡ later to
-  all_after on = (after_all on).system
+    pub all_after : from ≤ to → since plan (begun_by shown from start) (to - from) ≡ record start { nodes = later to }
+    all_after on = (after_all on).system
 
-  pub drive_after : from ≤ to → DriveTheSame start.nodes (all_rested plan from start.histories to 0 plan.nodes start.nodes)
-  drive_after on = (after_all on).drive
+    pub drive_after : from ≤ to → DriveTheSame start.nodes (later to)
+    drive_after on = (after_all on).drive
+
+    pub shapes_after : from ≤ to → AllByRecursion HasShape (later to)
+    shapes_after on = (after_all on).shapes

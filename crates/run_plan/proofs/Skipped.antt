@@ -10,15 +10,15 @@ use Rattle.sys_plan.specs.Plan.{PlanRec, Arc, arcs, link_arcs, wire_arcs, gaps_o
 use Rattle.step_model.specs.Fixed.{Fixed}
 use Rattle.step_model.specs.Start.{fixed_of}
 use Rattle.step_laws.specs.Pins.{SlotTellsDriven}
-use Rattle.serial_model.specs.Serial.{SystemRec, serial, pins_at, arrivals_at}
+use Rattle.step_laws.specs.Shape.{HasShape, SlotKeepsShape}
+use Rattle.serial_model.specs.Serial.{SystemRec, since, shown_of, pins_on, arrivals_at}
 use Rattle.quiet_laws.specs.Undisturbed.{no_arrivals, IsWhole}
 use Rattle.quiet_laws.specs.Quiet.{QuietSlotOnlyCounts, StillNodeStirsFirst, IsQuietUntil}
-use Rattle.busy_slots.specs.Serial.{NodesAreWhole}
 use Rattle.crossings.proofs.Arriving.{all-map}
 use Rattle.core_step.proofs.Quiet.{quiet_until, sooner}
 use Rattle.node_seats.proofs.Seats.{plays-later}
-use Rattle.node_seats.proofs.Wired.{shows}
-use Rattle.node_seats.specs.Shown.{AreWired, HaveCome, shown_by}
+use Rattle.node_seats.proofs.Wired.{shows-on}
+use Rattle.node_seats.specs.Shown.{AreWired, HaveComeOn, shown_by}
 use Rattle.run_plan.specs.declared.track.Track.{Track}
 use Rattle.run_plan.specs.declared.wire.Wire.{Wire}
 use Rattle.run_plan.specs.declared.station.Station.{Station}
@@ -30,7 +30,7 @@ use Rattle.run_plan.specs.Wires.{IsWire, IsReadyWire, AreReadyWires}
 use Rattle.run_plan.specs.Quiet.{RestsTo, ArrivesAfter, ComesAfter, IsQuietSystem, MaySkip, StationSkips}
 use Rattle.run_plan.specs.Run.{Serves, AllServe, AllTell, IsSystem, AreReady}
 use Rattle.run_plan.proofs.Through.{all-zip, zip-length, all-both}
-use Rattle.run_plan.proofs.Rested.{rested, all_rested, system_rested, AllQuietUntil, DriveTheSame, all_after, drive_after}
+use Rattle.run_plan.proofs.Rested.{rested, all_rested, whole_by, AllQuietUntil, DriveTheSame, all_after, drive_after, shapes_after}
 use Rattle.run_plan.proofs.Wires.{wire-later, shows-still}
 use Rattle.run_plan.proofs.Come.{ShowsIn, AllCame, all-came}
 use Rattle.run_plan.proofs.Systems.{histories-length}
@@ -60,20 +60,20 @@ stations_later from to count stations after = all-zip (StationSkips from to) (Is
   incoming = subst (AllByRecursion (IsBelow count)) (sym s.incoming) h.incoming;
 }) stations after
 
-module _ (plan : PlanRec) (from to : Slot) (histories : List (List Entry)) where
-  serves_later : (n : Position) (node : NodePlan) (before after : Station) (rec : NodeRec) (events : List Event) → Serves plan from n node before rec events → HaveCome plan histories n (to - 1) before.pins.levels
-      → StationSkips from to before after → Serves plan to n node after (rested plan from histories to n node rec) events
+module _ (shown : List Word) (plan : PlanRec) (from to : Slot) (histories : List (List Entry)) where
+  serves_later : (n : Position) (node : NodePlan) (before after : Station) (rec : NodeRec) (events : List Event) → Serves plan from n node before rec events → HaveComeOn shown plan histories n (to - 1) before.pins.levels
+      → StationSkips from to before after → Serves plan to n node after (rested shown plan from histories to n node rec) events
   serves_later n node before after rec events is came s =
-      let last = sym (shows plan histories n from (to - 1) before.pins is.pins came) in
+      let last = sym (shows-on shown plan histories n from (to - 1) before.pins is.pins came) in
       record {
-        plays = plays-later plan from to n node before.seat after.seat rec events (pins_at plan histories n) (shown_by before.pins (to - 1)) is.plays (λ slot. refl) last s.skips;
+        plays = plays-later plan from to n node before.seat after.seat rec events (pins_on shown plan histories n) (shown_by before.pins (to - 1)) is.plays (λ slot. refl) last s.skips;
         pins = record { script = s.script ∙ is.pins.script; number = s.number ∙ is.pins.number; wired = subst (AreWired plan n) (sym s.wired) is.pins.wired; shown = s.shown };
         incoming = s.incoming ∙ is.incoming;
       }
 
   all_serve : (n : Position) (nodes : List NodePlan) (stations : List Station) (recs : List NodeRec) (events : List (List Event)) (after : List Station)
-      → AllServe plan from n nodes stations recs events → AllCame plan histories (to - 1) n stations → AllZip (StationSkips from to) stations after
-      → AllServe plan to n nodes after (all_rested plan from histories to n nodes recs) events
+      → AllServe plan from n nodes stations recs events → AllCame shown plan histories (to - 1) n stations → AllZip (StationSkips from to) stations after
+      → AllServe plan to n nodes after (all_rested shown plan from histories to n nodes recs) events
   all_serve n [] [] [] [] [] serve came zip = tt
   all_serve n [] [] [] [] (a ∷ afters) serve came zip = absurd zip
   all_serve n (node ∷ nodes) (station ∷ stations) (rec ∷ recs) (es ∷ events) [] serve came zip = absurd zip
@@ -84,18 +84,18 @@ module _ (plan : PlanRec) (from to : Slot) (histories : List (List Entry)) where
   -- none of them stirs
   module _ (first : StillNodeStirsFirst) where
     quiet_one : (n : Position) (node : NodePlan) (station : Station) (rec : NodeRec) (events : List Event) → Serves plan from n node station rec events → RestsTo from to station → IsWhole rec.core
-        → IsQuietUntil (fixed_of node (gaps_of plan n)) rec from (pins_at plan histories n) to
+        → IsQuietUntil (fixed_of node (gaps_of plan n)) rec from (pins_on shown plan histories n) to
     quiet_one n node station rec events is rests whole =
         let stands = is.plays.stands.stands in
-        subst (λ (f : Fixed). IsQuietUntil f rec from (pins_at plan histories n) to) is.plays.fixed
-        (quiet_until first station.seat.core rec from to (pins_at plan histories n) (subst IsWhole (sym stands.core) whole) stands (λ slot. refl) rests)
+        subst (λ (f : Fixed). IsQuietUntil f rec from (pins_on shown plan histories n) to) is.plays.fixed
+        (quiet_until first station.seat.core rec from to (pins_on shown plan histories n) (subst IsWhole (sym stands.core) whole) stands (λ slot. refl) rests)
 
     all_quiet : (n : Position) (nodes : List NodePlan) (stations : List Station) (recs : List NodeRec) (events : List (List Event)) → AllServe plan from n nodes stations recs events
-        → AllByRecursion (RestsTo from to) stations → ((k : ℕ) → IsWhole (get_or recs k (first_node 0 0 [])).core) → AllQuietUntil plan from histories to n nodes recs events
-    all_quiet n [] [] [] [] serve rests whole = tt
-    all_quiet n (node ∷ nodes) (station ∷ stations) (rec ∷ recs) (es ∷ events) serve rests whole =
-        (quiet_one n node station rec es serve.0 rests.0 (whole 0), all_quiet (n + 1) nodes stations recs events serve.1 rests.1 (λ k. whole (suc k)))
-    all_quiet n _ _ _ _ serve rests whole = absurd serve
+        → AllByRecursion (RestsTo from to) stations → AllByRecursion HasShape recs → AllQuietUntil shown plan from histories to n nodes recs events
+    all_quiet n [] [] [] [] serve rests has = tt
+    all_quiet n (node ∷ nodes) (station ∷ stations) (rec ∷ recs) (es ∷ events) serve rests has =
+        (quiet_one n node station rec es serve.0 rests.0 (whole_by has.0), all_quiet (n + 1) nodes stations recs events serve.1 rests.1 has.1)
+    all_quiet n _ _ _ _ serve rests has = absurd serve
 
 -- ---- The wires
 
@@ -121,12 +121,15 @@ module _ (from to : Slot) (some : from < to) (wires : List Wire) (quiet : AllByR
       all-both (IsWire from) (ComesAfter to) (ShowsIn (to - 1)) (λ w is late. shows-still from (to - 1) to (omega (arith, some)) (omega arith) w is late) wires here quiet
 
 -- what was told last is what the first port still drives
-tell_later : (nodes later : List NodeRec) → DriveTheSame nodes later → (ds : List Arc) (wires : List Wire) (histories : List (List Entry)) → AllTell nodes ds wires histories → AllTell later ds wires histories
-tell_later nodes later drive [] [] [] tell = tt
-tell_later nodes later drive (d ∷ ds) (w ∷ ws) (h ∷ hs) tell =
-    let t = tell.0 in
-    (record { from = t.from; to = t.to; delay = t.delay; joins = t.joins; entries = t.entries; sent = t.sent ∙ sym (drive w.from w.from_port) }, tell_later nodes later drive ds ws hs tell.1)
-tell_later nodes later drive _ _ _ tell = absurd tell
+tell_later : (shown : List Word) (nodes later : List NodeRec) → DriveTheSame nodes later → (k : ℕ) (ds : List Arc) (wires : List Wire) (histories : List (List Entry)) → AllTell shown nodes k ds wires histories
+    → AllTell shown later k ds wires histories
+tell_later shown nodes later drive k [] [] [] tell = tt
+tell_later shown nodes later drive k (d ∷ ds) (w ∷ ws) (h ∷ hs) tell =
+    let t = tell.0 in (
+      record { from = t.from; to = t.to; delay = t.delay; joins = t.joins; entries = t.entries; sent = t.sent ∙ sym (drive w.from w.from_port); shown = t.shown },
+      tell_later shown nodes later drive (k + 1) ds ws hs tell.1,
+    )
+tell_later shown nodes later drive k _ _ _ tell = absurd tell
 
 levels_skipped : (from to : Slot) (stations after : List Station) → AllZip (StationSkips from to) stations after → levels_of after ≡ levels_of stations
 levels_skipped from to [] [] zip = refl
@@ -140,22 +143,19 @@ both-length : {X : Type 0} (xs ys : List X) → length (xs ++ ys) ≡ length xs 
 both-length [] ys = omega arith
 both-length (x ∷ xs) ys = omega (arith, both-length xs ys)
 
-tells-length : (nodes : List NodeRec) (ds : List Arc) (wires : List Wire) (histories : List (List Entry)) → AllTell nodes ds wires histories → length histories ≡ length ds
-tells-length nodes [] [] [] tell = refl
-tells-length nodes (d ∷ ds) (w ∷ ws) (h ∷ hs) tell = omega (arith, tells-length nodes ds ws hs tell.1)
-tells-length nodes _ _ _ tell = absurd tell
+tells-length : (shown : List Word) (nodes : List NodeRec) (k : ℕ) (ds : List Arc) (wires : List Wire) (histories : List (List Entry)) → AllTell shown nodes k ds wires histories → length histories ≡ length ds
+tells-length shown nodes k [] [] [] tell = refl
+tells-length shown nodes k (d ∷ ds) (w ∷ ws) (h ∷ hs) tell = omega (arith, tells-length shown nodes (k + 1) ds ws hs tell.1)
+tells-length shown nodes k _ _ _ tell = absurd tell
 
 pub tracks_here : (slot count : ℕ) (tracks : List Track) → AllByRecursion (IsReadyTrack slot count) tracks → AllByRecursion (IsTrack slot) tracks
 tracks_here slot count [] all = tt
 tracks_here slot count (t ∷ tracks) all = (all.0.here, tracks_here slot count tracks all.1)
 
-module _ (first : StillNodeStirsFirst) (counts : QuietSlotOnlyCounts) (tells : SlotTellsDriven) (whole : NodesAreWhole) (plan : PlanRec) (from to : Slot) (some : from < to)
-    (stations after : List Station) (tracks : List Track) (wires : List Wire) (ready : AreReady plan from (serial plan from) stations tracks wires)
+module _ (first : StillNodeStirsFirst) (counts : QuietSlotOnlyCounts) (tells : SlotTellsDriven) (keeps : SlotKeepsShape) (plan : PlanRec) (shown : List Word) (from to : Slot) (some : from < to) (system : SystemRec)
+    (stations after : List Station) (tracks : List Track) (wires : List Wire) (ready : AreReady plan shown from system stations tracks wires)
     (quiet : IsQuietSystem from to stations tracks wires) (skips : AllZip (StationSkips from to) stations after) where
-  abbrev system : SystemRec
-  system = serial plan from
-
-  abbrev is : IsSystem plan from stations tracks wires system
+  abbrev is : IsSystem plan shown from stations tracks wires system
   is = ready.system
 
   here : AllByRecursion (IsTrack from) tracks
@@ -164,21 +164,30 @@ module _ (first : StillNodeStirsFirst) (counts : QuietSlotOnlyCounts) (tells : S
   long : length is.link_histories ≡ length (link_arcs plan.links)
   long = histories-length (link_arcs plan.links) tracks is.link_histories is.carry
 
+  wires_long : length is.wire_histories ≡ length (wire_arcs [] plan.wires)
+  wires_long = tells-length shown system.nodes (length (link_arcs plan.links)) (wire_arcs [] plan.wires) wires is.wire_histories is.tell
+
   all_long : length system.histories ≡ length (arcs plan)
   all_long =
       ap (λ (hs : List (List Entry)). length hs) is.histories
-      ∙ omega (arith, both-length is.link_histories is.wire_histories, both-length (link_arcs plan.links) (wire_arcs [] plan.wires), long, tells-length system.nodes (wire_arcs [] plan.wires) wires is.wire_histories is.tell)
+      ∙ omega (arith, both-length is.link_histories is.wire_histories, both-length (link_arcs plan.links) (wire_arcs [] plan.wires), long, wires_long)
 
   nothing : (slot : Slot) → from ≤ slot → slot < to → (n : Position) → arrivals_at plan system.histories slot n ≡ no_arrivals
   nothing slot on before n =
       nothing_anywhere from to (omega (arith, some)) plan tracks is.link_histories is.wire_histories system.histories is.histories long is.carry here quiet.arcs slot on (omega (arith, before)) n
 
-  still : AllQuietUntil plan from system.histories to 0 plan.nodes system.nodes system.events
-  still = all_quiet plan from to system.histories first 0 plan.nodes stations system.nodes system.events is.serve quiet.nodes (λ k. whole plan k from)
+  still : AllQuietUntil shown plan from system.histories to 0 plan.nodes system.nodes system.events
+  still = all_quiet shown plan from to system.histories first 0 plan.nodes stations system.nodes system.events is.serve quiet.nodes ready.shapes
 
-  -- what the serial machine has become
-  serial_later : serial plan to ≡ system_rested plan from system.histories to system
-  serial_later = all_after plan from counts tells whole to all_long nothing still (omega (arith, some))
+  on : from ≤ to
+  on = omega (arith, some)
+
+  -- what the system has become
+  abbrev now : List NodeRec
+  now = all_rested shown plan from system.histories to 0 plan.nodes system.nodes
+
+  since_is : since plan (record { slot = from; system = system; shown = shown }) (to - from) ≡ record system { nodes = now }
+  since_is = all_after shown plan from system counts tells keeps ready.shapes to all_long nothing still on
 
   tracks_later : AllByRecursion (IsReadyTrack to (length after)) tracks
   tracks_later =
@@ -190,25 +199,26 @@ module _ (first : StillNodeStirsFirst) (counts : QuietSlotOnlyCounts) (tells : S
   heeded_later =
       all-both (IsTrack from) (ArrivesAfter to) (IsHeeded after) (λ t is late _. none_arrived from to (omega (arith, some)) t is late) tracks here quiet.arcs
 
-  came_last : AllCame plan system.histories (to - 1) 0 stations
+  came_last : AllCame shown plan system.histories (to - 1) 0 stations
   came_last =
-      all-came plan system.nodes (to - 1) (levels_of stations) wires is.link_histories is.wire_histories system.histories is.histories long is.tell
+      all-came shown plan system.nodes (to - 1) (levels_of stations) wires is.link_histories is.wire_histories system.histories is.histories long is.tell
       (show_last from to some wires quiet.wires (wires_in from (levels_of stations) wires ready.wires)) ready.wires.come stations refl
 
-  pub ready_later : AreReady plan to (serial plan to) after tracks wires
+  pub ready_later : AreReady plan shown to (since plan (record { slot = from; system = system; shown = shown }) (to - from)) after tracks wires
   ready_later =
-      subst (λ (whole : SystemRec). AreReady plan to whole after tracks wires) (sym serial_later)
+      subst (λ (whole : SystemRec). AreReady plan shown to whole after tracks wires) (sym since_is)
       (record {
         system = record {
-          serve = all_serve plan from to system.histories 0 plan.nodes stations system.nodes system.events after is.serve came_last skips;
+          serve = all_serve shown plan from to system.histories 0 plan.nodes stations system.nodes system.events after is.serve came_last skips;
           link_histories = is.link_histories;
           wire_histories = is.wire_histories;
           histories = is.histories;
           carry = is.carry;
           tell =
-              tell_later system.nodes (all_rested plan from system.histories to 0 plan.nodes system.nodes) (drive_after plan from counts tells whole to all_long nothing still (omega (arith, some)))
-              (wire_arcs [] plan.wires) wires is.wire_histories is.tell;
+              tell_later shown system.nodes now (drive_after shown plan from system counts tells keeps ready.shapes to all_long nothing still on)
+              (length (link_arcs plan.links)) (wire_arcs [] plan.wires) wires is.wire_histories is.tell;
         };
+        shapes = shapes_after shown plan from system counts tells keeps ready.shapes to all_long nothing still on;
         stations = stations_later from to (length tracks) stations after skips ready.stations;
         tracks = tracks_later;
         heeded = heeded_later;

@@ -12,6 +12,7 @@ use Rattle.sys_plan.specs.declared.NodePlan.{NodePlan}
 use Rattle.sys_plan.specs.declared.LinkPlan.{LinkPlan}
 use Rattle.sys_plan.specs.declared.WirePlan.{WirePlan}
 use Rattle.sys_plan.specs.Plan.{PlanRec, Arc, IsPlan, IsLink, IsWire as IsWirePlan, AreDistinct, link_arcs, wire_arcs, targets_of}
+use Rattle.step_laws.specs.Shape.{HasShape, FirstHasShape}
 use Rattle.serial_model.specs.Serial.{system_at_start, nodes_at_start, node_by, driven_level}
 use Rattle.run_plan.specs.declared.track.Track.{Track}
 use Rattle.run_plan.specs.declared.wire.Wire.{Wire}
@@ -78,11 +79,17 @@ start-low plan n [] k p = ap (λ (port : PortRec). level_of port.driven 0) (all-
 start-low plan n (node ∷ nodes) zero p = ap (λ (port : PortRec). level_of port.driven 0) (all-same 29 p off_port)
 start-low plan n (node ∷ nodes) (suc k) p = start-low plan (n + 1) nodes k p
 
-start-tell : (nodes : List NodeRec) → ((k p : ℕ) → driven_level (node_by nodes k) p ≡ 0) → (earlier wires : List WirePlan)
-    → AllTell nodes (wire_arcs earlier wires) (wires_at_start wires) (map (λ (d : Arc). []) (wire_arcs earlier wires))
-start-tell nodes low earlier [] = tt
-start-tell nodes low earlier (w ∷ wires) =
-    (record { from = refl; to = refl; delay = refl; joins = refl; entries = refl; sent = sym (low w.a w.a_port) }, start-tell nodes low (w ∷ earlier) wires)
+start-tell : (nodes : List NodeRec) → ((k p : ℕ) → driven_level (node_by nodes k) p ≡ 0) → (k : ℕ) (earlier wires : List WirePlan)
+    → AllTell [] nodes k (wire_arcs earlier wires) (wires_at_start wires) (map (λ (d : Arc). []) (wire_arcs earlier wires))
+start-tell nodes low k earlier [] = tt
+start-tell nodes low k earlier (w ∷ wires) =
+    (record { from = refl; to = refl; delay = refl; joins = refl; entries = refl; sent = sym (low w.a w.a_port); shown = refl }, start-tell nodes low (k + 1) (w ∷ earlier) wires)
+
+start-shapes : FirstHasShape → (plan : PlanRec) (n : ℕ) (nodes : List NodePlan) → AllByRecursion HasShape (nodes_at_start plan n nodes)
+start-shapes first plan n [] = tt
+start-shapes first plan n (node ∷ nodes) =
+    let some = first 0 0 [] [] in
+    (record { ports = some.ports; threads = some.threads; held = some.held }, start-shapes first plan (n + 1) nodes)
 
 map-both : {X Y : Type 0} (f : X → Y) (xs ys : List X) → map f (xs ++ ys) ≡ map f xs ++ map f ys
 map-both f [] ys = refl
@@ -148,9 +155,9 @@ start-come : (levels : List (List Word)) → ((k p : ℕ) → get_or (get_or lev
 start-come levels low [] = tt
 start-come levels low (w ∷ wires) = (low w.b w.b_port, start-come levels low wires)
 
-pub run-start : (plan : PlanRec) (stations : List Station) (tracks : List Track) (wires : List Wire) → IsPlan plan → AllStart plan 0 plan.nodes stations
-    → tracks ≡ tracks_at_start (link_arcs plan.links) → wires ≡ wires_at_start plan.wires → AreReady plan 0 (system_at_start plan) stations tracks wires
-run-start plan stations tracks wires is all e f =
+pub run-start : FirstHasShape → (plan : PlanRec) (stations : List Station) (tracks : List Track) (wires : List Wire) → IsPlan plan → AllStart plan 0 plan.nodes stations
+    → tracks ≡ tracks_at_start (link_arcs plan.links) → wires ≡ wires_at_start plan.wires → AreReady plan [] 0 (system_at_start plan) stations tracks wires
+run-start first plan stations tracks wires is all e f =
     let ds = link_arcs plan.links in
     let ws = wire_arcs [] plan.wires in
     let nodes = nodes_at_start plan 0 plan.nodes in
@@ -158,16 +165,17 @@ run-start plan stations tracks wires is all e f =
     let count = play-length plan 0 0 plan.nodes stations nodes (map (λ (node : NodePlan). []) plan.nodes) play in
     let links = carry-length ds (tracks_at_start ds) (map (λ (d : Arc). []) ds) (start-carry plan.links) in
     let levels : length (levels_of stations) ≡ length plan.nodes = length-map stations (λ (s : Station). s.pins.levels) ∙ count in
-    subst (λ (ts : List Track). AreReady plan 0 (system_at_start plan) stations ts wires) (sym e)
-    (subst (AreReady plan 0 (system_at_start plan) stations (tracks_at_start ds)) (sym f) (record {
+    subst (λ (ts : List Track). AreReady plan [] 0 (system_at_start plan) stations ts wires) (sym e)
+    (subst (AreReady plan [] 0 (system_at_start plan) stations (tracks_at_start ds)) (sym f) (record {
       system = record {
         serve = play;
         link_histories = map (λ (d : Arc). []) ds;
         wire_histories = map (λ (d : Arc). []) ws;
         histories = map-both (λ (d : Arc). []) ds ws;
         carry = start-carry plan.links;
-        tell = start-tell nodes (start-low plan 0 plan.nodes) [] plan.wires;
+        tell = start-tell nodes (start-low plan 0 plan.nodes) (length ds) [] plan.wires;
       };
+      shapes = start-shapes first plan 0 plan.nodes;
       stations = start-stations plan 0 (length (tracks_at_start ds)) plan.nodes stations (sym links) all;
       tracks = subst (λ (m : ℕ). AllByRecursion (IsReadyTrack 0 m) (tracks_at_start ds)) (sym count) (start-tracks (length plan.nodes) plan.links is.links);
       heeded = start-heeded stations ds;

@@ -13,10 +13,11 @@ use Rattle.pin_wires.specs.Wires.{driven_or_low}
 use Rattle.sys_plan.specs.declared.NodePlan.{NodePlan}
 use Rattle.sys_plan.specs.Plan.{PlanRec, Arc, AreDistinct, arcs, link_arcs, wire_arcs, incoming}
 use Rattle.step_model.specs.Step.{Stepped}
+use Rattle.step_laws.specs.Shape.{HasShape, SlotKeepsShape}
 use Rattle.trace_lines.specs.Kept.{Keeps}
 use Rattle.core_step.specs.Core.{StandsAt}
-use Rattle.serial_model.specs.Serial.{arriving, arriving_by, token_among, credit_among, arrivals_at, coming_at, step_by, steps_from, steps_of, longer_histories, longer_events, SystemRec, system_step}
-use Rattle.serial_model.specs.Serial.{carried, carried_by, level_entries, driven_level, node_by, emitted_by}
+use Rattle.serial_model.specs.Serial.{arriving, arriving_by, token_among, credit_among, arrivals_at, coming_on, step_by, steps_from_on, steps_on, longer_histories, longer_events, SystemRec, step_on}
+use Rattle.serial_model.specs.Serial.{carried, carried_by, level_entries, driven_level, node_by, emitted_by, shown_of}
 use Rattle.crossings.specs.declared.crossing.Crossing.{Crossing}
 use Rattle.crossings.proofs.Arriving.{all-map}
 use Rattle.run_plan.specs.declared.track.Track.{Track}
@@ -29,8 +30,8 @@ use Rattle.node_seats.specs.declared.seat.Seat.{Seat}
 use Rattle.node_seats.specs.Seats.{IsSeat, HasNoted, Plays}
 use Rattle.node_seats.proofs.Seats.{own_step, given-is, plays-next, plays-same, noted-same, ready-same as seat-ready-same}
 use Rattle.node_seats.proofs.Shown.{pins-next}
-use Rattle.node_seats.proofs.Wired.{shows}
-use Rattle.node_seats.specs.Shown.{IsShown, ArePins, AreWired, HaveCome, shown_by}
+use Rattle.node_seats.proofs.Wired.{shows-on}
+use Rattle.node_seats.specs.Shown.{IsShown, ArePins, AreWired, HaveComeOn, shown_by}
 use Rattle.run_plan.specs.Stations.{IsStation, StationSteps, taken_by}
 use Rattle.run_plan.specs.Wires.{IsReadyWire, AreReadyWires, HasCome, target, targets}
 use Rattle.run_plan.specs.Passes.{IsReadyTrack, IsHeeded, Advances, SameNode, SameStation, SameTrack, SameWire, SameButDue, SameButCome, WireAdvances, cores_of, driven_by, levels_of}
@@ -51,7 +52,7 @@ driven-is recs cores n port are =
     ap (λ (cs : List CoreRec). driven_by cs n port) are
     ∙ ap (λ (core : CoreRec). driven_or_low (port_of core port).driven) (get_or-map (λ (r : NodeRec). r.core) recs n (first_node 0 0 []))
 
-module _ (plan : PlanRec) (slot nodes_count : ℕ) where
+module _ (shown : List Word) (plan : PlanRec) (slot nodes_count : ℕ) where
   -- what arrives by the directed link with a number
   arrived-at : (ds : List Arc) (tracks : List Track) (histories : List (List Entry)) (k : ℕ) → AllCarry ds tracks histories → AllByRecursion (IsReadyTrack slot nodes_count) tracks
       → get_or (arrived_of tracks) k no_crossing ≡ crossing_of (arriving slot (get_or (map (λ (d : Arc). d.delay) ds) k 0) (get_or histories k []))
@@ -82,17 +83,17 @@ module _ (plan : PlanRec) (slot nodes_count : ℕ) where
 
     -- the step of a node that plays its part is the serial machine's
     abbrev serial_step : ℕ → NodePlan → NodeRec → Stepped
-    serial_step n node rec = step_by plan n node slot (coming_at plan histories slot n) rec
+    serial_step n node rec = step_by plan n node slot (coming_on shown plan histories slot n) rec
 
-    step-same : (n : ℕ) (node : NodePlan) (station : Station) (rec : NodeRec) (events : List Event) → (is : Serves plan slot n node station rec events) → (station.due ≡ false → IsQuiet plan tracks n) → HaveCome plan histories n slot station.pins.levels
+    step-same : (n : ℕ) (node : NodePlan) (station : Station) (rec : NodeRec) (events : List Event) → (is : Serves plan slot n node station rec events) → (station.due ≡ false → IsQuiet plan tracks n) → HaveComeOn shown plan histories n slot station.pins.levels
         → own_step plan slot n node station.seat rec events is.plays (taken_by tracks station) (shown_by station.pins slot) ≡ serial_step n node rec
     step-same n node station rec events is quiet came =
         let arrivals = taken-is plan tracks n station is.incoming quiet ∙ arrivals-same n in
-        let pins = shows plan histories n slot slot station.pins is.pins came in
+        let pins = shows-on shown plan histories n slot slot station.pins is.pins came in
         λ i. step_by plan n node slot (record { arrivals = arrivals i; pins = pins i }) rec
 
     serves-next : (n : ℕ) (node : NodePlan) (before after : Station) (rec : NodeRec) (events : List Event) → Serves plan slot n node before rec events → (before.due ≡ false → IsQuiet plan tracks n)
-        → HaveCome plan histories n slot before.pins.levels → StationSteps slot tracks before after
+        → HaveComeOn shown plan histories n slot before.pins.levels → StationSteps slot tracks before after
         → Serves plan (slot + 1) n node after (serial_step n node rec).rec (events ++ (serial_step n node rec).emitted.events)
     serves-next n node before after rec events is quiet came s = record {
       plays =
@@ -103,14 +104,14 @@ module _ (plan : PlanRec) (slot nodes_count : ℕ) where
     }
 
     gave : (n : ℕ) (node : NodePlan) (before after : Station) (rec : NodeRec) (events : List Event) → Serves plan slot n node before rec events → (before.due ≡ false → IsQuiet plan tracks n)
-        → HaveCome plan histories n slot before.pins.levels → StationSteps slot tracks before after
+        → HaveComeOn shown plan histories n slot before.pins.levels → StationSteps slot tracks before after
         → after.seat.given ≡ (serial_step n node rec).emitted
     gave n node before after rec events is quiet came s =
         given-is plan slot n node before.seat rec events is.plays (taken_by tracks before) (shown_by before.pins slot) after.seat s.steps
         ∙ ap (λ (st : Stepped). st.emitted) (step-same n node before rec events is quiet came)
 
-    all-play : (n : ℕ) (nodes : List NodePlan) (stations : List Station) (recs : List NodeRec) (events : List (List Event)) (after : List Station) → AllServe plan slot n nodes stations recs events → AllQuiet plan tracks n stations → AllCame plan histories slot n stations → AllZip (StationSteps slot tracks) stations after
-        → AllServe plan (slot + 1) n nodes after (map (λ (s : Stepped). s.rec) (steps_from plan histories slot n nodes recs)) (longer_events (steps_from plan histories slot n nodes recs) events)
+    all-play : (n : ℕ) (nodes : List NodePlan) (stations : List Station) (recs : List NodeRec) (events : List (List Event)) (after : List Station) → AllServe plan slot n nodes stations recs events → AllQuiet plan tracks n stations → AllCame shown plan histories slot n stations → AllZip (StationSteps slot tracks) stations after
+        → AllServe plan (slot + 1) n nodes after (map (λ (s : Stepped). s.rec) (steps_from_on shown plan histories slot n nodes recs)) (longer_events (steps_from_on shown plan histories slot n nodes recs) events)
     all-play n [] [] [] [] [] play quiet came zip = tt
     all-play n [] [] [] [] (a ∷ afters) play quiet came zip = absurd zip
     all-play n (node ∷ nodes) (station ∷ stations) (rec ∷ recs) (es ∷ all_events) [] play quiet came zip = absurd zip
@@ -120,8 +121,8 @@ module _ (plan : PlanRec) (slot nodes_count : ℕ) where
     )
     all-play n _ _ _ _ _ play quiet came zip = absurd play
 
-    all-given : (n : ℕ) (nodes : List NodePlan) (stations : List Station) (recs : List NodeRec) (events : List (List Event)) (after : List Station) → AllServe plan slot n nodes stations recs events → AllQuiet plan tracks n stations → AllCame plan histories slot n stations → AllZip (StationSteps slot tracks) stations after
-        → map (λ (s : Station). s.seat.given) after ≡ map (λ (s : Stepped). s.emitted) (steps_from plan histories slot n nodes recs)
+    all-given : (n : ℕ) (nodes : List NodePlan) (stations : List Station) (recs : List NodeRec) (events : List (List Event)) (after : List Station) → AllServe plan slot n nodes stations recs events → AllQuiet plan tracks n stations → AllCame shown plan histories slot n stations → AllZip (StationSteps slot tracks) stations after
+        → map (λ (s : Station). s.seat.given) after ≡ map (λ (s : Stepped). s.emitted) (steps_from_on shown plan histories slot n nodes recs)
     all-given n [] [] [] [] [] play quiet came zip = refl
     all-given n [] [] [] [] (a ∷ afters) play quiet came zip = absurd zip
     all-given n (node ∷ nodes) (station ∷ stations) (rec ∷ recs) (es ∷ all_events) [] play quiet came zip = absurd zip
@@ -156,12 +157,12 @@ module _ (plan : PlanRec) (slot nodes_count : ℕ) where
 
   -- what the wires are told
   all-tell : (nodes : List NodeRec) (steps : List Stepped) (cores : List CoreRec) (levels : List (List Word)) → cores ≡ map (λ (r : NodeRec). r.core) (map (λ (s : Stepped). s.rec) steps)
-      → (ds : List Arc) (wires : List Wire) (histories : List (List Entry)) (after : List Wire) → AllTell nodes ds wires histories → AllZip (WireAdvances slot cores levels) wires after
-      → AllTell (map (λ (s : Stepped). s.rec) steps) ds after (longer_histories slot nodes steps ds histories)
-  all-tell nodes steps cores levels are [] [] [] [] tell zip = tt
-  all-tell nodes steps cores levels are [] [] [] (a ∷ afters) tell zip = absurd zip
-  all-tell nodes steps cores levels are (d ∷ ds) (w ∷ ws) (h ∷ hs) [] tell zip = absurd zip
-  all-tell nodes steps cores levels are (d ∷ ds) (w ∷ ws) (h ∷ hs) (a ∷ afters) tell zip =
+      → (k : ℕ) (ds : List Arc) (wires : List Wire) (histories : List (List Entry)) (after : List Wire) → AllTell shown nodes k ds wires histories → AllZip (WireAdvances slot cores levels) wires after
+      → AllTell shown (map (λ (s : Stepped). s.rec) steps) k ds after (longer_histories slot nodes steps ds histories)
+  all-tell nodes steps cores levels are k [] [] [] [] tell zip = tt
+  all-tell nodes steps cores levels are k [] [] [] (a ∷ afters) tell zip = absurd zip
+  all-tell nodes steps cores levels are k (d ∷ ds) (w ∷ ws) (h ∷ hs) [] tell zip = absurd zip
+  all-tell nodes steps cores levels are k (d ∷ ds) (w ∷ ws) (h ∷ hs) (a ∷ afters) tell zip =
       let t = tell.0 in
       let z = zip.0.on in
       let recs = map (λ (s : Stepped). s.rec) steps in
@@ -178,10 +179,11 @@ module _ (plan : PlanRec) (slot nodes_count : ℕ) where
               ∙ (λ i. h ++ level_entries slot (driven_level (node_by nodes (t.from i)) w.from_port) (driven_level (node_by recs (t.from i)) w.from_port))
               ∙ (λ i. h ++ carried_by slot (node_by nodes d.from) (node_by recs d.from) emitted d.from_end (sym t.joins i));
           sent = z.sent ∙ drives ∙ (λ i. driven_level (node_by recs (sym z.from i)) (sym z.from_port i));
+          shown = z.shown ∙ t.shown;
         },
-        all-tell nodes steps cores levels are ds ws hs afters tell.1 zip.1,
+        all-tell nodes steps cores levels are (k + 1) ds ws hs afters tell.1 zip.1,
       )
-  all-tell nodes steps cores levels are _ _ _ _ tell zip = absurd tell
+  all-tell nodes steps cores levels are k _ _ _ _ tell zip = absurd tell
 
 -- histories go on of two lists of arcs together
 longer-both : (slot : ℕ) (nodes : List NodeRec) (steps : List Stepped) (ds es : List Arc) (histories rest : List (List Entry)) → length histories ≡ length ds
@@ -284,24 +286,24 @@ levels-due = levels-same SameButDue (λ x y s. ap (λ (p : Pins). p.levels) s.pi
 -- ---- The next slot
 
 -- the nodes and arcs after a slot are the system's after it
-pub system-next : (plan : PlanRec) (slot count : ℕ) (system : SystemRec) (stations stepped marked after : List Station) (tracks tracks_after : List Track) (wires wires_after : List Wire)
-    → IsSystem plan slot stations tracks wires system → AllByRecursion (IsReadyTrack slot count) tracks → AllByRecursion (IsHeeded stations) tracks → AreReadyWires slot (levels_of stations) wires
+pub system-next : (plan : PlanRec) (shown : List Word) (slot count : ℕ) (system : SystemRec) (stations stepped marked after : List Station) (tracks tracks_after : List Track) (wires wires_after : List Wire)
+    → IsSystem plan shown slot stations tracks wires system → AllByRecursion (IsReadyTrack slot count) tracks → AllByRecursion (IsHeeded stations) tracks → AreReadyWires slot (levels_of stations) wires
     → AllZip (StationSteps slot tracks) stations stepped → AllZip SameButDue stepped marked → AllZip (SameButCome (slot + 1)) marked after → AllZip (Advances slot stepped marked) tracks tracks_after
-    → AllZip (WireAdvances slot (cores_of marked) (levels_of after)) wires wires_after → IsSystem plan (slot + 1) after tracks_after wires_after (system_step plan slot system)
-system-next plan slot count system stations stepped marked after tracks tracks_after wires wires_after is ready heeded wired steps same told advances goes =
+    → AllZip (WireAdvances slot (cores_of marked) (levels_of after)) wires wires_after → IsSystem plan shown (slot + 1) after tracks_after wires_after (step_on shown plan slot system)
+system-next plan shown slot count system stations stepped marked after tracks tracks_after wires wires_after is ready heeded wired steps same told advances goes =
     let long = histories-length (link_arcs plan.links) tracks is.link_histories is.carry in
     let quiet = all-quiet plan tracks stations is.link_histories is.carry heeded in
     let came =
-    all-came plan system.nodes slot (levels_of stations) wires is.link_histories is.wire_histories system.histories is.histories long is.tell
+    all-came shown plan system.nodes slot (levels_of stations) wires is.link_histories is.wire_histories system.histories is.histories long is.tell
     (all-map (IsReadyWire slot (length (levels_of stations))) (ShowsIn slot) (λ w r. r.here.level) wires wired.each) wired.come stations refl in
     let given =
-    all-given plan slot count tracks is.link_histories is.wire_histories system.histories is.histories is.carry ready 0 plan.nodes stations system.nodes system.events stepped is.serve quiet came steps in
-    let next = system_step plan slot system in
+    all-given shown plan slot count tracks is.link_histories is.wire_histories system.histories is.histories is.carry ready 0 plan.nodes stations system.nodes system.events stepped is.serve quiet came steps in
+    let next = step_on shown plan slot system in
     let play =
     play-same plan (slot + 1) 0 plan.nodes stepped next.nodes next.events marked
-    (all-play plan slot count tracks is.link_histories is.wire_histories system.histories is.histories is.carry ready 0 plan.nodes stations system.nodes system.events stepped is.serve quiet came steps)
+    (all-play shown plan slot count tracks is.link_histories is.wire_histories system.histories is.histories is.carry ready 0 plan.nodes stations system.nodes system.events stepped is.serve quiet came steps)
     (same-nodes stepped marked same) in
-    let moved = steps_of plan slot system in
+    let moved = steps_on shown plan slot system in
     record {
       serve = play-told plan (slot + 1) 0 plan.nodes marked next.nodes next.events after play told;
       link_histories = longer_histories slot system.nodes moved (link_arcs plan.links) is.link_histories;
@@ -309,10 +311,10 @@ system-next plan slot count system stations stepped marked after tracks tracks_a
       histories =
           ap (longer_histories slot system.nodes moved (arcs plan)) is.histories
           ∙ longer-both slot system.nodes moved (link_arcs plan.links) (wire_arcs [] plan.wires) is.link_histories is.wire_histories long;
-      carry = all-carry plan slot count system.nodes moved stepped marked given (link_arcs plan.links) tracks is.link_histories tracks_after is.carry advances;
+      carry = all-carry shown plan slot count system.nodes moved stepped marked given (link_arcs plan.links) tracks is.link_histories tracks_after is.carry advances;
       tell =
-          all-tell plan slot count system.nodes moved (cores_of marked) (levels_of after) (cores-serve plan (slot + 1) 0 plan.nodes marked next.nodes next.events play)
-          (wire_arcs [] plan.wires) wires is.wire_histories wires_after is.tell goes;
+          all-tell shown plan slot count system.nodes moved (cores_of marked) (levels_of after) (cores-serve plan (slot + 1) 0 plan.nodes marked next.nodes next.events play)
+          (length (link_arcs plan.links)) (wire_arcs [] plan.wires) wires is.wire_histories wires_after is.tell goes;
     }
 
 -- each node and each arc is ready for the next slot
@@ -373,14 +375,15 @@ carry-same _ _ _ _ carry zip = absurd carry
 pub same-wire : (wire : Wire) (history : BatchRec) → history.entries ≡ wire.history.entries → SameWire wire (record wire { history = history })
 same-wire wire history e = λ i. record wire { history = record { entries = e i; spare = wire.history.spare } }
 
-tell-same : (nodes : List NodeRec) (ds : List Arc) (wires : List Wire) (histories : List (List Entry)) (after : List Wire) → AllTell nodes ds wires histories → AllZip SameWire wires after → AllTell nodes ds after histories
-tell-same nodes [] [] [] [] tell zip = tt
-tell-same nodes [] [] [] (a ∷ afters) tell zip = absurd zip
-tell-same nodes (d ∷ ds) (w ∷ ws) (h ∷ hs) [] tell zip = absurd zip
-tell-same nodes (d ∷ ds) (w ∷ ws) (h ∷ hs) (a ∷ afters) tell zip =
-    let t = subst (λ (w : Wire). Tells nodes d w h) (sym zip.0) tell.0 in
-    (record { from = t.from; to = t.to; delay = t.delay; joins = t.joins; entries = t.entries; sent = t.sent }, tell-same nodes ds ws hs afters tell.1 zip.1)
-tell-same nodes _ _ _ _ tell zip = absurd tell
+tell-same : (shown : List Word) (nodes : List NodeRec) (k : ℕ) (ds : List Arc) (wires : List Wire) (histories : List (List Entry)) (after : List Wire) → AllTell shown nodes k ds wires histories
+    → AllZip SameWire wires after → AllTell shown nodes k ds after histories
+tell-same shown nodes k [] [] [] [] tell zip = tt
+tell-same shown nodes k [] [] [] (a ∷ afters) tell zip = absurd zip
+tell-same shown nodes k (d ∷ ds) (w ∷ ws) (h ∷ hs) [] tell zip = absurd zip
+tell-same shown nodes k (d ∷ ds) (w ∷ ws) (h ∷ hs) (a ∷ afters) tell zip =
+    let t = subst (λ (w : Wire). Tells nodes (shown_of shown k) d w h) (sym zip.0) tell.0 in
+    (record { from = t.from; to = t.to; delay = t.delay; joins = t.joins; entries = t.entries; sent = t.sent; shown = t.shown }, tell-same shown nodes (k + 1) ds ws hs afters tell.1 zip.1)
+tell-same shown nodes k _ _ _ _ tell zip = absurd tell
 
 targets-same : (wires after : List Wire) → AllZip SameWire wires after → targets after ≡ targets wires
 targets-same [] [] zip = refl
@@ -461,51 +464,70 @@ carry-length [] [] [] carry = refl
 carry-length (d ∷ ds) (x ∷ xs) (h ∷ hs) carry = omega (arith, carry-length ds xs hs carry.1)
 carry-length _ _ _ carry = absurd carry
 
-pub tell-at : (nodes : List NodeRec) (ds : List Arc) (wires : List Wire) (histories : List (List Entry)) (k : ℕ) (w : Wire) → AllTell nodes ds wires histories → k < length ds → (get_or wires k w).history.entries ≡ get_or histories k []
-tell-at nodes [] [] [] k w tell h = absurd (omega arith)
-tell-at nodes (d ∷ ds) (x ∷ xs) (hist ∷ hists) zero w tell h = tell.0.entries
-tell-at nodes (d ∷ ds) (x ∷ xs) (hist ∷ hists) (suc k) w tell h = tell-at nodes ds xs hists k w tell.1 (omega arith)
-tell-at nodes _ _ _ k w tell h = absurd tell
+pub tell-at : (shown : List Word) (nodes : List NodeRec) (m : ℕ) (ds : List Arc) (wires : List Wire) (histories : List (List Entry)) (k : ℕ) (w : Wire) → AllTell shown nodes m ds wires histories → k < length ds
+    → (get_or wires k w).history.entries ≡ get_or histories k []
+tell-at shown nodes m [] [] [] k w tell h = absurd (omega arith)
+tell-at shown nodes m (d ∷ ds) (x ∷ xs) (hist ∷ hists) zero w tell h = tell.0.entries
+tell-at shown nodes m (d ∷ ds) (x ∷ xs) (hist ∷ hists) (suc k) w tell h = tell-at shown nodes (m + 1) ds xs hists k w tell.1 (omega arith)
+tell-at shown nodes m _ _ _ k w tell h = absurd tell
 
-pub tell-length : (nodes : List NodeRec) (ds : List Arc) (wires : List Wire) (histories : List (List Entry)) → AllTell nodes ds wires histories → length wires ≡ length ds
-tell-length nodes [] [] [] tell = refl
-tell-length nodes (d ∷ ds) (x ∷ xs) (h ∷ hs) tell = omega (arith, tell-length nodes ds xs hs tell.1)
-tell-length nodes _ _ _ tell = absurd tell
+pub tell-length : (shown : List Word) (nodes : List NodeRec) (m : ℕ) (ds : List Arc) (wires : List Wire) (histories : List (List Entry)) → AllTell shown nodes m ds wires histories → length wires ≡ length ds
+tell-length shown nodes m [] [] [] tell = refl
+tell-length shown nodes m (d ∷ ds) (x ∷ xs) (h ∷ hs) tell = omega (arith, tell-length shown nodes (m + 1) ds xs hs tell.1)
+tell-length shown nodes m _ _ _ tell = absurd tell
 
 -- the arc at a place is ready
 pub ready-at : (slot count : ℕ) (tracks : List Track) (i : ℕ) (d t : Track) → AllByRecursion (IsReadyTrack slot count) tracks → i < length tracks → get_or tracks i d ≡ t → IsReadyTrack slot count t
 ready-at slot count tracks i d t all inside is = subst (IsReadyTrack slot count) is (all-at (IsReadyTrack slot count) tracks i d all inside)
 
+-- the same lists are ready
+pub ready-alike : (plan : PlanRec) (shown : List Word) (slot : ℕ) (whole : SystemRec) {stations others : List Station} {tracks ways : List Track} {wires lines : List Wire} → others ≡ stations → ways ≡ tracks → lines ≡ wires
+    → AreReady plan shown slot whole stations tracks wires → AreReady plan shown slot whole others ways lines
+ready-alike plan shown slot whole {stations} {others} {tracks} {ways} {wires} {lines} s t w ready =
+    subst (λ (ss : List Station). AreReady plan shown slot whole ss ways lines) (sym s)
+    (subst (λ (ts : List Track). AreReady plan shown slot whole stations ts lines) (sym t)
+    (subst (λ (ws : List Wire). AreReady plan shown slot whole stations tracks ws) (sym w) ready))
+
 -- nodes and arcs stay ready where room is made, and are ready for the next slot after one
-pub ready-same : (plan : PlanRec) (slot : ℕ) (whole : SystemRec) (stations after : List Station) (tracks tracks_after : List Track) (wires wires_after : List Wire) → AreReady plan slot whole stations tracks wires
-    → AllZip SameStation stations after → AllZip SameTrack tracks tracks_after → AllZip SameWire wires wires_after → AreReady plan slot whole after tracks_after wires_after
-ready-same plan slot whole stations after tracks tracks_after wires wires_after ready s t w = record {
+pub ready-same : (plan : PlanRec) (shown : List Word) (slot : ℕ) (whole : SystemRec) (stations after : List Station) (tracks tracks_after : List Track) (wires wires_after : List Wire)
+    → AreReady plan shown slot whole stations tracks wires → AllZip SameStation stations after → AllZip SameTrack tracks tracks_after → AllZip SameWire wires wires_after
+    → AreReady plan shown slot whole after tracks_after wires_after
+ready-same plan shown slot whole stations after tracks tracks_after wires wires_after ready s t w = record {
   system = record {
     serve = play-same plan slot 0 plan.nodes stations whole.nodes whole.events after ready.system.serve (zip-first SameStation SameNode (λ x y s. s.node) stations after s);
     link_histories = ready.system.link_histories;
     wire_histories = ready.system.wire_histories;
     histories = ready.system.histories;
     carry = carry-same (link_arcs plan.links) tracks ready.system.link_histories tracks_after ready.system.carry t;
-    tell = tell-same whole.nodes (wire_arcs [] plan.wires) wires ready.system.wire_histories wires_after ready.system.tell w;
+    tell = tell-same shown whole.nodes (length (link_arcs plan.links)) (wire_arcs [] plan.wires) wires ready.system.wire_histories wires_after ready.system.tell w;
   };
+  shapes = ready.shapes;
   stations = subst (λ (n : ℕ). AllByRecursion (IsStation slot n) after) (sym (zip-length SameTrack tracks tracks_after t)) (stations-same slot (length tracks) stations after s ready.stations);
   tracks = subst (λ (n : ℕ). AllByRecursion (IsReadyTrack slot n) tracks_after) (sym (zip-length SameStation stations after s)) (tracks-same slot (length stations) tracks tracks_after t ready.tracks);
   heeded = heeded-same stations after tracks tracks_after s t ready.heeded;
   wires = wires-same slot (levels_of stations) (levels_of after) wires wires_after (levels-roomy stations after s) w ready.wires;
 }
 
-pub ready-next : (plan : PlanRec) (slot : ℕ) (whole : SystemRec) (stations stepped marked after : List Station) (tracks tracks_after : List Track) (wires wires_after : List Wire)
-    → AreReady plan slot whole stations tracks wires → AllZip (StationSteps slot tracks) stations stepped → AllZip SameButDue stepped marked → AllZip (SameButCome (slot + 1)) marked after
+-- each node keeps its shape
+shapes-next : SlotKeepsShape → (shown : List Word) (plan : PlanRec) (histories : List (List Entry)) (slot n : ℕ) (nodes : List NodePlan) (recs : List NodeRec) → AllByRecursion HasShape recs
+    → AllByRecursion HasShape (map (λ (s : Stepped). s.rec) (steps_from_on shown plan histories slot n nodes recs))
+shapes-next keeps shown plan histories slot n [] recs have = tt
+shapes-next keeps shown plan histories slot n (node ∷ nodes) [] have = tt
+shapes-next keeps shown plan histories slot n (node ∷ nodes) (rec ∷ recs) have = (keeps _ rec slot _ _ have.0, shapes-next keeps shown plan histories slot (n + 1) nodes recs have.1)
+
+pub ready-next : SlotKeepsShape → (plan : PlanRec) (shown : List Word) (slot : ℕ) (whole : SystemRec) (stations stepped marked after : List Station) (tracks tracks_after : List Track) (wires wires_after : List Wire)
+    → AreReady plan shown slot whole stations tracks wires → AllZip (StationSteps slot tracks) stations stepped → AllZip SameButDue stepped marked → AllZip (SameButCome (slot + 1)) marked after
     → AllZip (Advances slot stepped marked) tracks tracks_after → AllZip (WireAdvances slot (cores_of marked) (levels_of after)) wires wires_after
-    → AreReady plan (slot + 1) (system_step plan slot whole) after tracks_after wires_after
-ready-next plan slot whole stations stepped marked after tracks tracks_after wires wires_after ready s b c t w =
+    → AreReady plan shown (slot + 1) (step_on shown plan slot whole) after tracks_after wires_after
+ready-next keeps plan shown slot whole stations stepped marked after tracks tracks_after wires wires_after ready s b c t w =
     let links = zip-length (Advances slot stepped marked) tracks tracks_after t in
     let nodes = zip-length (SameButCome (slot + 1)) marked after c ∙ zip-length SameButDue stepped marked b ∙ zip-length (StationSteps slot tracks) stations stepped s in
     let steady = stations-stay (slot + 1) (length tracks) stepped marked (same-nodes stepped marked b) (stations-next slot (length tracks) tracks stations stepped s ready.stations) in
     let told = stations-told (slot + 1) (length tracks) marked after c steady in
     let count : length (levels_of after) ≡ length (levels_of stations) = length-map after (λ (s : Station). s.pins.levels) ∙ nodes ∙ sym (length-map stations (λ (s : Station). s.pins.levels)) in
     record {
-      system = system-next plan slot (length stations) whole stations stepped marked after tracks tracks_after wires wires_after ready.system ready.tracks ready.heeded ready.wires s b c t w;
+      system = system-next plan shown slot (length stations) whole stations stepped marked after tracks tracks_after wires wires_after ready.system ready.tracks ready.heeded ready.wires s b c t w;
+      shapes = shapes-next keeps shown plan whole.histories slot 0 plan.nodes whole.nodes ready.shapes;
       stations = subst (λ (n : ℕ). AllByRecursion (IsStation (slot + 1) n) after) (sym links) told;
       tracks = subst (λ (n : ℕ). AllByRecursion (IsReadyTrack (slot + 1) n) tracks_after) (sym nodes) (tracks-next slot (length stations) stepped marked tracks tracks_after t ready.tracks);
       heeded =

@@ -14,7 +14,7 @@ use Rattle.xs_base.specs.declared.entry.Entry.{Entry}
 use Rattle.xs_base.specs.declared.entry.What.{What}
 use Rattle.xs_base.specs.declared.entry.What.TheVariants as what
 use Rattle.pin_wires.specs.Wires.{driven_or_low}
-use Rattle.serial_model.specs.Serial.{arrived_by, wire_level, level_after, level_or, level_entries}
+use Rattle.serial_model.specs.Serial.{arrived_by, level_on, level_after, level_or, level_entries}
 use Rattle.crossings.specs.Crossings.{AreInSendingOrder, MayFollow, Later, IsDueFrom, due_of}
 use Rattle.crossings.proofs.Arriving.{all-map, all-append, due-append}
 use Rattle.run_plan.specs.declared.wire.Wire.{Wire}
@@ -44,12 +44,12 @@ came-first slot delay (suc first) (e ∷ es) due =
     let here = come-now (e.slot + delay) slot due.0 in
     rw here (ap (λ rest. e ∷ rest) (came-first slot delay first es due.1))
 
-pub level-is : (slot delay first : ℕ) (es : List Entry) → IsDueFrom (slot + 1) delay first es → wire_level slot delay es ≡ level_after 0 (take first es)
-level-is slot delay first es due = ap (level_after 0) (came-first slot delay first es due)
+pub level-is : (before slot delay first : ℕ) (es : List Entry) → IsDueFrom (slot + 1) delay first es → level_on before slot delay es ≡ level_after before (take first es)
+level-is before slot delay first es due = ap (level_after before) (came-first slot delay first es due)
 
 -- where nothing comes, the level stays
-pub level-stays : (from slot delay first : ℕ) (es : List Entry) → IsDueFrom (from + 1) delay first es → IsDueFrom (slot + 1) delay first es → wire_level slot delay es ≡ wire_level from delay es
-level-stays from slot delay first es early late = level-is slot delay first es late ∙ sym (level-is from delay first es early)
+pub level-stays : (before from slot delay first : ℕ) (es : List Entry) → IsDueFrom (from + 1) delay first es → IsDueFrom (slot + 1) delay first es → level_on before slot delay es ≡ level_on before from delay es
+level-stays before from slot delay first es early late = level-is before slot delay first es late ∙ sym (level-is before from delay first es early)
 
 -- the level after one more entry
 level-more : (level : ℕ) (es : List Entry) (e : Entry) → level_after level (es ++ e ∷ []) ≡ level_or e.what (level_after level es)
@@ -140,10 +140,11 @@ record SameParts (before after : Wire) : Type 0 where
   delay : after.delay ≡ before.delay
   history : after.history ≡ before.history
   sent : after.sent ≡ before.sent
+  shown : after.shown.value ≡ before.shown.value
 
 coming-keeps : (told : Option What) (wire : Wire) → SameParts wire (with_coming told wire)
-coming-keeps None wire = record { from = refl; from_port = refl; to = refl; to_port = refl; delay = refl; history = refl; sent = refl }
-coming-keeps (Some told) wire = record { from = refl; from_port = refl; to = refl; to_port = refl; delay = refl; history = refl; sent = refl }
+coming-keeps None wire = record { from = refl; from_port = refl; to = refl; to_port = refl; delay = refl; history = refl; sent = refl; shown = refl }
+coming-keeps (Some told) wire = record { from = refl; from_port = refl; to = refl; to_port = refl; delay = refl; history = refl; sent = refl; shown = refl }
 
 -- entries that a wire may have before a slot
 record IsHistory (width slot : ℕ) (es : List Entry) : Type 0 where
@@ -153,7 +154,7 @@ record IsHistory (width slot : ℕ) (es : List Entry) : Type 0 where
 
 -- a wire of one slot, of which so much has come by another
 with-come : (slot to : ℕ) (wire : Wire) → IsWire slot wire → (history : BatchRec) (sent first level : ℕ) → IsHistory (port_width wire.to_port) to history.entries → first ≤ to
-    → IsDueFrom (to + 1) wire.delay first history.entries → level ≡ wire_level to wire.delay history.entries → level < 2 ^ port_width wire.to_port
+    → IsDueFrom (to + 1) wire.delay first history.entries → level ≡ level_on wire.shown.value to wire.delay history.entries → level < 2 ^ port_width wire.to_port
     → IsWire to (record wire { history = history; sent = sent; first = first; level = level })
 with-come slot to wire is history sent first level entries few due same narrow = record {
   from_port = is.from_port;
@@ -198,19 +199,19 @@ module _ (slot : ℕ) (wire : Wire) (is : IsWire slot wire) (now : ℕ) (fits : 
       let later = all-map (λ (e : Entry). e.slot ≡ slot) (λ (e : Entry). slot + 1 ≤ e.slot + wire.delay) (λ e same. omega (arith, same, is.delayed)) new new-told.at in
       subst (IsDueFrom (slot + 1) wire.delay wire.first) (sym entries) (due-append (slot + 1) wire.delay wire.first wire.history.entries new is.due later)
 
-  level-told : wire.level ≡ level_after 0 (take wire.first history.entries)
+  level-told : wire.level ≡ level_after wire.shown.value (take wire.first history.entries)
   level-told =
       let es = wire.history.entries in
       let same = take-append-le wire.first es (level_entries slot wire.sent now) (due-within (slot + 1) wire.delay wire.first es is.due) in
-      is.level ∙ level-is slot wire.delay wire.first es is.due
-      ∙ ap (level_after 0) (sym same)
-      ∙ ap (λ (all : List Entry). level_after 0 (take wire.first all)) (sym entries)
+      is.level ∙ level-is wire.shown.value slot wire.delay wire.first es is.due
+      ∙ ap (level_after wire.shown.value) (sym same)
+      ∙ ap (λ (all : List Entry). level_after wire.shown.value (take wire.first all)) (sym entries)
 
   -- it takes what comes: nothing does
   stays : IsDueFrom (slot + 1 + 1) wire.delay wire.first history.entries → IsWire (slot + 1) told
   stays due =
       with-come slot (slot + 1) wire is history now wire.first wire.level history-told (omega (arith, is.few)) due
-      (level-told ∙ sym (level-is (slot + 1) wire.delay wire.first history.entries due)) is.narrow
+      (level-told ∙ sym (level-is wire.shown.value (slot + 1) wire.delay wire.first history.entries due)) is.narrow
 
   -- the next entry does
   comes : (e : Entry) → slice_get history.entries wire.first ≡ Some e → e.slot + wire.delay ≡ slot + 1 → IsWire (slot + 1) (record told { first = wire.first + 1; level = level_or e.what wire.level })
@@ -223,9 +224,9 @@ module _ (slot : ℕ) (wire : Wire) (is : IsWire slot wire) (now : ℕ) (fits : 
       take_more es wire.first e (get-within es wire.first e here) ∙ ap (λ x. take wire.first es ++ x ∷ []) (get-is es wire.first e here) in
       let level =
       ap (level_or e.what) level-told
-      ∙ sym (level-more 0 (take wire.first es) e)
-      ∙ ap (level_after 0) (sym more)
-      ∙ sym (level-is (slot + 1) wire.delay (wire.first + 1) es due) in
+      ∙ sym (level-more wire.shown.value (take wire.first es) e)
+      ∙ ap (level_after wire.shown.value) (sym more)
+      ∙ sym (level-is wire.shown.value (slot + 1) wire.delay (wire.first + 1) es due) in
       let narrow = level-fits (port_width wire.to_port) e.what wire.level (level-at (port_width wire.to_port) wire.first es e history-told.levels here) in
       with-come slot (slot + 1) wire is history now (wire.first + 1) (level_or e.what wire.level) history-told (omega (arith, is.few)) due level narrow
 
@@ -266,6 +267,7 @@ module _ (slot : ℕ) (wire : Wire) (is : IsWire slot wire) (now : ℕ) (fits : 
         delay = parts.delay;
         entries = ap (λ (h : BatchRec). h.entries) parts.history ∙ entries;
         sent = parts.sent;
+        shown = parts.shown;
         next = subst (IsWire (slot + 1)) (sym from_w) (takes slot wire is now fits was.history entries);
       }
 
@@ -275,14 +277,14 @@ wire-later from to on wire is late =
     let es = wire.history.entries in
     let before = all-map (λ (e : Entry). e.slot < from) (λ (e : Entry). e.slot < to) (λ e l. omega (arith, l, on)) es is.before in
     with-come from to wire is wire.history wire.sent wire.first wire.level (record { in_order = is.in_order; levels = is.levels; before = before }) (omega (arith, is.few, on)) late
-    (is.level ∙ sym (level-stays from to wire.delay wire.first es is.due late)) is.narrow
+    (is.level ∙ sym (level-stays wire.shown.value from to wire.delay wire.first es is.due late)) is.narrow
 
 -- and shows the same in each of them
 pub shows-still : (from slot to : ℕ) → from ≤ slot → slot ≤ to → (wire : Wire) → IsWire from wire → IsDueFrom (to + 1) wire.delay wire.first wire.history.entries
-    → wire.level ≡ wire_level slot wire.delay wire.history.entries
+    → wire.level ≡ level_on wire.shown.value slot wire.delay wire.history.entries
 shows-still from slot to on within wire is late =
     let here = due_between (from + 1) (slot + 1) (to + 1) wire.delay wire.first wire.history.entries (omega (arith, on)) (omega (arith, within)) is.due late in
-    is.level ∙ sym (level-stays from slot wire.delay wire.first wire.history.entries is.due here)
+    is.level ∙ sym (level-stays wire.shown.value from slot wire.delay wire.first wire.history.entries is.due here)
 
 -- what comes after a slot comes after an earlier one
 pub comes_sooner : (from slot to : ℕ) (wire : Wire) → from ≤ slot → slot ≤ to → IsWire from wire → ComesAfter to wire → ComesAfter slot wire

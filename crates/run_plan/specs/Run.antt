@@ -1,13 +1,14 @@
 -- What nodes, directed links and wires at work have to do with the serial machine.
 use Rattle.std.specs.Prelude.{◌≡◌, ◌+◌, Some, None, List, [], ◌∷◌, ◌++◌, length}
 use Rattle.std.specs.List.{AllByRecursion}
-use Rattle.xs_base.specs.Numbers.{Slot, Position}
+use Rattle.xs_base.specs.Numbers.{Slot, Word, Position, LinkNumber}
 use Rattle.xs_base.specs.declared.entry.Entry.{Entry}
 use Rattle.xs_model.specs.declared.event.Event.{Event}
 use Rattle.xs_model.specs.Record.{NodeRec}
 use Rattle.sys_plan.specs.declared.NodePlan.{NodePlan}
 use Rattle.sys_plan.specs.Plan.{PlanRec, Arc, link_arcs, wire_arcs}
-use Rattle.serial_model.specs.Serial.{SystemRec, node_by, driven_level}
+use Rattle.step_laws.specs.Shape.{HasShape}
+use Rattle.serial_model.specs.Serial.{SystemRec, node_by, driven_level, shown_of}
 use Rattle.node_seats.specs.Seats.{Plays}
 use Rattle.node_seats.specs.Shown.{ArePins}
 use Rattle.run_plan.specs.declared.track.Track.{Track}
@@ -45,32 +46,38 @@ AllCarry [] [] [] = Unit {0}
 AllCarry (d ∷ ds) (track ∷ tracks) (history ∷ histories) = Carries d track history × AllCarry ds tracks histories
 AllCarry _ _ _ = ⊥
 
--- the arc of a wire has this history, and what was told last is the level that its first port drives, when these are the nodes
-pub record Tells (nodes : List NodeRec) (d : Arc) (wire : Wire) (history : List Entry) : Type 0 where
+-- the arc of a wire has this history, and showed this level before. What was told last is the level that its first port drives, when these
+-- are the nodes
+pub record Tells (nodes : List NodeRec) (before : Word) (d : Arc) (wire : Wire) (history : List Entry) : Type 0 where
   pub from : wire.from ≡ d.from
   pub to : wire.to ≡ d.to
   pub delay : wire.delay ≡ d.delay
   pub joins : d.joins ≡ Some (record { from_port = wire.from_port; to_port = wire.to_port })
   pub entries : wire.history.entries ≡ history
   pub sent : wire.sent ≡ driven_level (node_by nodes wire.from) wire.from_port
+  pub shown : wire.shown.value ≡ before
 
-abbrev pub AllTell : List NodeRec → List Arc → List Wire → List (List Entry) → Type 0
-AllTell nodes [] [] [] = Unit {0}
-AllTell nodes (d ∷ ds) (wire ∷ wires) (history ∷ histories) = Tells nodes d wire history × AllTell nodes ds wires histories
-AllTell nodes _ _ _ = ⊥
+-- that is so of these, the first of which is the arc with a number, and which showed these levels before, by number
+abbrev pub AllTell : List Word → List NodeRec → LinkNumber → List Arc → List Wire → List (List Entry) → Type 0
+AllTell shown nodes k [] [] [] = Unit {0}
+AllTell shown nodes k (d ∷ ds) (wire ∷ wires) (history ∷ histories) =
+    Tells nodes (shown_of shown k) d wire history × AllTell shown nodes (k + 1) ds wires histories
+AllTell shown nodes k _ _ _ = ⊥
 
--- the nodes and arcs of a plan before a slot, when the system is this: histories of directed links, and then of wires
-pub record IsSystem (plan : PlanRec) (slot : Slot) (stations : List Station) (tracks : List Track) (wires : List Wire) (system : SystemRec) : Type 0 where
+-- the nodes and arcs of a plan before a slot, when the system is this, and arcs showed this before its histories: those of directed links, and
+-- then of wires
+pub record IsSystem (plan : PlanRec) (shown : List Word) (slot : Slot) (stations : List Station) (tracks : List Track) (wires : List Wire) (system : SystemRec) : Type 0 where
   pub serve : AllServe plan slot 0 plan.nodes stations system.nodes system.events
   pub link_histories : List (List Entry)
   pub wire_histories : List (List Entry)
   pub histories : system.histories ≡ link_histories ++ wire_histories
   pub carry : AllCarry (link_arcs plan.links) tracks link_histories
-  pub tell : AllTell system.nodes (wire_arcs [] plan.wires) wires wire_histories
+  pub tell : AllTell shown system.nodes (length (link_arcs plan.links)) (wire_arcs [] plan.wires) wires wire_histories
 
--- the nodes and arcs of a plan are ready for a slot, when the system is this
-pub record AreReady (plan : PlanRec) (slot : Slot) (whole : SystemRec) (all_stations : List Station) (all_tracks : List Track) (all_wires : List Wire) : Type 0 where
-  pub system : IsSystem plan slot all_stations all_tracks all_wires whole
+-- the nodes and arcs of a plan are ready for a slot, when the system is this, and arcs showed this before its histories
+pub record AreReady (plan : PlanRec) (shown : List Word) (slot : Slot) (whole : SystemRec) (all_stations : List Station) (all_tracks : List Track) (all_wires : List Wire) : Type 0 where
+  pub system : IsSystem plan shown slot all_stations all_tracks all_wires whole
+  pub shapes : AllByRecursion HasShape whole.nodes
   pub stations : AllByRecursion (IsStation slot (length all_tracks)) all_stations
   pub tracks : AllByRecursion (IsReadyTrack slot (length all_stations)) all_tracks
   pub heeded : AllByRecursion (IsHeeded all_stations) all_tracks

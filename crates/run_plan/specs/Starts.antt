@@ -56,6 +56,7 @@ wire_at_start from from_port to to_port delay = record {
   first = 0;
   sent = 0;
   level = 0;
+  shown = record { of = record {}; value = 0 };
 }
 
 abbrev pub wires_at_start : List WirePlan → List Wire

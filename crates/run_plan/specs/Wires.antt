@@ -8,7 +8,7 @@ use Rattle.xs_base.specs.declared.entry.Entry.{Entry}
 use Rattle.xs_base.specs.declared.entry.What.{What}
 use Rattle.xs_base.specs.declared.entry.What.TheVariants as what
 use Rattle.sys_plan.specs.Plan.{AreDistinct}
-use Rattle.serial_model.specs.Serial.{wire_level, level_or, level_entries}
+use Rattle.serial_model.specs.Serial.{level_on, level_or, level_entries}
 use Rattle.crossings.specs.Crossings.{IsDueFrom}
 use Rattle.run_plan.specs.declared.wire.Wire.{Wire}
 
@@ -34,7 +34,7 @@ pub record IsWire (slot : Slot) (wire : Wire) : Type 0 where
   pub few : wire.first ≤ slot
   -- so many entries have come by this slot, and the rest come later
   pub due : IsDueFrom (slot + 1) wire.delay wire.first wire.history.entries
-  pub level : wire.level ≡ wire_level slot wire.delay wire.history.entries
+  pub level : wire.level ≡ level_on wire.shown.value slot wire.delay wire.history.entries
   pub narrow : wire.level < 2 ^ port_width wire.to_port
 
 -- a wire by which this comes, if something does
@@ -51,6 +51,7 @@ pub record WireGoesOn (slot : Slot) (now : Word) (before after : Wire) : Type 0 
   pub delay : after.delay ≡ before.delay
   pub entries : after.history.entries ≡ before.history.entries ++ level_entries slot before.sent now
   pub sent : after.sent ≡ now
+  pub shown : after.shown.value ≡ before.shown.value
   pub next : IsWire (slot + 1) after
 
 -- the pin at the second end of a wire: the node and the port

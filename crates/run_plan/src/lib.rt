@@ -5,10 +5,12 @@ mod inbound;
 mod machine;
 mod passes;
 mod quiet;
+mod serial;
 mod station;
 mod track;
 mod wire;
 mod wiring;
 
 pub use machine::SerialMachine;
+pub use serial::machines_are_serial;
 pub use xs_base::Entry;

@@ -2,7 +2,8 @@
 ghost use Rattle.std.specs.Prelude.{◌≡◌, ◌+◌, ◌-◌, ◌^◌, ◌<◌, ◌≤◌, max, [], length, slice_index_or, IfOk, OnOk, OnErr};
 ghost use Rattle.std.specs.List.{AllZip};
 ghost use Rattle.sys_plan.specs.Plan.{arc_count};
-ghost use Rattle.serial_model.specs.Serial.{serial};
+ghost use Rattle.serial_model.specs.Serial.{begun_at_start};
+ghost use Rattle.run_plan.specs.Machine.{system_of};
 ghost use Rattle.trace_lines.specs.Kept.{Keeps};
 ghost use Rattle.core_step.specs.Core.{StandsAt};
 ghost use Rattle.xs_model.specs.Record.{first_node};
@@ -17,12 +18,13 @@ use core_step::Core;
 use known_value::Known;
 use std::alloc::{AllocError, Global};
 use std::marker::Model;
+use step_laws::slot_has_few_events;
 use sys_plan::Plan;
 use trace_lines::NodeEvents;
 use xs_base::Entry;
 
-/// All nodes of a system, stepped together from slot 0 on. Contracts see the plan and how many slots
-/// have passed; what the machine has become is `serial` of `Rattle.serial_model.specs.Serial`. See docs/MACHINE.md.
+/// All nodes of a system, stepped together from a slot on. Contracts see the plan, what the machine began with, and how many slots have
+/// passed; what it has become is `system_of` of `Rattle.run_plan.specs.Machine`. See docs/MACHINE.md.
 #[derive(Drop)]
 pub struct SerialMachine {
     plan: Known<Plan>,
@@ -37,9 +39,9 @@ impl Model for SerialMachine {
 
     ghost Value = { MachineRec };
 
-    ghost use Rattle.run_plan.specs.Inside.{IsMachine};
+    ghost use Rattle.run_plan.specs.Inside.{seen_of, IsMachine};
 
-    ghost view = { λ m. record { plan = m.plan.value; now = m.clock } };
+    ghost view = { seen_of };
 
     ghost invariant = { IsMachine };
 }
@@ -48,8 +50,10 @@ impl SerialMachine {
     /// The nodes of a plan as they start. The error is want of memory.
     pub fn new(alloc: Global, plan: &Plan) -> Result<SerialMachine, AllocError>
         ensures plan { IfOk result (λ m. m.plan ≡ plan.now) }
+        ensures begun { IfOk result (λ m. m.begun ≡ begun_at_start plan.now) }
         ensures now { IfOk result (λ m. m.now ≡ 0) }
     {
+        slot_has_few_events();
         let stations = stations_of(alloc, plan)?;
         let tracks = tracks_of(alloc, plan)?;
         let wires = wires_of(alloc, plan)?;
@@ -66,6 +70,7 @@ impl SerialMachine {
     pub fn slot(&mut self) -> Result<(), AllocError>
         requires now { self.old.now < 2 ^ 32 - 1 }
         ensures plan { self.new.plan ≡ self.old.plan }
+        ensures begun { self.new.begun ≡ self.old.begun }
         ensures passed { OnOk result (self.new.now ≡ self.old.now + 1) }
         ensures err { OnErr result (self.new ≡ self.old) }
     {
@@ -85,6 +90,7 @@ impl SerialMachine {
     #[inline(never)]
     pub fn run(&mut self, limit: u32) -> Result<(), AllocError>
         ensures plan { self.new.plan ≡ self.old.plan }
+        ensures begun { self.new.begun ≡ self.old.begun }
         ensures ran { OnOk result (self.new.now ≡ max self.old.now limit) }
         ensures on { self.old.now ≤ self.new.now }
         ensures err { OnErr result (self.new.now < limit) }
@@ -108,6 +114,7 @@ impl SerialMachine {
     fn pass_quiet_slots(&mut self, limit: u32)
         requires before { self.old.now ≤ limit }
         ensures plan { self.new.plan ≡ self.old.plan }
+        ensures begun { self.new.begun ≡ self.old.begun }
         ensures on { self.old.now ≤ self.new.now }
         ensures within { self.new.now ≤ limit }
     {
@@ -121,6 +128,7 @@ impl SerialMachine {
     fn pass_where_all_rest(&mut self, limit: u32)
         requires before { self.old.now ≤ limit }
         ensures plan { self.new.plan ≡ self.old.plan }
+        ensures begun { self.new.begun ≡ self.old.begun }
         ensures on { self.old.now ≤ self.new.now }
         ensures within { self.new.now ≤ limit }
     {
@@ -143,7 +151,7 @@ impl SerialMachine {
     /// The core of the node at a position.
     pub fn core(&self, node: u8) -> &Core
         requires node { node < length self.now.plan.nodes }
-        ensures stands { StandsAt result.now (slice_index_or (serial self.now.plan self.now.now).nodes node (first_node 0 0 [])) self.now.now }
+        ensures stands { StandsAt result.now (slice_index_or (system_of self.now).nodes node (first_node 0 0 [])) self.now.now }
     {
         let station = &self.stations[node as usize];
         &station.seat.core
@@ -152,7 +160,7 @@ impl SerialMachine {
     /// The history of the arc with a number: what was sent on it so far, in order.
     pub fn history(&self, link: u32) -> &[Entry]
         requires link { link < arc_count self.now.plan }
-        ensures value { result.now ≡ slice_index_or (serial self.now.plan self.now.now).histories link [] }
+        ensures value { result.now ≡ slice_index_or (system_of self.now).histories link [] }
     {
         let directed = self.tracks.len();
         if (link as usize) < directed {
@@ -167,7 +175,7 @@ impl SerialMachine {
     /// What is kept of the events of the node at a position.
     pub fn events(&self, node: u8) -> &NodeEvents
         requires node { node < length self.now.plan.nodes }
-        ensures keeps { Keeps result.now (slice_index_or (serial self.now.plan self.now.now).events node []) }
+        ensures keeps { Keeps result.now (slice_index_or (system_of self.now).events node []) }
     {
         let station = &self.stations[node as usize];
         &station.seat.events
@@ -176,7 +184,7 @@ impl SerialMachine {
     /// What is kept of the events of each node, by position. Nothing else is left of the machine. The error is want of
     /// memory.
     pub fn into_events(self, alloc: Global) -> Result<Vec<NodeEvents>, AllocError>
-        ensures keeps { IfOk result (λ v. AllZip Keeps v.items (serial self.plan self.now).events) }
+        ensures keeps { IfOk result (λ v. AllZip Keeps v.items (system_of self).events) }
         ensures nodes { IfOk result (λ v. length v.items ≡ length self.plan.nodes) }
     {
         let mut all = Vec::new(alloc);

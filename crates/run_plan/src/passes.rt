@@ -1,8 +1,9 @@
 //! The passes of a slot over all nodes, all directed links and all wires.
-ghost use Rattle.std.specs.Prelude.{◌≡◌, ◌+◌, ◌-◌, ◌^◌, ◌<◌, length, OnOk, OnErr};
+ghost use Rattle.std.specs.Prelude.{◌≡◌, ◌+◌, ◌-◌, ◌^◌, ◌<◌, List, length, OnOk, OnErr};
 ghost use Rattle.std.specs.List.{AllByRecursion, AllZip};
+ghost use Rattle.xs_base.specs.Numbers.{Word};
 ghost use Rattle.sys_plan.specs.Plan.{PlanRec};
-ghost use Rattle.serial_model.specs.Serial.{serial};
+ghost use Rattle.serial_model.specs.Serial.{SystemRec, step_on};
 ghost use Rattle.run_plan.specs.Stations.{IsStation, StationSteps};
 ghost use Rattle.run_plan.specs.Passes.{HasRoomForEvents, HasEntryRoom, HasLevelRoom, SameStation, SameTrack, SameWire, IsReadyTrack, Advances, SameButDue};
 ghost use Rattle.run_plan.specs.Passes.{IsShownAt, SameButCome, WireAdvances, cores_of, driven_by, levels_of};
@@ -13,6 +14,7 @@ use crate::station::Station;
 use crate::track::Track;
 use crate::wire::Wire;
 use std::alloc::AllocError;
+use step_laws::slot_has_few_events;
 
 // How many entries a slot can add at most to the history of a directed link: a token and a credit.
 const MOST_ENTRIES: usize = 2;
@@ -31,14 +33,15 @@ pub(crate) fn pass_slot(
     requires stations { AllByRecursion (IsStation slot (length tracks.old)) stations.old }
     requires tracks { AllByRecursion (IsReadyTrack slot (length stations.old)) tracks.old }
     requires wires { AreReadyWires slot (levels_of stations.old) wires.old }
-    ensures ok { OnOk result ((plan : PlanRec) → AreReady plan slot (serial plan slot) stations.old tracks.old wires.old →
-        AreReady plan (slot + 1) (serial plan (slot + 1)) stations.new tracks.new wires.new) }
-    ensures err { OnErr result ((plan : PlanRec) → AreReady plan slot (serial plan slot) stations.old tracks.old wires.old →
-        AreReady plan slot (serial plan slot) stations.new tracks.new wires.new) }
+    ensures ok { OnOk result ((plan : PlanRec) (shown : List Word) (whole : SystemRec) → AreReady plan shown slot whole stations.old tracks.old wires.old →
+        AreReady plan shown (slot + 1) (step_on shown plan slot whole) stations.new tracks.new wires.new) }
+    ensures err { OnErr result ((plan : PlanRec) (shown : List Word) (whole : SystemRec) → AreReady plan shown slot whole stations.old tracks.old wires.old →
+        AreReady plan shown slot whole stations.new tracks.new wires.new) }
     ensures stations { length stations.new ≡ length stations.old }
     ensures tracks { length tracks.new ≡ length tracks.old }
     ensures wires { length wires.new ≡ length wires.old }
 {
+    slot_has_few_events();
     make_event_room(stations)?;
     make_entry_room(tracks)?;
     make_level_room(wires)?;

@@ -1,8 +1,9 @@
 //! The slots in which nothing happens anywhere, gone over at once. See docs/QUIET_SLOTS.md.
-ghost use Rattle.std.specs.Prelude.{◌≡◌, ◌+◌, ◌-◌, ◌^◌, ◌<◌, ◌≤◌, length};
+ghost use Rattle.std.specs.Prelude.{◌≡◌, ◌+◌, ◌-◌, ◌^◌, ◌<◌, ◌≤◌, List, length};
 ghost use Rattle.std.specs.List.{AllByRecursion, AllZip};
+ghost use Rattle.xs_base.specs.Numbers.{Word};
 ghost use Rattle.sys_plan.specs.Plan.{PlanRec};
-ghost use Rattle.serial_model.specs.Serial.{serial};
+ghost use Rattle.serial_model.specs.Serial.{SystemRec, since};
 ghost use Rattle.run_plan.specs.Stations.{IsStation};
 ghost use Rattle.run_plan.specs.Tracks.{IsTrack};
 ghost use Rattle.run_plan.specs.Passes.{IsReadyTrack, levels_of};
@@ -13,9 +14,8 @@ ghost use Rattle.run_plan.specs.Run.{AreReady};
 use crate::station::Station;
 use crate::track::Track;
 use crate::wire::Wire;
-use busy_slots::nodes_are_whole;
 use quiet_laws::{first_stirring_slot, quiet_slots_only_count};
-use step_laws::slot_tells_pins;
+use step_laws::{slot_has_few_events, slot_tells_pins};
 
 /// Whether it may be worth while to go over slots from one on: not where the first node may do something in it. No clause says more, since
 /// each slot may also be stepped.
@@ -44,16 +44,17 @@ pub(crate) fn pass_quiet(
     requires wires { AreReadyWires from (levels_of stations.old) wires.now }
     ensures on { from ≤ result }
     ensures within { result ≤ limit }
-    ensures ready { (plan : PlanRec) → AreReady plan from (serial plan from) stations.old tracks.now wires.now → AreReady plan result (serial plan result) stations.new tracks.now wires.now }
+    ensures ready { (plan : PlanRec) (shown : List Word) (whole : SystemRec) → AreReady plan shown from whole stations.old tracks.now wires.now →
+        AreReady plan shown result (since plan (record { slot = from; system = whole; shown = shown }) (result - from)) stations.new tracks.now wires.now }
 {
     let to = quiet_to(stations, tracks, wires, from, limit);
     if to <= from {
         return from;
     }
-    nodes_are_whole();
     first_stirring_slot();
     quiet_slots_only_count();
     slot_tells_pins();
+    slot_has_few_events();
     skip_all(stations, from, to);
     to
 }

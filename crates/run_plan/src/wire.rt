@@ -8,6 +8,7 @@ ghost use Rattle.run_plan.specs.Wires.{IsWire, WireGoesOn, with_coming};
 ghost use Rattle.run_plan.specs.Quiet.{ComesAfter};
 
 use crate::track::before_next;
+use known_value::Known;
 use xs_base::{Batch, Entry, What};
 
 /// A wire: it leads from the pin of a port of the node at a position to that of a port of the node at another, with a delay in slots.
@@ -25,6 +26,8 @@ pub(crate) struct Wire {
     pub(crate) sent: u32,
     // The level that it shows in this slot, 0 at first.
     pub(crate) level: u32,
+    // The level that it showed before anything of its history came, 0 at first. Proofs alone read it.
+    pub(crate) shown: Known<u32>,
 }
 
 impl Wire {

@@ -8,6 +8,7 @@ use crate::station::Station;
 use crate::track::Track;
 use crate::wire::Wire;
 use crossings::Crossing;
+use known_value::Known;
 use node_seats::{Pins, Seat};
 use std::alloc::{AllocError, Global};
 use sys_plan::{Plan, WirePlan};
@@ -93,5 +94,6 @@ fn wire_of(alloc: Global, wire: &WirePlan) -> Wire
         first: 0,
         sent: 0,
         level: 0,
+        shown: Known::of(&0),
     }
 }

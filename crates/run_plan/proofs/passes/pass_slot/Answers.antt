@@ -1,13 +1,10 @@
 use Rattle.std.proofs.Common.{◌+◌, length, refl, sym, ◌∙◌, subst, Ok, Err}
 use Rattle.std.specs.Prelude.{OnErr, Result}
 use Rattle.std.specs.List.{AllByRecursion}
-use Rattle.serial_model.specs.Serial.{SystemRec, serial}
-use Rattle.run_plan.specs.Run.{AreReady}
 use Rattle.run_plan.specs.Stations.{IsStation, StationSteps}
 use Rattle.run_plan.specs.Passes.{SameStation, SameTrack, SameWire, SameButDue, IsReadyTrack, IsShownAt, levels_of}
 use Rattle.node_seats.specs.Shown.{IsShown}
 use Rattle.run_plan.proofs.Through.{all-zip, zip-refl, zip-second, zip-length}
-use Rattle.run_plan.proofs.Steps.{serial_next}
 use Rattle.run_plan.proofs.Systems.{stations-same, tracks-same, wires-same, levels-roomy, levels-stepped, levels-due, ready-same, ready-next}
 use Rattle.run_plan.proofs.passes.pass_slot.Goals as goal
 
@@ -18,19 +15,19 @@ on_err (Err e) p = p
 pub returns-in_err-make_event_room-clause-err : goal.returns-in_err-make_event_room-clause-err
 returns-in_err-make_event_room-clause-err c =
     on_err c.from_residual.result
-    (λ plan ready. ready-same plan c.args.slot (serial plan c.args.slot) _ _ _ _ _ _ ready c.make_event_room.ensures.same
+    (λ plan shown whole ready. ready-same plan shown c.args.slot whole _ _ _ _ _ _ ready c.make_event_room.ensures.same
     (zip-refl SameTrack (λ x. refl) c.args.tracks.now) (zip-refl SameWire (λ x. refl) c.args.wires.now))
 
 pub returns-in_err-make_entry_room-clause-err : goal.returns-in_err-make_entry_room-clause-err
 returns-in_err-make_entry_room-clause-err c =
     on_err c.from_residual-in_err-make_entry_room.result
-    (λ plan ready. ready-same plan c.args.slot (serial plan c.args.slot) _ _ _ _ _ _ ready c.make_event_room.ensures.same c.make_entry_room.ensures.same
+    (λ plan shown whole ready. ready-same plan shown c.args.slot whole _ _ _ _ _ _ ready c.make_event_room.ensures.same c.make_entry_room.ensures.same
     (zip-refl SameWire (λ x. refl) c.args.wires.now))
 
 pub returns-in_err-make_level_room-clause-err : goal.returns-in_err-make_level_room-clause-err
 returns-in_err-make_level_room-clause-err c =
     on_err c.from_residual-in_err-make_level_room.result
-    (λ plan ready. ready-same plan c.args.slot (serial plan c.args.slot) _ _ _ _ _ _ ready c.make_event_room.ensures.same c.make_entry_room.ensures.same c.make_level_room.ensures.same)
+    (λ plan shown whole ready. ready-same plan shown c.args.slot whole _ _ _ _ _ _ ready c.make_event_room.ensures.same c.make_entry_room.ensures.same c.make_level_room.ensures.same)
 
 pub step_all-requires-clause-stations : goal.step_all-requires-clause-stations
 step_all-requires-clause-stations c =
@@ -67,9 +64,7 @@ tell_all-requires-clause-shown c =
     (zip-second (StationSteps c.args.slot tracks) (IsShownAt (c.args.slot + 1)) (λ x y s. s.shown) c.make_event_room.new.stations stepped c.step_all.ensures.steps)
 
 pub returns-clause-ok : goal.returns-clause-ok
-returns-clause-ok c = λ plan ready.
-    let before = serial plan c.args.slot in
-    subst (λ (whole : SystemRec). AreReady plan (c.args.slot + 1) whole c.tell_all.new.stations c.advance_all.new.tracks c.tell_all.new.wires) (serial_next plan c.args.slot)
-    (ready-next plan c.args.slot before _ _ _ _ _ _ _ _
-    (ready-same plan c.args.slot before _ _ _ _ _ _ ready c.make_event_room.ensures.same c.make_entry_room.ensures.same c.make_level_room.ensures.same)
-    c.step_all.ensures.steps c.advance_all.ensures.same c.tell_all.ensures.same c.advance_all.ensures.advances c.tell_all.ensures.advances)
+returns-clause-ok c = λ plan shown whole ready.
+    ready-next c.slot_has_few_events.ensures.slot plan shown c.args.slot whole _ _ _ _ _ _ _ _
+    (ready-same plan shown c.args.slot whole _ _ _ _ _ _ ready c.make_event_room.ensures.same c.make_entry_room.ensures.same c.make_level_room.ensures.same)
+    c.step_all.ensures.steps c.advance_all.ensures.same c.tell_all.ensures.same c.advance_all.ensures.advances c.tell_all.ensures.advances

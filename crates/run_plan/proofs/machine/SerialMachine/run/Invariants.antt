@@ -4,7 +4,8 @@ use Rattle.run_plan.proofs.machine.SerialMachine.run.Given as goal
 abbrev pub invariant-loop-self : goal.invariant-loop-self
 invariant-loop-self l = record {
   plan : l.self.plan ≡ l.initial.self.plan;
-  begun : l.initial.self.now ≤ l.self.now;
+  begun : l.self.begun ≡ l.initial.self.begun;
+  on : l.initial.self.now ≤ l.self.now;
   bound : l.self.now ≤ l.limit;
 }
 
