@@ -3,7 +3,7 @@ ghost use Rattle.std.specs.Prelude.{◌≡◌, ◌≢◌, ◌<◌, true, Some, I
 ghost use Rattle.std.specs.List.{AllZip};
 ghost use Rattle.xs_base.specs.Numbers.{Position, LinkNumber};
 ghost use Rattle.sys_plan.specs.Plan.{arc_count};
-ghost use Rattle.serial_model.specs.Serial.{serial, history};
+ghost use Rattle.serial_model.specs.Serial.{serial, history, begun_at_start};
 ghost use Rattle.locality_laws.specs.Locality.{node_in, events_in};
 ghost use Rattle.trace_lines.specs.Kept.{Keeps};
 ghost use Rattle.trace_model.specs.Trace.{tokens_sent, credits_sent};
@@ -50,8 +50,9 @@ impl Model for Finished {
 }
 
 impl Finished {
-    /// The run that a serial machine made. It takes no memory.
+    /// The run that a serial machine made from slot 0 on. It takes no memory.
     pub fn of_serial(machine: SerialMachine) -> Finished
+        requires start { machine.begun ≡ begun_at_start machine.plan }
         ensures { result ≡ record { plan = machine.plan; limit = machine.now; way = Way.Serial; rounds = 0 } }
     {
         Finished {

@@ -2,7 +2,7 @@
 ghost use Rattle.std.specs.Prelude.{◌≡◌, ◌<◌, IfOk, length};
 ghost use Rattle.std.specs.List.{AllZip};
 ghost use Rattle.sys_plan.specs.Plan.{arc_count};
-ghost use Rattle.serial_model.specs.Serial.{serial, history};
+ghost use Rattle.serial_model.specs.Serial.{serial, history, begun_at_start};
 ghost use Rattle.locality_laws.specs.Locality.{node_in, events_in};
 ghost use Rattle.trace_lines.specs.Kept.{Keeps};
 ghost use Rattle.trace_model.specs.Trace.{tokens_sent, credits_sent};
@@ -11,7 +11,7 @@ ghost use Rattle.core_step.specs.Core.{StandsAt};
 use crate::sent::count_sent;
 use core_step::Core;
 use locality_laws::links_tell_ahead;
-use run_plan::SerialMachine;
+use run_plan::{SerialMachine, machines_are_serial};
 use std::alloc::{AllocError, Global};
 use std::marker::Model;
 use trace_lines::NodeEvents;
@@ -29,12 +29,18 @@ impl Model for Together {
 
     ghost Value = { AtLimitRec };
 
+    ghost use Rattle.std.specs.Prelude.{◌≡◌};
+    ghost use Rattle.serial_model.specs.Serial.{begun_at_start};
+
     ghost view = { λ t. record { plan = t.machine.plan; limit = t.machine.now } };
+
+    ghost invariant = { λ t. t.machine.begun ≡ begun_at_start t.machine.plan };
 }
 
 impl Together {
     /// The run that a serial machine made from slot 0 on. It takes no memory.
     pub(crate) fn of(machine: SerialMachine) -> Together
+        requires start { machine.begun ≡ begun_at_start machine.plan }
         ensures { result ≡ record { plan = machine.plan; limit = machine.now } }
     {
         Together { machine }
@@ -52,6 +58,7 @@ impl Together {
         requires node { node < length self.now.plan.nodes }
         ensures stands { StandsAt result.now (node_in (serial self.now.plan self.now.limit) node) self.now.limit }
     {
+        machines_are_serial();
         self.machine.core(node)
     }
 
@@ -60,6 +67,7 @@ impl Together {
         requires node { node < length self.now.plan.nodes }
         ensures keeps { Keeps result.now (events_in (serial self.now.plan self.now.limit) node) }
     {
+        machines_are_serial();
         self.machine.events(node)
     }
 
@@ -78,6 +86,7 @@ impl Together {
         ensures value { result.now ≡ history self.now.plan link 0 self.now.limit }
     {
         links_tell_ahead();
+        machines_are_serial();
         self.machine.history(link)
     }
 
@@ -86,6 +95,7 @@ impl Together {
         ensures keeps { IfOk result (λ v. AllZip Keeps v.items (serial self.plan self.limit).events) }
         ensures nodes { IfOk result (λ v. length v.items ≡ length self.plan.nodes) }
     {
+        machines_are_serial();
         self.machine.into_events(alloc)
     }
 }

@@ -1,10 +1,17 @@
-use Rattle.std.proofs.Common.{◌≡◌, sym, ◌∙◌, subst}
-use Rattle.serial_model.specs.Serial.{history}
+use Rattle.std.proofs.Common.{◌≡◌, List, sym, ap, ◌∙◌, subst}
+use Rattle.xs_base.specs.declared.entry.Entry.{Entry}
+use Rattle.serial_model.specs.Serial.{SystemRec, history}
+use Rattle.locality_laws.specs.Locality.{history_in}
+use Rattle.finished_runs.specs.Limit.{AtLimitRec}
 use Rattle.finished_runs.proofs.together.Together.history.Goals as goal
 
 pub returns : goal.returns
-returns c = record {
-  value =
-      subst (λ run. c.history.result.now ≡ history run.plan c.args.link 0 run.limit) c.self.view_is
-      (c.history.ensures.value ∙ sym (c.links_tell_ahead.ensures.whole c.self.inside.machine.plan c.args.link c.self.inside.machine.now));
-}
+returns c =
+    let m = c.self.inside.machine in
+    record {
+      value =
+          subst (λ (run : AtLimitRec). c.history.result.now ≡ history run.plan c.args.link 0 run.limit) c.self.view_is
+          (c.history.ensures.value
+          ∙ ap (λ (whole : SystemRec). history_in whole.histories c.args.link) (c.machines_are_serial.ensures.serial m c.self.invariant)
+          ∙ sym (c.links_tell_ahead.ensures.whole m.plan c.args.link m.now));
+    }
