@@ -1,5 +1,4 @@
-use Rattle.std.proofs.Common.{◌≡◌, List, sym, ap, ◌∙◌, subst}
-use Rattle.xs_base.specs.declared.entry.Entry.{Entry}
+use Rattle.std.proofs.Common.{◌≡◌, sym, ap, ◌∙◌, subst}
 use Rattle.serial_model.specs.Serial.{SystemRec, history}
 use Rattle.locality_laws.specs.Locality.{history_in}
 use Rattle.finished_runs.specs.Limit.{AtLimitRec}
