@@ -3,6 +3,8 @@
 
 mod log;
 mod node;
+mod system;
 
 pub use log::SnapLog;
 pub use node::SnapNode;
+pub use system::SnapSystem;
