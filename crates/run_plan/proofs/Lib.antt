@@ -7,6 +7,7 @@ pub mod Told
 pub mod Systems
 pub mod Steps
 pub mod Starts
+pub mod Begins
 pub mod Arrivals
 pub mod Stations
 pub mod Rested

@@ -7,7 +7,7 @@ use Rattle.xs_base.specs.declared.token.Token.{Token}
 use Rattle.xs_base.specs.declared.entry.Entry.{Entry}
 use Rattle.xs_model.specs.declared.event.Event.{Event}
 use Rattle.xs_model.specs.declared.outside.Arrivals.{Arrivals}
-use Rattle.xs_model.specs.Record.{NodeRec, first_node, port_of}
+use Rattle.xs_model.specs.Record.{NodeRec, port_of}
 use Rattle.xs_model.specs.Ports.{level_of}
 use Rattle.xs_model.specs.Outside.{emitted_events}
 use Rattle.sys_plan.specs.declared.NodePlan.{NodePlan}

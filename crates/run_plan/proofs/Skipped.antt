@@ -1,17 +1,17 @@
 -- The nodes, directed links and wires at work over slots in which nothing happens anywhere.
-use Rattle.std.proofs.Common.{◌≡◌, ℕ, suc, ◌+◌, ◌-◌, ◌<◌, ◌≤◌, List, [], ◌∷◌, ◌++◌, length, get_or, refl, sym, ap, ◌∙◌, subst, arith}
+use Rattle.std.proofs.Common.{◌≡◌, ℕ, ◌+◌, ◌-◌, ◌<◌, ◌≤◌, List, [], ◌∷◌, ◌++◌, length, refl, sym, ap, ◌∙◌, subst, arith}
 use Rattle.std.specs.List.{AllByRecursion, AllZip}
 use Rattle.xs_base.specs.Numbers.{Slot, Word, Position}
 use Rattle.xs_base.specs.declared.entry.Entry.{Entry}
 use Rattle.xs_model.specs.declared.event.Event.{Event}
-use Rattle.xs_model.specs.Record.{NodeRec, first_node}
+use Rattle.xs_model.specs.Record.{NodeRec}
 use Rattle.sys_plan.specs.declared.NodePlan.{NodePlan}
 use Rattle.sys_plan.specs.Plan.{PlanRec, Arc, arcs, link_arcs, wire_arcs, gaps_of}
 use Rattle.step_model.specs.Fixed.{Fixed}
 use Rattle.step_model.specs.Start.{fixed_of}
 use Rattle.step_laws.specs.Pins.{SlotTellsDriven}
 use Rattle.step_laws.specs.Shape.{HasShape, SlotKeepsShape}
-use Rattle.serial_model.specs.Serial.{SystemRec, since, shown_of, pins_on, arrivals_at}
+use Rattle.serial_model.specs.Serial.{SystemRec, since, pins_on, arrivals_at}
 use Rattle.quiet_laws.specs.Undisturbed.{no_arrivals, IsWhole}
 use Rattle.quiet_laws.specs.Quiet.{QuietSlotOnlyCounts, StillNodeStirsFirst, IsQuietUntil}
 use Rattle.crossings.proofs.Arriving.{all-map}

@@ -47,7 +47,7 @@ histories-length (d ∷ ds) (t ∷ ts) (h ∷ hs) carry = omega (arith, historie
 histories-length _ _ _ carry = absurd carry
 
 -- what a port drives, of the cores of these nodes
-driven-is : (recs : List NodeRec) (cores : List CoreRec) (n port : ℕ) → cores ≡ map (λ (r : NodeRec). r.core) recs → driven_by cores n port ≡ driven_level (node_by recs n) port
+pub driven-is : (recs : List NodeRec) (cores : List CoreRec) (n port : ℕ) → cores ≡ map (λ (r : NodeRec). r.core) recs → driven_by cores n port ≡ driven_level (node_by recs n) port
 driven-is recs cores n port are =
     ap (λ (cs : List CoreRec). driven_by cs n port) are
     ∙ ap (λ (core : CoreRec). driven_or_low (port_of core port).driven) (get_or-map (λ (r : NodeRec). r.core) recs n (first_node 0 0 []))
@@ -222,7 +222,7 @@ same-nodes : (stations after : List Station) → AllZip SameButDue stations afte
 same-nodes stations after = zip-first SameButDue SameNode same-node stations after
 
 -- where pins are told what comes by wires
-play-told : (plan : PlanRec) (slot n : ℕ) (nodes : List NodePlan) (stations : List Station) (recs : List NodeRec) (events : List (List Event)) (after : List Station) → AllServe plan slot n nodes stations recs events
+pub play-told : (plan : PlanRec) (slot n : ℕ) (nodes : List NodePlan) (stations : List Station) (recs : List NodeRec) (events : List (List Event)) (after : List Station) → AllServe plan slot n nodes stations recs events
     → AllZip (SameButCome slot) stations after → AllServe plan slot n nodes after recs events
 play-told plan slot n [] [] [] [] [] play zip = tt
 play-told plan slot n [] [] [] [] (a ∷ afters) play zip = absurd zip
@@ -239,7 +239,7 @@ play-told plan slot n (node ∷ nodes) (station ∷ stations) (rec ∷ recs) (es
     )
 play-told plan slot n _ _ _ _ _ play zip = absurd play
 
-stations-told : (slot count : ℕ) (stations after : List Station) → AllZip (SameButCome slot) stations after → AllByRecursion (IsStation slot count) stations → AllByRecursion (IsStation slot count) after
+pub stations-told : (slot count : ℕ) (stations after : List Station) → AllZip (SameButCome slot) stations after → AllByRecursion (IsStation slot count) stations → AllByRecursion (IsStation slot count) after
 stations-told slot count stations after = all-zip (SameButCome slot) (IsStation slot count) (IsStation slot count) (λ x y s h. record {
   here = subst (IsSeat slot) (sym s.seat) h.here;
   shown = s.shown h.shown;
@@ -247,14 +247,14 @@ stations-told slot count stations after = all-zip (SameButCome slot) (IsStation 
   incoming = subst (λ (i : InboundRec). AllByRecursion (IsBelow count) i.links) (sym s.incoming) h.incoming;
 }) stations after
 
-dues-told : (slot : ℕ) (stations after : List Station) → AllZip (SameButCome slot) stations after → map (λ (s : Station). s.due) after ≡ map (λ (s : Station). s.due) stations
+pub dues-told : (slot : ℕ) (stations after : List Station) → AllZip (SameButCome slot) stations after → map (λ (s : Station). s.due) after ≡ map (λ (s : Station). s.due) stations
 dues-told slot [] [] zip = refl
 dues-told slot [] (a ∷ afters) zip = absurd zip
 dues-told slot (s ∷ stations) [] zip = absurd zip
 dues-told slot (s ∷ stations) (a ∷ afters) zip = λ i. zip.0.due i ∷ dues-told slot stations afters zip.1 i
 
 -- the cores of the nodes are those of the system
-cores-serve : (plan : PlanRec) (slot n : ℕ) (nodes : List NodePlan) (stations : List Station) (recs : List NodeRec) (events : List (List Event)) → AllServe plan slot n nodes stations recs events
+pub cores-serve : (plan : PlanRec) (slot n : ℕ) (nodes : List NodePlan) (stations : List Station) (recs : List NodeRec) (events : List (List Event)) → AllServe plan slot n nodes stations recs events
     → cores_of stations ≡ map (λ (r : NodeRec). r.core) recs
 cores-serve plan slot n [] [] [] [] play = refl
 cores-serve plan slot n (node ∷ nodes) (station ∷ stations) (rec ∷ recs) (es ∷ events) play =

@@ -93,12 +93,12 @@ module _ (levels : List (List Word)) (k : Position) (port : PortNumber) (level :
 
 -- ---- All wires
 
-rest-told : (levels after : List (List Word)) (t : ℕ × ℕ) → ((other : Wire) → (target other ≡ t → ⊥) → HasCome levels other → HasCome after other) → (wires : List Wire)
+pub rest-told : (levels after : List (List Word)) (t : ℕ × ℕ) → ((other : Wire) → (target other ≡ t → ⊥) → HasCome levels other → HasCome after other) → (wires : List Wire)
     → AllByRecursion (λ y. t ≢ y) (targets wires) → AllByRecursion (HasCome levels) wires → AllByRecursion (HasCome after) wires
 rest-told levels after t others [] apart come = tt
 rest-told levels after t others (w ∷ wires) apart come = (others w (λ same. apart.0 (sym same)) come.0, rest-told levels after t others wires apart.1 come.1)
 
-apart-at : (t : ℕ × ℕ) (wires : List Wire) (i : ℕ) (d : Wire) → AllByRecursion (λ y. t ≢ y) (targets wires) → i < length wires → t ≡ target (get_or wires i d) → ⊥
+pub apart-at : (t : ℕ × ℕ) (wires : List Wire) (i : ℕ) (d : Wire) → AllByRecursion (λ y. t ≢ y) (targets wires) → i < length wires → t ≡ target (get_or wires i d) → ⊥
 apart-at t [] i d apart inside same = omega arith
 apart-at t (w ∷ wires) zero d apart inside same = apart.0 same
 apart-at t (w ∷ wires) (suc i) d apart inside same = apart-at t wires i d apart.1 (omega arith) same

@@ -52,7 +52,7 @@ pub level-stays : (before from slot delay first : ℕ) (es : List Entry) → IsD
 level-stays before from slot delay first es early late = level-is before slot delay first es late ∙ sym (level-is before from delay first es early)
 
 -- the level after one more entry
-level-more : (level : ℕ) (es : List Entry) (e : Entry) → level_after level (es ++ e ∷ []) ≡ level_or e.what (level_after level es)
+pub level-more : (level : ℕ) (es : List Entry) (e : Entry) → level_after level (es ++ e ∷ []) ≡ level_or e.what (level_after level es)
 level-more level [] e = refl
 level-more level (x ∷ es) e = level-more (level_or x.what level) es e
 
@@ -67,24 +67,24 @@ due-within slot delay zero es due = omega arith
 due-within slot delay (suc first) [] due = absurd due
 due-within slot delay (suc first) (e ∷ es) due = omega (arith, due-within slot delay first es due.1)
 
-get-within : (es : List Entry) (k : ℕ) (e : Entry) → slice_get es k ≡ Some e → k < length es
+pub get-within : (es : List Entry) (k : ℕ) (e : Entry) → slice_get es k ≡ Some e → k < length es
 get-within [] k e here = absurd (none-some e here)
 get-within (x ∷ es) zero e here = omega arith
 get-within (x ∷ es) (suc k) e here = omega (arith, get-within es k e here)
 
-get-is : (es : List Entry) (k : ℕ) (e : Entry) → slice_get es k ≡ Some e → get_or es k e ≡ e
+pub get-is : (es : List Entry) (k : ℕ) (e : Entry) → slice_get es k ≡ Some e → get_or es k e ≡ e
 get-is [] k e here = refl
 get-is (x ∷ es) zero e here = same_Some x e here
 get-is (x ∷ es) (suc k) e here = get-is es k e here
 
-due-at : (slot delay first : ℕ) (es : List Entry) (e : Entry) → IsDueFrom slot delay first es → slice_get es first ≡ Some e → slot ≤ e.slot + delay
+pub due-at : (slot delay first : ℕ) (es : List Entry) (e : Entry) → IsDueFrom slot delay first es → slice_get es first ≡ Some e → slot ≤ e.slot + delay
 due-at slot delay zero [] e due here = absurd (none-some e here)
 due-at slot delay zero (x ∷ es) e due here = omega (arith, due.0, ap (λ (y : Entry). y.slot) (same_Some x e here))
 due-at slot delay (suc first) [] e due here = absurd due
 due-at slot delay (suc first) (x ∷ es) e due here = due-at slot delay first es e due.1 here
 
 -- it comes in this slot
-due-next : (slot delay first : ℕ) (es : List Entry) (e : Entry) → IsDueFrom slot delay first es → AreInOrder es → slice_get es first ≡ Some e → e.slot + delay ≡ slot → IsDueFrom (slot + 1) delay (suc first) es
+pub due-next : (slot delay first : ℕ) (es : List Entry) (e : Entry) → IsDueFrom slot delay first es → AreInOrder es → slice_get es first ≡ Some e → e.slot + delay ≡ slot → IsDueFrom (slot + 1) delay (suc first) es
 due-next slot delay zero [] e due order here now = absurd (none-some e here)
 due-next slot delay zero (x ∷ es) e due order here now =
     let same = ap (λ (y : Entry). y.slot) (same_Some x e here) in (
@@ -94,12 +94,12 @@ due-next slot delay zero (x ∷ es) e due order here now =
 due-next slot delay (suc first) [] e due order here now = absurd due
 due-next slot delay (suc first) (x ∷ es) e due order here now = (omega (arith, due.0), due-next slot delay first es e due.1 order.1 here now)
 
-level-at : (width first : ℕ) (es : List Entry) (e : Entry) → AllByRecursion (λ (e : Entry). IsLevel width e.what) es → slice_get es first ≡ Some e → IsLevel width e.what
+pub level-at : (width first : ℕ) (es : List Entry) (e : Entry) → AllByRecursion (λ (e : Entry). IsLevel width e.what) es → slice_get es first ≡ Some e → IsLevel width e.what
 level-at width first [] e all here = absurd (none-some e here)
 level-at width zero (x ∷ es) e all here = subst (λ (y : Entry). IsLevel width y.what) (same_Some x e here) all.0
 level-at width (suc first) (x ∷ es) e all here = level-at width first es e all.1 here
 
-level-fits : (width : ℕ) (told : What) (before : ℕ) → IsLevel width told → level_or told before < 2 ^ width
+pub level-fits : (width : ℕ) (told : What) (before : ℕ) → IsLevel width told → level_or told before < 2 ^ width
 level-fits width (what.Level level) before is = is
 level-fits width (what.Token t) before is = absurd is
 level-fits width what.Credit before is = absurd is
@@ -147,13 +147,13 @@ coming-keeps None wire = record { from = refl; from_port = refl; to = refl; to_p
 coming-keeps (Some told) wire = record { from = refl; from_port = refl; to = refl; to_port = refl; delay = refl; history = refl; sent = refl; shown = refl }
 
 -- entries that a wire may have before a slot
-record IsHistory (width slot : ℕ) (es : List Entry) : Type 0 where
-  in_order : AreInOrder es
-  levels : AllByRecursion (λ (e : Entry). IsLevel width e.what) es
-  before : AllByRecursion (λ (e : Entry). e.slot < slot) es
+pub record IsHistory (width slot : ℕ) (es : List Entry) : Type 0 where
+  pub in_order : AreInOrder es
+  pub levels : AllByRecursion (λ (e : Entry). IsLevel width e.what) es
+  pub before : AllByRecursion (λ (e : Entry). e.slot < slot) es
 
 -- a wire of one slot, of which so much has come by another
-with-come : (slot to : ℕ) (wire : Wire) → IsWire slot wire → (history : BatchRec) (sent first level : ℕ) → IsHistory (port_width wire.to_port) to history.entries → first ≤ to
+pub with-come : (slot to : ℕ) (wire : Wire) → IsWire slot wire → (history : BatchRec) (sent first level : ℕ) → IsHistory (port_width wire.to_port) to history.entries → first ≤ to
     → IsDueFrom (to + 1) wire.delay first history.entries → level ≡ level_on wire.shown.value to wire.delay history.entries → level < 2 ^ port_width wire.to_port
     → IsWire to (record wire { history = history; sent = sent; first = first; level = level })
 with-come slot to wire is history sent first level entries few due same narrow = record {

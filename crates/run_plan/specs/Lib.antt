@@ -6,5 +6,6 @@ pub mod Passes
 pub mod Quiet
 pub mod Run
 pub mod Starts
+pub mod Begins
 pub mod Machine
 pub mod Inside

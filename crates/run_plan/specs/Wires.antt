@@ -6,21 +6,11 @@ use Rattle.xs_base.specs.Numbers.{Slot, Word, Position, PortNumber}
 use Rattle.xs_base.specs.declared.numbers.TheConstants.{PORTS}
 use Rattle.xs_base.specs.declared.entry.Entry.{Entry}
 use Rattle.xs_base.specs.declared.entry.What.{What}
-use Rattle.xs_base.specs.declared.entry.What.TheVariants as what
 use Rattle.sys_plan.specs.Plan.{AreDistinct}
 use Rattle.serial_model.specs.Serial.{level_on, level_or, level_entries}
 use Rattle.crossings.specs.Crossings.{IsDueFrom}
+pub use Rattle.snap_parts.specs.Snaps.{IsLevel, AreInOrder}
 use Rattle.run_plan.specs.declared.wire.Wire.{Wire}
-
--- an entry of a wire tells a level of so many bits
-abbrev pub IsLevel : ℕ → What → Type 0
-IsLevel width (what.Level level) = level < 2 ^ width
-IsLevel width _ = ⊥
-
--- entries of a wire stand in the order of their slots, and no two are of one slot
-abbrev pub AreInOrder : List Entry → Type 0
-AreInOrder [] = Unit {0}
-AreInOrder (e ∷ es) = AllByRecursion (λ (f : Entry). e.slot < f.slot) es × AreInOrder es
 
 -- a wire as it is before a slot
 pub record IsWire (slot : Slot) (wire : Wire) : Type 0 where

@@ -1,6 +1,7 @@
 //! The serial machine: all nodes of a system, stepped together, over slots in which nothing happens anywhere at once. See docs/MACHINE.md.
 #![tactic(auto)]
 
+mod begun;
 mod inbound;
 mod machine;
 mod passes;

@@ -3,11 +3,13 @@ ghost use Rattle.std.specs.Prelude.{◌≡◌, ◌+◌, ◌-◌, ◌^◌, ◌<�
 ghost use Rattle.std.specs.List.{AllZip};
 ghost use Rattle.sys_plan.specs.Plan.{arc_count};
 ghost use Rattle.serial_model.specs.Serial.{begun_at_start};
+ghost use Rattle.snap_parts.specs.Snaps.{IsSnapSystem, begun_of};
 ghost use Rattle.run_plan.specs.Machine.{system_of};
 ghost use Rattle.trace_lines.specs.Kept.{Keeps};
 ghost use Rattle.core_step.specs.Core.{StandsAt};
 ghost use Rattle.xs_model.specs.Record.{first_node};
 
+use crate::begun::{show_all, stations_by, tracks_by, wires_by};
 use crate::passes::pass_slot;
 use crate::quiet::{first_rests, pass_quiet};
 use crate::station::Station;
@@ -16,6 +18,7 @@ use crate::wire::Wire;
 use crate::wiring::{stations_of, tracks_of, wires_of};
 use core_step::Core;
 use known_value::Known;
+use snap_parts::SnapSystem;
 use std::alloc::{AllocError, Global};
 use std::marker::Model;
 use step_laws::slot_has_few_events;
@@ -28,6 +31,8 @@ use xs_base::Entry;
 #[derive(Drop)]
 pub struct SerialMachine {
     plan: Known<Plan>,
+    // The snapshot that it began with, where it is not the plan's start. Proofs alone read it.
+    from: Option<Known<SnapSystem>>,
     clock: u32,
     stations: Vec<Station>,
     tracks: Vec<Track>,
@@ -59,7 +64,34 @@ impl SerialMachine {
         let wires = wires_of(alloc, plan)?;
         Ok(SerialMachine {
             plan: Known::of(plan),
+            from: None,
             clock: 0,
+            stations,
+            tracks,
+            wires,
+        })
+    }
+
+    /// The nodes of a plan as a snapshot says them, before its slot. No event of the slots before is kept. The error is want of memory. See
+    /// docs/SNAPSHOTS.md.
+    pub fn resumed(
+        alloc: Global,
+        plan: &Plan,
+        snap: &SnapSystem,
+    ) -> Result<SerialMachine, AllocError>
+        requires snap { IsSnapSystem plan.now snap.now }
+        ensures plan { IfOk result (λ m. m.plan ≡ plan.now) }
+        ensures begun { IfOk result (λ m. m.begun ≡ begun_of snap.now) }
+        ensures now { IfOk result (λ m. m.now ≡ snap.now.slot) }
+    {
+        let mut stations = stations_by(alloc, plan, snap)?;
+        let tracks = tracks_by(alloc, plan, snap)?;
+        let wires = wires_by(alloc, plan, snap, &stations)?;
+        show_all(&wires, &mut stations, snap.slot);
+        Ok(SerialMachine {
+            plan: Known::of(plan),
+            from: Some(Known::of(snap)),
+            clock: snap.slot,
             stations,
             tracks,
             wires,

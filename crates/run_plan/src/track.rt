@@ -59,7 +59,7 @@ impl Track {
     }
 
     // Notes what arrives in a slot, where nothing was noted yet: whether anything does. That costs little where nothing does.
-    fn see(&mut self, slot: u32) -> bool
+    pub(crate) fn see(&mut self, slot: u32) -> bool
         requires first { self.old.first < 2 ^ 63 }
         requires nothing { self.old.arrived ≡ no_crossing }
         ensures quiet { result ≡ false → self.new.arrived ≡ no_crossing }

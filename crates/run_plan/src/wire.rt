@@ -54,7 +54,7 @@ impl Wire {
     }
 
     // Takes what comes in a slot: whether something does.
-    fn take(&mut self, slot: u32) -> bool
+    pub(crate) fn take(&mut self, slot: u32) -> bool
         requires first { self.old.first < 2 ^ 63 }
         ensures taken { self.new ≡ with_coming (due_of slot self.old.delay (slice_get self.old.history.entries self.old.first)) self.old }
         ensures same { result ≡ false → self.new.level ≡ self.old.level }
@@ -128,7 +128,7 @@ fn level_or(what: What, before: u32) -> u32
 }
 
 // The level of what a port drives, 0 where it drives nothing.
-fn driven_or_low(driven: Option<u32>) -> u32
+pub(crate) fn driven_or_low(driven: Option<u32>) -> u32
     ensures { result ≡ driven_or_low driven }
 {
     driven.unwrap_or(0)

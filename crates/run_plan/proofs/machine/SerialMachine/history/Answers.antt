@@ -7,7 +7,7 @@ use Rattle.sys_plan.proofs.Wires.{wires_length}
 use Rattle.run_plan.specs.declared.track.Track.{Track}
 use Rattle.run_plan.specs.declared.wire.Wire.{Wire}
 use Rattle.run_plan.specs.Machine.{MachineRec, system_of}
-use Rattle.run_plan.specs.Inside.{begun_of, seen_of}
+use Rattle.run_plan.specs.Inside.{begun_with, seen_of}
 use Rattle.run_plan.proofs.Ends.{front-at, back-at}
 use Rattle.run_plan.proofs.Systems.{carry-at, carry-length, histories-length, tell-at, tell-length}
 use Rattle.run_plan.proofs.machine.SerialMachine.history.Goals as goal
@@ -18,7 +18,7 @@ index-wire-requires c =
     let s = c.self.invariant.ready.system in
     omega (
       arith,
-      tell-length (begun_of c.self.inside).shown (system_of (seen_of c.self.inside)).nodes (length (link_arcs plan.links)) (wire_arcs [] plan.wires) c.self.inside.wires.items s.wire_histories s.tell,
+      tell-length (begun_with c.self.inside).shown (system_of (seen_of c.self.inside)).nodes (length (link_arcs plan.links)) (wire_arcs [] plan.wires) c.self.inside.wires.items s.wire_histories s.tell,
       carry-length (link_arcs plan.links) c.self.inside.tracks.items s.link_histories s.carry,
       arcs-count plan,
       wires_length [] plan.wires,
@@ -54,7 +54,7 @@ returns-else-link-directed c =
     let long = histories-length (link_arcs plan.links) c.self.inside.tracks.items s.link_histories s.carry in
     let inside : k < length (wire_arcs [] plan.wires) =
     omega (arith, many, arcs-count plan, wires_length [] plan.wires, ap (λ (m : MachineRec). arc_count m.plan) c.self.view_is, c.requires.link, c.if-link-directed.false, c.len-directed.ensures) in
-    let at = tell-at (begun_of c.self.inside).shown (system_of (seen_of c.self.inside)).nodes (length (link_arcs plan.links)) (wire_arcs [] plan.wires) c.self.inside.wires.items s.wire_histories k c.index-wire.result.now s.tell inside in
+    let at = tell-at (begun_with c.self.inside).shown (system_of (seen_of c.self.inside)).nodes (length (link_arcs plan.links)) (wire_arcs [] plan.wires) c.self.inside.wires.items s.wire_histories k c.index-wire.result.now s.tell inside in
     record {
       value =
           c.entries-else-link-directed.ensures.value

@@ -2,7 +2,7 @@ use Rattle.std.proofs.Common.{rules, ◌+◌, subst, arith}
 use Rattle.std.proofs.lemmas.List.{with_items_is, places}
 use Rattle.serial_model.specs.Serial.{SystemRec}
 use Rattle.run_plan.specs.Machine.{system_of}
-use Rattle.run_plan.specs.Inside.{begun_of, seen_of}
+use Rattle.run_plan.specs.Inside.{begun_with, seen_of}
 use Rattle.run_plan.specs.Run.{AreReady}
 use Rattle.run_plan.proofs.Steps.{since_next}
 use Rattle.run_plan.proofs.Systems.{ready-alike}
@@ -12,7 +12,7 @@ pub invariant_of-self : goal.invariant_of-self
 invariant_of-self c =
     let m = c.self.inside in
     let plan = m.plan.value in
-    let shown = (begun_of m).shown in
+    let shown = (begun_with m).shown in
     let whole = system_of (seen_of m) in
     let made = c.pass_slot.new in
     let lent = ready-alike plan shown m.clock whole c.deref_mut.ensures.value c.deref_mut-2.ensures.value c.deref_mut-3.ensures.value c.self.invariant.ready in
@@ -25,7 +25,7 @@ pub invariant_of-self-2 : goal.invariant_of-self-2
 invariant_of-self-2 c =
     let m = c.self.inside in
     let plan = m.plan.value in
-    let shown = (begun_of m).shown in
+    let shown = (begun_with m).shown in
     let whole = system_of (seen_of m) in
     let made = c.pass_slot.new in
     let lent = ready-alike plan shown m.clock whole c.deref_mut.ensures.value c.deref_mut-2.ensures.value c.deref_mut-3.ensures.value c.self.invariant.ready in
@@ -33,6 +33,6 @@ invariant_of-self-2 c =
     let tracks = with_items_is m.tracks made.tracks (search (rules, places)) in
     let wires = with_items_is m.wires made.wires (search (rules, places)) in
     let next =
-    subst (λ (after : SystemRec). AreReady plan shown (m.clock + 1) after made.stations made.tracks made.wires) (since_next plan (begun_of m) m.clock c.self.invariant.on)
+    subst (λ (after : SystemRec). AreReady plan shown (m.clock + 1) after made.stations made.tracks made.wires) (since_next plan (begun_with m) m.clock c.self.invariant.on)
     (c.in_ok-pass_slot.ensures.ok plan shown whole lent) in
     record { on = omega (arith, c.self.invariant.on); ready = ready-alike plan shown (m.clock + 1) _ stations tracks wires next }
