@@ -11,10 +11,13 @@ use Rattle.xs_base.specs.declared.entry.What.{What}
 use Rattle.xs_base.specs.declared.entry.What.TheVariants as what
 use Rattle.byte_forms.specs.Forms.{HoldInChain}
 use Rattle.log_forms.specs.declared.entry.Before.{Before}
-use Rattle.log_forms.specs.Entries.{kind_of, value_of, is_token, is_credit, counts_of, counts_with, before_of, is_in_flight, is_not_before, link_slot, may_follow, value_limit, link_value}
+use Rattle.snap_parts.specs.InFlight.{is_token, is_credit}
+use Rattle.log_forms.specs.Entries.{kind_of, value_of, counts_of, counts_with, before_of, is_in_flight, is_not_before, link_slot, may_follow, value_limit, link_value}
 use Rattle.log_forms.specs.Windows.{EndsRec, is_open, windows_fit, law_holds, link_count, link_kind, link_entry}
-use Rattle.log_forms.specs.Logs.{LogRec, sums, link_log}
-use Rattle.log_forms.specs.InFlight.{IsOfLink, IsInFlight, ComesBefore, FitWindows, IsLinkLog}
+use Rattle.snap_parts.specs.Parts.{LogRec}
+use Rattle.log_forms.specs.Logs.{sums, link_log}
+use Rattle.snap_parts.specs.InFlight.{IsOfLink, IsInFlight, ComesBefore}
+use Rattle.log_forms.specs.InFlight.{FitWindows, IsLinkLog}
 use Rattle.log_forms.proofs.Pushes.{counts_more, last_push, length_push}
 use Rattle.log_forms.proofs.Laws.{kind_parts}
 use Rattle.log_forms.proofs.Orders.{Follows, Adjacent, stand_so, adjacent, before_through}

@@ -4,8 +4,8 @@ use Rattle.std.specs.List.{AllByRecursion}
 use Rattle.xs_base.specs.declared.entry.Entry.{Entry}
 use Rattle.xs_base.specs.declared.entry.What.{What}
 use Rattle.xs_base.specs.declared.entry.What.TheVariants as what
-use Rattle.log_forms.specs.Entries.{is_token, is_credit}
-use Rattle.log_forms.specs.InFlight.{ComesBefore, IsEarlier, StandSo}
+use Rattle.snap_parts.specs.InFlight.{is_token, is_credit}
+use Rattle.snap_parts.specs.InFlight.{ComesBefore, IsEarlier, StandSo}
 
 -- an entry after the last one, if there is one
 abbrev pub Follows : (Entry → Entry → Type 0) → Option Entry → Entry → Type 0

@@ -9,7 +9,8 @@ use Rattle.xs_base.specs.declared.entry.What.{What}
 use Rattle.xs_base.specs.declared.entry.What.TheVariants as what
 use Rattle.log_forms.specs.declared.counts.Counts.{Counts}
 use Rattle.log_forms.specs.declared.entry.Before.{Before}
-use Rattle.log_forms.specs.Entries.{kind_of, is_token, is_credit, counts_of, counts_with, before_of}
+use Rattle.snap_parts.specs.InFlight.{is_token, is_credit}
+use Rattle.log_forms.specs.Entries.{kind_of, counts_of, counts_with, before_of}
 
 count_push : {X : Type 0} (p : X → Bool) (xs : List X) (x : X) → count_by p (xs ++ x ∷ []) ≡ count_by p xs + cond (p x) 1 0
 count_push {X} p xs x =

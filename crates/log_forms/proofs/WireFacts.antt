@@ -9,8 +9,10 @@ use Rattle.xs_base.specs.declared.entry.What.{What}
 use Rattle.xs_base.specs.declared.entry.What.TheVariants as what
 use Rattle.byte_forms.specs.Forms.{HoldInChain}
 use Rattle.log_forms.specs.Entries.{kind_of, value_of, is_in_flight, is_after, wire_slot, wire_kind, level, wire_entry}
-use Rattle.log_forms.specs.Logs.{LogRec, wire_log}
-use Rattle.log_forms.specs.InFlight.{IsOfWire, IsInFlight, IsEarlier, IsWireLog}
+use Rattle.snap_parts.specs.Parts.{LogRec}
+use Rattle.log_forms.specs.Logs.{wire_log}
+use Rattle.snap_parts.specs.InFlight.{IsOfWire, IsInFlight, IsEarlier}
+use Rattle.log_forms.specs.InFlight.{IsWireLog}
 use Rattle.log_forms.proofs.Pushes.{last_push}
 use Rattle.log_forms.proofs.LinkFacts.{sums_say, sums_hold}
 use Rattle.log_forms.proofs.Orders.{Follows, Adjacent, stand_so, adjacent, earlier_through}

@@ -8,7 +8,8 @@ use Rattle.byte_forms.specs.Forms.{Form, word, long, write_chain}
 use Rattle.byte_forms.proofs.Lists.{writes_on}
 use Rattle.log_forms.specs.Entries.{any_entry, before_of, link_slot, link_value, level, wire_slot, wire_kind, wire_entry}
 use Rattle.log_forms.specs.Windows.{EndsRec, link_count, link_kind, link_entry}
-use Rattle.log_forms.specs.Logs.{LogRec, sums, link_log, wire_log}
+use Rattle.snap_parts.specs.Parts.{LogRec}
+use Rattle.log_forms.specs.Logs.{sums, link_log, wire_log}
 
 -- the bytes of elements whose forms write them alike
 any_chain : {A : Type 0} (form : List A → Form A) (f : Form A) → ((before : List A) (x : A) → (form before).write x ≡ f.write x)

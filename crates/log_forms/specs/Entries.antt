@@ -6,6 +6,7 @@ use Rattle.xs_base.specs.declared.token.Token.TheVariants.{Byte, Ctrl}
 use Rattle.xs_base.specs.declared.entry.Entry.{Entry}
 use Rattle.xs_base.specs.declared.entry.What.{What}
 use Rattle.xs_base.specs.declared.entry.What.TheVariants.{Token, Credit, Level}
+use Rattle.snap_parts.specs.InFlight.{is_token, is_credit}
 use Rattle.byte_forms.specs.Forms.{Form, byte, word, where_is, below, both, seen_as}
 use Rattle.log_forms.specs.declared.counts.Counts.{Counts}
 use Rattle.log_forms.specs.declared.entry.Before.{Before}
@@ -40,14 +41,6 @@ abbrev pub fields_of_entry : Entry → EntryFields
 fields_of_entry e = (e.slot, (kind_of e.what, value_of e.what))
 
 -- ---- What an entry is told of those before it
-
-abbrev pub is_token : What → Bool
-is_token (Token t) = true
-is_token _ = false
-
-abbrev pub is_credit : What → Bool
-is_credit Credit = true
-is_credit _ = false
 
 -- how many of the entries are tokens, and how many are credits
 abbrev pub counts_of : List Entry → Counts

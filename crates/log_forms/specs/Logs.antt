@@ -3,21 +3,10 @@ use Rattle.std.specs.Prelude.{ℕ, ◌^◌, Option, None, List}
 use Rattle.std.specs.List.{last_or}
 use Rattle.xs_base.specs.Numbers.{Slot, Word}
 use Rattle.xs_base.specs.declared.entry.Entry.{Entry}
-use Rattle.snap_parts.specs.declared.log.SnapLog.{SnapLog}
+use Rattle.snap_parts.specs.Parts.{LogRec}
 use Rattle.byte_forms.specs.Forms.{Form, word, long, below, both, seen_as, chain, counted}
 use Rattle.log_forms.specs.Entries.{before_of, wire_entry}
 use Rattle.log_forms.specs.Windows.{EndsRec, link_count, link_entry}
-
--- What is in flight, in order; how many tokens, or levels of a wire, and how many credits were sent since slot 0; and the level that has
--- arrived, which is 0 for a link.
-pub record LogRec : Type 0 where
-  pub entries : List Entry
-  pub tokens : ℕ
-  pub credits : ℕ
-  pub level : Word
-
-abbrev pub seen : SnapLog → LogRec
-seen log = record { entries = log.entries.entries; tokens = log.totals.0; credits = log.totals.1; level = log.level }
 
 abbrev pub LogFields : Type 0
 LogFields = List Entry × (ℕ × (ℕ × Word))

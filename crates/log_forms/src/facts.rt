@@ -2,7 +2,8 @@
 ghost use Rattle.std.specs.Prelude.{ℕ, Option, ◌<◌, ◌≤◌, ◌^◌};
 ghost use Rattle.byte_forms.specs.Laws.{Lawful};
 ghost use Rattle.log_forms.specs.InFlight.{IsLinkLog, IsWireLog};
-ghost use Rattle.log_forms.specs.Logs.{LogRec, link_log, wire_log};
+ghost use Rattle.snap_parts.specs.Parts.{LogRec};
+ghost use Rattle.log_forms.specs.Logs.{link_log, wire_log};
 ghost use Rattle.log_forms.specs.Windows.{EndsRec};
 
 /// What is read of a log was written of it, and what is written is read again.

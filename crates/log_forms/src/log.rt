@@ -4,7 +4,8 @@ ghost use Rattle.byte_forms.specs.Forms.{repeat};
 ghost use Rattle.byte_forms.specs.Reading.{Gives};
 ghost use Rattle.log_forms.specs.Entries.{any_entry};
 ghost use Rattle.log_forms.specs.Windows.{EndsRec};
-ghost use Rattle.log_forms.specs.Logs.{link_entries, link_log, seen, sums, wire_entries, wire_log};
+ghost use Rattle.snap_parts.specs.Parts.{seen};
+ghost use Rattle.log_forms.specs.Logs.{link_entries, link_log, sums, wire_entries, wire_log};
 
 use crate::ends::Ends;
 use crate::entry::{Before, read_link_count, read_link_entry, read_wire_entry, write_entry};

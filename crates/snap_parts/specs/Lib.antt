@@ -1,1 +1,3 @@
+pub mod InFlight
+pub mod Parts
 pub mod Snaps

@@ -1,5 +1,5 @@
 use Rattle.std.proofs.lemmas.Result.{on_ok_weaker}
-use Rattle.log_forms.specs.Logs.{seen}
+use Rattle.snap_parts.specs.Parts.{seen}
 use Rattle.log_forms.proofs.Writes.{log_written, link_bytes, wire_bytes}
 use Rattle.log_forms.proofs.log.write_log.Goals as goal
 
