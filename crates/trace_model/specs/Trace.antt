@@ -43,29 +43,34 @@ tokens_sent history = length (filter (λ (e : Entry). is_token e.what) history)
 abbrev pub credits_sent : List Entry → ℕ
 credits_sent history = length (filter (λ (e : Entry). is_credit e.what) history)
 
+-- how much an arc carried: tokens, or levels of a wire, and credits
+abbrev pub Sent : Type 0
+Sent = ℕ × ℕ
+
+abbrev pub sent_in : List Entry → Sent
+sent_in history = (tokens_sent history, credits_sent history)
+
 -- `N:E`, a link end of a node
 abbrev pub link_end_text : ℕ → ℕ → List ℕ
 link_end_text node end = decimal node ++ (codes ":" ++ decimal end)
 
 -- ` tokens A credits B`, and the line's end
-abbrev pub counts_text : List Entry → List ℕ
-counts_text history =
-    codes " tokens " ++ (decimal (tokens_sent history) ++ (codes " credits " ++ (decimal (credits_sent history) ++ (10 ∷ []))))
+abbrev pub counts_text : Sent → List ℕ
+counts_text sent = codes " tokens " ++ (decimal sent.0 ++ (codes " credits " ++ (decimal sent.1 ++ (10 ∷ []))))
 
 -- `link N:E>M:F tokens A credits B`
-abbrev pub traffic_line : ℕ → ℕ → ℕ → ℕ → List Entry → List ℕ
-traffic_line from from_end to to_end history =
-    codes "link " ++ (link_end_text from from_end ++ (codes ">" ++ (link_end_text to to_end ++ counts_text history)))
+abbrev pub traffic_line : ℕ → ℕ → ℕ → ℕ → Sent → List ℕ
+traffic_line from from_end to to_end sent =
+    codes "link " ++ (link_end_text from from_end ++ (codes ">" ++ (link_end_text to to_end ++ counts_text sent)))
 
 -- `N:P`, a pin of a node, by the name of its port
 abbrev pub pin_text : ℕ → ℕ → List ℕ
 pin_text node port = decimal node ++ (codes ":" ++ port_name port)
 
 -- `wire N:P>M:Q changes C`
-abbrev pub changes_line : ℕ → ℕ → ℕ → ℕ → List Entry → List ℕ
-changes_line from from_port to to_port history =
-    codes "wire " ++ (pin_text from from_port ++ (codes ">" ++ (pin_text to to_port
-    ++ (codes " changes " ++ (decimal (length history) ++ (10 ∷ []))))))
+abbrev pub changes_line : ℕ → ℕ → ℕ → ℕ → ℕ → List ℕ
+changes_line from from_port to to_port changes =
+    codes "wire " ++ (pin_text from from_port ++ (codes ">" ++ (pin_text to to_port ++ (codes " changes " ++ (decimal changes ++ (10 ∷ []))))))
 
 abbrev pub is_halted : Run → Bool
 is_halted Halted = true
@@ -101,54 +106,76 @@ unfoldable pub by_position : {A : Type 0} → (ℕ → A → List ℕ) → ℕ �
 by_position piece k [] = []
 by_position piece k (x ∷ xs) = piece k x ++ by_position piece (k + 1) xs
 
--- the node at a position, the history of the arc with a number, and the events of the node at a position
-abbrev pub node_at : SystemRec → ℕ → NodeRec
-node_at system k = slice_index_or system.nodes k (first_node 0 0 [])
-
+-- the history of the arc with a number, and the events of the node at a position
 abbrev pub history_at : SystemRec → ℕ → List Entry
 history_at system link = slice_index_or system.histories link []
 
 abbrev pub events_at : SystemRec → ℕ → List Event
 events_at system k = slice_index_or system.events k []
 
--- the events of the nodes that are kept, by slot, within a slot by node, and each node's in its own order
-abbrev pub events_in_order : SystemRec → List Placed
-events_in_order system = merged (map first_events system.events)
+-- What is told of a system at the end of a run: its nodes, the events of each that are kept, and how many more there were; and how much each arc
+-- carried, by number.
+pub record EndRec : Type 0 where
+  pub nodes : List NodeRec
+  pub kept : List (List Event)
+  pub more : List ℕ
+  pub sent : List Sent
+
+-- of a run from slot 0 on
+abbrev pub end_of : SystemRec → EndRec
+end_of system = record {
+  nodes = system.nodes;
+  kept = map first_events system.events;
+  more = map left_out system.events;
+  sent = map sent_in system.histories;
+}
+
+-- the node at a position, and how much the arc with a number carried
+abbrev pub node_at : EndRec → ℕ → NodeRec
+node_at end k = slice_index_or end.nodes k (first_node 0 0 [])
+
+abbrev pub sent_on : EndRec → ℕ → Sent
+sent_on end link = slice_index_or end.sent link (0, 0)
+
+-- the events that are kept, by slot, within a slot by node, and each node's in its own order
+abbrev pub events_in_order : EndRec → List Placed
+events_in_order end = merged end.kept
 
 -- the line that tells how many events of the node at position k were left out, where some were
-abbrev pub more_at : SystemRec → ℕ → NodePlan → List ℕ
-more_at system k node = more_line node.number (left_out (events_at system k))
+abbrev pub more_at : EndRec → ℕ → NodePlan → List ℕ
+more_at end k node = more_line node.number (slice_index_or end.more k 0)
 
 -- the line that tells what was sent on the directed link with number k
-abbrev pub traffic_at : List NodePlan → SystemRec → ℕ → Arc → List ℕ
-traffic_at nodes system k d =
-    traffic_line (number_at nodes d.from) d.from_end (number_at nodes d.to) d.to_end (history_at system k)
+abbrev pub traffic_at : List NodePlan → EndRec → ℕ → Arc → List ℕ
+traffic_at nodes end k d = traffic_line (number_at nodes d.from) d.from_end (number_at nodes d.to) d.to_end (sent_on end k)
 
 -- the line that tells how often the level changed that wire w carries, where the arc of the first wire has this number
-abbrev pub changes_at : List NodePlan → ℕ → SystemRec → ℕ → WirePlan → List ℕ
-changes_at nodes first system w wire =
-    changes_line (number_at nodes wire.a) wire.a_port (number_at nodes wire.b) wire.b_port (history_at system (first + w))
+abbrev pub changes_at : List NodePlan → ℕ → EndRec → ℕ → WirePlan → List ℕ
+changes_at nodes first end w wire =
+    changes_line (number_at nodes wire.a) wire.a_port (number_at nodes wire.b) wire.b_port (sent_on end (first + w)).0
 
 -- the lines of the halted threads of the node at position k
-abbrev pub halted_at : SystemRec → ℕ → NodePlan → List ℕ
-halted_at system k node = halted_lines node.number 0 (node_at system k).core.threads
+abbrev pub halted_at : EndRec → ℕ → NodePlan → List ℕ
+halted_at end k node = halted_lines node.number 0 (node_at end k).core.threads
 
 -- the lines of the words of its memory that aren't 0
-abbrev pub memory_at : SystemRec → ℕ → NodePlan → List ℕ
-memory_at system k node = memory_lines node.number MEMORY_START (words_of (node_at system k).core.memory)
+abbrev pub memory_at : EndRec → ℕ → NodePlan → List ℕ
+memory_at end k node = memory_lines node.number MEMORY_START (words_of (node_at end k).core.memory)
 
 -- the lines between those of the events and the last: what of the events was left out, what was sent on each directed link, how often the
 -- level of each wire changed, the halted threads, and the words of the memories that aren't 0
-abbrev pub lines_after_events : PlanRec → SystemRec → List ℕ
-lines_after_events plan system =
-    by_position (more_at system) 0 plan.nodes
-    ++ (by_position (traffic_at plan.nodes system) 0 (link_arcs plan.links)
-    ++ (by_position (changes_at plan.nodes (length (link_arcs plan.links)) system) 0 plan.wires
-    ++ (by_position (halted_at system) 0 plan.nodes
-    ++ by_position (memory_at system) 0 plan.nodes)))
+abbrev pub lines_after_events : PlanRec → EndRec → List ℕ
+lines_after_events plan end =
+    by_position (more_at end) 0 plan.nodes
+    ++ (by_position (traffic_at plan.nodes end) 0 (link_arcs plan.links)
+    ++ (by_position (changes_at plan.nodes (length (link_arcs plan.links)) end) 0 plan.wires
+    ++ (by_position (halted_at end) 0 plan.nodes
+    ++ by_position (memory_at end) 0 plan.nodes)))
 
--- the trace of a run of so many slots: the events in order, those lines, and the last
+-- what is written of a run that has come to this after so many slots: the events in order, those lines, and the last
+unfoldable pub end_text : PlanRec → ℕ → EndRec → List ℕ
+end_text plan slots end = event_lines plan.nodes (events_in_order end) ++ (lines_after_events plan end ++ end_line slots)
+
+-- the trace of a run of so many slots
 unfoldable pub trace_text : PlanRec → ℕ → List ℕ
-trace_text plan slots =
-    let system = serial plan slots in
-    event_lines plan.nodes (events_in_order system) ++ (lines_after_events plan system ++ end_line slots)
+trace_text plan slots = end_text plan slots (end_of (serial plan slots))
