@@ -19,7 +19,7 @@ use Rattle.locality_laws.proofs.Entries.{all_weaker, filter_same}
 use Rattle.locality_laws.proofs.Levels.{links_carry_no_level, wires_carry_levels}
 use Rattle.locality_laws.proofs.Links.{history_from, history_before}
 use Rattle.locality_laws.proofs.Serial.{upto, sent_before}
-use Rattle.saved_laws.specs.Bytes.{IsByte, AreBytes}
+use Rattle.saved_laws.specs.Bytes.{CarriesByte, CarryBytes}
 use Rattle.saved_laws.proofs.Stand.{link_stands, wire_stands}
 
 -- ---- Lists
@@ -53,7 +53,7 @@ flight_is plan l slot delay =
 
 -- ---- Links
 
-of_link : (w : What) → IsNoLevel w → IsByte w → IsOfLink w
+of_link : (w : What) → IsNoLevel w → CarriesByte w → IsOfLink w
 of_link (Token (Byte b)) none byte = byte
 of_link (Token (Ctrl c)) none byte = byte
 of_link Credit none byte = tt
@@ -65,10 +65,10 @@ module _ (plan : PlanRec) (is : IsPlan plan) (l : ℕ) (d : Arc) (here : slice_g
       links_carry_no_level plan d.to d.to_end l (slot - d.delay) slot (omega (arith, (directed plan is l d here).to_end))
       (incoming-is plan is l d (link-arc plan is l d here))
 
-  pub link_entries : AreBytes (history plan l (slot - d.delay) slot) → AreLinkEntries slot d.delay (history plan l (slot - d.delay) slot)
+  pub link_entries : CarryBytes (history plan l (slot - d.delay) slot) → AreLinkEntries slot d.delay (history plan l (slot - d.delay) slot)
   link_entries bytes = record {
     in_flight = flies plan l slot d.delay;
-    kinds = all_both (λ (e : Entry). IsNoLevel e.what) (λ (e : Entry). IsByte e.what) (λ (e : Entry). IsOfLink e.what) (λ e h k. of_link e.what h k)
+    kinds = all_both (λ (e : Entry). IsNoLevel e.what) (λ (e : Entry). CarriesByte e.what) (λ (e : Entry). IsOfLink e.what) (λ e h k. of_link e.what h k)
         (history plan l (slot - d.delay) slot) no_levels bytes;
     order = link_stands plan l d (link-arc plan is l d here) (directed plan is l d here).joins (slot - d.delay) slot;
   }

@@ -7,10 +7,10 @@ use Rattle.xs_base.specs.declared.entry.What.{What}
 use Rattle.xs_base.specs.declared.entry.What.TheVariants.{Token}
 
 -- The value of a token is a byte. So it is of each entry that a program holds, by its type.
-abbrev pub IsByte : What → Type 0
-IsByte (Token (Byte b)) = b < 256
-IsByte (Token (Ctrl c)) = c < 256
-IsByte _ = Unit {0}
+abbrev pub CarriesByte : What → Type 0
+CarriesByte (Token (Byte b)) = b < 256
+CarriesByte (Token (Ctrl c)) = c < 256
+CarriesByte _ = Unit {0}
 
-abbrev pub AreBytes : List Entry → Type 0
-AreBytes entries = AllByRecursion (λ (e : Entry). IsByte e.what) entries
+abbrev pub CarryBytes : List Entry → Type 0
+CarryBytes entries = AllByRecursion (λ (e : Entry). CarriesByte e.what) entries

@@ -12,13 +12,14 @@ use Rattle.link_ends.specs.States.{absent_end}
 use Rattle.link_ends.specs.declared.state.EndState.{EndState}
 use Rattle.snap_parts.specs.declared.node.SnapNode.{SnapNode}
 use Rattle.snap_parts.specs.Parts.{LogRec, BodyRec}
-use Rattle.snap_parts.specs.Snaps.{AreOnArcs}
+use Rattle.snap_parts.specs.Snaps.{AreOnArcs, AreSnapNodes, IsSnapSystem}
 use Rattle.log_forms.specs.declared.ends.Held.{Held}
 use Rattle.log_forms.specs.Windows.{EndsRec}
 use Rattle.log_forms.specs.InFlight.{IsLinkLog, IsWireLog}
 use Rattle.snap_model.specs.Saved.{saved_node, saved_log, saved_at}
 use Rattle.locality_laws.specs.Locality.{node_in, events_in, history_in}
-use Rattle.saved_laws.specs.Bytes.{AreBytes}
+use Rattle.state_laws.specs.Runs.{RunInRange}
+use Rattle.saved_laws.specs.Bytes.{CarryBytes}
 
 -- ---- What is there
 
@@ -73,15 +74,15 @@ ends_of nodes link forth = record { forth = forth.entries; a = held_at nodes lin
 
 -- the two directed links of a link may be kept, in a snapshot with these nodes
 pub record IsKeptLink (slot : Slot) (link : LinkPlan) (nodes : List SnapNode) (forth back : LogRec) : Type 0 where
-  pub forth : IsLinkLog slot link.delay None forth
-  pub back : IsLinkLog slot link.delay (Some (ends_of nodes link forth)) back
+  pub first : IsLinkLog slot link.delay None forth
+  pub second : IsLinkLog slot link.delay (Some (ends_of nodes link forth)) back
 
 -- link k, whose directed links are 2k, which leads forth, and 2k + 1, which leads back
 abbrev pub LinksMayBeKept : Type 0
 LinksMayBeKept = (plan : PlanRec) (slot : Slot) (k : ℕ) (link : LinkPlan) (forth back : LogRec) → IsPlan plan → slot ≤ most_slots →
     slice_get plan.links k ≡ Some link →
     slice_get (saved_at plan slot).logs (2 * k) ≡ Some forth → slice_get (saved_at plan slot).logs (2 * k + 1) ≡ Some back →
-    AreBytes forth.entries → AreBytes back.entries → IsKeptLink slot link (saved_at plan slot).nodes forth back
+    CarryBytes forth.entries → CarryBytes back.entries → IsKeptLink slot link (saved_at plan slot).nodes forth back
 
 -- ---- Wires
 
@@ -91,9 +92,16 @@ WiresMayBeKept = (plan : PlanRec) (slot : Slot) (k : ℕ) (wire : WirePlan) (log
     slice_get plan.wires k ≡ Some wire → slice_get (saved_at plan slot).logs (2 * length plan.links + k) ≡ Some log →
     IsWireLog slot wire.delay (port_width wire.b_port) log
 
--- ---- All arcs
+-- ---- All of it: what a run asks for that goes on from it
 
--- a run may go on from it, as far as its arcs go
 abbrev pub LogsAreOnArcs : Type 0
-LogsAreOnArcs = (plan : PlanRec) (slot : Slot) → IsPlan plan → AllByRecursion (λ (log : LogRec). AreBytes log.entries) (saved_at plan slot).logs →
+LogsAreOnArcs = (plan : PlanRec) (slot : Slot) → IsPlan plan → AllByRecursion (λ (log : LogRec). CarryBytes log.entries) (saved_at plan slot).logs →
     AreOnArcs slot (arcs plan) (saved_at plan slot).logs
+
+-- of the nodes, where the operands of their code are in their ranges, as those of every image are
+abbrev pub NodesMayBeKept : Type 0
+NodesMayBeKept = (plan : PlanRec) (slot : Slot) → IsPlan plan → RunInRange plan.nodes → AreSnapNodes plan slot 0 plan.nodes (saved_at plan slot).nodes
+
+abbrev pub SystemsMayGoOn : Type 0
+SystemsMayGoOn = (plan : PlanRec) (slot : Slot) → IsPlan plan → RunInRange plan.nodes →
+    AllByRecursion (λ (log : LogRec). CarryBytes log.entries) (saved_at plan slot).logs → IsSnapSystem plan (saved_at plan slot)

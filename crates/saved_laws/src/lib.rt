@@ -1,7 +1,13 @@
 //! What a snapshot keeps of a run may be written as bytes: it has the facts that the bytes' reader asks for. See docs/SNAPSHOTS.md.
 #![tactic(auto)]
 
-ghost use Rattle.saved_laws.specs.Laws.{NodesAreSaved, LogsAreSaved, SavedIsWhole, EventsAreCounted, LinksMayBeKept, WiresMayBeKept, LogsAreOnArcs};
+ghost use Rattle.saved_laws.specs.Laws.{NodesAreSaved, LogsAreSaved, SavedIsWhole, EventsAreCounted, LinksMayBeKept, WiresMayBeKept, NodesMayBeKept, LogsAreOnArcs, SystemsMayGoOn};
+
+mod bytes;
+
+pub use bytes::{entries_carry_bytes, logs_carry_bytes};
+
+use state_laws::{nodes_may_be_kept, nodes_of_runs_may_be_kept};
 
 /// Of every plan, and before every slot, a snapshot has each node with its events and each directed link and wire with its history,
 /// and no others. It does nothing.
@@ -19,7 +25,7 @@ pub fn saved_counts_are_small()
 
 /// For every link of every plan, before every slot up to 16,000,000: what is in flight on its two directed links may be so, each window
 /// is at most eight and is the tokens in flight, those in the buffer of the other end and the credits in flight back, and how much was
-/// sent is below 2^63. The values of its tokens are bytes, as in every entry that a program holds. It does nothing.
+/// sent is below 2^63. Its tokens are bytes, as `logs_carry_bytes` says. It does nothing.
 pub fn saved_links_may_be_kept()
     ensures links { LinksMayBeKept }
 {}
@@ -30,8 +36,20 @@ pub fn saved_wires_may_be_kept()
     ensures wires { WiresMayBeKept }
 {}
 
-/// What a snapshot keeps of every plan's directed links and wires, before every slot, is what a run may go on from. The values of its
-/// tokens are bytes. It does nothing.
-pub fn saved_logs_are_on_arcs()
+/// Each node that a snapshot keeps of a run says what may be so of it, and no slot that is not past, where the operands of the plan's code
+/// are in their ranges. It does nothing.
+pub fn saved_nodes_may_be_kept()
+    ensures nodes { NodesMayBeKept }
+{
+    nodes_may_be_kept();
+    nodes_of_runs_may_be_kept();
+}
+
+/// What a snapshot keeps of a run, before every slot, is what a run may go on from. The tokens of its directed links are bytes, as
+/// `logs_carry_bytes` says. It does nothing.
+pub fn saved_systems_may_go_on()
     ensures arcs { LogsAreOnArcs }
-{}
+    ensures system { SystemsMayGoOn }
+{
+    saved_nodes_may_be_kept();
+}
