@@ -1,6 +1,5 @@
 -- How much is sent in so many slots, and which level a wire has come to.
-use Rattle.std.proofs.Common.{◌≡◌, ℕ, zero, suc, ◌+◌, ◌*◌, ◌<◌, ◌≤◌, ◌^◌, Bool, Some, List, [], ◌∷◌, ◌++◌, length, filter, slice_get, ap, ◌∙◌, subst, arith, length-append}
-use Rattle.std.specs.Prelude.{nat_lt}
+use Rattle.std.proofs.Common.{◌≡◌, ℕ, zero, suc, ◌*◌, ◌<◌, ◌≤◌, ◌^◌, Bool, Some, List, [], ◌∷◌, length, filter, slice_get, subst, arith, length-append}
 use Rattle.std.specs.List.{AllByRecursion}
 use Rattle.std.proofs.lemmas.Nat.{pow_pos}
 use Rattle.std.proofs.lemmas.List.Sums.{length-filter, count_by-le-length}
@@ -10,7 +9,7 @@ use Rattle.xs_base.specs.declared.entry.Entry.{Entry}
 use Rattle.xs_base.specs.declared.entry.What.{What}
 use Rattle.xs_base.specs.declared.entry.What.TheVariants as what
 use Rattle.sys_plan.specs.Plan.{PlanRec, Arc, Joined, IsPlan, arcs}
-use Rattle.serial_model.specs.Serial.{level_or, level_after, history}
+use Rattle.serial_model.specs.Serial.{level_or, level_after}
 use Rattle.locality_laws.specs.Levels.{IsLevelOf}
 use Rattle.locality_laws.proofs.Serial.{upto, upto_none, new_in, goes_on}
 use Rattle.locality_laws.proofs.Levels.{kept_all, wires_carry_levels}

@@ -1,5 +1,5 @@
 -- The facts of what a snapshot keeps of links and wires.
-use Rattle.std.proofs.Common.{◌≡◌, ℕ, zero, suc, ◌+◌, ◌*◌, ◌<◌, ◌≤◌, ◌^◌, get_or, IfSome, Option, Some, None, List, [], ◌∷◌, ◌++◌, length, map, slice_get, slice_index_or, refl, sym, ap, ◌∙◌, subst, arith}
+use Rattle.std.proofs.Common.{◌≡◌, ℕ, zero, suc, ◌+◌, ◌-◌, ◌*◌, ◌<◌, ◌≤◌, ◌^◌, get_or, IfSome, Option, Some, None, List, [], ◌∷◌, ◌++◌, length, map, slice_get, refl, sym, ap, ◌∙◌, subst, arith}
 use Rattle.std.specs.Prelude.{nat_lt}
 use Rattle.std.specs.List.{AllByRecursion}
 use Rattle.std.proofs.lemmas.Option.{none-some, same_Some}
@@ -12,9 +12,8 @@ use Rattle.sys_plan.specs.declared.WirePlan.{WirePlan}
 use Rattle.sys_plan.specs.Plan.{PlanRec, Arc, Joined, IsPlan, arcs, link_arcs, wire_arcs, along, forth, back}
 use Rattle.sys_plan.proofs.Arcs.{arcs_length}
 use Rattle.sys_plan.proofs.Routes.{directed, link-arc, all-get}
-use Rattle.serial_model.specs.Serial.{serial}
+use Rattle.serial_model.specs.Serial.{serial, is_credit, is_sent_within}
 use Rattle.trace_model.specs.Trace.{is_token}
-use Rattle.serial_model.specs.Serial.{is_credit}
 use Rattle.core_step.specs.States.{link_state}
 use Rattle.link_ends.specs.States.{absent_end}
 use Rattle.link_laws.specs.Travel.{link_end}
@@ -30,7 +29,7 @@ use Rattle.locality_laws.proofs.Serial.{upto}
 use Rattle.saved_laws.specs.Bytes.{CarryBytes}
 use Rattle.saved_laws.specs.Laws.{most_slots, held_by, end_of, held_at, ends_of, IsKeptLink, LinksMayBeKept, WiresMayBeKept, LogsAreOnArcs}
 use Rattle.saved_laws.proofs.Flight.{link_entries, wire_entries}
-use Rattle.saved_laws.proofs.Windows.{open_of, buffered_of, IsWindow, end_at, forth_at, back_at, window_a, window_b}
+use Rattle.saved_laws.proofs.Windows.{open_of, buffered_of, forth_at, back_at, window_a, window_b}
 use Rattle.saved_laws.proofs.Counts.{upto_few, filter_few, left_fits}
 use Rattle.saved_laws.proofs.Events.{histories_count}
 use Rattle.saved_laws.proofs.Shape.{nodes_are_saved, logs_are_saved}
@@ -75,7 +74,7 @@ few_of plan slot l d few =
     let all = upto plan l slot in
     let most = upto_few plan l slot in
     record {
-      count = omega (arith, few, most, filter_few _ all);
+      count = omega (arith, few, most, filter_few (is_sent_within (slot - d.delay) slot) all);
       tokens = omega (arith, few, most, filter_few (λ (e : Entry). is_token e.what) all);
       credits = omega (arith, few, most, filter_few (λ (e : Entry). is_credit e.what) all);
     }

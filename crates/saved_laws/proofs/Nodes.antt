@@ -1,5 +1,5 @@
 -- The nodes that a snapshot keeps of a run: each says what may be so of a node.
-use Rattle.std.proofs.Common.{◌≡◌, ℕ, zero, suc, ◌+◌, ◌<◌, get_or, List, [], ◌∷◌, length, subst, arith}
+use Rattle.std.proofs.Common.{◌≡◌, ℕ, suc, ◌+◌, ◌<◌, get_or, List, [], ◌∷◌, length, subst, arith}
 use Rattle.xs_base.specs.Numbers.{Slot, Position}
 use Rattle.xs_model.specs.declared.event.Event.{Event}
 use Rattle.xs_model.specs.Record.{NodeRec, first_node}
@@ -37,8 +37,8 @@ module _ (read : KeptMayBeRead) (plan : PlanRec) (slot : Slot) where
 pub nodes_may_be_kept : KeptMayBeRead → KeptInEveryRun → NodesMayBeKept
 nodes_may_be_kept read run plan slot is code =
     snap_nodes read plan slot 0 plan.nodes (serial plan slot).nodes (serial plan slot).events (nodes_count plan slot) (events_count plan slot) (λ k h.
-        let same : k ≡ 0 + k = omega arith in
-        subst (λ (p : Position). MayBeKept (gaps_of plan p) slot (get_or (serial plan slot).nodes k (first_node 0 0 []))) same (run plan slot k is code h))
+    let same : k ≡ 0 + k = omega arith in
+    subst (λ (p : Position). MayBeKept (gaps_of plan p) slot (get_or (serial plan slot).nodes k (first_node 0 0 []))) same (run plan slot k is code h))
 
 pub systems_may_go_on : NodesMayBeKept → SystemsMayGoOn
 systems_may_go_on nodes plan slot is code bytes = record { nodes = nodes plan slot is code; logs = logs_are_on_arcs plan slot is bytes }

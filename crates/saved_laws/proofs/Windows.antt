@@ -1,5 +1,5 @@
 -- The windows of a link's two ends: what its two directed links have in flight, and what its ends hold.
-use Rattle.std.proofs.Common.{◌≡◌, ℕ, zero, suc, ◌+◌, ◌-◌, ◌*◌, ◌%◌, ◌≤◌, cond, Bool, Option, Some, None, List, [], ◌∷◌, ◌++◌, length, slice_get, refl, ap, ◌∙◌, subst, arith}
+use Rattle.std.proofs.Common.{◌≡◌, ℕ, zero, suc, ◌+◌, ◌-◌, ◌*◌, ◌%◌, ◌≤◌, cond, Option, Some, None, List, [], ◌∷◌, ◌++◌, length, slice_get, refl, ap, ◌∙◌, subst, arith}
 use Rattle.std.specs.List.{count_by}
 use Rattle.std.proofs.lemmas.Bool.{eq-eqb, ne_eqb}
 use Rattle.std.proofs.lemmas.List.Sums.{sum_by-cons}
@@ -13,7 +13,7 @@ use Rattle.xs_base.specs.declared.entry.What.TheVariants as what
 use Rattle.xs_model.specs.Record.{LinkRec}
 use Rattle.sys_plan.specs.declared.LinkPlan.{LinkPlan}
 use Rattle.sys_plan.specs.Plan.{PlanRec, Arc, IsPlan, forth, back, link_arcs}
-use Rattle.serial_model.specs.Serial.{SystemRec, serial, history}
+use Rattle.serial_model.specs.Serial.{serial, history}
 use Rattle.link_laws.specs.Travel.{Travel, travel_of, link_end, opposite, OfEnds, Window, token_of, tokens_of, count_credit, credits_of, in_flight}
 use Rattle.link_laws.proofs.SlotAtEndStep.{slot_at_link_end}
 use Rattle.link_laws.proofs.TravelSerial.{window-is-kept}

@@ -3,11 +3,10 @@
 
 ghost use Rattle.saved_laws.specs.Laws.{NodesAreSaved, LogsAreSaved, SavedIsWhole, EventsAreCounted, LinksMayBeKept, WiresMayBeKept, NodesMayBeKept, LogsAreOnArcs, SystemsMayGoOn};
 
-mod bytes;
-
-pub use bytes::{entries_carry_bytes, logs_carry_bytes};
+mod tokens;
 
 use state_laws::{nodes_may_be_kept, nodes_of_runs_may_be_kept};
+pub use tokens::{entries_carry_bytes, logs_carry_bytes};
 
 /// Of every plan, and before every slot, a snapshot has each node with its events and each directed link and wire with its history,
 /// and no others. It does nothing.

@@ -2,7 +2,7 @@ use Rattle.std.proofs.Common.{arith}
 use Rattle.std.proofs.lemmas.List.Elements.{recursion_from_All}
 use Rattle.xs_base.specs.declared.entry.Entry.{Entry}
 use Rattle.saved_laws.specs.Bytes.{CarriesByte}
-use Rattle.saved_laws.proofs.bytes.entries_carry_bytes.Goals as goal
+use Rattle.saved_laws.proofs.tokens.entries_carry_bytes.Goals as goal
 
 pub returns : goal.returns
 returns c = record {

@@ -3,7 +3,7 @@ use Rattle.std.proofs.lemmas.List.Elements.{recursion_from_All}
 use Rattle.snap_parts.specs.declared.log.SnapLog.{SnapLog}
 use Rattle.saved_laws.specs.Bytes.{CarryBytes}
 use Rattle.saved_laws.proofs.Seen.{all_seen}
-use Rattle.saved_laws.proofs.bytes.logs_carry_bytes.Goals as goal
+use Rattle.saved_laws.proofs.tokens.logs_carry_bytes.Goals as goal
 
 pub returns : goal.returns
 returns c = record {

@@ -1,7 +1,7 @@
 use Rattle.std.specs.List.{AllWithin}
 use Rattle.xs_base.specs.declared.entry.Entry.{Entry}
 use Rattle.saved_laws.specs.Bytes.{CarriesByte}
-use Rattle.saved_laws.proofs.bytes.entries_carry_bytes.Given as goal
+use Rattle.saved_laws.proofs.tokens.entries_carry_bytes.Given as goal
 
 -- those before this one carry bytes
 abbrev pub invariant-loop-e : goal.invariant-loop-e
