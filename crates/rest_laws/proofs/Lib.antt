@@ -1,3 +1,4 @@
 pub mod Lists
 pub mod Events
 pub mod Histories
+pub mod Steps
