@@ -2,3 +2,4 @@ pub mod Lists
 pub mod Events
 pub mod Histories
 pub mod Steps
+pub mod Along
