@@ -3,3 +3,4 @@ pub mod Events
 pub mod Histories
 pub mod Steps
 pub mod Along
+pub mod Texts
