@@ -4,3 +4,4 @@ pub mod Histories
 pub mod Steps
 pub mod Along
 pub mod Texts
+pub mod Units
