@@ -5,3 +5,4 @@ pub mod Steps
 pub mod Along
 pub mod Texts
 pub mod Units
+pub mod Saved
