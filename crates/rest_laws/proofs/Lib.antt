@@ -6,3 +6,5 @@ pub mod Along
 pub mod Texts
 pub mod Units
 pub mod Saved
+pub mod Credits
+pub mod Said

@@ -39,6 +39,15 @@ module _ {A : Type 0} (P : A → Type 0) (d : A) where
   one_of (x ∷ xs) zero none all = all.0
   one_of (x ∷ xs) (suc i) none all = one_of xs i none all.1
 
+  pub one_within : (xs : List A) (i : ℕ) → i < length xs → AllByRecursion P xs → P (get_or xs i d)
+  one_within [] i within all = absurd (omega (arith, within))
+  one_within (x ∷ xs) zero within all = all.0
+  one_within (x ∷ xs) (suc i) within all = one_within xs i (omega (arith, within)) all.1
+
+  pub all_within : (xs : List A) → ((i : ℕ) → i < length xs → P (get_or xs i d)) → AllByRecursion P xs
+  all_within [] each = tt
+  all_within (x ∷ xs) each = (each 0 (omega arith), all_within xs (λ i h. each (suc i) (omega (arith, h))))
+
 -- ---- Synchronisers
 
 pub sync_is : (sync : SyncRec) (mask : ℕ) → mask < 2 ^ 8 → sync.slaves ≡ members mask → sync_of (sync_state sync) ≡ sync
