@@ -1,15 +1,15 @@
 -- What an arc carried before a slot and from it on: what has arrived before the slot, what is in flight, and what is sent later.
-use Rattle.std.proofs.Common.{ℕ, zero, suc, ◌≡◌, ◌+◌, ◌-◌, ◌<◌, ◌≤◌, ◌&&◌, Bool, true, false, cond, eqb, ltb, leb, Option, Some, None, List, [], ◌∷◌, ◌++◌, length, map, get_or, slice_get, refl, ap, sym, ◌∙◌, arith, inl, inr}
+use Rattle.std.proofs.Common.{ℕ, zero, suc, ◌≡◌, ◌+◌, ◌-◌, ◌<◌, ◌≤◌, Bool, true, false, eqb, ltb, leb, Option, Some, None, List, [], ◌∷◌, ◌++◌, length, map, get_or, slice_get, refl, ap, sym, ◌∙◌, arith, inl, inr}
 use mathlib.Core.Logic.{◌⊎◌}
 use Rattle.std.specs.List.{AllByRecursion, filter}
-use Rattle.std.proofs.lemmas.Bool.{and_parts, ltb-true, leb-true, lt-ltb, le-ltb, le-leb, lt-leb, ne_eqb, cases_lt, cases_Bool}
+use Rattle.std.proofs.lemmas.Bool.{and_parts, ltb-true, lt-ltb, le-ltb, le-leb, lt-leb, ne_eqb, cases_lt, cases_Bool}
 use Rattle.std.proofs.lemmas.List.{append_assoc, length-append}
 use Rattle.std.proofs.lemmas.List.Elements.{filter-append}
 use Rattle.std.proofs.lemmas.Option.{none-some, same_Some}
 use Rattle.xs_base.specs.Numbers.{Slot, Word}
 use Rattle.xs_base.specs.declared.entry.Entry.{Entry}
 use Rattle.sys_plan.specs.Plan.{Arc, Joined}
-use Rattle.serial_model.specs.Serial.{is_sent_within, is_credit, arriving, arrived_by, level_or, level_after, level_on}
+use Rattle.serial_model.specs.Serial.{is_sent_within, is_credit, arriving, level_or, level_after, level_on}
 use Rattle.trace_model.specs.Trace.{is_token, tokens_sent, credits_sent, Sent, sent_in}
 use Rattle.link_laws.proofs.TravelLists.{AreBefore, Ascend}
 use Rattle.rest_laws.proofs.Lists.{joined}
@@ -109,7 +109,7 @@ module _ (slot delay : ℕ) where
     sent-later from =
         let test = λ (e : Entry). leb slot e.slot in
         let none = none-both (is_sent_within (slot - delay) slot) test
-            (λ e within. lt-leb slot e.slot (ltb-true e.slot slot (and_parts (leb (slot - delay) e.slot) (ltb e.slot slot) within).1)) history in
+        (λ e within. lt-leb slot e.slot (ltb-true e.slot slot (and_parts (leb (slot - delay) e.slot) (ltb e.slot slot) within).1)) history in
         filter-append test (flying history) later ∙ (λ i. none i ++ all-later later from i)
 
     count-later : (test : Entry → Bool) → AreLater slot later → length (filter test history) + length (filter test (filter (λ (e : Entry). leb slot e.slot) (flying history ++ later))) ≡ length (filter test (history ++ later))

@@ -1,11 +1,10 @@
 -- What a snapshot says of the nodes of every run is alike what they are.
-use Rattle.std.proofs.Common.{ℕ, zero, suc, ◌≡◌, ◌^◌, ◌<◌, Bool, Option, Some, None, List, [], ◌∷◌, length, map, get_or, refl, ap, subst, arith}
+use Rattle.std.proofs.Common.{ℕ, ◌≡◌, ◌<◌, Bool, Option, Some, None, List, [], ◌∷◌, length, map, get_or, refl, arith}
 use Rattle.std.specs.Prelude.{IfSome}
 use Rattle.std.specs.List.{AllByRecursion, AllZip}
 use Rattle.xs_base.specs.Ids.{port_width}
 use Rattle.xs_base.specs.Numbers.{Slot, Position, ChanNumber, EndNumber, InputNumber}
-use Rattle.xs_model.specs.Masks.{members}
-use Rattle.xs_model.specs.Record.{CoreRec, NodeRec, SyncRec, PortRec, LinkRec, InputRec, Idle, Head1, Head2, Want, Local, Out, Lost, unused_sync, off_port, first_node}
+use Rattle.xs_model.specs.Record.{NodeRec, SyncRec, PortRec, LinkRec, InputRec, Idle, Head1, Head2, Want, Local, Out, Lost, unused_sync, off_port, first_node}
 use Rattle.chan_ends.specs.States.{chan_state, chan_of}
 use Rattle.timers_clocks.specs.States.{timer_state, timer_of, clock_state, clock_of}
 use Rattle.sync_locks.specs.States.{sync_state, sync_of, lock_state, lock_of}

@@ -1,28 +1,26 @@
 -- The system that a snapshot of the serial machine says, and what is told at the end of a run that goes on from it.
-use Rattle.std.proofs.Common.{ℕ, ◌≡◌, ◌+◌, ◌-◌, ◌≤◌, leb, List, [], ◌∷◌, ◌++◌, length, map, take, get_or, refl, ap, sym, subst, ◌∙◌, arith}
-use Rattle.std.specs.List.{AllByRecursion, AllZip, filter}
-use Rattle.std.proofs.lemmas.List.{length-map}
-use Rattle.xs_base.specs.Numbers.{Slot, Word}
+use Rattle.std.proofs.Common.{ℕ, ◌≡◌, ◌+◌, ◌-◌, ◌≤◌, List, [], ◌∷◌, ◌++◌, length, map, take, refl, ap, sym, ◌∙◌, arith}
+use Rattle.std.specs.List.{AllByRecursion, AllZip}
+use Rattle.xs_base.specs.Numbers.{Slot}
 use Rattle.xs_base.specs.declared.entry.Entry.{Entry}
 use Rattle.xs_model.specs.declared.event.Event.{Event}
 use Rattle.xs_model.specs.FirstEvents.{kept_at_most, first_events, left_out}
 use Rattle.xs_model.specs.Record.{NodeRec}
-use Rattle.sys_plan.specs.Plan.{PlanRec, Arc, Joined, arcs}
+use Rattle.sys_plan.specs.Plan.{PlanRec, Arc, arcs}
 use Rattle.serial_model.specs.Serial.{SystemRec, Begun, serial, since}
-use Rattle.trace_model.specs.EventOrder.{Placed, merged}
-use Rattle.trace_model.specs.Trace.{Sent, EndRec, sent_in, end_of, events_in_order, node_at, end_text, event_lines, lines_after_events, end_line}
+use Rattle.trace_model.specs.EventOrder.{merged}
+use Rattle.trace_model.specs.Trace.{EndRec, sent_in, end_of, events_in_order, end_text, event_lines, lines_after_events, end_line}
 use Rattle.core_step.specs.States.{node_state, node_rec}
 use Rattle.snap_parts.specs.declared.node.SnapNode.{SnapNode}
-use Rattle.snap_parts.specs.Parts.{LogRec, BodyRec}
+use Rattle.snap_parts.specs.Parts.{LogRec}
 use Rattle.snap_parts.specs.Snaps.{begun_of}
-use Rattle.snap_model.specs.Saved.{saved_nodes, saved_level, saved_logs, saved, saved_at}
-use Rattle.snap_model.specs.Rest.{kept_after, more_after, all_sent_after, end_after, serial_from, rest_text, trace_from}
+use Rattle.snap_model.specs.Saved.{saved_nodes, saved_level, saved_logs, saved_at}
+use Rattle.snap_model.specs.Rest.{kept_after, more_after, all_sent_after, end_after, rest_text, trace_from}
 use Rattle.link_laws.specs.Windows.{NodesAlike, IsNodeBefore}
-use Rattle.rest_laws.proofs.Lists.{joined}
-use Rattle.rest_laws.proofs.Events.{AreEarlier, AreFrom, is_from, from_it, kept_later, merged-from, more_later, more-from}
-use Rattle.rest_laws.proofs.Histories.{AreLater, flights, levels, shown_level, all_since, sent-all}
+use Rattle.rest_laws.proofs.Events.{from_it, kept_later, merged-from, more_later, more-from}
+use Rattle.rest_laws.proofs.Histories.{flights, levels, shown_level, all_since, sent-all}
 use Rattle.rest_laws.proofs.Steps.{core_at}
-use Rattle.rest_laws.proofs.Along.{IsReached, reached, none_told, begun_with, IsAlong, begun, along}
+use Rattle.rest_laws.proofs.Along.{IsReached, reached, none_told, IsAlong, begun, along}
 use Rattle.rest_laws.proofs.Texts.{ToldAlike, text_same}
 
 -- a node as a snapshot of it says

@@ -1,10 +1,10 @@
 -- The steps of a slot: what they leave of nodes, histories and events.
-use Rattle.std.proofs.Common.{ℕ, zero, suc, ◌≡◌, ◌+◌, ◌<◌, ◌≤◌, ◌==◌, Bool, true, false, Option, Some, None, List, [], ◌∷◌, ◌++◌, length, map, get_or, refl, ap, sym, subst, ◌∙◌, arith}
+use Rattle.std.proofs.Common.{ℕ, zero, suc, ◌≡◌, ◌+◌, ◌==◌, Option, Some, None, List, [], ◌∷◌, ◌++◌, length, map, get_or, refl, ap, subst, arith}
 use Rattle.std.specs.Prelude.{IfSome}
 use Rattle.std.specs.List.{AllByRecursion, AllZip}
 use Rattle.std.proofs.lemmas.Bool.{cond_both}
 use Rattle.std.proofs.lemmas.List.{append_assoc}
-use Rattle.xs_base.specs.Numbers.{Slot, Word, Position, PortNumber, EndNumber}
+use Rattle.xs_base.specs.Numbers.{Slot, Word, Position, EndNumber}
 use Rattle.xs_base.specs.declared.entry.Entry.{Entry}
 use Rattle.xs_model.specs.declared.event.Event.{Event}
 use Rattle.xs_model.specs.declared.event.Happen.{Happen}
@@ -12,12 +12,12 @@ use Rattle.xs_model.specs.declared.outside.Arrivals.{Arrivals}
 use Rattle.xs_model.specs.declared.outside.PinView.{PinView}
 use Rattle.xs_model.specs.Outside.{Emitted, in_slot, emitted_events}
 use Rattle.xs_model.specs.Ports.{level_of}
-use Rattle.xs_model.specs.Record.{CoreRec, NodeRec, LinkRec, first_node, port_of}
+use Rattle.xs_model.specs.Record.{NodeRec, LinkRec, port_of}
 use Rattle.net_model.specs.Links.{fresh_link, IsLinkBefore}
 use Rattle.sys_plan.specs.declared.NodePlan.{NodePlan}
 use Rattle.sys_plan.specs.Plan.{PlanRec, Arc, Joined, gaps_of}
 use Rattle.step_model.specs.Fixed.{Fixed}
-use Rattle.step_model.specs.Start.{fixed_of, link_with_gap, node_of}
+use Rattle.step_model.specs.Start.{fixed_of, link_with_gap}
 use Rattle.step_model.specs.Step.{Stepped, node_step}
 use Rattle.serial_model.specs.Serial.{Coming, coming_on, step_by, steps_from_on, nodes_at_start, node_by, emitted_by, sent_by, level_entries, carried_by, carried, longer_histories, longer_events}
 use Rattle.link_laws.specs.Windows.{NodesAlike, StepsAlike, IsNodeBefore}

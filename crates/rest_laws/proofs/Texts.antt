@@ -1,14 +1,13 @@
 -- Two ends of a run of which the same is told but for the events.
-use Rattle.std.proofs.Common.{ℕ, ◌≡◌, ◌+◌, ◌++◌, List, length, map, get_or, leb, refl, ap, sym, ◌∙◌}
+use Rattle.std.proofs.Common.{ℕ, ◌≡◌, ◌+◌, ◌++◌, List, length}
 use Rattle.std.specs.Prelude.{slice_index_or}
-use Rattle.std.specs.List.{filter}
 use Rattle.xs_base.specs.declared.numbers.TheConstants.{MEMORY_START}
 use Rattle.xs_model.specs.Memory.{words_of}
 use Rattle.sys_plan.specs.declared.NodePlan.{NodePlan}
 use Rattle.sys_plan.specs.declared.WirePlan.{WirePlan}
 use Rattle.sys_plan.specs.Plan.{PlanRec, Arc, link_arcs}
 use Rattle.trace_model.specs.EventOrder.{Placed}
-use Rattle.trace_model.specs.Trace.{Sent, EndRec, node_at, number_at, event_lines, more_line, more_at, traffic_line, traffic_at, changes_line, changes_at, halted_lines, halted_at, memory_lines, memory_at, by_position, events_in_order, lines_after_events, end_line, end_text}
+use Rattle.trace_model.specs.Trace.{EndRec, node_at, number_at, event_lines, more_line, more_at, traffic_line, traffic_at, changes_line, changes_at, halted_lines, halted_at, memory_lines, memory_at, by_position, events_in_order, lines_after_events, end_line, end_text}
 
 -- the same of nodes' cores, of how many events were left out, and of how much arcs carried
 pub record ToldAlike (one other : EndRec) : Type 0 where

@@ -1,10 +1,10 @@
 -- What a snapshot keeps of a unit of a node says that unit again, and of a link end one that is alike it.
-use Rattle.std.proofs.Common.{ℕ, zero, suc, ◌≡◌, ◌+◌, ◌-◌, ◌*◌, ◌/◌, ◌%◌, ◌^◌, ◌<◌, ◌≤◌, Bool, true, false, Option, Some, None, List, [], ◌∷◌, length, map, get_or, replicate, refl, ap, sym, subst, ◌∙◌, arith}
-use Rattle.std.specs.Prelude.{IfSome, option_map}
-use Rattle.std.specs.List.{AllByRecursion, AllZip}
+use Rattle.std.proofs.Common.{ℕ, zero, suc, ◌≡◌, ◌+◌, ◌-◌, ◌*◌, ◌/◌, ◌%◌, ◌^◌, ◌<◌, ◌≤◌, true, Option, Some, None, List, [], ◌∷◌, length, map, get_or, replicate, refl, ap, sym, ◌∙◌, arith}
+use Rattle.std.specs.Prelude.{option_map}
+use Rattle.std.specs.List.{AllByRecursion}
 use Rattle.std.proofs.lemmas.List.{length-replicate}
 use Rattle.xs_base.specs.Numbers.{Slot}
-use Rattle.xs_model.specs.Record.{ChanRec, TimerRec, ClockRec, SyncRec, LockRec, PortRec, TransferRec, EnablingRec, InputRec, LinkRec, Condition, Always, Equal, NotEqual, off_port}
+use Rattle.xs_model.specs.Record.{SyncRec, PortRec, TransferRec, LinkRec, Condition, Always, Equal, NotEqual, off_port}
 use Rattle.xs_model.specs.Bits.{bits_of, value_of}
 use Rattle.xs_model.specs.Masks.{members}
 use Rattle.net_model.specs.Links.{latest}
