@@ -22,11 +22,11 @@ use Rattle.locality_laws.specs.Locality.{node_in}
 use Rattle.state_laws.specs.Facts.{MayBeKept, AreOfMask, SlavesFit, PortsFit, InputFits}
 use Rattle.state_laws.specs.Laws.{KeptMayBeRead}
 use Rattle.state_laws.specs.Runs.{RunInRange, KeptInEveryRun}
-use Rattle.rest_laws.specs.Rest.{IsByteDest, HasByteDests, RestIsTrace}
+use Rattle.rest_laws.specs.Rest.{said, AreSaid, IsByteDest, HasByteDests, NodesAreSaid, RestIsTrace}
 use Rattle.rest_laws.proofs.Units.{all_again, each_again, all_of, one_of, one_within, all_within, sync_is, port_is, IsCredited, link_is}
 use Rattle.rest_laws.proofs.Credits.{AreCredited, credited}
 use Rattle.rest_laws.proofs.Along.{reached}
-use Rattle.rest_laws.proofs.Saved.{said, AreSaid, rest_is_trace}
+use Rattle.rest_laws.proofs.Saved.{said_rest_is_trace}
 
 -- ---- The core
 
@@ -118,5 +118,8 @@ module _ (kept : KeptInEveryRun) (read : KeptMayBeRead) (plan : PlanRec) (is : I
     before = mapped slot recs (all_within (λ rec. IsNodeBefore slot (said rec)) (first_node 0 0 []) recs (λ n h. node_before read (gaps_of plan n) slot (node_in (serial plan slot) n) (kept plan slot n is code (inside n h))));
   }
 
+pub nodes_are_said : KeptInEveryRun → KeptMayBeRead → NodesAreSaid
+nodes_are_said kept read plan slot is code bytes = are_said kept read plan is code slot bytes
+
 pub rest_of_every_run : KeptInEveryRun → KeptMayBeRead → RestIsTrace
-rest_of_every_run kept read plan slot slots is code bytes past = rest_is_trace plan slot (are_said kept read plan is code slot bytes) slots past
+rest_of_every_run kept read plan slot slots is code bytes past = said_rest_is_trace plan slot slots (are_said kept read plan is code slot bytes) past

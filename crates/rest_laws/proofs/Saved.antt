@@ -1,6 +1,5 @@
 -- The system that a snapshot of the serial machine says, and what is told at the end of a run that goes on from it.
 use Rattle.std.proofs.Common.{ℕ, ◌≡◌, ◌+◌, ◌-◌, ◌≤◌, List, [], ◌∷◌, ◌++◌, length, map, take, refl, ap, sym, ◌∙◌, arith}
-use Rattle.std.specs.List.{AllByRecursion, AllZip}
 use Rattle.xs_base.specs.Numbers.{Slot}
 use Rattle.xs_base.specs.declared.entry.Entry.{Entry}
 use Rattle.xs_model.specs.declared.event.Event.{Event}
@@ -10,22 +9,18 @@ use Rattle.sys_plan.specs.Plan.{PlanRec, Arc, arcs}
 use Rattle.serial_model.specs.Serial.{SystemRec, Begun, serial, since}
 use Rattle.trace_model.specs.EventOrder.{merged}
 use Rattle.trace_model.specs.Trace.{EndRec, sent_in, end_of, events_in_order, end_text, event_lines, lines_after_events, end_line}
-use Rattle.core_step.specs.States.{node_state, node_rec}
+use Rattle.core_step.specs.States.{node_rec}
 use Rattle.snap_parts.specs.declared.node.SnapNode.{SnapNode}
 use Rattle.snap_parts.specs.Parts.{LogRec}
 use Rattle.snap_parts.specs.Snaps.{begun_of}
 use Rattle.snap_model.specs.Saved.{saved_nodes, saved_level, saved_logs, saved_at}
 use Rattle.snap_model.specs.Rest.{kept_after, more_after, all_sent_after, end_after, rest_text, trace_from}
-use Rattle.link_laws.specs.Windows.{NodesAlike, IsNodeBefore}
+use Rattle.rest_laws.specs.Rest.{said, AreSaid, SaidRestIsTrace}
 use Rattle.rest_laws.proofs.Events.{from_it, kept_later, merged-from, more_later, more-from}
 use Rattle.rest_laws.proofs.Histories.{flights, levels, shown_level, all_since, sent-all}
 use Rattle.rest_laws.proofs.Steps.{core_at}
 use Rattle.rest_laws.proofs.Along.{IsReached, reached, none_told, IsAlong, begun, along}
 use Rattle.rest_laws.proofs.Texts.{ToldAlike, text_same}
-
--- a node as a snapshot of it says
-abbrev pub said : NodeRec → NodeRec
-said rec = node_rec (node_state rec)
 
 -- ---- The parts of a snapshot
 
@@ -75,11 +70,6 @@ more_is (rec ∷ recs) (old ∷ olds) [] h = refl
 more_is (rec ∷ recs) (old ∷ olds) (new ∷ news) h = ap (λ (rest : List ℕ). (left_out old + (length new - (kept_at_most - length (first_events old)))) ∷ rest) (more_is recs olds news (omega (arith, h)))
 
 -- ---- A run that goes on from it
-
--- nodes that a snapshot says alike, and of which what it says keeps no slot that is not past
-pub record AreSaid (slot : Slot) (recs : List NodeRec) : Type 0 where
-  pub alike : AllZip NodesAlike (map said recs) recs
-  pub before : AllByRecursion (IsNodeBefore slot) (map said recs)
 
 module _ (plan : PlanRec) (from : Slot) (are : AreSaid from (serial plan from).nodes) where
   abbrev old : SystemRec
@@ -133,10 +123,13 @@ module _ (plan : PlanRec) (from : Slot) (are : AreSaid from (serial plan from).n
     rest_is : (slots : ℕ) → end_text plan slots one ≡ event_lines plan.nodes (from_it from (events_in_order other)) ++ (lines_after_events plan other ++ end_line slots)
     rest_is slots = text_same plan one other told slots (from_it from (events_in_order other)) events_are
 
-  pub rest_is_trace : (slots : ℕ) → from ≤ slots → rest_text plan (saved_at plan from) slots ≡ trace_from plan from slots
+  rest_is_trace : (slots : ℕ) → from ≤ slots → rest_text plan (saved_at plan from) slots ≡ trace_from plan from slots
   unfolding rest_text trace_from
   rest_is_trace slots past =
       let here : from + (slots - from) ≡ slots = omega (arith, past) in
       ap (λ (b : Begun). end_text plan slots (end_after (saved_at plan from) (since plan b (slots - from)))) begins_is
       ∙ (rest_is (from + (slots - from)) (since plan begins (slots - from)) (serial plan (from + (slots - from))) (along plan from (map said old.nodes) are.alike are.before (slots - from)) slots
       ∙ ap (λ (slot : Slot). event_lines plan.nodes (from_it from (events_in_order (end_of (serial plan slot)))) ++ (lines_after_events plan (end_of (serial plan slot)) ++ end_line slots)) here)
+
+pub said_rest_is_trace : SaidRestIsTrace
+said_rest_is_trace plan slot slots are past = rest_is_trace plan slot are slots past
