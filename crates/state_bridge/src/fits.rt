@@ -138,10 +138,16 @@ impl Fits for Token {
     ghost fits = { TokenFits };
 
     fn fit(&self) {
-        match *self {
-            Token::Byte(_b) => {}
-            Token::Ctrl(_c) => {}
-        }
+        token_fits(*self);
+    }
+}
+
+fn token_fits(token: Token)
+    ensures { TokenFits token }
+{
+    match token {
+        Token::Byte(_b) => {}
+        Token::Ctrl(_c) => {}
     }
 }
 
@@ -216,16 +222,22 @@ impl Fits for InputState {
     ghost fits = { InputFits };
 
     fn fit(&self) {
-        match *self {
-            InputState::Head1 { first: _first } => {}
-            InputState::Head2 {
-                first: _first,
-                second: _second,
-            } => {}
-            InputState::Want { dest: _dest, .. } => {}
-            InputState::Out { dest: _dest, .. } => {}
-            _ => {}
-        }
+        input_fits(*self);
+    }
+}
+
+fn input_fits(state: InputState)
+    ensures { InputFits state }
+{
+    match state {
+        InputState::Head1 { first: _first } => {}
+        InputState::Head2 {
+            first: _first,
+            second: _second,
+        } => {}
+        InputState::Want { dest: _dest, .. } => {}
+        InputState::Out { dest: _dest, .. } => {}
+        _ => {}
     }
 }
 
