@@ -23,7 +23,7 @@ use Rattle.event_unit.specs.States.{AreEnableStates}
 use Rattle.link_ends.specs.declared.state.EndState.{EndState}
 use Rattle.link_ends.specs.States.{absent_end, IsEndState}
 use Rattle.core_step.specs.Network.{EndsHaveGaps}
-use Rattle.core_step.specs.ThreadStates.{IsRunState, IsThreadState}
+use Rattle.core_step.specs.ThreadStates.{IsThreadState}
 use Rattle.byte_forms.specs.Forms.{repeat}
 use Rattle.state_forms.specs.Threads.{thread_state, thread}
 use Rattle.state_forms.specs.Chans.{chan, ChanFits}
@@ -32,7 +32,7 @@ use Rattle.state_forms.specs.Syncs.{syncs}
 use Rattle.state_forms.specs.Enables.{enable}
 use Rattle.state_forms.proofs.Holding.{each_as, repeat_of}
 use Rattle.state_forms.proofs.Chains.{each_at}
-use Rattle.state_forms.proofs.ThreadStates.{TellsWaits, run_of_fact, thread_state_of, threads_of}
+use Rattle.state_forms.proofs.ThreadStates.{run_of_fact, thread_state_of, threads_of}
 use Rattle.state_forms.proofs.ChanFacts.{chan_of}
 use Rattle.state_forms.proofs.Timers.{timer_of, clock_of}
 use Rattle.state_forms.proofs.SyncFacts.{syncs_of, slaves_by}
@@ -42,6 +42,7 @@ use Rattle.port_forms.proofs.PortFacts.{ports_have}
 use Rattle.switch_forms.specs.Ends.{link_ends}
 use Rattle.switch_forms.proofs.EndFacts.{ends_of}
 use Rattle.node_forms.specs.Nodes.{taken_of}
+use Rattle.node_forms.proofs.Facts.{tells}
 use Rattle.node_forms.proofs.Threads.{taken_alone}
 use Rattle.state_bridge.specs.Fits.{AreSuch, ThreadFits, TimerFits, ClockFits, SyncFits, EnableFits, EndFits}
 
@@ -60,25 +61,6 @@ before_word slot early None h = (tt, tt)
 before_word slot early (Some s) h = (omega (arith, early, h), h)
 
 -- ---- Threads
-
-tells : TellsWaits IsRunState
-tells = record {
-  free = tt;
-  unstarted = tt;
-  at_sync = tt;
-  going = tt;
-  halted = tt;
-  room = λ chan count. (λ h. h, λ h. h);
-  tokens = λ chan count. (λ h. h, λ h. h);
-  full = λ port. (λ h. h, λ h. h);
-  empty = λ port. (λ h. h, λ h. h);
-  idle = λ port. (λ h. h, λ h. h);
-  timer = λ timer. (λ h. h, λ h. h);
-  lock = λ lock. (λ h. h, λ h. h);
-  slaves = λ sync. (λ h. h, λ h. h);
-  choice = tt;
-  divider = tt;
-}
 
 thread_has : (th : Thread) → ThreadFits th → IsThreadState th → thread_state.Holds th
 thread_has th fits is =
