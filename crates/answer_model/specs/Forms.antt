@@ -3,7 +3,7 @@ use Rattle.std.specs.Prelude.{ℕ, Bool, true, false, if◌then◌else◌, Optio
 use Rattle.xs_instructions.specs.Image.{same_name}
 use Rattle.word_numbers.specs.Decimal.{decimal_up_to}
 use Rattle.answer_model.specs.declared.Form.{Form}
-use Rattle.answer_model.specs.declared.Form.TheVariants.{Free, Serial, Rounds, Play, Make, Check}
+use Rattle.answer_model.specs.declared.Form.TheVariants.{Free, Serial, Rounds, Play, Make, Check, Save, Resume}
 
 abbrev pub most_slots : ℕ
 most_slots = 16000000
@@ -21,6 +21,13 @@ rounds_of word = option_and_then (λ slots. Some (Rounds slots)) (decimal_up_to 
 abbrev pub play_of : List ℕ → Option Form
 play_of word = option_and_then (λ slots. Some (Play slots)) (decimal_up_to most_slots word)
 
+-- the snapshot of a run of so many slots as the word says, and the run up to so many slots that goes on from one
+abbrev pub save_of : List ℕ → Option Form
+save_of word = option_and_then (λ slots. Some (Save slots)) (decimal_up_to most_slots word)
+
+abbrev pub resume_of : List ℕ → Option Form
+resume_of word = option_and_then (λ slots. Some (Resume slots)) (decimal_up_to most_slots word)
+
 abbrev pub greatest_number : ℕ
 greatest_number = 4294967295
 
@@ -32,7 +39,10 @@ make_of word = option_and_then (λ number. Some (Make number)) (decimal_up_to gr
 abbrev pub form_of_two : List ℕ → List ℕ → Option Form
 form_of_two command word =
     if same_name (codes "run") command then free_of word
-    else (if same_name (codes "play") command then play_of word else (if same_name (codes "make") command then make_of word else None))
+    else (if same_name (codes "play") command then play_of word
+    else (if same_name (codes "make") command then make_of word
+    else (if same_name (codes "save") command then save_of word
+    else (if same_name (codes "resume") command then resume_of word else None))))
 
 -- the form of a run with a mode
 abbrev pub form_of_mode : List ℕ → List ℕ → Option Form
@@ -40,8 +50,8 @@ form_of_mode slots mode =
     if same_name (codes "free") mode then free_of slots
     else (if same_name (codes "serial") mode then serial_of slots else (if same_name (codes "rounds") mode then rounds_of slots else None))
 
--- the form of the words, if they have one: `check`, `play SLOTS`, `make NUMBER`, `run SLOTS` and `run SLOTS free`, which are the same,
--- `run SLOTS serial`, or `run SLOTS rounds`
+-- the form of the words, if they have one: `check`, `play SLOTS`, `make NUMBER`, `save SLOTS`, `resume SLOTS`, `run SLOTS` and
+-- `run SLOTS free`, which are the same, `run SLOTS serial`, or `run SLOTS rounds`
 unfoldable pub form_of_words : List (List ℕ) → Option Form
 form_of_words (a ∷ []) = if same_name (codes "check") a then Some Check else None
 form_of_words (a ∷ n ∷ []) = form_of_two a n
@@ -49,7 +59,7 @@ form_of_words (a ∷ n ∷ mode ∷ []) = if same_name (codes "run") a then form
 form_of_words _ = None
 
 abbrev pub usage_text : List ℕ
-usage_text = codes "usage: xs1 run SLOTS [serial|free|rounds] | play SLOTS | make NUMBER | check\n"
+usage_text = codes "usage: xs1 run SLOTS [serial|free|rounds] | play SLOTS | make NUMBER | check | save SLOTS | resume SLOTS\n"
 
 -- whether a form asks for the input
 abbrev pub reads_input : Form → Bool
@@ -59,6 +69,8 @@ reads_input (Rounds slots) = true
 reads_input (Play slots) = true
 reads_input (Make number) = false
 reads_input Check = true
+reads_input (Save slots) = true
+reads_input (Resume slots) = true
 
 -- whether words of this form, or of none, ask for the input
 abbrev pub asks_for_input : Option Form → Bool
@@ -73,6 +85,8 @@ may_wait (Rounds slots) = false
 may_wait (Play slots) = false
 may_wait (Make number) = false
 may_wait Check = false
+may_wait (Save slots) = false
+may_wait (Resume slots) = false
 
 -- whether words of this form, or of none, may wait
 abbrev pub form_may_wait : Option Form → Bool

@@ -6,7 +6,9 @@ pub mod Modes
 pub mod OnSystem
 pub mod PlayForm
 pub mod Refusals
+pub mod ResumeForm
 pub mod RunForm
+pub mod SaveForm
 pub mod StatusNumber
 pub mod SystemStatuses
 pub mod Top

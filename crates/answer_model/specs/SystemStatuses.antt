@@ -2,7 +2,7 @@
 use Rattle.std.specs.Prelude.{ℕ, ◌≡◌, ◌↔◌, Option, Some, None, List}
 use Rattle.system_model.specs.System.{System, Plan, Frame, Source, Pins, system_of}
 use Rattle.answer_model.specs.declared.Form.{Form}
-use Rattle.answer_model.specs.declared.Form.TheVariants.{Free, Serial, Rounds, Play, Make, Check}
+use Rattle.answer_model.specs.declared.Form.TheVariants.{Free, Serial, Rounds, Play, Make, Check, Save, Resume}
 use Rattle.answer_model.specs.declared.Status.{Status}
 use Rattle.answer_model.specs.declared.Status.TheVariants.{Done, Usage, SystemFault, SourceFault, ScriptFault}
 use Rattle.answer_model.specs.Forms.{form_of_words}
@@ -36,7 +36,7 @@ RefusesNothing (Frame line kind) = ⊥
 RefusesNothing (Source node line kind) = ⊥
 RefusesNothing (Pins line kind) = ⊥
 
--- the form is that of `run SLOTS`, with a mode or without, of `play SLOTS` or of `check`
+-- the form is that of `run SLOTS`, with a mode or without, of `play SLOTS`, of `save SLOTS` or of `check`
 abbrev pub ReadsSystem : Option Form → Type 0
 ReadsSystem None = ⊥
 ReadsSystem (Some (Free slots)) = Unit {0}
@@ -45,6 +45,8 @@ ReadsSystem (Some (Rounds slots)) = Unit {0}
 ReadsSystem (Some (Play slots)) = Unit {0}
 ReadsSystem (Some (Make number)) = ⊥
 ReadsSystem (Some Check) = Unit {0}
+ReadsSystem (Some (Save slots)) = Unit {0}
+ReadsSystem (Some (Resume slots)) = ⊥
 
 -- to words of such a form, this status is answered exactly where the system of the input is of this kind
 abbrev pub AnswersExactly : Status → (System → Type 0) → Type 0

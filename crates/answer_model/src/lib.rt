@@ -26,6 +26,10 @@ pub enum Form {
     Make(u32),
     /// `check`: the source of each node as its image gives it.
     Check,
+    /// `save SLOTS`: the snapshot of a run of so many slots.
+    Save(u32),
+    /// `resume SLOTS`: what a run of so many slots comes to that goes on from a snapshot.
+    Resume(u32),
 }
 
 /// How the program ends.
@@ -37,7 +41,7 @@ pub enum Status {
     Memory,
     /// The words are none of the forms.
     Usage,
-    /// The frame of the system text was refused.
+    /// The frame of the system text was refused, or a snapshot.
     SystemFault,
     /// A node's source was refused.
     SourceFault,
