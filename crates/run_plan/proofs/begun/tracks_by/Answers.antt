@@ -3,7 +3,6 @@ use Rattle.std.proofs.lemmas.Grind.{common_steps}
 use Rattle.std.proofs.lemmas.List.{length-map}
 use Rattle.sys_plan.specs.declared.LinkPlan.{LinkPlan}
 use Rattle.sys_plan.specs.Plan.{link_arcs}
-use Rattle.snap_parts.specs.declared.log.SnapLog.{SnapLog}
 use Rattle.snap_parts.specs.InFlight.{AreLinkEntries}
 use Rattle.snap_parts.specs.Parts.{LogRec, seen, body_of}
 use Rattle.run_plan.specs.declared.track.Track.{Track}

@@ -7,9 +7,8 @@ use Rattle.xs_base.specs.Numbers.{Word}
 use Rattle.sys_plan.specs.declared.LinkPlan.{LinkPlan}
 use Rattle.sys_plan.specs.declared.WirePlan.{WirePlan}
 use Rattle.sys_plan.specs.Plan.{IsWire as IsWirePlan, link_arcs}
-use Rattle.snap_parts.specs.Parts.{LogRec, seen, body_of}
+use Rattle.snap_parts.specs.Parts.{seen, body_of}
 use Rattle.snap_parts.specs.Snaps.{IsOnWire}
-use Rattle.run_plan.specs.declared.wire.Wire.{Wire}
 use Rattle.run_plan.specs.Passes.{cores_of}
 use Rattle.run_plan.specs.Begins.{AllBegin, WireBegins, WireBeginsBy}
 use Rattle.run_plan.proofs.Through.{all-at}

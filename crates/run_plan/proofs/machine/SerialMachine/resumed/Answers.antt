@@ -2,13 +2,11 @@ use Rattle.std.proofs.Common.{◌≡◌, ◌-◌, List, length, refl, sym, ap, �
 use Rattle.std.specs.Prelude.{drop}
 use Rattle.std.specs.List.{AllByRecursion, AllZip}
 use Rattle.std.proofs.lemmas.List.{length-map, with_items_is, places}
-use Rattle.xs_model.specs.Record.{CoreRec}
 use Rattle.sys_plan.specs.Plan.{PlanRec, link_arcs}
 use Rattle.serial_model.specs.Serial.{SystemRec, since}
 use Rattle.snap_parts.specs.declared.system.SnapSystem.{SnapSystem}
 use Rattle.snap_parts.specs.Parts.{body_of}
 use Rattle.snap_parts.specs.Snaps.{begun_of}
-use Rattle.run_plan.specs.declared.wire.Wire.{Wire}
 use Rattle.run_plan.specs.declared.station.Station.{Station}
 use Rattle.run_plan.specs.Wires.{IsReadyWire, HasCome}
 use Rattle.run_plan.specs.Passes.{IsShownAt, SameButCome, cores_of, levels_of}
