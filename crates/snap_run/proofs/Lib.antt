@@ -1,0 +1,4 @@
+pub mod Lists
+pub mod Keeping
+pub mod Systems
+pub mod Rests
