@@ -1,4 +1,4 @@
 pub mod Lists
-pub mod Keeping
+pub mod Logs
 pub mod Systems
 pub mod Rests

@@ -1,5 +1,10 @@
--- Two lists side by side.
-use Rattle.std.proofs.Common.{◌≡◌, ℕ, zero, suc, ◌+◌, ◌<◌, ◌≤◌, List, [], ◌∷◌, ◌++◌, length, take, get_or, refl, sym, ap, ◌∙◌, arith}
+-- Lists, and two of them side by side.
+use Rattle.std.proofs.Common.{◌≡◌, ℕ, zero, suc, ◌+◌, ◌-◌, ◌<◌, ◌≤◌, List, [], ◌∷◌, ◌++◌, length, take, get_or, refl, sym, ap, ◌∙◌, arith}
+
+pub taken_and_left : {X : Type 0} (n : ℕ) (xs : List X) → length (take n xs) + (length xs - n) ≡ length xs
+taken_and_left zero xs = omega arith
+taken_and_left (suc n) [] = omega arith
+taken_and_left (suc n) (x ∷ xs) = omega (arith, taken_and_left n xs)
 
 module _ {X Y Z : Type 0} (f : X → Y → Z) where
   -- what a function gives of each two that stand at one place

@@ -4,6 +4,7 @@
 
 mod counts;
 mod ended;
+mod keeping;
 mod room;
 mod run_on;
 mod save;
