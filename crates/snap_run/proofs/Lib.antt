@@ -1,4 +1,6 @@
 pub mod Lists
 pub mod Logs
 pub mod Systems
+pub mod Saved
+pub mod Runs
 pub mod Rests
