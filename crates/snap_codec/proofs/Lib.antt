@@ -4,5 +4,6 @@ pub mod Bodies
 pub mod Whole
 pub mod NodeFacts
 pub mod ArcFacts
+pub mod Loops
 pub mod Written
 pub mod Outcomes

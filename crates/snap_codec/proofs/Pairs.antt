@@ -1,5 +1,5 @@
 -- Directed links by number, and as pairs.
-use Rattle.std.proofs.Common.{◌≡◌, ℕ, ◌*◌, List, [], ◌∷◌, ◌++◌, length, refl, ap, arith}
+use Rattle.std.proofs.Common.{◌≡◌, ℕ, ◌*◌, List, [], ◌∷◌, ◌++◌, length, refl, sym, ap, ◌∙◌, arith}
 use Rattle.snap_parts.specs.Parts.{LogRec}
 use Rattle.snap_codec.specs.Body.{by_number, in_pairs}
 
@@ -22,3 +22,11 @@ pairs_push (x ∷ []) a b e = absurd cc
 pairs_push (x ∷ (y ∷ rest)) a b e =
     let more : by_number (in_pairs rest) ≡ rest = cc in
     ap (λ (ps : List (LogRec × LogRec)). (x, y) ∷ ps) (pairs_push rest a b more)
+
+-- the same where all of them are pairs: they still are
+pub pushed_pairs : (ls new : List LogRec) (a b : LogRec) → by_number (in_pairs ls) ≡ ls → new ≡ ls ++ (a ∷ (b ∷ [])) → in_pairs new ≡ in_pairs ls ++ ((a, b) ∷ [])
+pushed_pairs ls new a b even e = ap in_pairs e ∙ pairs_push ls a b even
+
+pub pushed_even : (ls new : List LogRec) (a b : LogRec) → by_number (in_pairs ls) ≡ ls → new ≡ ls ++ (a ∷ (b ∷ [])) → by_number (in_pairs new) ≡ new
+pushed_even ls new a b even e =
+    ap by_number (pushed_pairs ls new a b even e) ∙ by_number_append (in_pairs ls) ((a, b) ∷ []) ∙ ap (λ (xs : List LogRec). xs ++ (a ∷ (b ∷ []))) even ∙ sym e
