@@ -1,5 +1,5 @@
 -- A run as a snapshot begins it.
-use Rattle.std.proofs.Common.{◌≡◌, ◌≢◌, ℕ, zero, suc, ◌+◌, ◌<◌, ◌≤◌, true, false, eqb, cond, Option, Some, None, List, [], ◌∷◌, ◌++◌, length, map, take, get_or, refl, sym, ap, ◌∙◌, subst, arith, inl, inr}
+use Rattle.std.proofs.Common.{◌≡◌, ◌≢◌, ℕ, zero, suc, ◌+◌, ◌<◌, ◌≤◌, ◌^◌, true, false, eqb, cond, Option, Some, None, List, [], ◌∷◌, ◌++◌, length, map, take, get_or, refl, sym, ap, ◌∙◌, subst, arith, inl, inr}
 use mathlib.Core.Logic.{◌⊎◌}
 use Rattle.std.specs.Prelude.{drop, slice_get}
 use Rattle.std.specs.List.{AllByRecursion, AllZip}
@@ -10,6 +10,7 @@ use Rattle.xs_base.specs.Batch.{BatchRec}
 use Rattle.xs_base.specs.Numbers.{Slot, Word}
 use Rattle.xs_base.specs.declared.entry.Entry.{Entry}
 use Rattle.xs_base.specs.declared.entry.What.{What}
+use Rattle.xs_base.specs.declared.entry.What.TheVariants as what
 use Rattle.xs_model.specs.declared.event.Event.{Event}
 use Rattle.xs_model.specs.Record.{CoreRec, NodeRec}
 use Rattle.sys_plan.specs.declared.NodePlan.{NodePlan}
@@ -17,18 +18,18 @@ use Rattle.sys_plan.specs.declared.LinkPlan.{LinkPlan}
 use Rattle.sys_plan.specs.declared.WirePlan.{WirePlan}
 use Rattle.sys_plan.specs.Plan.{PlanRec, Arc, IsPlan, IsLink, IsWire as IsWirePlan, AreDistinct, forth, back, arcs, link_arcs, wire_arcs, targets_of}
 use Rattle.step_laws.specs.Shape.{HasShape, HoldsWhatIsThere}
-use Rattle.serial_model.specs.Serial.{level_after, level_or, driven_level, node_by}
+use Rattle.serial_model.specs.Serial.{level_after, level_or, driven_level, node_by, is_credit, IsNoLevel}
 use Rattle.crossings.specs.declared.crossing.Crossing.{Crossing}
-use Rattle.crossings.specs.Crossings.{AreInSendingOrder, HaveNoLevel, IsDueFrom, due_of, seen_of}
+use Rattle.crossings.specs.Crossings.{AreInSendingOrder, HaveNoLevel, MayFollow, Later, Beside, IsDueFrom, due_of, seen_of}
 use Rattle.crossings.proofs.Arriving.{all-map, seen-at}
 use Rattle.switch_routes.specs.States.{IsInputState, input_of}
 use Rattle.switch_routes.specs.declared.state.InputState.{InputState}
 use Rattle.switch_routes.specs.declared.state.InputState.TheVariants as kept
 use Rattle.core_step.specs.States.{node_rec}
 use Rattle.snap_parts.specs.declared.node.SnapNode.{SnapNode}
-use Rattle.snap_parts.specs.declared.log.SnapLog.{SnapLog}
-use Rattle.snap_parts.specs.declared.system.SnapSystem.{SnapSystem}
-use Rattle.snap_parts.specs.Snaps.{begun_of, AreInFlight, IsLinkLog, IsWireLog, IsLogOf, AreLogs, IsSnapNode, AreSnapNodes, IsSnapSystem}
+use Rattle.snap_parts.specs.InFlight.{IsOfLink, IsInFlight, ComesBefore, StandSo, is_token, is_credit as is_a_credit, AreLinkEntries, AreWireEntries}
+use Rattle.snap_parts.specs.Parts.{LogRec, BodyRec}
+use Rattle.snap_parts.specs.Snaps.{begun_of, IsOnWire, IsOnArc, AreOnArcs, IsSnapNode, AreSnapNodes, IsSnapSystem}
 use Rattle.run_plan.specs.declared.track.Track.{Track}
 use Rattle.run_plan.specs.declared.wire.Wire.{Wire}
 use Rattle.run_plan.specs.declared.station.Station.{Station}
@@ -123,26 +124,26 @@ back-of (x ∷ links) (suc i) (suc (suc k)) d l e h = back-of links i k d l (ome
 
 -- ---- What a snapshot says of one arc, and of one node
 
-pub logs-length : (slot : Slot) (ds : List Arc) (logs : List SnapLog) → AreLogs slot ds logs → length logs ≡ length ds
+pub logs-length : (slot : Slot) (ds : List Arc) (logs : List LogRec) → AreOnArcs slot ds logs → length logs ≡ length ds
 logs-length slot [] [] all = refl
 logs-length slot (d ∷ ds) (log ∷ logs) all = omega (arith, logs-length slot ds logs all.1)
 logs-length slot _ _ all = absurd all
 
-log-at : (slot : Slot) (ds : List Arc) (logs : List SnapLog) (k : ℕ) (d : Arc) (log : SnapLog) → AreLogs slot ds logs → k < length ds
-    → IsLogOf slot (get_or ds k d).delay (get_or ds k d).joins (get_or logs k log)
+log-at : (slot : Slot) (ds : List Arc) (logs : List LogRec) (k : ℕ) (d : Arc) (log : LogRec) → AreOnArcs slot ds logs → k < length ds
+    → IsOnArc slot (get_or ds k d).delay (get_or ds k d).joins (get_or logs k log)
 log-at slot [] [] k d log all h = absurd (omega (arith, h))
 log-at slot (x ∷ ds) (y ∷ logs) zero d log all h = all.0
 log-at slot (x ∷ ds) (y ∷ logs) (suc k) d log all h = log-at slot ds logs k d log all.1 (omega (arith, h))
 log-at slot _ _ k d log all h = absurd all
 
 -- of the rest of the arcs
-logs-rest : (slot : Slot) (ds es : List Arc) (logs : List SnapLog) → AreLogs slot (ds ++ es) logs → AreLogs slot es (drop (length ds) logs)
+logs-rest : (slot : Slot) (ds es : List Arc) (logs : List LogRec) → AreOnArcs slot (ds ++ es) logs → AreOnArcs slot es (drop (length ds) logs)
 logs-rest slot [] es logs all = all
 logs-rest slot (d ∷ ds) es [] all = absurd all
 logs-rest slot (d ∷ ds) es (log ∷ logs) all = logs-rest slot ds es logs all.1
 
-wire-log : (slot : Slot) (earlier ws : List WirePlan) (logs : List SnapLog) (j : ℕ) (w : WirePlan) (log : SnapLog) → AreLogs slot (wire_arcs earlier ws) logs → j < length ws
-    → IsWireLog slot (get_or ws j w).delay (port_width (get_or ws j w).b_port) (get_or logs j log).entries.entries (get_or logs j log).level
+wire-log : (slot : Slot) (earlier ws : List WirePlan) (logs : List LogRec) (j : ℕ) (w : WirePlan) (log : LogRec) → AreOnArcs slot (wire_arcs earlier ws) logs → j < length ws
+    → IsOnWire slot (get_or ws j w).delay (port_width (get_or ws j w).b_port) (get_or logs j log)
 wire-log slot earlier [] [] j w log all h = absurd (omega (arith, h))
 wire-log slot earlier (x ∷ ws) (y ∷ logs) zero w log all h = all.0
 wire-log slot earlier (x ∷ ws) (y ∷ logs) (suc j) w log all h = wire-log slot (x ∷ earlier) ws logs j w log all.1 (omega (arith, h))
@@ -159,41 +160,40 @@ snaps-length plan slot m [] [] all = refl
 snaps-length plan slot m (node ∷ nodes) (snap ∷ snaps) all = omega (arith, snaps-length plan slot (m + 1) nodes snaps all.1)
 snaps-length plan slot m _ _ all = absurd all
 
-module _ (plan : PlanRec) (snap : SnapSystem) (is : IsSnapSystem plan snap) where
+module _ (plan : PlanRec) (body : BodyRec) (is : IsSnapSystem plan body) where
   abbrev L : ℕ
   L = length (link_arcs plan.links)
 
-  pub all-logs : length snap.logs.items ≡ L + length (wire_arcs [] plan.wires)
-  all-logs = logs-length snap.slot (arcs plan) snap.logs.items is.logs ∙ both (link_arcs plan.links) (wire_arcs [] plan.wires)
+  pub all-logs : length body.logs ≡ L + length (wire_arcs [] plan.wires)
+  all-logs = logs-length body.slot (arcs plan) body.logs is.logs ∙ both (link_arcs plan.links) (wire_arcs [] plan.wires)
     where
       both : (xs ys : List Arc) → length (xs ++ ys) ≡ length xs + length ys
       both [] ys = omega arith
       both (x ∷ xs) ys = omega (arith, both xs ys)
 
-  -- of a link, there and back
-  pub there-log : (i k : ℕ) (link d : LinkPlan) (log : SnapLog) → k ≡ i + i → i < length plan.links → get_or plan.links i d ≡ link → IsLinkLog snap.slot link.delay (get_or snap.logs.items k log).entries.entries
-  there-log i k link d log e h here =
-      let inside : k < L = omega (arith, e, h, arcs-length plan.links) in
-      let all : k < length (arcs plan) = omega (arith, inside, all-logs, logs-length snap.slot (arcs plan) snap.logs.items is.logs) in
-      let arc = front-at (link_arcs plan.links) (wire_arcs [] plan.wires) k (forth link) inside ∙ forth-at plan.links i k (forth link) d e h ∙ ap forth here in
-      subst (λ (a : Arc). IsLogOf snap.slot a.delay a.joins (get_or snap.logs.items k log)) arc (log-at snap.slot (arcs plan) snap.logs.items k (forth link) log is.logs all)
+  -- of the arc of a link
+  arc-log : (k : ℕ) (d e : Arc) (log : LogRec) → k < L → get_or (link_arcs plan.links) k d ≡ e → IsOnArc body.slot e.delay e.joins (get_or body.logs k log)
+  arc-log k d e log inside here =
+      let all : k < length (arcs plan) = omega (arith, inside, all-logs, logs-length body.slot (arcs plan) body.logs is.logs) in
+      let arc = front-at (link_arcs plan.links) (wire_arcs [] plan.wires) k d inside ∙ here in
+      subst (λ (a : Arc). IsOnArc body.slot a.delay a.joins (get_or body.logs k log)) arc (log-at body.slot (arcs plan) body.logs k d log is.logs all)
 
-  pub back-log : (i k : ℕ) (link d : LinkPlan) (log : SnapLog) → k ≡ i + i + 1 → i < length plan.links → get_or plan.links i d ≡ link → IsLinkLog snap.slot link.delay (get_or snap.logs.items k log).entries.entries
+  -- there and back
+  pub there-log : (i k : ℕ) (link d : LinkPlan) (log : LogRec) → k ≡ i + i → i < length plan.links → get_or plan.links i d ≡ link → AreLinkEntries body.slot link.delay (get_or body.logs k log).entries
+  there-log i k link d log e h here =
+      arc-log k (forth link) (forth link) log (omega (arith, e, h, arcs-length plan.links)) (forth-at plan.links i k (forth link) d e h ∙ ap forth here)
+
+  pub back-log : (i k : ℕ) (link d : LinkPlan) (log : LogRec) → k ≡ i + i + 1 → i < length plan.links → get_or plan.links i d ≡ link → AreLinkEntries body.slot link.delay (get_or body.logs k log).entries
   back-log i k link d log e h here =
-      let inside : k < L = omega (arith, e, h, arcs-length plan.links) in
-      let all : k < length (arcs plan) = omega (arith, inside, all-logs, logs-length snap.slot (arcs plan) snap.logs.items is.logs) in
-      let arc = front-at (link_arcs plan.links) (wire_arcs [] plan.wires) k (back link) inside ∙ back-of plan.links i k (back link) d e h ∙ ap back here in
-      subst (λ (a : Arc). IsLogOf snap.slot a.delay a.joins (get_or snap.logs.items k log)) arc (log-at snap.slot (arcs plan) snap.logs.items k (back link) log is.logs all)
+      arc-log k (back link) (back link) log (omega (arith, e, h, arcs-length plan.links)) (back-of plan.links i k (back link) d e h ∙ ap back here)
 
   -- of a wire
-  pub wire-log-at : (j k : ℕ) (wire d : WirePlan) (log : SnapLog) → k ≡ L + j → j < length plan.wires → get_or plan.wires j d ≡ wire
-      → IsWireLog snap.slot wire.delay (port_width wire.b_port) (get_or snap.logs.items k log).entries.entries (get_or snap.logs.items k log).level
+  pub wire-log-at : (j k : ℕ) (wire d : WirePlan) (log : LogRec) → k ≡ L + j → j < length plan.wires → get_or plan.wires j d ≡ wire → IsOnWire body.slot wire.delay (port_width wire.b_port) (get_or body.logs k log)
   wire-log-at j k wire d log e h here =
-      let rest = logs-rest snap.slot (link_arcs plan.links) (wire_arcs [] plan.wires) snap.logs.items is.logs in
-      let same : get_or (drop L snap.logs.items) j log ≡ get_or snap.logs.items k log = sym (drop-at L j snap.logs.items log) ∙ ap (λ m. get_or snap.logs.items m log) (sym e) in
-      subst (λ (l : SnapLog). IsWireLog snap.slot wire.delay (port_width wire.b_port) l.entries.entries l.level) same
-      (subst (λ (w : WirePlan). IsWireLog snap.slot w.delay (port_width w.b_port) (get_or (drop L snap.logs.items) j log).entries.entries (get_or (drop L snap.logs.items) j log).level) here
-      (wire-log snap.slot [] plan.wires (drop L snap.logs.items) j d log rest h))
+      let rest = logs-rest body.slot (link_arcs plan.links) (wire_arcs [] plan.wires) body.logs is.logs in
+      let same : get_or (drop L body.logs) j log ≡ get_or body.logs k log = sym (drop-at L j body.logs log) ∙ ap (λ m. get_or body.logs m log) (sym e) in
+      subst (IsOnWire body.slot wire.delay (port_width wire.b_port)) same
+      (subst (λ (w : WirePlan). IsOnWire body.slot w.delay (port_width w.b_port) (get_or (drop L body.logs) j log)) here (wire-log body.slot [] plan.wires (drop L body.logs) j d log rest h))
 
 -- ---- Lists that grow
 
@@ -207,10 +207,10 @@ stations-grow plan slot n snaps stations node snap d station all inside within m
     (subst (λ (xs : List SnapNode). AllBegin R 0 (take n plan.nodes ++ node ∷ []) xs (stations ++ station ∷ [])) (sym (take-more snaps n d snap within here))
     (begin-more R 0 n (take n plan.nodes) (take n snaps) stations node snap station all place begins))
 
-pub tracks-grow : (slot i : ℕ) (links : List LinkPlan) (logs : List SnapLog) (tracks : List Track) (link d : LinkPlan) (there again log : SnapLog) (to fro : Track)
+pub tracks-grow : (slot i : ℕ) (links : List LinkPlan) (logs : List LogRec) (tracks : List Track) (link d : LinkPlan) (there again log : LogRec) (to fro : Track)
     → AllBegin (LinkBegins slot) 0 (link_arcs (take i links)) (take (length tracks) logs) tracks → i < length links → length tracks + 1 < length logs
     → get_or links i d ≡ link → get_or logs (length tracks) log ≡ there → get_or logs (length tracks + 1) log ≡ again
-    → TrackBegins slot link.a link.a_end link.b link.delay there.entries.entries to → TrackBegins slot link.b link.b_end link.a link.delay again.entries.entries fro
+    → TrackBegins slot link.a link.a_end link.b link.delay there.entries to → TrackBegins slot link.b link.b_end link.a link.delay again.entries fro
     → AllBegin (LinkBegins slot) 0 (link_arcs (take (i + 1) links)) (take (length tracks + 1 + 1) logs) ((tracks ++ to ∷ []) ++ fro ∷ [])
 tracks-grow slot i links logs tracks link d there again log to fro all inside within here first second t f =
     let R = LinkBegins slot in
@@ -218,43 +218,70 @@ tracks-grow slot i links logs tracks link d there again log to fro all inside wi
     let ds = link_arcs (take i links) in
     let count : n ≡ length ds = begin-length R 0 ds (take n logs) tracks all in
     let one =
-    subst (λ (xs : List SnapLog). AllBegin R 0 (ds ++ forth link ∷ []) xs (tracks ++ to ∷ [])) (sym (take-more logs n log there (omega (arith, within)) first))
+    subst (λ (xs : List LogRec). AllBegin R 0 (ds ++ forth link ∷ []) xs (tracks ++ to ∷ [])) (sym (take-more logs n log there (omega (arith, within)) first))
     (begin-more R 0 n ds (take n logs) tracks (forth link) there to all (omega (arith, count)) (record { begins = t; joins = refl })) in
     let two =
-    subst (λ (xs : List SnapLog). AllBegin R 0 ((ds ++ forth link ∷ []) ++ back link ∷ []) xs ((tracks ++ to ∷ []) ++ fro ∷ [])) (sym (take-more logs (n + 1) log again within second))
+    subst (λ (xs : List LogRec). AllBegin R 0 ((ds ++ forth link ∷ []) ++ back link ∷ []) xs ((tracks ++ to ∷ []) ++ fro ∷ [])) (sym (take-more logs (n + 1) log again within second))
     (begin-more R 0 (n + 1) (ds ++ forth link ∷ []) (take (n + 1) logs) (tracks ++ to ∷ []) (back link) again fro one (omega (arith, count, length-more ds (forth link))) (record { begins = f; joins = refl })) in
     subst (λ (xs : List Arc). AllBegin R 0 xs (take (n + 1 + 1) logs) ((tracks ++ to ∷ []) ++ fro ∷ [])) (sym (ap link_arcs (take-more links i d link inside here) ∙ arcs-append (take i links) link)) two
 
-pub wires-grow : (slot j : ℕ) (cores : List CoreRec) (plans : List WirePlan) (logs : List SnapLog) (wires : List Wire) (plan d : WirePlan) (log e : SnapLog) (wire : Wire)
+pub wires-grow : (slot j : ℕ) (cores : List CoreRec) (plans : List WirePlan) (logs : List LogRec) (wires : List Wire) (plan d : WirePlan) (log e : LogRec) (wire : Wire)
     → AllBegin (WireBeginsBy slot cores) 0 (take j plans) (take j logs) wires → j < length plans → j < length logs → get_or plans j d ≡ plan → get_or logs j e ≡ log → WireBeginsBy slot cores j plan log wire
     → AllBegin (WireBeginsBy slot cores) 0 (take (j + 1) plans) (take (j + 1) logs) (wires ++ wire ∷ [])
 wires-grow slot j cores plans logs wires plan d log e wire all inside within here there begins =
     let R = WireBeginsBy slot cores in
     let place : j ≡ 0 + length (take j plans) = omega (arith, inside, length-take j plans) in
     subst (λ (xs : List WirePlan). AllBegin R 0 xs (take (j + 1) logs) (wires ++ wire ∷ [])) (sym (take-more plans j d plan inside here))
-    (subst (λ (xs : List SnapLog). AllBegin R 0 (take j plans ++ plan ∷ []) xs (wires ++ wire ∷ [])) (sym (take-more logs j e log within there))
+    (subst (λ (xs : List LogRec). AllBegin R 0 (take j plans ++ plan ∷ []) xs (wires ++ wire ∷ [])) (sym (take-more logs j e log within there))
     (begin-more R 0 j (take j plans) (take j logs) wires plan log wire all place begins))
 
 -- ---- A directed link
 
 -- what is in flight before a slot was sent before it, and comes from it on
-in-flight-before : (slot delay : ℕ) (es : List Entry) → AreInFlight slot delay es → AllByRecursion (λ (e : Entry). e.slot < slot) es
-in-flight-before slot delay es = all-map (λ (e : Entry). (slot ≤ e.slot + delay) × (e.slot < slot)) (λ (e : Entry). e.slot < slot) (λ e f. f.1) es
+in-flight-before : (slot delay : ℕ) (es : List Entry) → AllByRecursion (IsInFlight slot delay) es → AllByRecursion (λ (e : Entry). e.slot < slot) es
+in-flight-before slot delay = all-map (IsInFlight slot delay) (λ (e : Entry). e.slot < slot) (λ e f. f.before)
 
-in-flight-due : (slot delay : ℕ) (es : List Entry) → AreInFlight slot delay es → IsDueFrom slot delay 0 es
-in-flight-due slot delay es = all-map (λ (e : Entry). (slot ≤ e.slot + delay) × (e.slot < slot)) (λ (e : Entry). slot ≤ e.slot + delay) (λ e f. f.0) es
+in-flight-due : (slot delay : ℕ) (es : List Entry) → AllByRecursion (IsInFlight slot delay) es → IsDueFrom slot delay 0 es
+in-flight-due slot delay = all-map (IsInFlight slot delay) (λ (e : Entry). slot ≤ e.slot + delay) (λ e f. omega (arith, f.sent))
+
+-- and stands in the order of crate crossings
+no-credit : (w : What) → is_token w ≡ true → is_credit w ≡ false
+no-credit (what.Token t) is = refl
+no-credit what.Credit is = absurd cc
+no-credit (what.Level n) is = refl
+
+a-credit : (w : What) → is_a_credit w ≡ true → is_credit w ≡ true
+a-credit (what.Token t) is = absurd cc
+a-credit what.Credit is = refl
+a-credit (what.Level n) is = absurd cc
+
+may-follow : (e f : Entry) → ComesBefore e f → MayFollow e f
+may-follow e f (inl later) = Later later
+may-follow e f (inr beside) = Beside beside.0 (no-credit e.what beside.1) (a-credit f.what beside.2)
+
+in-sending-order : (es : List Entry) → StandSo ComesBefore es → AreInSendingOrder es
+in-sending-order [] order = tt
+in-sending-order (e ∷ es) order = (all-map (ComesBefore e) (MayFollow e) (may-follow e) es order.0, in-sending-order es order.1)
+
+no-level : (w : What) → IsOfLink w → IsNoLevel w
+no-level (what.Token t) is = tt
+no-level what.Credit is = tt
+no-level (what.Level n) is = absurd is
+
+have-no-level : (es : List Entry) → AllByRecursion (λ (e : Entry). IsOfLink e.what) es → HaveNoLevel es
+have-no-level = all-map (λ (e : Entry). IsOfLink e.what) (λ (e : Entry). IsNoLevel e.what) (λ e. no-level e.what)
 
 abbrev pub track_with : ℕ → ℕ → ℕ → ℕ → BatchRec → Crossing → Track
 track_with from from_end to delay history arrived =
     record { from = from; from_end = from_end; to = to; delay = delay; history = history; first = 0; arrived = arrived }
 
-pub track-begins : (slot from from_end to delay : ℕ) (entries : List Entry) (history : BatchRec) (track : Track) → from_end < 8 → 1 ≤ delay → IsLinkLog slot delay entries → history.entries ≡ entries
+pub track-begins : (slot from from_end to delay : ℕ) (entries : List Entry) (history : BatchRec) (track : Track) → from_end < 8 → 1 ≤ delay → AreLinkEntries slot delay entries → history.entries ≡ entries
     → track ≡ track_with from from_end to delay history (seen_of (due_of slot delay (slice_get history.entries 0)) (due_of slot delay (slice_get history.entries (0 + 1))))
     → TrackBegins slot from from_end to delay entries track
 track-begins slot from from_end to delay entries history track end delayed log same is =
     let due : IsDueFrom slot delay 0 history.entries = subst (IsDueFrom slot delay 0) (sym same) (in-flight-due slot delay entries log.in_flight) in
-    let order = subst AreInSendingOrder (sym same) log.in_order in
-    let kinds = subst HaveNoLevel (sym same) log.no_level in
+    let order = subst AreInSendingOrder (sym same) (in-sending-order entries log.order) in
+    let kinds = subst HaveNoLevel (sym same) (have-no-level entries log.kinds) in
     subst (TrackBegins slot from from_end to delay entries) (sym is) (record {
       from = refl;
       from_end = refl;
@@ -276,7 +303,7 @@ track-begins slot from from_end to delay entries history track end delayed log s
 -- ---- A wire
 
 module _ (slot : ℕ) (w : Wire) (from_port : w.from_port < 29) (to_port : w.to_port < 29) (widths : port_width w.from_port ≡ port_width w.to_port) (delayed : 1 ≤ w.delay)
-    (log : IsWireLog slot w.delay (port_width w.to_port) w.history.entries w.shown.value) where
+    (log : AreWireEntries slot w.delay (port_width w.to_port) w.history.entries) (narrow : w.shown.value < 2 ^ port_width w.to_port) where
   abbrev es : List Entry
   es = w.history.entries
 
@@ -299,28 +326,28 @@ module _ (slot : ℕ) (w : Wire) (from_port : w.from_port < 29) (to_port : w.to_
     few = omega arith;
     due = tt;
     level = refl;
-    narrow = log.narrow;
+    narrow = narrow;
   }
 
   is-history : IsHistory (port_width w.to_port) slot es
-  is-history = record { in_order = log.in_order; levels = log.levels; before = in-flight-before slot w.delay es log.in_flight }
+  is-history = record { in_order = log.order; levels = log.kinds; before = in-flight-before slot w.delay es log.in_flight }
 
   due : IsDueFrom slot w.delay 0 es
   due = in-flight-due slot w.delay es log.in_flight
 
   nothing-yet : IsDueFrom (slot + 1) w.delay 0 es → IsWire slot (record w { first = 0; level = before })
-  nothing-yet later = with-come 0 slot empty is-empty w.history w.sent 0 before is-history (omega arith) later (sym (level-is before slot w.delay 0 es later)) log.narrow
+  nothing-yet later = with-come 0 slot empty is-empty w.history w.sent 0 before is-history (omega arith) later (sym (level-is before slot w.delay 0 es later)) narrow
 
   comes-first : (e : Entry) → slice_get es 0 ≡ Some e → e.slot + w.delay ≡ slot → IsWire slot (record w { first = 0 + 1; level = level_or e.what before })
   comes-first e here now_due =
-      let later : IsDueFrom (slot + 1) w.delay (0 + 1) es = due-next slot w.delay 0 es e due log.in_order here now_due in
+      let later : IsDueFrom (slot + 1) w.delay (0 + 1) es = due-next slot w.delay 0 es e due log.order here now_due in
       let more : take (0 + 1) es ≡ take 0 es ++ e ∷ [] = take_more es 0 e (get-within es 0 e here) ∙ ap (λ x. take 0 es ++ x ∷ []) (get-is es 0 e here) in
       let level =
       sym (level-more before (take 0 es) e)
       ∙ ap (level_after before) (sym more)
       ∙ sym (level-is before slot w.delay (0 + 1) es later) in
-      let narrow = level-fits (port_width w.to_port) e.what before (level-at (port_width w.to_port) 0 es e log.levels here) in
-      with-come 0 slot empty is-empty w.history w.sent (0 + 1) (level_or e.what before) is-history (omega (arith, now_due, delayed)) later level narrow
+      let fits = level-fits (port_width w.to_port) e.what before (level-at (port_width w.to_port) 0 es e log.kinds here) in
+      with-come 0 slot empty is-empty w.history w.sent (0 + 1) (level_or e.what before) is-history (omega (arith, now_due, delayed)) later level fits
 
   by-first : (next : Option Entry) → slice_get es 0 ≡ next → IsWire slot (with_coming (due_of slot w.delay next) (record w { first = 0; level = before }))
   by-first None none = nothing-yet (none_to_come slot slot w.delay 0 es (omega arith) due none)
@@ -332,7 +359,7 @@ module _ (slot : ℕ) (w : Wire) (from_port : w.from_port < 29) (to_port : w.to_
           (comes-first e here (eqb-true (e.slot + w.delay) slot now_due))
       by_test (inr later) =
           subst (λ b. IsWire slot (with_coming (cond b (Some e.what) None) (record w { first = 0; level = before }))) (sym later)
-          (nothing-yet (first_to_come slot slot w.delay 0 es e (omega arith) due (sending es log.in_order) here (not-now later)))
+          (nothing-yet (first_to_come slot slot w.delay 0 es e (omega arith) due (sending es log.order) here (not-now later)))
         where
           not-now : eqb (e.slot + w.delay) slot ≡ false → slot < e.slot + w.delay
           not-now apart = omega (arith, due-at slot w.delay 0 es e due here, eqb-false (e.slot + w.delay) slot apart)
@@ -341,8 +368,8 @@ module _ (slot : ℕ) (w : Wire) (from_port : w.from_port < 29) (to_port : w.to_
   wire-begins = by-first (slice_get es 0) refl
 
 -- what comes changes only this
-pub coming-same : (told : Option What) (w : Wire) (slot driven : ℕ) (plan : WirePlan) (log : SnapLog) → w.from ≡ plan.a → w.from_port ≡ plan.a_port → w.to ≡ plan.b → w.to_port ≡ plan.b_port → w.delay ≡ plan.delay
-    → w.history.entries ≡ log.entries.entries → w.sent ≡ driven → w.shown.value ≡ log.level → IsWire slot (with_coming told w) → WireBegins slot driven plan log (with_coming told w)
+pub coming-same : (told : Option What) (w : Wire) (slot driven : ℕ) (plan : WirePlan) (log : LogRec) → w.from ≡ plan.a → w.from_port ≡ plan.a_port → w.to ≡ plan.b → w.to_port ≡ plan.b_port → w.delay ≡ plan.delay
+    → w.history.entries ≡ log.entries → w.sent ≡ driven → w.shown.value ≡ log.level → IsWire slot (with_coming told w) → WireBegins slot driven plan log (with_coming told w)
 coming-same None w slot driven plan log from from_port to to_port delay entries sent shown is =
     record { from = from; from_port = from_port; to = to; to_port = to_port; delay = delay; entries = entries; sent = sent; shown = shown; here = is }
 coming-same (Some what) w slot driven plan log from from_port to to_port delay entries sent shown is =
@@ -376,10 +403,10 @@ hold-inputs (s ∷ states) all = (holds-input s all.0, hold-inputs states all.1)
 abbrev rec_of : SnapNode → NodeRec
 rec_of snap = node_rec snap.state
 
-abbrev entries_of : SnapLog → List Entry
-entries_of log = log.entries.entries
+abbrev entries_of : LogRec → List Entry
+entries_of log = log.entries
 
-abbrev level_of_log : SnapLog → Word
+abbrev level_of_log : LogRec → Word
 level_of_log log = log.level
 
 abbrev no_events : SnapNode → List Event
@@ -414,7 +441,7 @@ due-begin plan slot n (node ∷ nodes) (snap ∷ snaps) (station ∷ stations) a
 due-begin plan slot n (node ∷ nodes) (snap ∷ snaps) (station ∷ stations) all (suc k) h = due-begin plan slot (n + 1) nodes snaps stations all.1 k (omega (arith, h))
 due-begin plan slot n _ _ _ all k h = absurd all
 
-carry-begin : (slot k : ℕ) (ds : List Arc) (logs : List SnapLog) (tracks : List Track) → AllBegin (LinkBegins slot) k ds logs tracks → AllCarry ds tracks (map entries_of logs)
+carry-begin : (slot k : ℕ) (ds : List Arc) (logs : List LogRec) (tracks : List Track) → AllBegin (LinkBegins slot) k ds logs tracks → AllCarry ds tracks (map entries_of logs)
 carry-begin slot k [] [] [] all = tt
 carry-begin slot k (d ∷ ds) (log ∷ logs) (track ∷ tracks) all =
     let b = all.0.begins in
@@ -429,12 +456,15 @@ arcs-among : (count : ℕ) (links : List LinkPlan) → AllByRecursion (IsLink co
 arcs-among count [] all = tt
 arcs-among count (l ∷ links) all = ((all.0.a, all.0.b), ((all.0.b, all.0.a), arcs-among count links all.1))
 
-tracks-begin : (slot count k : ℕ) (ds : List Arc) (logs : List SnapLog) (tracks : List Track) → AllBegin (LinkBegins slot) k ds logs tracks → AllByRecursion (IsAmong count) ds → AllByRecursion (IsReadyTrack slot count) tracks
+tracks-begin : (slot count k : ℕ) (ds : List Arc) (logs : List LogRec) (tracks : List Track) → AllBegin (LinkBegins slot) k ds logs tracks → AllByRecursion (IsAmong count) ds → AllByRecursion (IsReadyTrack slot count) tracks
 tracks-begin slot count k [] [] [] all among = tt
 tracks-begin slot count k (d ∷ ds) (log ∷ logs) (track ∷ tracks) all among =
     let b = all.0.begins in
     (record { from = omega (arith, b.from, among.0.0); to = omega (arith, b.to, among.0.1); here = b.here }, tracks-begin slot count (k + 1) ds logs tracks all.1 among.1)
 tracks-begin slot count k _ _ _ all among = absurd all
+
+pub links-ready : (plan : PlanRec) (slot : ℕ) (logs : List LogRec) (tracks : List Track) → IsPlan plan → AllBegin (LinkBegins slot) 0 (link_arcs plan.links) logs tracks → AllByRecursion (IsReadyTrack slot (length plan.nodes)) tracks
+links-ready plan slot logs tracks is all = tracks-begin slot (length plan.nodes) 0 (link_arcs plan.links) logs tracks all (arcs-among (length plan.nodes) plan.links is.links)
 
 -- where all nodes are due, what arrives is heeded
 heeded-begin : (slot count : ℕ) (stations : List Station) → ((k : ℕ) → k < count → due_at stations k ≡ true) → (tracks : List Track) → AllByRecursion (IsReadyTrack slot count) tracks → AllByRecursion (IsHeeded stations) tracks
@@ -444,7 +474,7 @@ heeded-begin slot count stations due (t ∷ tracks) ready = (λ not. absurd (apa
     apart : true ≡ false → ⊥
     apart e = cc
 
-tell-begin : (slot : ℕ) (shown : List Word) (nodes : List NodeRec) (cores : List CoreRec) → cores ≡ map (λ (r : NodeRec). r.core) nodes → (j k : ℕ) (earlier ws : List WirePlan) (logs : List SnapLog) (wires : List Wire)
+tell-begin : (slot : ℕ) (shown : List Word) (nodes : List NodeRec) (cores : List CoreRec) → cores ≡ map (λ (r : NodeRec). r.core) nodes → (j k : ℕ) (earlier ws : List WirePlan) (logs : List LogRec) (wires : List Wire)
     → AllBegin (WireBeginsBy slot cores) j ws logs wires → ((i : ℕ) → get_or shown (k + i) 0 ≡ get_or (map level_of_log logs) i 0) → AllTell shown nodes k (wire_arcs earlier ws) wires (map entries_of logs)
 tell-begin slot shown nodes cores are j k earlier [] [] [] all levels = tt
 tell-begin slot shown nodes cores are j k earlier (w ∷ ws) (log ∷ logs) (wire ∷ wires) all levels =
@@ -464,42 +494,50 @@ tell-begin slot shown nodes cores are j k earlier (w ∷ ws) (log ∷ logs) (wir
     )
 tell-begin slot shown nodes cores are j k earlier _ _ _ all levels = absurd all
 
-pub wires-begin : (slot n count : ℕ) (cores : List CoreRec) (j : ℕ) (ws : List WirePlan) (logs : List SnapLog) (wires : List Wire) → n ≡ count → AllBegin (WireBeginsBy slot cores) j ws logs wires → AllByRecursion (IsWirePlan n) ws
+wires-begin : (slot count : ℕ) (cores : List CoreRec) (j : ℕ) (ws : List WirePlan) (logs : List LogRec) (wires : List Wire) → AllBegin (WireBeginsBy slot cores) j ws logs wires → AllByRecursion (IsWirePlan count) ws
     → AllByRecursion (IsReadyWire slot count) wires
-wires-begin slot n count cores j [] [] [] e all plans = tt
-wires-begin slot n count cores j (w ∷ ws) (log ∷ logs) (wire ∷ wires) e all plans =
-    (record { from = omega (arith, all.0.from, plans.0.a, e); to = omega (arith, all.0.to, plans.0.b, e); here = all.0.here }, wires-begin slot n count cores (j + 1) ws logs wires e all.1 plans.1)
-wires-begin slot n count cores j _ _ _ e all plans = absurd all
+wires-begin slot count cores j [] [] [] all plans = tt
+wires-begin slot count cores j (w ∷ ws) (log ∷ logs) (wire ∷ wires) all plans =
+    (record { from = omega (arith, all.0.from, plans.0.a); to = omega (arith, all.0.to, plans.0.b); here = all.0.here }, wires-begin slot count cores (j + 1) ws logs wires all.1 plans.1)
+wires-begin slot count cores j _ _ _ all plans = absurd all
 
-pub targets-begin : (slot : ℕ) (cores : List CoreRec) (j : ℕ) (ws : List WirePlan) (logs : List SnapLog) (wires : List Wire) → AllBegin (WireBeginsBy slot cores) j ws logs wires → targets wires ≡ targets_of ws
+targets-begin : (slot : ℕ) (cores : List CoreRec) (j : ℕ) (ws : List WirePlan) (logs : List LogRec) (wires : List Wire) → AllBegin (WireBeginsBy slot cores) j ws logs wires → targets wires ≡ targets_of ws
 targets-begin slot cores j [] [] [] all = refl
 targets-begin slot cores j (w ∷ ws) (log ∷ logs) (wire ∷ wires) all =
     let rest = targets-begin slot cores (j + 1) ws logs wires all.1 in
     λ i. (all.0.to i, all.0.to_port i) ∷ rest i
 targets-begin slot cores j _ _ _ all = absurd all
 
-module _ (plan : PlanRec) (snap : SnapSystem) (is : IsPlan plan) (stations told : List Station) (tracks : List Track) (wires : List Wire)
-    (begin : AllBegin (StationBegins plan snap.slot) 0 plan.nodes snap.nodes.items stations)
-    (links : AllBegin (LinkBegins snap.slot) 0 (link_arcs plan.links) (take (length (link_arcs plan.links)) snap.logs.items) tracks)
-    (ways : AllBegin (WireBeginsBy snap.slot (cores_of stations)) 0 plan.wires (drop (length (link_arcs plan.links)) snap.logs.items) wires)
-    (come : AllByRecursion (HasCome (levels_of told)) wires) (same : AllZip (SameButCome snap.slot) stations told) where
+pub wires-ready : (plan : PlanRec) (slot : ℕ) (cores : List CoreRec) (logs : List LogRec) (wires : List Wire) → IsPlan plan → AllBegin (WireBeginsBy slot cores) 0 plan.wires logs wires
+    → AllByRecursion (IsReadyWire slot (length plan.nodes)) wires
+wires-ready plan slot cores logs wires is all = wires-begin slot (length plan.nodes) cores 0 plan.wires logs wires all is.wires
+
+pub targets-apart : (plan : PlanRec) (slot : ℕ) (cores : List CoreRec) (logs : List LogRec) (wires : List Wire) → IsPlan plan → AllBegin (WireBeginsBy slot cores) 0 plan.wires logs wires → AreDistinct (targets wires)
+targets-apart plan slot cores logs wires is all = subst AreDistinct (sym (targets-begin slot cores 0 plan.wires logs wires all)) is.targets
+
+module _ (plan : PlanRec) (body : BodyRec) (stations told : List Station) (tracks : List Track) (wires : List Wire)
+    (begin : AllBegin (StationBegins plan body.slot) 0 plan.nodes body.nodes stations)
+    (links : AllBegin (LinkBegins body.slot) 0 (link_arcs plan.links) (take (length (link_arcs plan.links)) body.logs) tracks)
+    (ways : AllBegin (WireBeginsBy body.slot (cores_of stations)) 0 plan.wires (drop (length (link_arcs plan.links)) body.logs) wires)
+    (ready_tracks : AllByRecursion (IsReadyTrack body.slot (length plan.nodes)) tracks) (ready_wires : AllByRecursion (IsReadyWire body.slot (length plan.nodes)) wires) (apart : AreDistinct (targets wires))
+    (come : AllByRecursion (HasCome (levels_of told)) wires) (same : AllZip (SameButCome body.slot) stations told) where
   abbrev slot : ℕ
-  slot = snap.slot
+  slot = body.slot
 
   abbrev count : ℕ
   count = length (link_arcs plan.links)
 
-  abbrev logs : List SnapLog
-  logs = snap.logs.items
+  abbrev logs : List LogRec
+  logs = body.logs
 
   abbrev nodes : List NodeRec
-  nodes = map rec_of snap.nodes.items
+  nodes = map rec_of body.nodes
 
-  serve : AllServe plan slot 0 plan.nodes stations nodes (map no_events snap.nodes.items)
-  serve = serve-begin plan slot 0 plan.nodes snap.nodes.items stations begin
+  serve : AllServe plan slot 0 plan.nodes stations nodes (map no_events body.nodes)
+  serve = serve-begin plan slot 0 plan.nodes body.nodes stations begin
 
   many : length told ≡ length plan.nodes
-  many = zip-length (SameButCome slot) stations told same ∙ begin-length (StationBegins plan slot) 0 plan.nodes snap.nodes.items stations begin
+  many = zip-length (SameButCome slot) stations told same ∙ begin-length (StationBegins plan slot) 0 plan.nodes body.nodes stations begin
 
   linked : length tracks ≡ count
   linked = begin-length (LinkBegins slot) 0 (link_arcs plan.links) (take count logs) tracks links
@@ -507,34 +545,33 @@ module _ (plan : PlanRec) (snap : SnapSystem) (is : IsPlan plan) (stations told 
   levels : length (levels_of told) ≡ length plan.nodes
   levels = length-map told (λ (s : Station). s.pins.levels) ∙ many
 
-  ready-tracks : AllByRecursion (IsReadyTrack slot (length told)) tracks
-  ready-tracks = subst (λ n. AllByRecursion (IsReadyTrack slot n) tracks) (sym many)
-      (tracks-begin slot (length plan.nodes) 0 (link_arcs plan.links) (take count logs) tracks links (arcs-among (length plan.nodes) plan.links is.links))
+  ready-here : AllByRecursion (IsReadyTrack slot (length told)) tracks
+  ready-here = subst (λ n. AllByRecursion (IsReadyTrack slot n) tracks) (sym many) ready_tracks
 
   all-due : (k : ℕ) → k < length told → due_at told k ≡ true
   all-due k inside =
       ap (λ dues. get_or dues k false) (dues-told slot stations told same)
-      ∙ due-begin plan slot 0 plan.nodes snap.nodes.items stations begin k (omega (arith, inside, zip-length (SameButCome slot) stations told same))
+      ∙ due-begin plan slot 0 plan.nodes body.nodes stations begin k (omega (arith, inside, zip-length (SameButCome slot) stations told same))
 
-  pub ready-begun : AreReady plan (begun_of snap).shown slot (begun_of snap).system told tracks wires
+  pub ready-begun : AreReady plan (begun_of body).shown slot (begun_of body).system told tracks wires
   ready-begun = record {
     system = record {
-      serve = play-told plan slot 0 plan.nodes stations nodes (map no_events snap.nodes.items) told serve same;
+      serve = play-told plan slot 0 plan.nodes stations nodes (map no_events body.nodes) told serve same;
       link_histories = map entries_of (take count logs);
       wire_histories = map entries_of (drop count logs);
       histories = ap (map entries_of) (split-at count logs) ∙ map-both entries_of (take count logs) (drop count logs);
       carry = carry-begin slot 0 (link_arcs plan.links) (take count logs) tracks links;
       tell =
-          tell-begin slot (map level_of_log logs) nodes (cores_of stations) (cores-serve plan slot 0 plan.nodes stations nodes (map no_events snap.nodes.items) serve) 0 count [] plan.wires (drop count logs) wires ways
+          tell-begin slot (map level_of_log logs) nodes (cores_of stations) (cores-serve plan slot 0 plan.nodes stations nodes (map no_events body.nodes) serve) 0 count [] plan.wires (drop count logs) wires ways
           (λ i. drop-at count i (map level_of_log logs) 0 ∙ ap (λ xs. get_or xs i 0) (sym (map-drop level_of_log count logs)));
     };
-    shapes = shapes-begin plan slot 0 plan.nodes snap.nodes.items stations begin;
-    stations = stations-told slot (length tracks) stations told same (stations-begin plan slot 0 (length tracks) plan.nodes snap.nodes.items stations (sym linked) begin);
-    tracks = ready-tracks;
-    heeded = heeded-begin slot (length told) told all-due tracks ready-tracks;
+    shapes = shapes-begin plan slot 0 plan.nodes body.nodes stations begin;
+    stations = stations-told slot (length tracks) stations told same (stations-begin plan slot 0 (length tracks) plan.nodes body.nodes stations (sym linked) begin);
+    tracks = ready-here;
+    heeded = heeded-begin slot (length told) told all-due tracks ready-here;
     wires = record {
-      each = wires-begin slot (length plan.nodes) (length (levels_of told)) (cores_of stations) 0 plan.wires (drop count logs) wires (sym levels) ways is.wires;
-      apart = subst AreDistinct (sym (targets-begin slot (cores_of stations) 0 plan.wires (drop count logs) wires ways)) is.targets;
+      each = subst (λ n. AllByRecursion (IsReadyWire slot n) wires) (sym levels) ready_wires;
+      apart = apart;
       come = come;
     };
   }

@@ -3,6 +3,7 @@ ghost use Rattle.std.specs.Prelude.{◌≡◌, ◌+◌, ◌-◌, ◌^◌, ◌<�
 ghost use Rattle.std.specs.List.{AllZip};
 ghost use Rattle.sys_plan.specs.Plan.{arc_count};
 ghost use Rattle.serial_model.specs.Serial.{begun_at_start};
+ghost use Rattle.snap_parts.specs.Parts.{body_of};
 ghost use Rattle.snap_parts.specs.Snaps.{IsSnapSystem, begun_of};
 ghost use Rattle.run_plan.specs.Machine.{system_of};
 ghost use Rattle.trace_lines.specs.Kept.{Keeps};
@@ -79,9 +80,9 @@ impl SerialMachine {
         plan: &Plan,
         snap: &SnapSystem,
     ) -> Result<SerialMachine, AllocError>
-        requires snap { IsSnapSystem plan.now snap.now }
+        requires snap { IsSnapSystem plan.now (body_of snap.now) }
         ensures plan { IfOk result (λ m. m.plan ≡ plan.now) }
-        ensures begun { IfOk result (λ m. m.begun ≡ begun_of snap.now) }
+        ensures begun { IfOk result (λ m. m.begun ≡ begun_of (body_of snap.now)) }
         ensures now { IfOk result (λ m. m.now ≡ snap.now.slot) }
     {
         let mut stations = stations_by(alloc, plan, snap)?;
