@@ -3,4 +3,5 @@ pub mod Logs
 pub mod Systems
 pub mod Saved
 pub mod Runs
+pub mod Bounds
 pub mod Rests
