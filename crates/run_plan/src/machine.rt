@@ -1,6 +1,7 @@
 //! `SerialMachine`, all nodes of a system stepped together.
-ghost use Rattle.std.specs.Prelude.{◌≡◌, ◌+◌, ◌-◌, ◌^◌, ◌<◌, ◌≤◌, max, [], length, slice_index_or, IfOk, OnOk, OnErr};
+ghost use Rattle.std.specs.Prelude.{◌≡◌, ◌+◌, ◌-◌, ◌*◌, ◌^◌, ◌<◌, ◌≤◌, max, [], length, slice_index_or, IfOk, OnOk, OnErr};
 ghost use Rattle.std.specs.List.{AllZip};
+ghost use Rattle.xs_base.specs.declared.numbers.TheConstants.{EVENT_ROOM};
 ghost use Rattle.sys_plan.specs.Plan.{arc_count};
 ghost use Rattle.serial_model.specs.Serial.{begun_at_start};
 ghost use Rattle.snap_parts.specs.Parts.{body_of};
@@ -209,6 +210,7 @@ impl SerialMachine {
     pub fn events(&self, node: u8) -> &NodeEvents
         requires node { node < length self.now.plan.nodes }
         ensures keeps { Keeps result.now (slice_index_or (system_of self.now).events node []) }
+        ensures few { result.now.more ≤ EVENT_ROOM * self.now.now }
     {
         let station = &self.stations[node as usize];
         &station.seat.events
