@@ -74,7 +74,7 @@ one (what.Token t) h = refl
 one what.Credit h = refl
 one (what.Level n) h = absurd h
 
-counted : (es : List Entry) → AllByRecursion (λ e. IsOfLink e.what) es
+pub counted : (es : List Entry) → AllByRecursion (λ e. IsOfLink e.what) es
     → length es ≡ count_by (λ (e : Entry). is_token e.what) es + count_by (λ (e : Entry). is_credit e.what) es
 counted [] h = refl
 counted (e ∷ es) h =
@@ -104,8 +104,12 @@ rising first slot [] within order = omega arith
 rising first slot (e ∷ es) within order =
     omega (arith, within.0.0, within.0.1, rising (e.slot + 1) slot es (later first slot e es order.0 within.1) order.1)
 
+-- so as many are in flight as there are slots at most
+pub rising_most : (slot : Slot) (delay : ℕ) (es : List Entry) → AllByRecursion (IsInFlight slot delay) es → StandSo IsEarlier es → length es ≤ slot - (slot - delay)
+rising_most slot delay es in_flight order =
+    rising (slot - delay) slot es (each_as (λ (e : Entry) (k : IsInFlight slot delay e). (k.sent, k.before)) es in_flight) order
+
 pub wire_most : (slot : Slot) (delay width : ℕ) (log : LogRec) → (wire_log slot delay width).Holds log → entries_of_log log ≤ delay
 wire_most slot delay width log h =
     let entries = (wire_facts slot delay width log h).entries in
-    let within : AllByRecursion (Between (slot - delay) slot) log.entries = each_as (λ (e : Entry) (k : IsInFlight slot delay e). (k.sent, k.before)) log.entries entries.in_flight in
-    omega (arith, rising (slot - delay) slot log.entries within entries.order)
+    omega (arith, rising_most slot delay log.entries entries.in_flight entries.order)
