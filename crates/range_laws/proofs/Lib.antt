@@ -1,0 +1,7 @@
+mod Lists
+mod Words
+mod Threads
+mod Core
+mod Memory
+mod OwnRows
+mod Found
