@@ -1,5 +1,6 @@
 -- What is true of the numbers of a core, and what changes of a part keep.
 use Rattle.std.proofs.Common.{◌≡◌, ℕ, ◌<◌, ◌^◌, Bool, true, false, if◌then◌else◌, Option, Some, None, List, [], ◌∷◌, length, get_or, slice_set, replicate, refl, ◌∙◌, length-set, arith}
+use Rattle.std.specs.Prelude.{IfSome}
 use Rattle.std.specs.List.{AllByRecursion}
 use Rattle.xs_base.specs.Numbers.{Word, ThreadNumber, ChanNumber}
 use Rattle.xs_model.specs.declared.resource.Res.{Res}
@@ -10,8 +11,7 @@ use Rattle.xs_model.specs.Threads.{fresh_thread}
 use Rattle.xs_model.specs.Record.{CoreRec, SlotsRec, ChanRec, TimerRec, ClockRec, SyncRec, LockRec, PortRec, EnablingRec, EnabledRec, unused_chan, unused_timer, off_clock, not_enabled, none_enabled, thread_of, chan_of, timer_of, clock_of, with_thread, with_chan, with_timer, with_clock, with_last}
 use Rattle.xs_model.specs.Enabling.{enabling_of, with_enabling, changed, forgotten, disabled_where, all_disabled_where, without_thread, without_threads}
 use Rattle.step_model.specs.ThreadRows.{with_runs}
-use Rattle.chan_ends.specs.States.{chan_state}
-use Rattle.state_forms.specs.Chans.{ChanFits}
+use Rattle.state_forms.specs.Buffers.{buffer_of, BufferFits}
 use Rattle.state_bridge.specs.Fits.{AreSuch, ThreadFits}
 use Rattle.range_laws.proofs.Words.{IsWord}
 use Rattle.range_laws.proofs.Lists.{all_at, such_set, such_changed}
@@ -25,8 +25,12 @@ pub record MemoryFits (memory : List ℕ) : Type 0 where
   pub bytes : AllByRecursion IsByte memory
   pub size : length memory ≡ 65536
 
-abbrev pub ChanWords : ChanRec → Type 0
-ChanWords chan = ChanFits (chan_state chan)
+-- a channel end's destination is a word, and its tokens are bytes; and its network, which programs read, is 0 to 3
+pub record ChanWords (chan : ChanRec) : Type 0 where
+  pub net : chan.net < 4
+  pub dest : IfSome chan.dest IsWord
+  pub output : BufferFits (buffer_of chan.output)
+  pub input : BufferFits (buffer_of chan.input)
 
 abbrev pub TimerWord : TimerRec → Type 0
 TimerWord timer = IsWord timer.value
@@ -93,7 +97,7 @@ pub thread_fits : (core : CoreRec) (k : ThreadNumber) → CoreFits core → Thre
 thread_fits core k h = all_at ThreadFits fresh_thread fresh_fits core.threads k h.threads.each
 
 no_chan : ChanWords unused_chan
-no_chan = record { dest = tt; output = record { count = omega arith; tokens = tt }; input = record { count = omega arith; tokens = tt } }
+no_chan = record { net = omega arith; dest = tt; output = record { count = omega arith; tokens = tt }; input = record { count = omega arith; tokens = tt } }
 
 pub unused_fits : ChanWords unused_chan
 unused_fits = no_chan

@@ -9,9 +9,10 @@ use Rattle.xs_base.specs.Numbers.{Word, Identifier, PortNumber}
 use Rattle.xs_base.specs.Ids.{port_width}
 use Rattle.xs_base.specs.declared.token.Token.{Token}
 use Rattle.xs_base.specs.declared.token.Token.TheVariants.{Byte, Ctrl}
+use Rattle.xs_model.specs.declared.thread.Wait.TheVariants.{PortFull, PortIdle}
 use Rattle.xs_model.specs.Record.{ChanRec, PortRec, TransferRec, off_port}
 use Rattle.xs_model.specs.Ports.{level_of}
-use Rattle.xs_model.specs.PortActions.{Acted, Did, Got as Gives, Waits as PausesAt, Refused as Refuses, tell_value, tell_stamp, peek, turn_in, take_transfer, take_in, is_part, take_part, end_transfer, end_in, cut_short}
+use Rattle.xs_model.specs.PortActions.{Acted, Did, Got as Gives, Waits as PausesAt, Refused as Refuses, has_left, wanting, turned_in, let_go, tell_value, tell_stamp, peek, turn_in, take_transfer, take_in, is_part, take_part, end_transfer, end_in, cut_short}
 use Rattle.xs_model.specs.Waits.{has_room, is_control, has_tokens}
 use Rattle.net_model.specs.Chans.{Found, Got, Waits, Refused, put_away, got_chan, freed_chan, found_at, put_towards, put_token, bytes_of_word, put_word, value_of, joined, take_word, take_where, take_byte, take_ctrl, check_token, truth, look_at, look, control_place, look_word, is_chan_id, take_dest, dest_or_0, tell_dest, is_network, take_net, tell_net}
 use Rattle.port_laws.specs.Facts.{HasFacts, is_off, is_on, IsOn, IsTransfer}
@@ -62,7 +63,7 @@ place_word tokens =
     let few = length-take 4 tokens in
     omega (arith, most, few)
 
-low_byte : (n : ℕ) → n % 256 < 256
+pub low_byte : (n : ℕ) → n % 256 < 256
 low_byte n = mod_below n 256 (omega arith)
 
 dropped_fit : (n : ℕ) (tokens : List Token) → TokensFit tokens → TokensFit (drop n tokens)
@@ -96,10 +97,10 @@ none = omega arith
 
 module _ (chan : ChanRec) (h : ChanWords chan) where
   with_input : (input : List Token) → TokensFit input → ChanWords (record chan { input = input })
-  with_input input fits = record { dest = h.dest; output = h.output; input = fits }
+  with_input input fits = record { net = h.net; dest = h.dest; output = h.output; input = fits }
 
   with_output : (output : List Token) → TokensFit output → ChanWords (record chan { output = output })
-  with_output output fits = record { dest = h.dest; output = fits; input = h.input }
+  with_output output fits = record { net = h.net; dest = h.dest; output = fits; input = h.input }
 
   towards_fit : (dest : Option Identifier) (tokens : List Token) → AllByRecursion TokenFits tokens → FoundFits (put_towards dest tokens chan)
   towards_fit None tokens all = tt
@@ -152,7 +153,7 @@ module _ (chan : ChanRec) (h : ChanWords chan) where
 
   pub take_dest_fits : (dest : Identifier) → IsWord dest → FoundFits (take_dest dest chan)
   take_dest_fits dest is =
-      either (is_chan_id dest) (Got (record chan { dest = Some dest }) 0) Refused (record { dest = is; output = h.output; input = h.input }, none) tt
+      either (is_chan_id dest) (Got (record chan { dest = Some dest }) 0) Refused (record { net = h.net; dest = is; output = h.output; input = h.input }, none) tt
 
   dest_word : (dest : Option Identifier) → IfSome dest IsWord → IsWord (dest_or_0 dest)
   dest_word None is = none
@@ -162,22 +163,24 @@ module _ (chan : ChanRec) (h : ChanWords chan) where
   tell_dest_fits = (h, dest_word chan.dest h.dest)
 
   pub take_net_fits : (n : Word) → FoundFits (take_net n chan)
-  take_net_fits n = either (is_network n) (Got (record chan { net = n }) 0) Refused (record { dest = h.dest; output = h.output; input = h.input }, none) tt
+  take_net_fits n =
+      cond_both (is_network n) (Got (record chan { net = n }) 0) Refused FoundFits
+      (λ few. (record { net = ltb-true n 4 few; dest = h.dest; output = h.output; input = h.input }, none)) (λ no. tt)
 
-  pub tell_net_fits : IsWord chan.net → FoundFits (tell_net chan)
-  tell_net_fits is = (h, is)
+  pub tell_net_fits : FoundFits (tell_net chan)
+  tell_net_fits = let few = h.net in (h, omega (arith, few))
 
   pub at_fits : (does : ChanRec → Found) → FoundFits (does chan) → FoundFits (found_at does chan)
   at_fits does fits = either chan.used (does chan) Refused fits tt
 
 pub got_fits : ChanWords got_chan
-got_fits = record { dest = tt; output = unused_fits.output; input = unused_fits.input }
+got_fits = record { net = omega arith; dest = tt; output = unused_fits.output; input = unused_fits.input }
 
-pub freed_fits : (is_busy : Bool) (chan : ChanRec) → IfSome (freed_chan is_busy chan) ChanWords
-freed_fits is_busy chan = by (chan.used && (length chan.output == 0) && (length chan.input == 0) && not is_busy)
+pub freed_fits : (is_busy : Bool) (chan : ChanRec) → ChanWords chan → IfSome (freed_chan is_busy chan) ChanWords
+freed_fits is_busy chan h = by (chan.used && (length chan.output == 0) && (length chan.input == 0) && not is_busy)
   where
     by : (test : Bool) → IfSome (if test then Some (put_away chan) else None) ChanWords
-    by true = record { dest = tt; output = unused_fits.output; input = unused_fits.input }
+    by true = record { net = h.net; dest = tt; output = unused_fits.output; input = unused_fits.input }
     by false = tt
 
 -- ---- Ports
@@ -261,7 +264,11 @@ module _ (p : PortNumber) (port : PortRec) (facts : HasFacts (port_width p) port
   level_given outside shown = where_on_word (Gives port (level_of port.driven outside)) (level_word port.driven outside its.driven shown)
 
   turn_given : (wanted : Option ℕ) → GivesWord (turn_in p wanted port)
-  turn_given wanted = act_either _ _ _ tt tt
+  turn_given wanted = by (has_left port)
+    where
+      by : (left : Bool) → GivesWord (if not left then PausesAt (wanting wanted (turned_in port)) (PortFull p) (let_go port) else PausesAt (wanting wanted port) (PortIdle p) None)
+      by true = tt
+      by false = tt
 
   transfer_given : (wanted : Option ℕ) (transfer : Option TransferRec) → IfSome transfer (λ t. IsWord t.value) → GivesWord (take_transfer p wanted port transfer)
   transfer_given wanted None is = tt

@@ -5,3 +5,4 @@ mod Core
 mod Memory
 mod OwnRows
 mod Found
+mod Rows
