@@ -281,11 +281,11 @@ module _ (here : Setting) (core : CoreRec) (k : ThreadNumber) (few : k < 8) (id 
       let chan = free_chan core.chans 0 in
       let sync = lowest_free is_sync_used core.syncs 0 in
       let lock = lowest_free (λ (lock : LockRec). lock.used) core.locks 0 in
-      or_fits (kind == TIMER_KIND) (timer_was_got core k d timer) _ (timer_got_fits d timer (subst (λ (n : ℕ). IfSome timer (λ j. j < n)) h.timers.count (lowest_low (λ (timer : TimerRec). timer.used) core.timers 0)))
-      (or_fits (kind == CHAN_END_KIND) (chan_was_got here.id core k d chan) _ (chan_got_fits d chan (subst (λ (n : ℕ). IfSome chan (λ j. j < n)) h.chans.count (lowest_low (λ (chan : ChanRec). chan.used) core.chans 0)))
+      or_fits (kind == TIMER_KIND) (timer_was_got core k d timer) _ (timer_got_fits d timer (lowest_of (λ (timer : TimerRec). timer.used) core.timers 10 h.timers.count))
+      (or_fits (kind == CHAN_END_KIND) (chan_was_got here.id core k d chan) _ (chan_got_fits d chan (lowest_of (λ (chan : ChanRec). chan.used) core.chans 32 h.chans.count))
       (or_fits (kind == SYNCHRONISER_KIND) (sync_was_got core k d sync) _ (sync_got_fits d sync (lowest_of is_sync_used core.syncs 7 h.syncs))
       (or_fits (kind == THREAD_KIND) (thread_was_got here.slot core k d (thread_to_get core)) _ (thread_got_fits d (thread_to_get core) to_get)
-      (or_fits (kind == LOCK_KIND) (lock_was_got core k d lock) (goes_on_with core k d 0) (lock_got_fits d lock (subst (λ (n : ℕ). IfSome lock (λ j. j < n)) h.locks (lowest_low (λ (lock : LockRec). lock.used) core.locks 0))) (nothing_got d)))))
+      (or_fits (kind == LOCK_KIND) (lock_was_got core k d lock) (goes_on_with core k d 0) (lock_got_fits d lock (lowest_of (λ (lock : LockRec). lock.used) core.locks 4 h.locks)) (nothing_got d)))))
 
   -- ---- What is freed and set, where it is not refused
 
