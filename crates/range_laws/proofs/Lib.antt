@@ -6,3 +6,5 @@ mod Memory
 mod OwnRows
 mod Found
 mod Rows
+mod Issue
+mod Switch
