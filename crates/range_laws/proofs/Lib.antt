@@ -8,3 +8,7 @@ mod Found
 mod Rows
 mod Issue
 mod Switch
+mod Node
+mod Runs
+mod Numbers
+mod Saved

@@ -104,7 +104,7 @@ lowest_of : {A : Type 0} (is_taken : A → Bool) (list : List A) (many : ℕ) �
 lowest_of is_taken list many e = lowest_low is_taken list 0 many (omega (arith, e))
 
 -- what the pins show are words
-shown_word : (n : PortNumber) (levels : List Word) (p : ℕ) → LevelsFitFrom n levels → IsWord (get_or levels p 0)
+pub shown_word : (n : PortNumber) (levels : List Word) (p : ℕ) → LevelsFitFrom n levels → IsWord (get_or levels p 0)
 shown_word n [] p fit = omega arith
 shown_word n (level ∷ levels) zero fit = below_word level (port_width n) fit.0 (grind arith)
 shown_word n (level ∷ levels) (suc p) fit = shown_word (n + 1) levels p fit.1
