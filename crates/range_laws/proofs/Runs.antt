@@ -159,8 +159,7 @@ module _ (shown : ShownLevelsFit) (kept_so : KeptInEveryRun) (plan : PlanRec) (i
         let rest = steps_range (n + 1) nodes recs all.1 (λ k low. facts (suc k) (omega (arith, low))) range.1 in
         let its = facts 0 (omega arith) in
         let planned = fixed n node all.0 in
-        let come = comes slot n carry in
-        (
+        let come = comes slot n carry in (
           (step_range (fixed_of node (gaps_of plan n)) rec slot coming.arrivals coming.pins planned come range.0 its, rest.0),
           (step_sends (fixed_of node (gaps_of plan n)) rec slot coming.arrivals coming.pins planned come range.0 its, rest.1),
         )

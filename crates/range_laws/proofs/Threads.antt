@@ -109,8 +109,18 @@ handler_word number th h = either_word (number == KERNEL_CALL) _ th.kep (low_wor
 
 pub trapped_fits : (th : Thread) (number : ℕ) (value next : Word) → ThreadFits th → IsWord number → IsWord value → IsWord next → ThreadFits (trapped th number value next)
 trapped_fits th number value next h fn fv fx = record {
-  r = h.r; cp = h.cp; dp = h.dp; sp = h.sp; lr = h.lr; kep = h.kep; ksp = h.ksp;
-  pc = handler_word number th h; spc = fx; et = fn; ed = fv; sed = h.ed;
+  r = h.r;
+  cp = h.cp;
+  dp = h.dp;
+  sp = h.sp;
+  lr = h.lr;
+  kep = h.kep;
+  ksp = h.ksp;
+  pc = handler_word number th h;
+  spc = fx;
+  et = fn;
+  ed = fv;
+  sed = h.ed;
 }
 
 pub entered_fits : (taken : EnablingRec) (th : Thread) → IsWord taken.vector → IsWord taken.environment → ThreadFits th → ThreadFits (entered taken th)
@@ -118,16 +128,46 @@ entered_fits taken th fv fe h = by taken.interrupt
   where
     by : (interrupt : Bool) → ThreadFits (if interrupt then in_interrupt th taken.vector taken.environment else in_event th taken.vector taken.environment)
     by true = record {
-      r = h.r; cp = h.cp; dp = h.dp; sp = h.sp; lr = h.lr; kep = h.kep; ksp = h.ksp; et = h.et;
-      pc = fv; spc = h.pc; ed = fe; sed = h.ed;
+      r = h.r;
+      cp = h.cp;
+      dp = h.dp;
+      sp = h.sp;
+      lr = h.lr;
+      kep = h.kep;
+      ksp = h.ksp;
+      et = h.et;
+      pc = fv;
+      spc = h.pc;
+      ed = fe;
+      sed = h.ed;
     }
     by false = record {
-      r = h.r; cp = h.cp; dp = h.dp; sp = h.sp; lr = h.lr; kep = h.kep; ksp = h.ksp; et = h.et; spc = h.spc; sed = h.sed;
-      pc = fv; ed = fe;
+      r = h.r;
+      cp = h.cp;
+      dp = h.dp;
+      sp = h.sp;
+      lr = h.lr;
+      kep = h.kep;
+      ksp = h.ksp;
+      et = h.et;
+      spc = h.spc;
+      sed = h.sed;
+      pc = fv;
+      ed = fe;
     }
 
 pub returned_fits : (th : Thread) → ThreadFits th → ThreadFits (returned th)
 returned_fits th h = record {
-  r = h.r; cp = h.cp; dp = h.dp; sp = h.sp; lr = h.lr; kep = h.kep; ksp = h.ksp; et = h.et; spc = h.spc; sed = h.sed;
-  pc = h.spc; ed = h.sed;
+  r = h.r;
+  cp = h.cp;
+  dp = h.dp;
+  sp = h.sp;
+  lr = h.lr;
+  kep = h.kep;
+  ksp = h.ksp;
+  et = h.et;
+  spc = h.spc;
+  sed = h.sed;
+  pc = h.spc;
+  ed = h.sed;
 }
