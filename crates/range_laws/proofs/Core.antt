@@ -1,14 +1,14 @@
 -- What is true of the numbers of a core, and what changes of a part keep.
-use Rattle.std.proofs.Common.{◌≡◌, ℕ, ◌<◌, ◌^◌, Bool, true, false, if◌then◌else◌, Option, Some, None, List, [], ◌∷◌, length, get_or, slice_set, replicate, refl, ◌∙◌, length-set, arith}
+use Rattle.std.proofs.Common.{◌≡◌, ℕ, ◌<◌, ◌^◌, Bool, true, false, if◌then◌else◌, Some, None, List, [], ◌∷◌, length, get_or, slice_set, ◌∙◌, length-set, arith}
 use Rattle.std.specs.Prelude.{IfSome}
 use Rattle.std.specs.List.{AllByRecursion}
-use Rattle.xs_base.specs.Numbers.{Word, ThreadNumber, ChanNumber}
+use Rattle.xs_base.specs.Numbers.{ThreadNumber, ChanNumber}
 use Rattle.xs_model.specs.declared.resource.Res.{Res}
 use Rattle.xs_model.specs.declared.resource.Res.TheVariants.{Chan, Timer, Port}
 use Rattle.xs_model.specs.declared.thread.Thread.{Thread}
 use Rattle.xs_model.specs.declared.thread.Run.{Run}
 use Rattle.xs_model.specs.Threads.{fresh_thread}
-use Rattle.xs_model.specs.Record.{CoreRec, SlotsRec, ChanRec, TimerRec, ClockRec, SyncRec, LockRec, PortRec, EnablingRec, EnabledRec, unused_chan, unused_timer, off_clock, not_enabled, none_enabled, thread_of, chan_of, timer_of, clock_of, with_thread, with_chan, with_timer, with_clock, with_last}
+use Rattle.xs_model.specs.Record.{CoreRec, SlotsRec, ChanRec, TimerRec, ClockRec, SyncRec, LockRec, PortRec, EnablingRec, EnabledRec, unused_chan, unused_timer, off_clock, not_enabled, thread_of, chan_of, timer_of, clock_of, with_thread, with_chan, with_timer, with_clock, with_last}
 use Rattle.xs_model.specs.Enabling.{enabling_of, with_enabling, changed, forgotten, disabled_where, all_disabled_where, without_thread, without_threads}
 use Rattle.step_model.specs.ThreadRows.{with_runs}
 use Rattle.state_forms.specs.Buffers.{buffer_of, BufferFits}

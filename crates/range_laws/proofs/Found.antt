@@ -1,24 +1,24 @@
 -- What programs find at channel ends and at ports are words, and what they leave there fits.
-use Rattle.std.proofs.Common.{◌≡◌, ℕ, zero, suc, ◌+◌, ◌*◌, ◌-◌, ◌/◌, ◌%◌, ◌^◌, ◌<◌, ◌≤◌, ◌==◌, ◌&&◌, ◌||◌, Bool, true, false, not, nat_lt, nat_le, is_some, if◌then◌else◌, Option, Some, None, List, [], ◌∷◌, ◌++◌, length, take, drop, min, refl, sym, ap, subst, ◌∙◌, arith}
+use Rattle.std.proofs.Common.{ℕ, suc, ◌+◌, ◌/◌, ◌%◌, ◌^◌, ◌<◌, ◌≤◌, ◌==◌, ◌&&◌, ◌||◌, Bool, true, false, not, nat_lt, if◌then◌else◌, Option, Some, None, List, [], ◌∷◌, ◌++◌, length, take, drop, arith}
 use Rattle.std.specs.Prelude.{IfSome}
 use Rattle.std.specs.List.{AllByRecursion, list_any}
-use Rattle.std.proofs.lemmas.Bool.{cond_both, leb-true, ltb-true, false≢true}
+use Rattle.std.proofs.lemmas.Bool.{cond_both, leb-true, ltb-true}
 use Rattle.std.proofs.lemmas.List.{length-append, length-take, length-drop}
-use Rattle.std.proofs.lemmas.Nat.{mod_below, pow_pos}
+use Rattle.std.proofs.lemmas.Nat.{mod_below}
 use Rattle.xs_base.specs.Numbers.{Word, Identifier, PortNumber}
 use Rattle.xs_base.specs.Ids.{port_width}
 use Rattle.xs_base.specs.declared.token.Token.{Token}
 use Rattle.xs_base.specs.declared.token.Token.TheVariants.{Byte, Ctrl}
 use Rattle.xs_model.specs.declared.thread.Wait.TheVariants.{PortFull, PortIdle}
-use Rattle.xs_model.specs.Record.{ChanRec, PortRec, TransferRec, off_port}
+use Rattle.xs_model.specs.Record.{ChanRec, PortRec, TransferRec}
 use Rattle.xs_model.specs.Ports.{level_of}
-use Rattle.xs_model.specs.PortActions.{Acted, Did, Got as Gives, Waits as PausesAt, Refused as Refuses, has_left, wanting, turned_in, let_go, tell_value, tell_stamp, peek, turn_in, take_transfer, take_in, is_part, take_part, end_transfer, end_in, cut_short}
+use Rattle.xs_model.specs.PortActions.{Acted, Did, Got as Gives, Waits as PausesAt, Refused as Refuses, has_left, wanting, turned_in, let_go, tell_value, tell_stamp, peek, turn_in, take_transfer, take_in, is_part, take_part, end_transfer, end_in}
 use Rattle.xs_model.specs.Waits.{has_room, is_control, has_tokens}
 use Rattle.net_model.specs.Chans.{Found, Got, Waits, Refused, put_away, got_chan, freed_chan, found_at, put_towards, put_token, bytes_of_word, put_word, value_of, joined, take_word, take_where, take_byte, take_ctrl, check_token, truth, look_at, look, control_place, look_word, is_chan_id, take_dest, dest_or_0, tell_dest, is_network, take_net, tell_net}
-use Rattle.port_laws.specs.Facts.{HasFacts, is_off, is_on, IsOn, IsTransfer}
+use Rattle.port_laws.specs.Facts.{HasFacts, is_off, is_on, IsTransfer}
 use Rattle.state_forms.specs.Buffers.{TokenFits, buffer_of, BufferFits}
 use Rattle.range_laws.proofs.Lists.{all_joined, all_dropped}
-use Rattle.range_laws.proofs.Words.{IsWord, below_word, at_most, either_word}
+use Rattle.range_laws.proofs.Words.{IsWord, below_word}
 use Rattle.range_laws.proofs.Core.{ChanWords, unused_fits}
 
 -- ---- Tokens

@@ -1,5 +1,5 @@
 -- The issue of a slot leaves words, bytes and small numbers.
-use Rattle.std.proofs.Common.{◌≡◌, ℕ, zero, suc, ◌+◌, ◌<◌, ◌^◌, ◌-◌, ◌/◌, ◌==◌, ◌&&◌, Bool, true, false, if◌then◌else◌, Option, Some, None, List, [], ◌∷◌, length, refl, arith}
+use Rattle.std.proofs.Common.{◌≡◌, ℕ, zero, suc, ◌+◌, ◌<◌, ◌^◌, ◌-◌, ◌/◌, ◌==◌, ◌&&◌, Bool, true, false, if◌then◌else◌, Option, Some, None, List, [], ◌∷◌, length, arith}
 use Rattle.std.specs.Prelude.{slice_get, IfSome}
 use Rattle.std.specs.List.{AllByRecursion}
 use Rattle.xs_base.specs.Numbers.{Slot, Word, ThreadNumber, PortNumber}
@@ -13,8 +13,8 @@ use Rattle.xs_model.specs.declared.traps.TheConstants.{ILLEGAL_PC, KERNEL_CALL}
 use Rattle.xs_model.specs.Entry.{trapped, return_address, entered}
 use Rattle.xs_model.specs.Enabling.{gives_to}
 use Rattle.xs_model.specs.Outside.{LevelsFit}
-use Rattle.xs_model.specs.Record.{CoreRec, EnablingRec, EnabledRec, thread_of, port_of, with_thread, with_run, with_last}
-use Rattle.xs_model.specs.Choices.{ReadyRec, ready_in, first_of, first_ready, choice_in_mode, allowed_choice, choice_by, choice}
+use Rattle.xs_model.specs.Record.{CoreRec, EnablingRec, EnabledRec, thread_of, port_of, with_last}
+use Rattle.xs_model.specs.Choices.{ReadyRec, ready_in, first_of, first_ready, choice_in_mode, allowed_choice, choice}
 use Rattle.xs_model.specs.Picks.{eligible, best_from, number_of_best, picked}
 use Rattle.xs_model.specs.Status.{has_bits}
 use Rattle.xs_instructions.specs.Instr.{InRange}
@@ -26,7 +26,6 @@ use Rattle.step_model.specs.Step.{halt_unless, trap, settled, executed, issue_be
 use Rattle.step_laws.proofs.Best.{IsBest, best_is_best}
 use Rattle.port_laws.specs.Facts.{HasFacts}
 use Rattle.state_bridge.specs.Fits.{ThreadFits}
-use Rattle.range_laws.proofs.Lists.{all_at}
 use Rattle.range_laws.proofs.Words.{IsWord, low_word, either_word}
 use Rattle.range_laws.proofs.Threads.{set_run, trapped_fits, entered_fits}
 use Rattle.range_laws.proofs.Core.{CoreFits, EnablingWords, EnabledWords, thread_fits, thread_set, last_set}

@@ -1,12 +1,12 @@
 -- Loads give words, and stores leave bytes.
-use Rattle.std.proofs.Common.{◌≡◌, ℕ, zero, suc, ◌+◌, ◌*◌, ◌-◌, ◌/◌, ◌%◌, ◌^◌, ◌<◌, ◌≤◌, ◌==◌, ◌&&◌, Bool, true, false, nat_lt, nat_le, if◌then◌else◌, Option, Some, None, List, [], ◌∷◌, ◌++◌, length, take, drop, replicate, refl, sym, ap, ◌∙◌, arith}
+use Rattle.std.proofs.Common.{◌≡◌, ℕ, ◌+◌, ◌-◌, ◌/◌, ◌%◌, ◌<◌, ◌≤◌, ◌==◌, ◌&&◌, Bool, true, false, nat_lt, nat_le, if◌then◌else◌, Option, Some, None, List, [], ◌∷◌, ◌++◌, length, take, drop, replicate, ◌∙◌, arith}
 use Rattle.std.specs.Prelude.{IfSome}
 use Rattle.std.specs.List.{AllByRecursion}
 use Rattle.std.proofs.lemmas.Bool.{cond_both, and_parts, ltb-true, leb-true, eqb-true}
 use Rattle.std.proofs.lemmas.List.{length-append, length-take, length-drop, length-replicate}
 use Rattle.std.proofs.lemmas.Nat.{mod_below}
 use Rattle.xs_base.specs.declared.numbers.TheConstants.{MEMORY_START, MEMORY_BYTES}
-use Rattle.xs_model.specs.Memory.{is_address_of, bytes_from, with_bytes, word_here, bytes_of_word, load_word, store_word, half_here, bytes_of_half, load_half, store_half, byte_here, low_byte, load_byte, store_byte, first_memory}
+use Rattle.xs_model.specs.Memory.{is_address_of, with_bytes, word_here, bytes_of_word, load_word, store_word, half_here, bytes_of_half, load_half, store_half, byte_here, low_byte, load_byte, store_byte, first_memory}
 use Rattle.range_laws.proofs.Lists.{all_joined, all_dropped, all_taken, all_many}
 use Rattle.range_laws.proofs.Words.{IsWord, sext_word}
 use Rattle.range_laws.proofs.Core.{IsByte, MemoryFits}

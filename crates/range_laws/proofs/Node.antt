@@ -1,5 +1,5 @@
 -- A node as it starts has its numbers in their ranges, and so has it after each slot; and what it sends are bytes.
-use Rattle.std.proofs.Common.{◌≡◌, ℕ, zero, suc, ◌+◌, ◌<◌, ◌≤◌, ◌^◌, ◌%◌, ◌==◌, ◌&&◌, ◌||◌, nat_le, Bool, true, false, if◌then◌else◌, Option, Some, None, List, [], ◌∷◌, length, map, get_or, replicate, refl, sym, ap, subst, ◌∙◌, arith}
+use Rattle.std.proofs.Common.{◌≡◌, ℕ, zero, suc, ◌+◌, ◌<◌, ◌^◌, ◌%◌, ◌==◌, ◌&&◌, ◌||◌, nat_le, Bool, true, false, if◌then◌else◌, Option, Some, None, List, [], ◌∷◌, length, map, get_or, replicate, refl, ap, subst, ◌∙◌, arith}
 use Rattle.std.specs.Prelude.{IfSome, IsTrue, codes}
 use Rattle.std.specs.List.{AllByRecursion}
 use Rattle.std.proofs.lemmas.Bool.{cond_both, and_parts, leb-true}
@@ -8,26 +8,25 @@ use Rattle.xs_base.specs.Numbers.{Slot, Word, PortNumber}
 use Rattle.xs_base.specs.Ids.{port_width}
 use Rattle.xs_model.specs.declared.outside.Arrivals.{Arrivals}
 use Rattle.xs_model.specs.declared.outside.PinView.{PinView}
-use Rattle.xs_model.specs.AtWork.{AtWork, slot_begins}
+use Rattle.xs_model.specs.AtWork.{slot_begins}
 use Rattle.xs_model.specs.Outside.{LevelsFit}
 use Rattle.xs_model.specs.Ports.{levels_of, edges_from}
-use Rattle.xs_model.specs.Record.{CoreRec, NodeRec, PortRec, ClockRec, LinkRec, Idle, off_port, unused_timer, off_clock, unused_chan, not_enabled, free_thread, first_core}
+use Rattle.xs_model.specs.Record.{NodeRec, PortRec, ClockRec, Idle, off_port, unused_timer, off_clock, unused_chan, not_enabled, free_thread, first_core}
 use Rattle.xs_model.specs.Memory.{first_memory}
 use Rattle.xs_instructions.specs.Code.{code_start, place_address}
 use Rattle.xs_instructions.specs.Image.{Symbol, ImageRec, IsImage, same_name, data_start, address_of, is_place, entry_from, entry_of}
 use Rattle.xs_instructions.specs.Instr.{InRange}
 use Rattle.net_model.specs.Links.{arrive}
-use Rattle.net_model.specs.Switch.{moves}
 use Rattle.sys_plan.specs.declared.NodePlan.{NodePlan}
 use Rattle.step_model.specs.Fixed.{Fixed}
 use Rattle.step_model.specs.Start.{node_of, link_with_gap}
-use Rattle.step_model.specs.Step.{setting_of, ports_step, before_issue, issued, node_step}
+use Rattle.step_model.specs.Step.{setting_of, ports_step, before_issue, node_step}
 use Rattle.port_laws.specs.Facts.{HasFacts, is_off}
 use Rattle.port_laws.specs.Ports.{AllHaveFacts}
 use Rattle.port_laws.proofs.Edges.{slot_keeps}
 use Rattle.state_bridge.specs.Fits.{AreSuch, ThreadFits}
 use Rattle.range_laws.specs.Ranges.{IsRunnable}
-use Rattle.range_laws.proofs.Lists.{all_many, all_made}
+use Rattle.range_laws.proofs.Lists.{all_many}
 use Rattle.range_laws.proofs.Words.{IsWord}
 use Rattle.range_laws.proofs.Threads.{first_fits, free_fits}
 use Rattle.range_laws.proofs.Memory.{first_memory_fits}

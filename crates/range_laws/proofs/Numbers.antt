@@ -1,14 +1,13 @@
 -- The numbers of a node's state are of its types.
-use Rattle.std.proofs.Common.{◌≡◌, ℕ, zero, suc, ◌+◌, ◌<◌, ◌^◌, Option, Some, None, List, [], ◌∷◌, length, map, get_or, refl, sym, ap, subst, ◌∙◌, arith}
+use Rattle.std.proofs.Common.{◌≡◌, ℕ, suc, ◌<◌, ◌^◌, Option, Some, None, List, [], ◌∷◌, length, map, get_or, sym, ap, subst, ◌∙◌, arith}
 use Rattle.std.specs.Prelude.{IfSome, option_map}
 use Rattle.std.specs.List.{AllByRecursion}
 use Rattle.std.proofs.lemmas.List.{length-map}
-use Rattle.xs_base.specs.Numbers.{Slot, Position, PortNumber, ThreadNumber, Word}
+use Rattle.xs_base.specs.Numbers.{Slot}
 use Rattle.xs_base.specs.Ids.{port_width}
-use Rattle.xs_model.specs.Record.{CoreRec, NodeRec, InputRec, LinkRec, SyncRec, PortRec, TransferRec, ChanRec, TimerRec, ClockRec, EnablingRec, Idle, Head1, Head2, Want, Local, Out, Lost, first_node, unused_sync, off_port, sync_of, port_of}
-use Rattle.xs_model.specs.Outside.{LevelsFit}
+use Rattle.xs_model.specs.Record.{NodeRec, InputRec, LinkRec, SyncRec, PortRec, TransferRec, ChanRec, Idle, Head1, Head2, Want, Local, Out, Lost, first_node, unused_sync, off_port, sync_of, port_of}
 use Rattle.sys_plan.specs.declared.NodePlan.{NodePlan}
-use Rattle.sys_plan.specs.Plan.{PlanRec, IsPlan, gaps_of}
+use Rattle.sys_plan.specs.Plan.{gaps_of}
 use Rattle.serial_model.specs.Serial.{serial}
 use Rattle.port_laws.specs.Facts.{HasFacts, is_off, is_on, IsTransfer}
 use Rattle.chan_ends.specs.States.{chan_state}
@@ -22,17 +21,17 @@ use Rattle.core_step.specs.States.{link_state, node_state}
 use Rattle.locality_laws.specs.Levels.{ShownLevelsFit}
 use Rattle.locality_laws.specs.Locality.{node_in}
 use Rattle.state_laws.specs.Facts.{MayBeKept, AreOfMask}
-use Rattle.state_laws.specs.Runs.{RunInRange, KeptInEveryRun}
+use Rattle.state_laws.specs.Runs.{KeptInEveryRun}
 use Rattle.state_forms.specs.Chans.{ChanFits}
 use Rattle.port_forms.specs.Ports.{FitsHalves}
 use Rattle.switch_forms.specs.Inputs.{InputFits}
-use Rattle.state_bridge.specs.Fits.{AreSuch, AreWords, ThreadFits, TimerFits, ClockFits, SyncFits, EnableFits, EndFits, NumbersFit}
+use Rattle.state_bridge.specs.Fits.{AreSuch, TimerFits, ClockFits, SyncFits, EnableFits, EndFits, NumbersFit}
 use Rattle.rest_laws.specs.Rest.{IsByteDest, HasByteDests}
-use Rattle.range_laws.specs.Ranges.{AreRunnable, NumbersOfRunsFit, RunsHaveByteDests}
+use Rattle.range_laws.specs.Ranges.{NumbersOfRunsFit, RunsHaveByteDests}
 use Rattle.range_laws.proofs.Lists.{all_at, all_made}
-use Rattle.range_laws.proofs.Core.{IsByte, CoreFits, ChanWords, TimerWord, ClockByte, EnablingWords}
+use Rattle.range_laws.proofs.Core.{IsByte, ChanWords, TimerWord, ClockByte, EnablingWords}
 use Rattle.range_laws.proofs.Rows.{shown_word}
-use Rattle.range_laws.proofs.Switch.{InputRange, LinkRange, NodeRange, DestFits}
+use Rattle.range_laws.proofs.Switch.{InputRange, LinkRange, NodeRange}
 use Rattle.range_laws.proofs.Runs.{AllRange, run_in_range, nodes_range}
 
 -- ---- Parts

@@ -1,10 +1,10 @@
 -- What the rows on words, on memory, on the flow of control and on the kernel leave: words and bytes.
-use Rattle.std.proofs.Common.{ℕ, ◌≡◌, ◌+◌, ◌*◌, ◌-◌, ◌/◌, ◌%◌, ◌^◌, ◌<◌, Bool, true, false, not, ◌==◌, ◌||◌, if◌then◌else◌, Option, Some, None, List, bit_and, bit_or, bit_xor, refl, arith}
+use Rattle.std.proofs.Common.{ℕ, ◌+◌, ◌*◌, ◌/◌, ◌^◌, ◌<◌, Bool, true, false, not, ◌==◌, if◌then◌else◌, Option, Some, None, List, bit_and, arith}
 use Rattle.std.specs.Prelude.{ℤ, pos, ◌+ℤ◌, ◌*ℤ◌, IfSome}
 use Rattle.std.proofs.Math.Nat.{mod-le, div-le_self}
 use Rattle.std.proofs.lemmas.Nat.{or_of_32, xor_of_32}
 use Rattle.xs_base.specs.Numbers.{Word, Register, ThreadNumber}
-use Rattle.xs_base.specs.Words.{truth, modulo, halves, long, signed, word_sum}
+use Rattle.xs_base.specs.Words.{long, signed, word_sum}
 use Rattle.xs_model.specs.declared.thread.Thread.{Thread}
 use Rattle.xs_model.specs.declared.status.Status.{Status}
 use Rattle.xs_model.specs.declared.status.TheConstants.{SETTABLE}
@@ -12,7 +12,7 @@ use Rattle.xs_model.specs.Status.{status_of, with_bits, without_bits}
 use Rattle.xs_model.specs.Threads.{register, with_register}
 use Rattle.xs_model.specs.Memory.{load_word, load_half, load_byte, store_word, store_half, store_byte}
 use Rattle.xs_instructions.specs.Code.{place_address}
-use Rattle.xs_instructions.specs.Instr.{InRange, WordsInRange, MemoryInRange, FlowInRange, KernelInRange}
+use Rattle.xs_instructions.specs.Instr.{WordsInRange, MemoryInRange, FlowInRange, KernelInRange}
 use Rattle.xs_instructions.specs.declared.instr.WordIns.{WordIns}
 use Rattle.xs_instructions.specs.declared.instr.WordIns.TheVariants as words
 use Rattle.xs_instructions.specs.declared.instr.MemIns.{MemIns}
@@ -28,7 +28,7 @@ use Rattle.step_model.specs.FlowRows.{after_branch, called, flow_row}
 use Rattle.step_model.specs.KernelRows.{kernel_row, calls_where, loads_from_stack, stores_to_stack, sets_status}
 use Rattle.state_bridge.specs.Fits.{ThreadFits}
 use Rattle.range_laws.proofs.Words.{IsWord, low_word, at_most, and_word, and_short, truth_word, inverted_word, modulo_below, of_word, shl_word, shr_word, mkmsk_word, zext_word, sext_word, bitrev_word, byterev_word, clz_word, AreTwo, halves_words, carry_words, borrow_words, product_words, quotient_words}
-use Rattle.range_laws.proofs.Threads.{set_cp, set_dp, set_sp, set_lr, set_pc, set_spc, set_et, set_ed, set_sed, set_kep, set_ksp, set_sr, set_ssr, register_fits, register_word, goes_fits, returned_fits}
+use Rattle.range_laws.proofs.Threads.{set_cp, set_dp, set_sp, set_lr, set_pc, set_spc, set_et, set_sed, set_kep, set_ksp, set_sr, set_ssr, register_fits, register_word, goes_fits, returned_fits}
 use Rattle.range_laws.proofs.Memory.{FoundWord, LeftMemory, loaded_word, loaded_half, loaded_byte, stored_word, stored_half, stored_byte}
 use Rattle.range_laws.proofs.Core.{MemoryFits}
 

@@ -1,13 +1,11 @@
 -- What each row of the instruction table leaves: words, bytes and small numbers; and so is what a trap tells.
-use Rattle.std.proofs.Common.{◌≡◌, ℕ, zero, suc, ◌+◌, ◌<◌, ◌≤◌, ◌%◌, Bool, true, false, not, ◌==◌, ◌&&◌, ◌||◌, is_some, is_none, length, slice_set, if◌then◌else◌, Option, Some, None, [], option_map, refl, sym, subst, inl, inr, arith}
-use Rattle.std.proofs.lemmas.Bool.{cond_both, and_parts, eqb-true, not-true, eqb-false, false≢true}
-use Rattle.std.specs.Prelude.{IfSome, IsTrue}
+use Rattle.std.proofs.Common.{◌≡◌, ℕ, zero, suc, ◌+◌, ◌<◌, ◌%◌, Bool, true, false, not, ◌==◌, ◌&&◌, ◌||◌, length, slice_set, if◌then◌else◌, Option, Some, None, [], option_map, arith}
+use Rattle.std.proofs.lemmas.Bool.{cond_both, and_parts}
+use Rattle.std.specs.Prelude.{IfSome}
 use Rattle.xs_base.specs.Numbers.{Word, Register, ThreadNumber, ChanNumber, PortNumber, Kind, Identifier}
 use Rattle.xs_base.specs.Ids.{port_with, port_width}
 use Rattle.xs_base.specs.declared.token.Token.TheVariants.{Byte, Ctrl}
-use Rattle.xs_base.specs.declared.numbers.TheConstants.{PORTS, THREADS, CHAN_ENDS, TIMER_KIND, CHAN_END_KIND, SYNCHRONISER_KIND, THREAD_KIND, LOCK_KIND}
-use Rattle.xs_model.specs.declared.clock.Clock.{Clock}
-use Rattle.xs_model.specs.declared.clock.Clock.TheVariants.{Reference, Block}
+use Rattle.xs_base.specs.declared.numbers.TheConstants.{TIMER_KIND, CHAN_END_KIND, SYNCHRONISER_KIND, THREAD_KIND, LOCK_KIND}
 use Rattle.xs_model.specs.declared.modes.TheConstants.{OFF, ON, NO_CONDITION, AFTER, EVENT, INTERRUPT, STOP, START}
 use Rattle.xs_model.specs.declared.traps.TheConstants.{ILLEGAL_RESOURCE, RESOURCE_DEPENDENCY}
 use Rattle.xs_model.specs.declared.status.TheConstants.{EEBLE, INENB}
@@ -22,15 +20,15 @@ use Rattle.xs_model.specs.declared.resource.Resource.{Resource}
 use Rattle.xs_model.specs.declared.resource.Resource.TheVariants as resource
 use Rattle.xs_model.specs.Status.{without_bits}
 use Rattle.xs_model.specs.Threads.{register, with_register}
-use Rattle.xs_model.specs.Record.{CoreRec, ChanRec, TimerRec, ClockRec, SyncRec, LockRec, PortRec, EnablingRec, unused_sync, unused_lock, thread_of, chan_of, timer_of, clock_of, sync_of, lock_of, port_of, with_thread, with_run, with_chan, with_port, with_enabled}
-use Rattle.xs_model.specs.Syncs.{is_thread, freed_sync, Claimed, Owns, IsHeld, IsRefused, free_lock, claimed_from, claimed, released, freed_lock}
+use Rattle.xs_model.specs.Record.{CoreRec, ChanRec, TimerRec, ClockRec, SyncRec, LockRec, PortRec, EnablingRec, thread_of, chan_of, timer_of, clock_of, sync_of, lock_of, port_of, with_thread, with_run, with_chan, with_port, with_enabled}
+use Rattle.xs_model.specs.Syncs.{is_thread, freed_sync, Claimed, Owns, IsHeld, IsRefused, free_lock, claimed, released, freed_lock}
 use Rattle.xs_model.specs.Time.{time_at, with_after, timer_holds, with_value, divided_by, on_clock, turned_off, started, stopped, freed_timer, got_timer}
 use Rattle.xs_model.specs.Enabling.{with_vector, with_environment, in_mode as giving, enabled_for, forgotten}
 use Rattle.xs_model.specs.Ports.{pin_happens}
 use Rattle.xs_base.specs.Words.{shr}
-use Rattle.xs_model.specs.PortActions.{Acted, Did, Got as Gives, Waits as PausesAt, Refused as Refuses, in_mode, set_clock, set_strobe, may_strobe, set_value, tell_value, take_in, take_part, put_out, end_in, sync, tell_stamp, set_time, clear_time}
+use Rattle.xs_model.specs.PortActions.{Acted, Did, Got as Gives, Waits as PausesAt, Refused as Refuses, in_mode, set_value, tell_value, take_in, take_part, put_out, end_in, sync, tell_stamp, set_time, clear_time}
 use Rattle.xs_model.specs.Waits.{is_in, all_in, division_is_over, is_waited_at, is_paused_on}
-use Rattle.xs_instructions.specs.Instr.{InRange, is_width}
+use Rattle.xs_instructions.specs.Instr.{InRange}
 use Rattle.xs_instructions.specs.declared.instr.Instr.{Instr}
 use Rattle.xs_instructions.specs.declared.instr.Instr.TheVariants.{Words, Memory, Flow, Kernel, Threads, Resources}
 use Rattle.xs_instructions.specs.declared.instr.WordIns.{WordIns}
@@ -46,16 +44,13 @@ use Rattle.step_model.specs.ThreadRows.{thread_to_get, slave_got, by_master, as_
 use Rattle.step_model.specs.TimeRows.{timer_becomes, clock_becomes, tells, takes_time}
 use Rattle.step_model.specs.EventRows.{eventful, with_changed, sets_events, clears, waits_for_event, waits_where}
 use Rattle.step_model.specs.ModeRows.{in_event_mode, timer_in_mode, with_restarted, clock_in_mode, resource_in_mode, turns_port, port_in_mode, sets_mode}
-use Rattle.step_model.specs.PortRows.{clock_if_on, clock_named, strobe_if_allowed, strobe_named, goes_on_taking, ends_at_port, at_port, at_named_port, on_port, takes_no_word, takes_word, shifts_in_from_above, shifts_out_below, sets_where, sets_clock, sets_strobe, sets_transfer_width, puts_word, puts_part, peeks, at_any}
+use Rattle.step_model.specs.PortRows.{goes_on_taking, ends_at_port, at_port, at_named_port, on_port, takes_no_word, takes_word, shifts_in_from_above, shifts_out_below, sets_clock, sets_strobe, sets_transfer_width, puts_word, puts_part, peeks, at_any}
 use Rattle.step_model.specs.ResourceRows.{resources_row, resource_got, chan_was_got, sync_was_got, thread_was_got, timer_was_got, lock_was_got, without_chan, without_timer, without_sync, without_lock, without, freed, claimed_there, takes_in, puts_out, sets_data, tells_data, named_in, found_there, at_chan, on_named, on_chan, room, tokens, no_wait, takes_nothing, takes_into}
 use Rattle.step_model.specs.Rows.{effect}
-use Rattle.step_laws.proofs.Named.{IsPort, port_is_there}
-use Rattle.std.proofs.Common.{nat_le, ◌*◌, ◌^◌, List, ◌∷◌, get_or, map, length-set, ◌∙◌}
+use Rattle.std.proofs.Common.{nat_le, ◌^◌, List, ◌∷◌, get_or, length-set, ◌∙◌}
 use Rattle.std.proofs.lemmas.List.{length-map}
 use Rattle.std.proofs.lemmas.Bool.{leb-true}
-use Rattle.std.specs.List.{AllByRecursion}
 use Rattle.xs_base.specs.Ids.{chan_id, res_id}
-use Rattle.xs_base.specs.declared.token.Token.{Token}
 use Rattle.xs_model.specs.Free.{lowest_free}
 use Rattle.xs_model.specs.Outside.{LevelsFit, LevelsFitFrom}
 use Rattle.xs_model.specs.Syncs.{is_sync_used, got_sync, with_bound, unbound}

@@ -1,6 +1,5 @@
 -- Every node of the serial machine has its numbers in their ranges, before every slot, and what arcs carry are bytes.
-use Rattle.std.proofs.Common.{◌≡◌, ℕ, zero, suc, ◌+◌, ◌<◌, ◌^◌, ◌==◌, Bool, true, false, if◌then◌else◌, Option, Some, None, List, [], ◌∷◌, ◌++◌, length, map, filter, get_or, refl, sym, ap, subst, arith}
-use Rattle.std.specs.Prelude.{IfSome}
+use Rattle.std.proofs.Common.{ℕ, zero, suc, ◌+◌, ◌<◌, ◌==◌, Bool, true, false, if◌then◌else◌, Option, Some, None, List, [], ◌∷◌, length, map, filter, get_or, refl, arith}
 use Rattle.std.specs.List.{AllByRecursion}
 use Rattle.xs_base.specs.Numbers.{Slot, Position, LinkNumber, EndNumber}
 use Rattle.xs_base.specs.declared.token.Token.{Token}
@@ -11,13 +10,12 @@ use Rattle.xs_base.specs.declared.entry.What.TheVariants as what
 use Rattle.xs_model.specs.Record.{NodeRec, first_node}
 use Rattle.xs_model.specs.Outside.{Emitted, emitted_events}
 use Rattle.sys_plan.specs.declared.NodePlan.{NodePlan}
-use Rattle.sys_plan.specs.Plan.{PlanRec, Arc, Joined, IsPlan, arcs, incoming, delay_of, gaps_of, link_ends}
-use Rattle.step_model.specs.Start.{fixed_of, node_of}
+use Rattle.sys_plan.specs.Plan.{PlanRec, Arc, Joined, IsPlan, arcs, incoming, gaps_of, link_ends}
+use Rattle.step_model.specs.Start.{fixed_of}
 use Rattle.step_model.specs.Step.{Stepped}
-use Rattle.serial_model.specs.Serial.{nodes_at_start, arriving, arriving_by, token_or, token_among, arrivals_at, steps_from, coming_at, step_by, serial, token_entries, credit_entries, sent_by, driven_level, level_entries, carried_by, node_by, emitted_by, carried, longer_histories}
+use Rattle.serial_model.specs.Serial.{nodes_at_start, arriving_by, token_or, token_among, steps_from, coming_at, serial, token_entries, credit_entries, driven_level, level_entries, carried_by, node_by, emitted_by, carried, longer_histories}
 use Rattle.state_forms.specs.Buffers.{TokenFits}
 use Rattle.locality_laws.specs.Levels.{ShownLevelsFit}
-use Rattle.locality_laws.specs.Locality.{node_in}
 use Rattle.state_laws.specs.Runs.{RunInRange, KeptInEveryRun}
 use Rattle.saved_laws.specs.Bytes.{CarriesByte, CarryBytes}
 use Rattle.range_laws.specs.Ranges.{IsRunnable, AreRunnable, RunsCarryBytes}

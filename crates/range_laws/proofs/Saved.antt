@@ -1,10 +1,10 @@
 -- What a snapshot keeps of a run is whole, and what is written of a run that goes on from it is the rest of the trace.
-use Rattle.std.proofs.Common.{ℕ, Bool, true, false, if◌then◌else◌, List, [], ◌∷◌, filter}
+use Rattle.std.proofs.Common.{List, [], ◌∷◌}
 use Rattle.std.specs.List.{AllByRecursion}
 use Rattle.xs_base.specs.Numbers.{Slot}
 use Rattle.xs_base.specs.declared.entry.Entry.{Entry}
 use Rattle.sys_plan.specs.Plan.{Arc, arcs}
-use Rattle.serial_model.specs.Serial.{serial, is_sent_within}
+use Rattle.serial_model.specs.Serial.{serial}
 use Rattle.snap_parts.specs.Parts.{LogRec}
 use Rattle.snap_model.specs.Saved.{saved_logs}
 use Rattle.saved_laws.specs.Bytes.{CarryBytes}

@@ -1,22 +1,22 @@
 -- The switch keeps bytes and small numbers, and so does what it sends.
-use Rattle.std.proofs.Common.{◌≡◌, ℕ, zero, suc, ◌+◌, ◌*◌, ◌/◌, ◌%◌, ◌<◌, ◌≤◌, ◌^◌, ◌==◌, Bool, true, false, not, ◌||◌, ◌&&◌, nat_lt, if◌then◌else◌, Option, Some, None, List, [], ◌∷◌, ◌++◌, length, drop, get_or, slice_set, replicate, refl, sym, ap, ◌∙◌, arith, length-set}
+use Rattle.std.proofs.Common.{◌≡◌, ℕ, zero, suc, ◌+◌, ◌<◌, ◌≤◌, ◌^◌, ◌==◌, Bool, true, false, not, ◌||◌, ◌&&◌, nat_lt, if◌then◌else◌, Option, Some, None, List, [], ◌∷◌, ◌++◌, length, get_or, slice_set, refl, ap, ◌∙◌, arith}
 use Rattle.std.proofs.lemmas.Bool.{ltb-true, leb-true, cond_both}
 use Rattle.std.specs.Prelude.{IfSome}
 use Rattle.std.specs.List.{AllByRecursion}
 use Rattle.xs_base.specs.Numbers.{Slot, ChanNumber, EndNumber, InputNumber, Identifier}
-use Rattle.xs_base.specs.declared.numbers.TheConstants.{LINK_ENDS, CHAN_ENDS, INPUTS, HEADER_BYTES, BUFFER_TOKENS}
+use Rattle.xs_base.specs.declared.numbers.TheConstants.{LINK_ENDS, CHAN_ENDS, HEADER_BYTES, BUFFER_TOKENS}
 use Rattle.xs_base.specs.declared.token.Token.{Token}
 use Rattle.xs_base.specs.declared.token.Token.TheVariants.{Byte, Ctrl}
 use Rattle.xs_model.specs.declared.event.Happen.TheVariants as happen
 use Rattle.xs_model.specs.declared.dest.Dest.{Dest}
 use Rattle.xs_model.specs.Dests.{dest_of}
-use Rattle.xs_model.specs.Record.{CoreRec, NodeRec, ChanRec, LinkRec, InputRec, Idle, Head1, Head2, Want, Local, Out, Lost, unused_chan, chan_of}
+use Rattle.xs_model.specs.Record.{NodeRec, ChanRec, LinkRec, InputRec, Idle, Head1, Head2, Want, Local, Out, Lost, unused_chan, chan_of}
 use Rattle.xs_model.specs.Waits.{has_room}
 use Rattle.xs_model.specs.AtWork.{AtWork, it_happens}
 use Rattle.net_model.specs.Ways.{Way, Here, Behind, way_to}
 use Rattle.net_model.specs.Links.{token_arrives, credit_arrives, link_after_arrivals, links_after_arrivals}
-use Rattle.net_model.specs.Switch.{Routes, is_link_input, chan_of_input, node_with_chan, chan_without_first, link_without_first, buffer_of_link, sent_in, to_state, with_state, waiting_at, state_at, chan_is_held, link_at, free_end, take_first, end_may_send, ends_packet, after_token, loses, put_into, send, start_packet, packet_step, after_header, header_byte, net_of_end, head_token, head_step, hold_end, want_chan, want_end, is_pause, deliver, local_step, out_token, out_step, lost_step, want_way, want_step, idle_step, link_head_step, step_at, moves_from}
-use Rattle.state_forms.specs.Buffers.{TokenFits, buffer_of, BufferFits}
+use Rattle.net_model.specs.Switch.{Routes, is_link_input, chan_of_input, node_with_chan, chan_without_first, link_without_first, buffer_of_link, sent_in, to_state, waiting_at, state_at, chan_is_held, link_at, free_end, take_first, end_may_send, ends_packet, after_token, loses, put_into, send, start_packet, packet_step, after_header, header_byte, net_of_end, head_step, hold_end, is_pause, local_step, out_token, out_step, lost_step, want_way, want_step, step_at, moves_from}
+use Rattle.state_forms.specs.Buffers.{TokenFits}
 use Rattle.state_bridge.specs.Fits.{AreSuch}
 use Rattle.range_laws.proofs.Lists.{all_at, all_set, such_set}
 use Rattle.range_laws.proofs.Words.{IsWord}

@@ -1,5 +1,5 @@
 -- What changes of a thread keep: its registers are words.
-use Rattle.std.proofs.Common.{◌≡◌, ℕ, ◌+◌, ◌<◌, ◌^◌, ◌==◌, Bool, true, false, if◌then◌else◌, List, length, get_or, slice_index, slice_set, replicate, refl, ◌∙◌, length-set, arith}
+use Rattle.std.proofs.Common.{ℕ, ◌==◌, Bool, true, false, if◌then◌else◌, List, slice_set, replicate, refl, ◌∙◌, length-set, arith}
 use Rattle.xs_base.specs.Numbers.{Word, Register}
 use Rattle.xs_model.specs.declared.status.Status.{Status}
 use Rattle.xs_model.specs.declared.thread.Thread.{Thread}

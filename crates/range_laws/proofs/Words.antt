@@ -1,11 +1,11 @@
 -- What instructions make of words are words.
-use Rattle.std.proofs.Common.{◌≡◌, ℕ, zero, suc, ◌+◌, ◌*◌, ◌-◌, ◌/◌, ◌%◌, ◌^◌, ◌<◌, ◌≤◌, Bool, true, false, nat_lt, nat_le, if◌then◌else◌, Option, Some, None, bit_and, bit_or, bit_xor, refl, sym, ap, subst, arith, inl, inr}
+use Rattle.std.proofs.Common.{◌≡◌, ℕ, zero, suc, ◌+◌, ◌*◌, ◌-◌, ◌/◌, ◌%◌, ◌^◌, ◌<◌, ◌≤◌, Bool, true, false, nat_lt, nat_le, if◌then◌else◌, Some, None, bit_and, subst, arith, inl, inr}
 use Rattle.std.specs.Prelude.{ℤ, pos, negsuc, IfSome}
 use Rattle.std.proofs.Math.Nat.{mod-le, div-le_self}
 use Rattle.std.proofs.lemmas.Bool.{cond_both, cases_lt, ltb-true, leb-false}
-use Rattle.std.proofs.lemmas.Nat.{mod_below, pow_pos, pow_below, and_le_l, and_le_r, div_below, mul-le, mul-add-lt, or_of_32, xor_of_32}
+use Rattle.std.proofs.lemmas.Nat.{mod_below, pow_pos, pow_below, and_le_l, and_le_r, div_below, mul-le, mul-add-lt}
 use Rattle.xs_base.specs.Numbers.{Word}
-use Rattle.xs_base.specs.Words.{word_of, modulo, truth, shl, shr, mkmsk, is_part, zext, sign_extended, sext, reversed, bitrev, byterev, leading_zeros, clz, long, halves, add_carry, sub_borrow, mul_long, div_long, inverted, word_difference}
+use Rattle.xs_base.specs.Words.{word_of, modulo, truth, shl, shr, mkmsk, is_part, zext, sign_extended, sext, reversed, bitrev, byterev, leading_zeros, clz, long, halves, add_carry, sub_borrow, mul_long, div_long, inverted}
 
 abbrev pub IsWord : ℕ → Type 0
 IsWord n = n < 2 ^ 32

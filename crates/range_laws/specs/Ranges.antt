@@ -1,8 +1,7 @@
 -- That the numbers of every node of a run keep the ranges of the machine.
-use Rattle.std.specs.Prelude.{ℕ, ◌≡◌, ◌<◌, ◌≤◌, ◌^◌, List, length}
+use Rattle.std.specs.Prelude.{ℕ, ◌≡◌, ◌<◌, ◌≤◌, ◌^◌, List}
 use Rattle.std.specs.List.{AllByRecursion}
 use Rattle.xs_base.specs.Numbers.{Slot}
-use Rattle.xs_base.specs.declared.entry.Entry.{Entry}
 use Rattle.xs_model.specs.Record.{NodeRec}
 use Rattle.xs_instructions.specs.Image.{IsImage}
 use Rattle.sys_plan.specs.declared.NodePlan.{NodePlan}
