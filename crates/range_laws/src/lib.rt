@@ -3,6 +3,10 @@
 
 ghost use Rattle.range_laws.specs.Ranges.{NumbersOfRunsFit, RunsCarryBytes, RunsHaveByteDests, SavedRunsMayGoOn, SavedRunsGoOn};
 
+mod runnable;
+
+pub use runnable::nodes_are_runnable;
+
 /// Of every plan whose nodes have images, and before every slot of the serial machine, each number in each node is in the range of its type:
 /// registers and levels are words, the memory's bytes and tokens are bytes, times and counters have 16 bits. So the tokens that its links
 /// carry are bytes, and the numbers of channel ends to which inputs of switches lead. It does nothing. See docs/SNAPSHOTS.md.
