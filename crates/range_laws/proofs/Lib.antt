@@ -1,0 +1,14 @@
+mod Lists
+mod Words
+mod Threads
+mod Core
+mod Memory
+mod OwnRows
+mod Found
+mod Rows
+mod Issue
+mod Switch
+mod Node
+mod Runs
+mod Numbers
+mod Saved
