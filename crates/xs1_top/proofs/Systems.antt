@@ -7,7 +7,7 @@ use Rattle.sys_plan.specs.Plan.{PlanRec}
 use Rattle.system_model.specs.declared.SysKind.TheVariants.{TooLong}
 use Rattle.system_model.specs.System.{Plan, Frame, system_of, longest_input}
 use Rattle.snap_codec.specs.declared.snap_kind.SnapKind.TheVariants as snap_kind
-use Rattle.snap_codec.specs.Snaps.{Fault, snap_of, longest_snapshot}
+use Rattle.snap_codec.specs.Snaps.{Fault, SnapRec, IsSnapOfSome, snap_of, longest_snapshot}
 
 -- what is alike for all inputs that are too long is told by the bytes that are taken, at most one more than an input may have
 pub of_taken : {A : Type 0} (told : List ℕ → A) (longest : ℕ) (refusal : A) → ((bytes : List ℕ) → longest < length bytes → told bytes ≡ refusal)
@@ -44,3 +44,7 @@ planned-short bytes plan e =
       | inl h ↦ let apart : Frame 0 TooLong ≡ Plan plan = sym (system_of-long bytes h) ∙ e in absurd cc
       | inr h ↦ h
     ]
+
+-- so the text of a snapshot is not
+pub snap-short : (snap : SnapRec) → IsSnapOfSome snap → length snap.text ≤ longest_input
+snap-short snap of_some = planned-short snap.text of_some.plan of_some.is.system

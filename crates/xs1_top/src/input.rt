@@ -60,11 +60,7 @@ pub fn read_for<S: Source>(alloc: Global, form: Form, source: &mut S) -> Result<
 // Reads until the input ends, a read fails, or so many bytes are taken. No more than that is ever taken, and no read is
 // made after it. No read has an empty buffer. `ReadError::Failed` comes only where the source's count of faults has
 // risen, and `ReadError::Memory` where memory was wanting; the bytes taken till then are lost.
-fn read_all<S: Source>(
-    alloc: Global,
-    most: usize,
-    source: &mut S,
-) -> Result<Vec<u8>, ReadError>
+fn read_all<S: Source>(alloc: Global, most: usize, source: &mut S) -> Result<Vec<u8>, ReadError>
     requires { 0 < most }
     ensures input { ReadsInput S.left S.faults S.read_gives most source.old source.new result }
     ensures front { IfOk result (λ bytes. IfSome (S.left source.old) (λ left. bytes.items ≡ take most left)) }

@@ -1,6 +1,7 @@
 //! The form `resume SLOTS`.
 ghost use Rattle.std.specs.Prelude.{◌≡◌, IfOk};
 ghost use Rattle.snap_codec.specs.Snaps as read;
+ghost use Rattle.snap_codec.specs.Snaps.{IsSnapOfSome};
 ghost use Rattle.answer_model.specs.ResumeForm.{answer_to_snap, is_out_of_range, refused, resume_answer, slot_at};
 
 use crate::refusals::{snap_fault_line, text_of_snap_kind};
@@ -43,7 +44,8 @@ fn answer_to_snap(alloc: Global, slots: u32, snap: &Snap) -> Result<Answer, Allo
 
 // Whether no run of so many slots goes on from a snapshot: it is of a later slot, or of one that no run comes to.
 fn is_out_of_range(slots: u32, snap: &Snap) -> bool
-    ensures { result ≡ is_out_of_range slots snap.now }
+    ensures value { result ≡ is_out_of_range slots snap.now }
+    ensures snap { IsSnapOfSome snap.now }
 {
     slots < snap.slot() || MOST_SLOTS < snap.slot()
 }

@@ -27,12 +27,7 @@ pub fn answer(alloc: Global, slots: u32, input: &[u8]) -> Result<Answer, AllocEr
 }
 
 // The snapshot of a run of so many slots by the plan of a text. The error is want of memory.
-fn saved_text(
-    alloc: Global,
-    text: &[u8],
-    slots: u32,
-    plan: &Plan,
-) -> Result<Text, AllocError>
+fn saved_text(alloc: Global, text: &[u8], slots: u32, plan: &Plan) -> Result<Text, AllocError>
     requires plan { system_of text.now ≡ stands.Plan plan.now }
     ensures text { IfOk result (λ saved. saved ≡ saved_text text.now slots plan.now) }
 {

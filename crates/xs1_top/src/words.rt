@@ -17,6 +17,7 @@ const GREATEST_NUMBER: u32 = u32::MAX;
 
 // One byte past the longest system text, and one past the longest snapshot.
 const MOST_OF_TEXT: usize = 4_194_305;
+
 const MOST_OF_SNAPSHOT: usize = 8_388_609;
 
 /// The form of the program's words, without the program's name: `run SLOTS`, `run SLOTS free`, `run SLOTS serial`, `run SLOTS rounds`,
