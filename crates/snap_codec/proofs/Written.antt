@@ -8,7 +8,7 @@ use Rattle.sys_plan.specs.Plan.{PlanRec}
 use Rattle.snap_parts.specs.declared.log.SnapLog.{SnapLog}
 use Rattle.snap_parts.specs.declared.node.SnapNode.{SnapNode}
 use Rattle.snap_parts.specs.Parts.{LogRec, BodyRec, seen}
-use Rattle.byte_forms.specs.Forms.{Form, word, write_chain, repeat}
+use Rattle.byte_forms.specs.Forms.{Form, word, write_chain}
 use Rattle.byte_forms.proofs.Lists.{writes_on}
 use Rattle.log_forms.proofs.Writes.{log_bytes, link_bytes, wire_bytes}
 use Rattle.snap_codec.specs.Body.{nodes, ends_of, link_pair, link_at, wire_at, pair_after, wire_after, by_number, in_pairs, links, wires, any_log, directed_of, body}

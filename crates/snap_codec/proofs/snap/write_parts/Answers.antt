@@ -1,5 +1,5 @@
 use Rattle.std.proofs.Common.{◌<◌, ◌^◌, ℕ, List, length, sym, ap, subst}
-use Rattle.snap_parts.specs.Parts.{LogRec, BodyRec, body_of}
+use Rattle.snap_parts.specs.Parts.{BodyRec, body_of}
 use Rattle.snap_codec.proofs.Heads.{text_few}
 use Rattle.snap_codec.proofs.ArcFacts.{AreFew, logs_few, few_seen}
 use Rattle.snap_codec.proofs.Whole.{snap_written}
