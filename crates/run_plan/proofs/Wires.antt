@@ -17,8 +17,9 @@ use Rattle.pin_wires.specs.Wires.{driven_or_low}
 use Rattle.serial_model.specs.Serial.{arrived_by, level_on, level_after, level_or, level_entries}
 use Rattle.crossings.specs.Crossings.{AreInSendingOrder, MayFollow, Later, IsDueFrom, due_of}
 use Rattle.crossings.proofs.Arriving.{all-map, all-append, due-append}
+use Rattle.snap_parts.specs.InFlight.{IsOfWire, IsEarlier, StandSo}
 use Rattle.run_plan.specs.declared.wire.Wire.{Wire}
-use Rattle.run_plan.specs.Wires.{IsWire, IsLevel, AreInOrder, WireGoesOn, with_coming}
+use Rattle.run_plan.specs.Wires.{IsWire, WireGoesOn, with_coming}
 use Rattle.run_plan.specs.Quiet.{ComesAfter}
 use Rattle.run_plan.proofs.Waiting.{none_to_come, first_to_come, due_between}
 
@@ -56,7 +57,7 @@ pub level-more : (level : ℕ) (es : List Entry) (e : Entry) → level_after lev
 level-more level [] e = refl
 level-more level (x ∷ es) e = level-more (level_or x.what level) es e
 
-pub sending : (es : List Entry) → AreInOrder es → AreInSendingOrder es
+pub sending : (es : List Entry) → StandSo IsEarlier es → AreInSendingOrder es
 sending [] order = tt
 sending (e ∷ es) order = (all-map (λ (f : Entry). e.slot < f.slot) (MayFollow e) (λ f l. Later l) es order.0, sending es order.1)
 
@@ -84,7 +85,7 @@ due-at slot delay (suc first) [] e due here = absurd due
 due-at slot delay (suc first) (x ∷ es) e due here = due-at slot delay first es e due.1 here
 
 -- it comes in this slot
-pub due-next : (slot delay first : ℕ) (es : List Entry) (e : Entry) → IsDueFrom slot delay first es → AreInOrder es → slice_get es first ≡ Some e → e.slot + delay ≡ slot → IsDueFrom (slot + 1) delay (suc first) es
+pub due-next : (slot delay first : ℕ) (es : List Entry) (e : Entry) → IsDueFrom slot delay first es → StandSo IsEarlier es → slice_get es first ≡ Some e → e.slot + delay ≡ slot → IsDueFrom (slot + 1) delay (suc first) es
 due-next slot delay zero [] e due order here now = absurd (none-some e here)
 due-next slot delay zero (x ∷ es) e due order here now =
     let same = ap (λ (y : Entry). y.slot) (same_Some x e here) in (
@@ -94,12 +95,12 @@ due-next slot delay zero (x ∷ es) e due order here now =
 due-next slot delay (suc first) [] e due order here now = absurd due
 due-next slot delay (suc first) (x ∷ es) e due order here now = (omega (arith, due.0), due-next slot delay first es e due.1 order.1 here now)
 
-pub level-at : (width first : ℕ) (es : List Entry) (e : Entry) → AllByRecursion (λ (e : Entry). IsLevel width e.what) es → slice_get es first ≡ Some e → IsLevel width e.what
+pub level-at : (width first : ℕ) (es : List Entry) (e : Entry) → AllByRecursion (λ (e : Entry). IsOfWire width e.what) es → slice_get es first ≡ Some e → IsOfWire width e.what
 level-at width first [] e all here = absurd (none-some e here)
-level-at width zero (x ∷ es) e all here = subst (λ (y : Entry). IsLevel width y.what) (same_Some x e here) all.0
+level-at width zero (x ∷ es) e all here = subst (λ (y : Entry). IsOfWire width y.what) (same_Some x e here) all.0
 level-at width (suc first) (x ∷ es) e all here = level-at width first es e all.1 here
 
-pub level-fits : (width : ℕ) (told : What) (before : ℕ) → IsLevel width told → level_or told before < 2 ^ width
+pub level-fits : (width : ℕ) (told : What) (before : ℕ) → IsOfWire width told → level_or told before < 2 ^ width
 level-fits width (what.Level level) before is = is
 level-fits width (what.Token t) before is = absurd is
 level-fits width what.Credit before is = absurd is
@@ -112,8 +113,8 @@ low-fits port (Some value) fits = fits
 
 record IsNew (slot width : ℕ) (new : List Entry) : Type 0 where
   at : AllByRecursion (λ (e : Entry). e.slot ≡ slot) new
-  order : AreInOrder new
-  levels : AllByRecursion (λ (e : Entry). IsLevel width e.what) new
+  order : StandSo IsEarlier new
+  levels : AllByRecursion (λ (e : Entry). IsOfWire width e.what) new
 
 new-is : (slot width before now : ℕ) → now < 2 ^ width → IsNew slot width (level_entries slot before now)
 new-is slot width before now fits = by_test (cases_Bool (eqb now before))
@@ -122,7 +123,7 @@ new-is slot width before now fits = by_test (cases_Bool (eqb now before))
     by_test (inl same) = rw same (record { at = tt; order = tt; levels = tt })
     by_test (inr other) = rw other (record { at = (refl, tt); order = (tt, tt); levels = (fits, tt) })
 
-order-more : (slot : ℕ) (es new : List Entry) → AreInOrder es → AllByRecursion (λ (e : Entry). e.slot < slot) es → AllByRecursion (λ (e : Entry). e.slot ≡ slot) new → AreInOrder new → AreInOrder (es ++ new)
+order-more : (slot : ℕ) (es new : List Entry) → StandSo IsEarlier es → AllByRecursion (λ (e : Entry). e.slot < slot) es → AllByRecursion (λ (e : Entry). e.slot ≡ slot) new → StandSo IsEarlier new → StandSo IsEarlier (es ++ new)
 order-more slot [] new order before at order_new = order_new
 order-more slot (e ∷ es) new order before at order_new = (
   all-append (λ (f : Entry). e.slot < f.slot) es new order.0 (all-map (λ (f : Entry). f.slot ≡ slot) (λ (f : Entry). e.slot < f.slot) (λ f same. omega (arith, before.0, same)) new at),
@@ -148,8 +149,8 @@ coming-keeps (Some told) wire = record { from = refl; from_port = refl; to = ref
 
 -- entries that a wire may have before a slot
 pub record IsHistory (width slot : ℕ) (es : List Entry) : Type 0 where
-  pub in_order : AreInOrder es
-  pub levels : AllByRecursion (λ (e : Entry). IsLevel width e.what) es
+  pub in_order : StandSo IsEarlier es
+  pub levels : AllByRecursion (λ (e : Entry). IsOfWire width e.what) es
   pub before : AllByRecursion (λ (e : Entry). e.slot < slot) es
 
 -- a wire of one slot, of which so much has come by another
@@ -186,7 +187,7 @@ module _ (slot : ℕ) (wire : Wire) (is : IsWire slot wire) (now : ℕ) (fits : 
       let es = wire.history.entries in
       subst (IsHistory width (slot + 1)) (sym entries) (record {
         in_order = order-more slot es new is.in_order is.before new-told.at new-told.order;
-        levels = all-append (λ (e : Entry). IsLevel width e.what) es new is.levels new-told.levels;
+        levels = all-append (λ (e : Entry). IsOfWire width e.what) es new is.levels new-told.levels;
         before =
             all-append (λ (e : Entry). e.slot < slot + 1) es new
             (all-map (λ (e : Entry). e.slot < slot) (λ (e : Entry). e.slot < slot + 1) (λ e l. omega (arith, l)) es is.before)

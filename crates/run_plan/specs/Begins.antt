@@ -9,7 +9,7 @@ use Rattle.sys_plan.specs.Plan.{PlanRec, Arc, link_arcs}
 use Rattle.step_laws.specs.Shape.{HasShape}
 use Rattle.core_step.specs.States.{node_rec}
 use Rattle.snap_parts.specs.declared.node.SnapNode.{SnapNode}
-use Rattle.snap_parts.specs.declared.log.SnapLog.{SnapLog}
+use Rattle.snap_parts.specs.Parts.{LogRec}
 use Rattle.run_plan.specs.declared.track.Track.{Track}
 use Rattle.run_plan.specs.declared.wire.Wire.{Wire}
 use Rattle.run_plan.specs.declared.station.Station.{Station}
@@ -46,22 +46,22 @@ pub record TrackBegins (slot : Slot) (a a_end b lag : ℕ) (es : List Entry) (tr
   pub here : IsTrack slot track
 
 -- the arc of a link
-pub record LinkBegins (slot : Slot) (k : LinkNumber) (d : Arc) (log : SnapLog) (track : Track) : Type 0 where
-  pub begins : TrackBegins slot d.from d.from_end d.to d.delay log.entries.entries track
+pub record LinkBegins (slot : Slot) (k : LinkNumber) (d : Arc) (log : LogRec) (track : Track) : Type 0 where
+  pub begins : TrackBegins slot d.from d.from_end d.to d.delay log.entries track
   pub joins : d.joins ≡ None
 
 -- a wire begins before a slot with these entries in flight, before which it showed this level, where its first port drives that one
-pub record WireBegins (slot : Slot) (driven : Word) (plan : WirePlan) (log : SnapLog) (wire : Wire) : Type 0 where
+pub record WireBegins (slot : Slot) (driven : Word) (plan : WirePlan) (log : LogRec) (wire : Wire) : Type 0 where
   pub from : wire.from ≡ plan.a
   pub from_port : wire.from_port ≡ plan.a_port
   pub to : wire.to ≡ plan.b
   pub to_port : wire.to_port ≡ plan.b_port
   pub delay : wire.delay ≡ plan.delay
-  pub entries : wire.history.entries ≡ log.entries.entries
+  pub entries : wire.history.entries ≡ log.entries
   pub sent : wire.sent ≡ driven
   pub shown : wire.shown.value ≡ log.level
   pub here : IsWire slot wire
 
 -- so it is of each wire of a plan, by what these cores drive
-abbrev pub WireBeginsBy : Slot → List CoreRec → ℕ → WirePlan → SnapLog → Wire → Type 0
+abbrev pub WireBeginsBy : Slot → List CoreRec → ℕ → WirePlan → LogRec → Wire → Type 0
 WireBeginsBy slot cores k plan log wire = WireBegins slot (driven_by cores plan.a plan.a_port) plan log wire

@@ -1,15 +1,15 @@
 -- Wires at work: their histories, and what of them has come.
-use Rattle.std.specs.Prelude.{ℕ, ◌≡◌, ◌+◌, ◌<◌, ◌≤◌, ◌^◌, Option, Some, None, List, [], ◌∷◌, ◌++◌, length, map, slice_index_or}
+use Rattle.std.specs.Prelude.{ℕ, ◌≡◌, ◌+◌, ◌<◌, ◌≤◌, ◌^◌, Option, Some, None, List, [], ◌++◌, length, map, slice_index_or}
 use Rattle.std.specs.List.{AllByRecursion}
 use Rattle.xs_base.specs.Ids.{port_width}
-use Rattle.xs_base.specs.Numbers.{Slot, Word, Position, PortNumber}
+use Rattle.xs_base.specs.Numbers.{Slot, Word}
 use Rattle.xs_base.specs.declared.numbers.TheConstants.{PORTS}
 use Rattle.xs_base.specs.declared.entry.Entry.{Entry}
 use Rattle.xs_base.specs.declared.entry.What.{What}
 use Rattle.sys_plan.specs.Plan.{AreDistinct}
 use Rattle.serial_model.specs.Serial.{level_on, level_or, level_entries}
 use Rattle.crossings.specs.Crossings.{IsDueFrom}
-pub use Rattle.snap_parts.specs.Snaps.{IsLevel, AreInOrder}
+use Rattle.snap_parts.specs.InFlight.{IsOfWire, IsEarlier, StandSo}
 use Rattle.run_plan.specs.declared.wire.Wire.{Wire}
 
 -- a wire as it is before a slot
@@ -18,8 +18,8 @@ pub record IsWire (slot : Slot) (wire : Wire) : Type 0 where
   pub to_port : wire.to_port < PORTS
   pub widths : port_width wire.from_port ≡ port_width wire.to_port
   pub delayed : 1 ≤ wire.delay
-  pub in_order : AreInOrder wire.history.entries
-  pub levels : AllByRecursion (λ (e : Entry). IsLevel (port_width wire.to_port) e.what) wire.history.entries
+  pub in_order : StandSo IsEarlier wire.history.entries
+  pub levels : AllByRecursion (λ (e : Entry). IsOfWire (port_width wire.to_port) e.what) wire.history.entries
   pub before : AllByRecursion (λ (e : Entry). e.slot < slot) wire.history.entries
   pub few : wire.first ≤ slot
   -- so many entries have come by this slot, and the rest come later

@@ -4,10 +4,12 @@ ghost use Rattle.std.specs.List.{AllByRecursion, AllZip};
 ghost use Rattle.xs_base.specs.declared.numbers.TheConstants.{LINK_ENDS, PORTS, THREADS};
 ghost use Rattle.xs_base.specs.Ids.{port_width};
 ghost use Rattle.pin_wires.specs.Wires.{driven_or_low};
-ghost use Rattle.sys_plan.specs.Plan.{IsPlan, AreDistinct, link_arcs};
-ghost use Rattle.snap_parts.specs.Snaps.{IsSnapSystem, IsSnapNode, IsLinkLog, IsWireLog};
+ghost use Rattle.sys_plan.specs.Plan.{AreDistinct, link_arcs};
+ghost use Rattle.snap_parts.specs.InFlight.{AreLinkEntries};
+ghost use Rattle.snap_parts.specs.Parts.{seen, body_of};
+ghost use Rattle.snap_parts.specs.Snaps.{IsSnapSystem, IsSnapNode, IsOnWire};
 ghost use Rattle.run_plan.specs.Begins.{AllBegin, StationBegins, StationBeginsAs, TrackBegins, LinkBegins, WireBegins, WireBeginsBy};
-ghost use Rattle.run_plan.specs.Passes.{IsShownAt, SameButCome, cores_of, levels_of};
+ghost use Rattle.run_plan.specs.Passes.{IsReadyTrack, IsShownAt, SameButCome, cores_of, levels_of};
 ghost use Rattle.run_plan.specs.Wires.{IsReadyWire, HasCome, target, targets};
 
 use crate::inbound::Inbound;
@@ -29,12 +31,13 @@ pub(crate) fn stations_by(
     plan: &Plan,
     snap: &SnapSystem,
 ) -> Result<Vec<Station>, AllocError>
-    requires snap { IsSnapSystem plan.now snap.now }
+    requires snap { IsSnapSystem plan.now (body_of snap.now) }
     ensures begin { IfOk result (λ v. AllBegin (StationBegins plan.now snap.now.slot) 0 plan.now.nodes snap.now.nodes.items v.items) }
 {
     let mut stations = Vec::new(alloc);
     for n in 0..plan.nodes().len() {
-        let station = station_by(alloc, plan, n as u8, snap.slot, &snap.nodes[n])?;
+        let node = &snap.nodes[n];
+        let station = station_by(alloc, plan, n as u8, snap.slot, node)?;
         stations.push(station)?;
     }
     Ok(stations)
@@ -78,9 +81,9 @@ pub(crate) fn tracks_by(
     plan: &Plan,
     snap: &SnapSystem,
 ) -> Result<Vec<Track>, AllocError>
-    requires snap { IsSnapSystem plan.now snap.now }
-    ensures begin { IfOk result (λ v. AllBegin (LinkBegins snap.now.slot) 0 (link_arcs plan.now.links) (take (length (link_arcs plan.now.links)) snap.now.logs.items) v.items) }
-    ensures plan { IsPlan plan.now }
+    requires snap { IsSnapSystem plan.now (body_of snap.now) }
+    ensures begin { IfOk result (λ v. AllBegin (LinkBegins snap.now.slot) 0 (link_arcs plan.now.links) (take (length (link_arcs plan.now.links)) (body_of snap.now).logs) v.items) }
+    ensures ready { IfOk result (λ v. AllByRecursion (IsReadyTrack snap.now.slot (length plan.now.nodes)) v.items) }
 {
     let mut tracks = Vec::new(alloc);
     for link in plan.links() {
@@ -111,7 +114,7 @@ fn track_by(
 ) -> Result<Track, AllocError>
     requires end { from_end < LINK_ENDS }
     requires delayed { 1 ≤ delay }
-    requires log { IsLinkLog slot delay log.now.entries.entries }
+    requires log { AreLinkEntries slot delay log.now.entries.entries }
     ensures begins { IfOk result (λ track. TrackBegins slot from from_end to delay log.now.entries.entries track) }
 {
     let history = copy_of(alloc, log.entries.entries())?;
@@ -135,9 +138,11 @@ pub(crate) fn wires_by(
     snap: &SnapSystem,
     stations: &[Station],
 ) -> Result<Vec<Wire>, AllocError>
-    requires snap { IsSnapSystem plan.now snap.now }
+    requires snap { IsSnapSystem plan.now (body_of snap.now) }
     requires stations { length stations.now ≡ length plan.now.nodes }
-    ensures begin { IfOk result (λ v. AllBegin (WireBeginsBy snap.now.slot (cores_of stations.now)) 0 plan.now.wires (drop (length (link_arcs plan.now.links)) snap.now.logs.items) v.items) }
+    ensures begin { IfOk result (λ v. AllBegin (WireBeginsBy snap.now.slot (cores_of stations.now)) 0 plan.now.wires (drop (length (link_arcs plan.now.links)) (body_of snap.now).logs) v.items) }
+    ensures ready { IfOk result (λ v. AllByRecursion (IsReadyWire snap.now.slot (length plan.now.nodes)) v.items) }
+    ensures apart { IfOk result (λ v. AreDistinct (targets v.items)) }
 {
     let directed = 2 * plan.links().len();
     let mut wires = Vec::new(alloc);
@@ -163,8 +168,8 @@ fn wire_by(
     requires b_port { wire.now.b_port < PORTS }
     requires widths { port_width wire.now.a_port ≡ port_width wire.now.b_port }
     requires delayed { 1 ≤ wire.now.delay }
-    requires log { IsWireLog slot wire.now.delay (port_width wire.now.b_port) log.now.entries.entries log.now.level }
-    ensures begins { IfOk result (λ begun. WireBegins slot (driven_or_low driven) wire.now log.now begun) }
+    requires log { IsOnWire slot wire.now.delay (port_width wire.now.b_port) (seen log.now) }
+    ensures begins { IfOk result (λ begun. WireBegins slot (driven_or_low driven) wire.now (seen log.now) begun) }
 {
     let history = copy_of(alloc, log.entries.entries())?;
     let mut begun = Wire {

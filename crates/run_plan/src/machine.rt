@@ -1,8 +1,10 @@
 //! `SerialMachine`, all nodes of a system stepped together.
-ghost use Rattle.std.specs.Prelude.{◌≡◌, ◌+◌, ◌-◌, ◌^◌, ◌<◌, ◌≤◌, max, [], length, slice_index_or, IfOk, OnOk, OnErr};
+ghost use Rattle.std.specs.Prelude.{◌≡◌, ◌+◌, ◌-◌, ◌*◌, ◌^◌, ◌<◌, ◌≤◌, max, [], length, slice_index_or, IfOk, OnOk, OnErr};
 ghost use Rattle.std.specs.List.{AllZip};
+ghost use Rattle.xs_base.specs.declared.numbers.TheConstants.{EVENT_ROOM};
 ghost use Rattle.sys_plan.specs.Plan.{arc_count};
 ghost use Rattle.serial_model.specs.Serial.{begun_at_start};
+ghost use Rattle.snap_parts.specs.Parts.{body_of};
 ghost use Rattle.snap_parts.specs.Snaps.{IsSnapSystem, begun_of};
 ghost use Rattle.run_plan.specs.Machine.{system_of};
 ghost use Rattle.trace_lines.specs.Kept.{Keeps};
@@ -79,9 +81,9 @@ impl SerialMachine {
         plan: &Plan,
         snap: &SnapSystem,
     ) -> Result<SerialMachine, AllocError>
-        requires snap { IsSnapSystem plan.now snap.now }
+        requires snap { IsSnapSystem plan.now (body_of snap.now) }
         ensures plan { IfOk result (λ m. m.plan ≡ plan.now) }
-        ensures begun { IfOk result (λ m. m.begun ≡ begun_of snap.now) }
+        ensures begun { IfOk result (λ m. m.begun ≡ begun_of (body_of snap.now)) }
         ensures now { IfOk result (λ m. m.now ≡ snap.now.slot) }
     {
         let mut stations = stations_by(alloc, plan, snap)?;
@@ -208,6 +210,7 @@ impl SerialMachine {
     pub fn events(&self, node: u8) -> &NodeEvents
         requires node { node < length self.now.plan.nodes }
         ensures keeps { Keeps result.now (slice_index_or (system_of self.now).events node []) }
+        ensures few { result.now.more ≤ EVENT_ROOM * self.now.now }
     {
         let station = &self.stations[node as usize];
         &station.seat.events

@@ -5,7 +5,7 @@ use Rattle.xs_model.specs.FirstEvents.{first_events}
 use Rattle.sys_plan.specs.Plan.{PlanRec}
 use Rattle.serial_model.specs.Serial.{serial}
 use Rattle.trace_model.specs.EventOrder.{Placed, told_at, RiseFrom, of_slot}
-use Rattle.trace_model.specs.Trace.{events_at, events_in_order}
+use Rattle.trace_model.specs.Trace.{events_at, end_of, events_in_order}
 
 -- the events of the node at one position
 abbrev pub of_node : ℕ → List Placed → List Placed
@@ -18,7 +18,7 @@ node_by_node slot k (events ∷ nodes) = of_slot slot (told_at k (first_events e
 
 -- the events of a trace
 abbrev pub trace_events : PlanRec → ℕ → List Placed
-trace_events plan slots = events_in_order (serial plan slots)
+trace_events plan slots = events_in_order (end_of (serial plan slots))
 
 abbrev pub SlotsNeverFall : Type 0
 SlotsNeverFall = (plan : PlanRec) (slots : ℕ) → RiseFrom 0 (trace_events plan slots)

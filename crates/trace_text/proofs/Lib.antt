@@ -1,4 +1,3 @@
 pub mod ByPosition
 pub mod Kept
 pub mod TraceLines
-pub mod WireArcs

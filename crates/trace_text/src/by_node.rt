@@ -1,10 +1,9 @@
 //! What the trace has node by node.
 ghost use Rattle.std.specs.Prelude.{◌≡◌, ◌<◌, ◌≤◌, ◌++◌, length, OnOk};
 ghost use Rattle.trace_model.specs.Trace.{by_position};
-ghost use Rattle.serial_model.specs.Serial.{serial};
 
+use crate::ended::EndedRun;
 use crate::node_lines::{append_halted_lines, append_memory_lines, append_more_line};
-use finished_runs::FinishedRun;
 use std::alloc::AllocError;
 use sys_plan::NodePlan;
 use xs_base::Text;
@@ -13,20 +12,20 @@ use xs_base::Text;
 pub(crate) trait NodePiece {
     ghost use Rattle.std.specs.Prelude.{ℕ, List};
     ghost use Rattle.sys_plan.specs.declared.NodePlan.{NodePlan};
-    ghost use Rattle.serial_model.specs.Serial.{SystemRec};
+    ghost use Rattle.trace_model.specs.Trace.{EndRec};
 
     // The text for the node at a position.
-    ghost piece: { SystemRec → ℕ → NodePlan → List ℕ };
+    ghost piece: { EndRec → ℕ → NodePlan → List ℕ };
 
     /// Writes it for the node at position k. The error is want of memory.
-    fn append_at(
+    fn append_at<R: EndedRun>(
         out: &mut Text,
         k: u8,
         node: &NodePlan,
-        finished: &FinishedRun,
+        run: &R,
     ) -> Result<(), AllocError>
-        requires position { k < length finished.now.plan.nodes }
-        ensures { OnOk result (out.new ≡ out.old ++ piece (serial finished.now.plan finished.now.limit) k node.now) };
+        requires position { k < length (R.plan run.now).nodes }
+        ensures { OnOk result (out.new ≡ out.old ++ piece (R.end run.now) k node.now) };
 }
 
 /// How many events were left out, where some were.
@@ -37,13 +36,13 @@ impl NodePiece for More {
 
     ghost piece = { more_at };
 
-    fn append_at(
+    fn append_at<R: EndedRun>(
         out: &mut Text,
         k: u8,
         node: &NodePlan,
-        finished: &FinishedRun,
+        run: &R,
     ) -> Result<(), AllocError> {
-        append_more_line(out, node.number, finished.events(k).more())
+        append_more_line(out, node.number, run.more(k))
     }
 }
 
@@ -55,13 +54,13 @@ impl NodePiece for Halted {
 
     ghost piece = { halted_at };
 
-    fn append_at(
+    fn append_at<R: EndedRun>(
         out: &mut Text,
         k: u8,
         node: &NodePlan,
-        finished: &FinishedRun,
+        run: &R,
     ) -> Result<(), AllocError> {
-        append_halted_lines(out, node.number, finished.core(k))
+        append_halted_lines(out, node.number, run.core(k))
     }
 }
 
@@ -73,28 +72,28 @@ impl NodePiece for Memory {
 
     ghost piece = { memory_at };
 
-    fn append_at(
+    fn append_at<R: EndedRun>(
         out: &mut Text,
         k: u8,
         node: &NodePlan,
-        finished: &FinishedRun,
+        run: &R,
     ) -> Result<(), AllocError> {
-        append_memory_lines(out, node.number, finished.core(k))
+        append_memory_lines(out, node.number, run.core(k))
     }
 }
 
 /// Writes a piece for each node, by position. The error is want of memory.
-pub(crate) fn append_by_node<P: NodePiece>(
+pub(crate) fn append_by_node<P: NodePiece, R: EndedRun>(
     out: &mut Text,
     nodes: &[NodePlan],
-    finished: &FinishedRun,
+    run: &R,
 ) -> Result<(), AllocError>
-    requires nodes { nodes.now ≡ finished.now.plan.nodes }
+    requires nodes { nodes.now ≡ (R.plan run.now).nodes }
     requires few { length nodes.now ≤ 16 }
-    ensures { OnOk result (out.new ≡ out.old ++ by_position (P.piece (serial finished.now.plan finished.now.limit)) 0 nodes.now) }
+    ensures { OnOk result (out.new ≡ out.old ++ by_position (P.piece (R.end run.now)) 0 nodes.now) }
 {
     for k in 0..nodes.len() {
-        P::append_at(out, k as u8, &nodes[k], finished)?;
+        P::append_at(out, k as u8, &nodes[k], run)?;
     }
     Ok(())
 }

@@ -3,8 +3,10 @@
 
 mod by_node;
 mod change_lines;
+mod ended;
 mod node_lines;
 mod traffic_lines;
 mod whole_trace;
 
-pub use whole_trace::trace;
+pub use ended::EndedRun;
+pub use whole_trace::{end_text, trace};

@@ -16,7 +16,7 @@ use Rattle.ahead_limits.specs.Schedule.{clock_after, after_steps}
 use Rattle.round_laws.specs.Rounds.{round_clocks, rounds_from}
 use Rattle.trace_model.specs.EventLines.{hex_word}
 use Rattle.trace_model.specs.EventOrder.{by_slot}
-use Rattle.trace_model.specs.Trace.{halted_lines, memory_lines, by_position, trace_text}
+use Rattle.trace_model.specs.Trace.{halted_lines, memory_lines, by_position, end_text, trace_text}
 use Rattle.play_model.specs.Play.{played_from}
 use Rattle.play_model.specs.PlayText.{play_text}
 use Rattle.load_model.specs.Load.{load_text}
@@ -24,5 +24,5 @@ use Rattle.busy_slots.specs.Busy.{busy_count}
 
 -- names them all on its own line, so that they unfold where it does
 unfoldable pub computes : Type 0
-unfolding digits port_among bits_of value_of words_of best_from edges_from lowest_free first_difference links_after_arrivals moves_from free_end node_step serial alone clock_after after_steps round_clocks rounds_from hex_word by_slot halted_lines memory_lines by_position trace_text played_from play_text load_text busy_count
+unfolding digits port_among bits_of value_of words_of best_from edges_from lowest_free first_difference links_after_arrivals moves_from free_end node_step serial alone clock_after after_steps round_clocks rounds_from hex_word by_slot halted_lines memory_lines by_position end_text trace_text played_from play_text load_text busy_count
 computes = Unit {0}

@@ -12,7 +12,7 @@ use Rattle.xs_instructions.specs.declared.instr.ResIns.TheVariants as resources
 use Rattle.sys_plan.specs.declared.NodePlan.{NodePlan}
 use Rattle.sys_plan.specs.Plan.{PlanRec}
 use Rattle.worked_runs.specs.Systems.{plain_node, line_of_three}
-use Rattle.trace_model.specs.Trace.{traffic_line, trace_text}
+use Rattle.trace_model.specs.Trace.{sent_in, traffic_line, trace_text}
 
 -- a token and two credits, the last of which is not yet there at the end
 abbrev pub three_entries : List Entry
@@ -46,7 +46,7 @@ flooded_pair = record {
 }
 
 pub record WorkedLinks : Type 0 where
-  pub link : traffic_line 7 2 3 6 three_entries ≡ codes "link 7:2>3:6 tokens 1 credits 2\n"
+  pub link : traffic_line 7 2 3 6 (sent_in three_entries) ≡ codes "link 7:2>3:6 tokens 1 credits 2\n"
   -- the event of the node that stands second comes first, since its slot is earlier
   pub two_nodes : trace_text three_and_seven 5 ≡
       codes "0 n7.t0 trap 2 pc 0x00040000 data 0x00040000\n0 n7.t0 halt\n4 n3.t0 trap 2 pc 0x00040004 data 0x00040004\n"

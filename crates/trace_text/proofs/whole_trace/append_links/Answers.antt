@@ -2,30 +2,29 @@ use Rattle.std.proofs.Common.{◌≡◌, ◌*◌, ◌++◌, List, length, ap, sy
 use Rattle.sys_plan.specs.declared.LinkPlan.{LinkPlan}
 use Rattle.sys_plan.specs.declared.NodePlan.{NodePlan}
 use Rattle.sys_plan.specs.Plan.{PlanRec, link_arcs}
-use Rattle.serial_model.specs.Serial.{serial}
 use Rattle.trace_model.specs.Trace.{by_position, traffic_at}
 use Rattle.sys_plan.proofs.Told.{arcs-count}
 use Rattle.trace_text.proofs.ByPosition.{arcs-length, link_more, link_done}
 use Rattle.trace_text.proofs.whole_trace.append_links.Goals as goal
 
 pub append_traffic_at-requires-clause-number : goal.append_traffic_at-requires-clause-number
-append_traffic_at-requires-clause-number c =
+append_traffic_at-requires-clause-number g c =
+    let plan = g.R.EndedRun.plan c.args.run.now in
     let links = c.links-links.result.now in
-    let count : length (link_arcs c.args.finished.now.plan.links) ≡ 2 * length links =
+    let count : length (link_arcs plan.links) ≡ 2 * length links =
     arcs-length _ ∙ ap (λ (ls : List LinkPlan). 2 * length ls) (ap (λ (p : PlanRec). p.links) c.requires.plan ∙ sym c.links-links.ensures.value) in
-    omega (arith, count, arcs-count c.args.finished.now.plan)
+    omega (arith, count, arcs-count plan)
 
 pub loop-k-preserved : goal.loop-k-preserved
-loop-k-preserved c =
-    let finished = c.args.finished.now in
-    link_more (traffic_at c.nodes-nodes.result.now (serial finished.plan finished.limit)) c.loop-k.k c.links-links.result.now _ _ _ _ _ (omega arith) refl c.in_ok-append_traffic_at.ensures c.loop-k.invariant
+loop-k-preserved g c =
+    let end = g.R.EndedRun.end c.args.run.now in
+    link_more (traffic_at c.nodes-nodes.result.now end) c.loop-k.k c.links-links.result.now _ _ _ _ _ (omega arith) refl c.in_ok-append_traffic_at.ensures c.loop-k.invariant
 
 pub returns : goal.returns
-returns c =
-    let finished = c.args.finished.now in
-    let system = serial finished.plan finished.limit in
+returns g c =
+    let end = g.R.EndedRun.end c.args.run.now in
     let out = c.args.out.now in
     let links = c.links-links.result.now in
-    link_done (traffic_at c.nodes-nodes.result.now system) c.loop-k.k links _ _ (omega arith) c.loop-k.invariant
-    ∙ (ap (λ (ns : List NodePlan). out ++ by_position (traffic_at ns system) 0 (link_arcs links)) c.nodes-nodes.ensures.value
-    ∙ ap (λ (ls : List LinkPlan). out ++ by_position (traffic_at c.args.plan.now.nodes system) 0 (link_arcs ls)) c.links-links.ensures.value)
+    link_done (traffic_at c.nodes-nodes.result.now end) c.loop-k.k links _ _ (omega arith) c.loop-k.invariant
+    ∙ (ap (λ (ns : List NodePlan). out ++ by_position (traffic_at ns end) 0 (link_arcs links)) c.nodes-nodes.ensures.value
+    ∙ ap (λ (ls : List LinkPlan). out ++ by_position (traffic_at c.args.plan.now.nodes end) 0 (link_arcs ls)) c.links-links.ensures.value)

@@ -1,0 +1,7 @@
+pub mod Lists
+pub mod Logs
+pub mod Systems
+pub mod Saved
+pub mod Runs
+pub mod Bounds
+pub mod Rests
