@@ -1,5 +1,5 @@
 -- One call of the program: what its clauses say once the text is written, or not written whole.
-use Rattle.std.proofs.Common.{◌≡◌, ℕ, ◌+◌, ◌<◌, ◌≤◌, ◌⊎◌, Bool, true, false, min, if◌then◌else◌, List, [], length, take, drop, Option, Some, None, IfSome, refl, sym, ap, ◌∙◌, subst, arith, inl, inr}
+use Rattle.std.proofs.Common.{◌≡◌, ℕ, ◌+◌, ◌<◌, Bool, true, false, min, if◌then◌else◌, List, [], length, take, drop, Option, Some, None, IfSome, refl, sym, ap, ◌∙◌, subst, arith, inl, inr}
 use Rattle.std.specs.Prelude.{codes}
 use Rattle.std.proofs.lemmas.List.{length-take}
 use Rattle.std.proofs.Math.Seq.{drop-append_seam}
@@ -25,7 +25,7 @@ use Rattle.answer_model.specs.ResumeForm.{refused, slot_at, is_out_of_range, res
 use Rattle.answer_model.specs.Refusals.{frame_text}
 use Rattle.load_model.specs.Load.{load_text}
 use Rattle.load_model.specs.Made.{made_text}
-use Rattle.answer_model.specs.Top.{answer, answer_by, answer_of_form, usage_answer, longest_of, most_reads, taken_by}
+use Rattle.answer_model.specs.Top.{answer, answer_by, answer_of_form, usage_answer, most_reads, taken_by}
 use Rattle.xs1_top.specs.Call.{IsWhole, IsSilent, IsInput, Answers, AnswersInPart, TookInput, IsAnswerStatus, EndsWhere, Ends, Finishes}
 use Rattle.xs1_top.specs.Calls.{Calls}
 use Rattle.xs1_top.specs.Reads.{ReadGives, ReadsAtMost}
