@@ -1,5 +1,5 @@
 -- The facts of what a snapshot keeps of links and wires.
-use Rattle.std.proofs.Common.{◌≡◌, ℕ, zero, suc, ◌+◌, ◌-◌, ◌*◌, ◌<◌, ◌≤◌, ◌^◌, get_or, IfSome, Option, Some, None, List, [], ◌∷◌, ◌++◌, length, map, slice_get, refl, sym, ap, ◌∙◌, subst, arith}
+use Rattle.std.proofs.Common.{◌≡◌, ℕ, zero, suc, ◌+◌, ◌*◌, ◌<◌, ◌^◌, get_or, IfSome, Option, Some, None, List, [], ◌∷◌, ◌++◌, length, map, slice_get, refl, sym, ap, ◌∙◌, subst, arith}
 use Rattle.std.specs.Prelude.{nat_lt}
 use Rattle.std.specs.List.{AllByRecursion}
 use Rattle.std.proofs.lemmas.Option.{none-some, same_Some}
@@ -12,7 +12,7 @@ use Rattle.sys_plan.specs.declared.WirePlan.{WirePlan}
 use Rattle.sys_plan.specs.Plan.{PlanRec, Arc, Joined, IsPlan, arcs, link_arcs, wire_arcs, along, forth, back}
 use Rattle.sys_plan.proofs.Arcs.{arcs_length}
 use Rattle.sys_plan.proofs.Routes.{directed, link-arc, all-get}
-use Rattle.serial_model.specs.Serial.{serial, is_credit, is_sent_within}
+use Rattle.serial_model.specs.Serial.{serial, is_credit}
 use Rattle.trace_model.specs.Trace.{is_token}
 use Rattle.core_step.specs.States.{link_state}
 use Rattle.link_ends.specs.States.{absent_end}
