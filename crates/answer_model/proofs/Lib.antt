@@ -1,3 +1,4 @@
 mod Modes
+mod SnapStatuses
 mod Statuses
 pub mod Numbers

@@ -7,7 +7,7 @@ use Rattle.std.specs.Char.{is_ascii_digit}
 use Rattle.xs_text.specs.Numbers.{at_most, value_in}
 use Rattle.word_numbers.specs.Decimal.{decimal_up_to}
 use Rattle.answer_model.specs.declared.Form.{Form}
-use Rattle.answer_model.specs.declared.Form.TheVariants.{Free, Serial, Rounds, Play, Make, Check}
+use Rattle.answer_model.specs.declared.Form.TheVariants.{Free, Serial, Rounds, Play, Make, Check, Save, Resume}
 use Rattle.answer_model.specs.Forms.{most_slots, greatest_number, form_of_two, form_of_mode, form_of_words}
 use Rattle.answer_model.specs.Top.{answer, answer_of_form}
 use Rattle.answer_model.specs.MakeForm.{made_answer}
@@ -54,6 +54,14 @@ play_few : (o : Option ℕ) → SaysFew (option_and_then (λ slots. Some (Play s
 play_few None n e = cc
 play_few (Some slots) n e = cc
 
+save_few : (o : Option ℕ) → SaysFew (option_and_then (λ slots. Some (Save slots)) o)
+save_few None n e = cc
+save_few (Some slots) n e = cc
+
+resume_few : (o : Option ℕ) → SaysFew (option_and_then (λ slots. Some (Resume slots)) o)
+resume_few None n e = cc
+resume_few (Some slots) n e = cc
+
 -- a choice between two forms that say few
 choice_few : (t : Bool) (o p : Option Form) → SaysFew o → SaysFew p → SaysFew (if t then o else p)
 choice_few true o p h k = h
@@ -68,7 +76,9 @@ check_few n e = cc
 two_few : (command word : List ℕ) → SaysFew (form_of_two command word)
 two_few command word =
     choice_few _ _ _ (free_few (decimal_up_to most_slots word))
-    (choice_few _ _ _ (play_few (decimal_up_to most_slots word)) (choice_few _ _ _ (make_few (nat_le (length word) 10) (value_in 10 is_ascii_digit word)) none_few))
+    (choice_few _ _ _ (play_few (decimal_up_to most_slots word))
+    (choice_few _ _ _ (make_few (nat_le (length word) 10) (value_in 10 is_ascii_digit word))
+    (choice_few _ _ _ (save_few (decimal_up_to most_slots word)) (choice_few _ _ _ (resume_few (decimal_up_to most_slots word)) none_few))))
 
 mode_few : (slots mode : List ℕ) → SaysFew (form_of_mode slots mode)
 mode_few slots mode =

@@ -9,6 +9,7 @@ pub mod Refusals
 pub mod ResumeForm
 pub mod RunForm
 pub mod SaveForm
+pub mod SnapStatuses
 pub mod StatusNumber
 pub mod SystemStatuses
 pub mod Top

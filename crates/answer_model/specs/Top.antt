@@ -46,6 +46,11 @@ abbrev pub most_taken : Option Form → ℕ
 most_taken None = 0
 most_taken (Some form) = if reads_input form then longest_of form + 1 else 0
 
+-- how many reads words of this form, or of none, make at most. Where nothing is asked for, none is made
+abbrev pub most_reads : Option Form → ℕ
+most_reads None = longest_input + 1
+most_reads (Some form) = longest_of form + 1
+
 -- how many bytes of the input a form takes: all, or as many as that
 abbrev pub taken_by : Option Form → List ℕ → ℕ
 taken_by form input = min (length input) (most_taken form)

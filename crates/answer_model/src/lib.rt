@@ -5,6 +5,7 @@
 ghost use Rattle.std.specs.Prelude.{◌≡◌};
 ghost use Rattle.answer_model.specs.Loads.{LoadsAreMade};
 ghost use Rattle.answer_model.specs.Modes.{ModesAreAlike};
+ghost use Rattle.answer_model.specs.SnapStatuses.{SnapStatuses};
 ghost use Rattle.answer_model.specs.StatusNumber.{number_of_status};
 ghost use Rattle.answer_model.specs.SystemStatuses.{SystemStatuses};
 
@@ -72,6 +73,12 @@ pub struct Answer {
 /// By which statuses the forms answer that read a system text: exactly by what that text stands for.
 pub fn statuses_of_systems()
     ensures { SystemStatuses }
+{}
+
+/// By which statuses `resume SLOTS` answers: `SystemFault` exactly where the input is refused as a snapshot or its slot is out of range, and
+/// `Done` exactly where it goes on from one, with the rest of the trace. See docs/SNAPSHOTS.md.
+pub fn statuses_of_snapshots()
+    ensures { SnapStatuses }
 {}
 
 /// A run answers alike in all modes, whatever its slots and its input are: the same text, the same status, and as many bytes of the input

@@ -21,10 +21,10 @@ const SUM_FOR_20: &[u8] = b"n0 mem 0x00010000 0x0000000c\nend 20\n";
 const EMPTY: &[u8] = b"xs1 1\nnode 0 id 0\nsource 0\nend\n";
 
 // Two nodes, of which the first sends a token to the second.
-const PAIR: &[u8] =
+pub(crate) const PAIR: &[u8] =
     b"xs1 1\nnode 0 id 0\nnode 1 id 1\nlink 0:0 1:0 delay 5 gap 4\nbit 0 0 0\nbit 1 0 0\nsource 0\n  getr r0, 2\n  ldw r1, dp[0]\n  setd res[r0], r1\n  outct res[r0], 1\n  freet\n  .data\n  .word 0x00010002\nend\nsource 1\n  getr r0, 2\n  chkct res[r0], 1\n  freet\nend\n";
 
-const PAIR_FOR_40: &[u8] =
+pub(crate) const PAIR_FOR_40: &[u8] =
     b"30 n1 chan 0 ct 1\nlink 0:0>1:0 tokens 4 credits 0\nlink 1:0>0:0 tokens 0 credits 4\nn0 mem 0x00010000 0x00010002\nend 40\n";
 
 const LONGEST: usize = 4_194_304;
@@ -79,7 +79,7 @@ impl Gate for Meeting {
 }
 
 // One call with these words, with a source and a sink of the caller's.
-fn call<R: Threads + Wait + Sync, S: Source, K: Sink>(
+pub(crate) fn call<R: Threads + Wait + Sync, S: Source, K: Sink>(
     rt: &R,
     alloc: Global,
     words: &[&str],

@@ -5,4 +5,5 @@ pub mod Modes
 pub mod Pairs
 pub mod Plays
 pub mod Programs
+pub mod Snapshots
 pub mod Statuses

@@ -8,6 +8,7 @@ mod pairs;
 mod pins;
 mod plays;
 mod programs;
+mod snapshots;
 mod statuses;
 
 pub use answers::worked_answers;
@@ -17,4 +18,5 @@ pub use pairs::worked_pairs;
 pub use pins::worked_pins;
 pub use plays::worked_plays;
 pub use programs::worked_programs;
+pub use snapshots::worked_snapshots;
 pub use statuses::worked_statuses;

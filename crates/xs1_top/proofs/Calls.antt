@@ -1,28 +1,40 @@
 -- One call of the program: what its clauses say once the text is written, or not written whole.
-use Rattle.std.proofs.Common.{◌≡◌, ℕ, ◌+◌, ◌<◌, ◌≤◌, ◌⊎◌, Bool, true, false, min, if◌then◌else◌, List, [], length, take, drop, Option, Some, None, IfSome, refl, sym, ap, ◌∙◌, subst, arith, inl, inr}
+use Rattle.std.proofs.Common.{◌≡◌, ℕ, ◌+◌, ◌<◌, Bool, true, false, min, if◌then◌else◌, List, [], length, take, drop, Option, Some, None, IfSome, refl, sym, ap, ◌∙◌, subst, arith, inl, inr}
+use Rattle.std.specs.Prelude.{codes}
 use Rattle.std.proofs.lemmas.List.{length-take}
 use Rattle.std.proofs.Math.Seq.{drop-append_seam}
 use Rattle.std.specs.Io.KnownBytes.{Appends, Consumes}
 use Rattle.xs_edge.specs.Edge.{AppendsPart}
 use Rattle.answer_model.specs.declared.Form.{Form}
-use Rattle.answer_model.specs.declared.Form.TheVariants.{Free, Serial, Rounds, Play, Make, Check}
+use Rattle.answer_model.specs.declared.Form.TheVariants.{Free, Serial, Rounds, Play, Make, Check, Save, Resume}
 use Rattle.answer_model.specs.declared.Answer.{Answer}
 use Rattle.answer_model.specs.declared.Status.{Status}
 use Rattle.answer_model.specs.declared.Status.TheVariants as status
+use Rattle.system_model.specs.declared.SysKind.TheVariants.{TooLong}
 use Rattle.system_model.specs.System.{System, Plan, Frame, Source, Pins, longest_input, system_of}
+use Rattle.snap_codec.specs.Snaps.{SnapRec, SnapRead, Snap, Fault, snap_of}
+use Rattle.snap_model.specs.Rest.{rest_text}
 use Rattle.answer_model.specs.Forms.{form_of_words, asks_for_input, reads_input}
 use Rattle.answer_model.specs.OnSystem.{answer_to}
 use Rattle.sys_plan.specs.Plan.{PlanRec}
 use Rattle.answer_model.specs.RunForm.{run_text}
 use Rattle.answer_model.specs.PlayForm.{played_text}
 use Rattle.answer_model.specs.CheckForm.{check_text}
+use Rattle.answer_model.specs.SaveForm.{saved_text, save_answer}
+use Rattle.answer_model.specs.ResumeForm.{refused, slot_at, is_out_of_range, rest_answer, answer_to_snap}
+use Rattle.answer_model.specs.Refusals.{frame_text}
 use Rattle.load_model.specs.Load.{load_text}
 use Rattle.load_model.specs.Made.{made_text}
-use Rattle.answer_model.specs.Top.{answer, answer_by, answer_of_form, usage_answer, taken_by}
+use Rattle.answer_model.specs.Top.{answer, answer_by, answer_of_form, usage_answer, most_reads, taken_by}
 use Rattle.xs1_top.specs.Call.{IsWhole, IsSilent, IsInput, Answers, AnswersInPart, TookInput, IsAnswerStatus, EndsWhere, Ends, Finishes}
 use Rattle.xs1_top.specs.Calls.{Calls}
 use Rattle.xs1_top.specs.Reads.{ReadGives, ReadsAtMost}
-use Rattle.xs1_top.proofs.Systems.{system_of-taken}
+use Rattle.xs1_top.proofs.Systems.{of_taken, system_of-long, system_of-taken, snap_of-taken}
+
+-- a text is in the snapshot that is answered to it
+save_answer-taken : (slots : ℕ) (input : List ℕ) → save_answer slots (take (min (length input) (longest_input + 1)) input) ≡ save_answer slots input
+save_answer-taken slots input =
+    of_taken (save_answer slots) longest_input (record { text = frame_text 0 TooLong; status = status.SystemFault }) (λ text h. ap (answer_to (saved_text text slots)) (system_of-long text h)) input
 
 -- what each form answers to the bytes taken is what it answers to the input
 answer_by-taken : (form : Form) (input : List ℕ) → answer_by form (take (taken_by (Some form) input) input) ≡ answer_by form input
@@ -32,6 +44,8 @@ answer_by-taken (Rounds slots) input = ap (answer_to (run_text slots)) (system_o
 answer_by-taken (Play slots) input = ap (answer_to (played_text slots)) (system_of-taken input)
 answer_by-taken (Make number) input = refl
 answer_by-taken Check input = ap (answer_to check_text) (system_of-taken input)
+answer_by-taken (Save slots) input = save_answer-taken slots input
+answer_by-taken (Resume slots) input = ap (answer_to_snap slots) (snap_of-taken input)
 
 -- the answer to the words and an input that the source may have
 abbrev pub IsAnswer : Answer → List (List ℕ) → Option (List ℕ) → Type 0
@@ -94,16 +108,12 @@ comes_written : (a : Answer) (words : List (List ℕ)) (left : Option (List ℕ)
     → IsAnswer a words left → Ends a.status ended → ¬ (ended ≡ status.WriteFault) → EndsWhere wanted words left ended
 comes_written a words left ended wanted is ends written = ends_with a words left ended wanted is (written_end a.status ended ends written)
 
-within : (asks : Bool) (n m : ℕ) → (if asks then min n m else 0) ≤ n
-within true n m = omega arith
-within false n m = omega arith
-
 -- the input is taken
 pub TookInput-form : (words : List (List ℕ)) (left after : Option (List ℕ)) (bytes : List ℕ) (form : Form) → Some form ≡ form_of_words words
     → IfSome left (λ input. bytes ≡ take (taken_by (Some form) input) input) → Consumes left after bytes → TookInput words left after
 TookInput-form words (Some input) (Some rest) bytes form e front took =
     let count : taken_by (Some form) input ≡ length bytes =
-    omega (arith, ap length front, length-take (taken_by (Some form) input) input, within (asks_for_input (Some form)) (length input) (longest_input + 1)) in
+    omega (arith, ap length front, length-take (taken_by (Some form) input) input) in
     let after : drop (length bytes) input ≡ rest = ap (drop (length bytes)) took ∙ drop-append_seam bytes rest in
     sym (ap (λ form. drop (taken_by form input) input) (sym e) ∙ (ap (λ n. drop n input) count ∙ after))
 TookInput-form words (Some input) None bytes form e front took = absurd took
@@ -111,11 +121,22 @@ TookInput-form words None after bytes form e front took = tt
 
 -- of no form nothing is taken
 pub TookInput-none : (words : List (List ℕ)) (left : Option (List ℕ)) → None ≡ form_of_words words → TookInput words left left
-TookInput-none words (Some input) none = ap (λ form. drop (taken_by form input) input) none
+TookInput-none words (Some input) none =
+    let no_bytes : min (length input) 0 ≡ 0 = omega arith in
+    sym (ap (λ n. drop n input) no_bytes) ∙ ap (λ form. drop (taken_by form input) input) none
 TookInput-none words None none = tt
 
-pub nothing_read : {S : Type 0} (gives : ReadGives S) (source : S) → ReadsAtMost gives (longest_input + 1) source source
-nothing_read gives source = (0, omega arith, 0, source, (refl, refl), inl refl)
+some_reads : (form : Option Form) → 0 < most_reads form
+some_reads None = omega arith
+some_reads (Some form) = omega arith
+
+pub nothing_read : {S : Type 0} (gives : ReadGives S) (form : Option Form) (source : S) → ReadsAtMost gives (most_reads form) source source
+nothing_read gives form source = (0, some_reads form, 0, source, (refl, refl), inl refl)
+
+-- the reads that a form may make are those that its words may
+pub reads_by_words : {S : Type 0} (gives : ReadGives S) (words : List (List ℕ)) (form : Form) (from to : S) → Some form ≡ form_of_words words
+    → ReadsAtMost gives (most_reads (Some form)) from to → ReadsAtMost gives (most_reads (form_of_words words)) from to
+reads_by_words gives words form from to is reads = subst (λ form. ReadsAtMost gives (most_reads form) from to) is reads
 
 -- what holds where the form does not ask for the input
 pub asks-form : {P : Type 0} (words : List (List ℕ)) (form : Form) → Some form ≡ form_of_words words → (reads_input form ≡ false → P) → asks_for_input (form_of_words words) ≡ false → P
@@ -136,6 +157,14 @@ answer_to-status text_for (Frame line kind) = tt
 answer_to-status text_for (Source node line kind) = tt
 answer_to-status text_for (Pins line kind) = tt
 
+ranged-status : (out : Bool) (slots : ℕ) (snap : SnapRec) → IsFormStatus (if out then refused (slot_at snap) (codes "N3 slot out of range") else rest_answer slots snap).status
+ranged-status true slots snap = tt
+ranged-status false slots snap = answer_to-status (λ plan. rest_text plan snap.body slots) (system_of snap.text)
+
+answer_to_snap-status : (slots : ℕ) (read : SnapRead) → IsFormStatus (answer_to_snap slots read).status
+answer_to_snap-status slots (Snap snap) = ranged-status (is_out_of_range slots snap) slots snap
+answer_to_snap-status slots (Fault byte kind) = tt
+
 pub answer_by-status : (form : Form) (input : List ℕ) → IsFormStatus (answer_by form input).status
 answer_by-status (Free slots) input = answer_to-status (run_text slots) (system_of input)
 answer_by-status (Serial slots) input = answer_to-status (run_text slots) (system_of input)
@@ -143,6 +172,8 @@ answer_by-status (Rounds slots) input = answer_to-status (run_text slots) (syste
 answer_by-status (Play slots) input = answer_to-status (played_text slots) (system_of input)
 answer_by-status (Make number) input = answer_to-status (made_text number) (system_of (load_text number))
 answer_by-status Check input = answer_to-status check_text (system_of input)
+answer_by-status (Save slots) input = answer_to-status (saved_text input slots) (system_of input)
+answer_by-status (Resume slots) input = answer_to_snap-status slots (snap_of input)
 
 form_whole : (s : Status) → IsFormStatus s → IsWhole s
 form_whole status.Done h = tt
@@ -209,7 +240,7 @@ from_usage wanted ended (inr e) is = let apart : status.WriteFault ≡ status.Us
 pub finished_call : {S K : Type 0} (left_in : S → Option (List ℕ)) (read_faults : S → ℕ) (read_gives : ReadGives S) (written_to : K → Option (List ℕ)) (write_faults : K → ℕ)
     (words : List (List ℕ)) (source source_after : S) (sink sink_after : K) (ended : Status) (a : Answer) (text : List ℕ)
     → TookInput words (left_in source) (left_in source_after)
-    → ReadsAtMost read_gives (longest_input + 1) source source_after
+    → ReadsAtMost read_gives (most_reads (form_of_words words)) source source_after
     → read_faults source_after ≡ read_faults source
     → (asks_for_input (form_of_words words) ≡ false → source_after ≡ source)
     → IsAnswer a words (left_in source) → FitsWords words a.status → text ≡ a.text

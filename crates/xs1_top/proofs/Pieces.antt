@@ -6,10 +6,9 @@ use Rattle.std.proofs.KnownBytes.{Appends-trans, Consumes-trans}
 use Rattle.std.proofs.Math.Seq.{take-add}
 use Rattle.std.specs.Io.KnownBytes.{Appends, Consumes}
 use Rattle.xs_edge.specs.Edge.{AppendsPart}
-use Rattle.system_model.specs.System.{longest_input}
 use Rattle.answer_model.specs.declared.Form.{Form}
 use Rattle.answer_model.specs.Forms.{reads_input}
-use Rattle.answer_model.specs.Top.{taken_by}
+use Rattle.answer_model.specs.Top.{longest_of, most_taken, taken_by}
 
 -- the first done bytes of the text, and then n more
 pub Appends-more : (a b c : Option (List ℕ)) (text : List ℕ) (done n : ℕ) → Appends a b (take done text) → Appends b c (take n (drop done text)) → Appends a c (take (done + n) text)
@@ -59,17 +58,16 @@ take_min most bytes =
       | inr h ↦ let e : min (length bytes) most ≡ most = omega arith in ap (λ n. take n bytes) e
     ]
 
-taken_known : (form : Form) (left : Option (List ℕ)) (bytes : List ℕ) → reads_input form ≡ true
-    → IfSome left (λ input. bytes ≡ take (longest_input + 1) input) → IfSome left (λ input. bytes ≡ take (taken_by (Some form) input) input)
-taken_known form None bytes asks front = tt
-taken_known form (Some input) bytes asks front =
-    let all : take (taken_by (Some form) input) input ≡ take (min (length input) (longest_input + 1)) input =
-    ap (λ asks. take (if asks then min (length input) (longest_input + 1) else 0) input) asks in
-    front ∙ sym (all ∙ take_min (longest_input + 1) input)
+taken_known : (form : Form) (most : ℕ) (left : Option (List ℕ)) (bytes : List ℕ) → reads_input form ≡ true → most ≡ longest_of form + 1
+    → IfSome left (λ input. bytes ≡ take most input) → IfSome left (λ input. bytes ≡ take (taken_by (Some form) input) input)
+taken_known form most None bytes asks is front = tt
+taken_known form most (Some input) bytes asks is front =
+    let limit : most_taken (Some form) ≡ most = ap (λ asks. if asks then longest_of form + 1 else 0) asks ∙ sym is in
+    front ∙ sym (ap (λ limit. take (min (length input) limit) input) limit ∙ take_min most input)
 
 -- a form that asks for the input takes it whole, or one byte past the longest
-pub taken_front : {T E : Type 0} (items : T → List ℕ) (form : Form) (left : Option (List ℕ)) (r : Result T E) → reads_input form ≡ true
-    → IfOk r (λ bytes. IfSome left (λ input. items bytes ≡ take (longest_input + 1) input))
+pub taken_front : {T E : Type 0} (items : T → List ℕ) (form : Form) (most : ℕ) (left : Option (List ℕ)) (r : Result T E) → reads_input form ≡ true
+    → most ≡ longest_of form + 1 → IfOk r (λ bytes. IfSome left (λ input. items bytes ≡ take most input))
     → IfOk r (λ bytes. IfSome left (λ input. items bytes ≡ take (taken_by (Some form) input) input))
-taken_front items form left (Ok bytes) asks front = taken_known form left (items bytes) asks front
-taken_front items form left (Err e) asks front = tt
+taken_front items form most left (Ok bytes) asks is front = taken_known form most left (items bytes) asks is front
+taken_front items form most left (Err e) asks is front = tt

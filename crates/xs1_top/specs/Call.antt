@@ -3,13 +3,13 @@ use Rattle.std.specs.Prelude.{ℕ, ◌≡◌, ◌≤◌, ◌⊎◌, Option, Some
 use Rattle.std.specs.Io.KnownBytes.{Appends}
 use Rattle.xs_edge.specs.Edge.{HasRisen, AppendsPart}
 use Rattle.answer_model.specs.declared.Form.{Form}
-use Rattle.answer_model.specs.declared.Form.TheVariants.{Free, Serial, Rounds, Play, Make, Check}
+use Rattle.answer_model.specs.declared.Form.TheVariants.{Free, Serial, Rounds, Play, Make, Check, Save, Resume}
 use Rattle.answer_model.specs.declared.Status.{Status}
 use Rattle.answer_model.specs.declared.Status.TheVariants.{Done, Memory, Usage, SystemFault, SourceFault, ScriptFault, ReadFault, WriteFault}
 use Rattle.answer_model.specs.Forms.{most_slots}
 use Rattle.answer_model.specs.Top.{answer, taken}
 
--- a run of the form, and that in which it plays, has no more slots than a run may have
+-- a run of the form, that in which it plays, and that which it saves or resumes, has no more slots than a run may have
 abbrev pub HasFewSlots : Form → Type 0
 HasFewSlots (Free slots) = slots ≤ most_slots
 HasFewSlots (Serial slots) = slots ≤ most_slots
@@ -17,6 +17,8 @@ HasFewSlots (Rounds slots) = slots ≤ most_slots
 HasFewSlots (Play slots) = slots ≤ most_slots
 HasFewSlots (Make number) = Unit {0}
 HasFewSlots Check = Unit {0}
+HasFewSlots (Save slots) = slots ≤ most_slots
+HasFewSlots (Resume slots) = slots ≤ most_slots
 
 -- Memory was there, the input was read and the text was written: a status of the definition's answers.
 abbrev pub IsWhole : Status → Type 0

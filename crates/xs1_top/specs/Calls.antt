@@ -1,10 +1,10 @@
 -- One call of the program: all that is said of what it reads, what it writes and how it ends.
-use Rattle.std.specs.Prelude.{ℕ, ◌≡◌, ◌≢◌, ◌<◌, ◌+◌, ◌⊎◌, Option, None, List, false}
+use Rattle.std.specs.Prelude.{ℕ, ◌≡◌, ◌≢◌, ◌<◌, ◌⊎◌, Option, None, List, false}
 use Rattle.xs_edge.specs.Edge.{HasRisen}
-use Rattle.system_model.specs.System.{longest_input}
 use Rattle.answer_model.specs.declared.Status.{Status}
 use Rattle.answer_model.specs.declared.Status.TheVariants as status
 use Rattle.answer_model.specs.Forms.{asks_for_input, form_of_words}
+use Rattle.answer_model.specs.Top.{most_reads}
 use Rattle.xs1_top.specs.Call.{IsWhole, IsRead, IsSilent, Answers, AnswersInPart, TookInput, IsAnswerStatus, EndsWhere, IsCalm}
 use Rattle.xs1_top.specs.Reads.{ReadGives, ReadsAtMost}
 
@@ -19,7 +19,7 @@ pub record Calls {S K : Type 0}
   pub part : ended ≡ status.WriteFault → AnswersInPart words (left_in source) (written_to sink) (written_to sink_after)
   pub silent : IsSilent ended → sink_after ≡ sink
   pub left : IsRead ended → TookInput words (left_in source) (left_in source_after)
-  pub reads : ReadsAtMost read_gives (longest_input + 1) source source_after
+  pub reads : ReadsAtMost read_gives (most_reads (form_of_words words)) source source_after
   -- Where reads and writes fail.
   pub read_fault : ended ≡ status.ReadFault → HasRisen (read_faults source) (read_faults source_after)
   pub read_fault_shown : read_faults source < read_faults source_after → ended ≡ status.ReadFault

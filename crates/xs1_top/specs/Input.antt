@@ -1,17 +1,17 @@
 -- Reading an input.
-use Rattle.std.specs.Prelude.{ℕ, ◌≡◌, ◌+◌, Option, List, Result, Vec, IfOk, OnOk, IsErrOf}
+use Rattle.std.specs.Prelude.{ℕ, ◌≡◌, Option, List, Result, Vec, IfOk, OnOk, IsErrOf}
 use Rattle.std.specs.Io.KnownBytes.{Consumes}
 use Rattle.xs_edge.specs.Edge.{HasRisen}
-use Rattle.system_model.specs.System.{longest_input}
 use Rattle.xs1_top.specs.Reads.{ReadGives, ReadsAtMost}
 use Rattle.xs1_top.specs.declared.input.ReadError.{ReadError}
 use Rattle.xs1_top.specs.declared.input.ReadError.TheVariants as error
 
--- An input, or some of it, was read from a source, or it was not: by which reads, and what the source tells of it.
-pub record ReadsInput {S A : Type 0} (left_in : S → Option (List ℕ)) (faults : S → ℕ) (read_gives : ReadGives S) (source source_after : S) (input : Result (Vec ℕ A) ReadError)
+-- An input, or at most so many bytes of it, was read from a source, or it was not: by which reads, and what the source tells of it.
+pub record ReadsInput {S A : Type 0}
+    (left_in : S → Option (List ℕ)) (faults : S → ℕ) (read_gives : ReadGives S) (most : ℕ) (source source_after : S) (input : Result (Vec ℕ A) ReadError)
     : Type 0 where
   pub taken : IfOk input (λ bytes. Consumes (left_in source) (left_in source_after) bytes.items)
   pub calm : OnOk input (faults source_after ≡ faults source)
   pub failed : IsErrOf input error.Failed → HasRisen (faults source) (faults source_after)
   pub memory : IsErrOf input error.Memory → faults source_after ≡ faults source
-  pub reads : ReadsAtMost read_gives (longest_input + 1) source source_after
+  pub reads : ReadsAtMost read_gives most source source_after

@@ -1,16 +1,15 @@
 //! The program's one call, and the same for words of which no form may wait.
-ghost use Rattle.std.specs.Prelude.{◌≡◌, ◌≢◌, ◌<◌, ◌+◌, ◌⊎◌, false, None, IfOk, map, string_bytes};
+ghost use Rattle.std.specs.Prelude.{◌≡◌, ◌≢◌, ◌<◌, ◌⊎◌, false, None, IfOk, map, string_bytes};
 ghost use Rattle.xs_edge.specs.Edge.{HasRisen};
-ghost use Rattle.system_model.specs.System.{longest_input};
 ghost use Rattle.answer_model.specs.Forms.{asks_for_input, form_may_wait, form_of_words, may_wait};
-ghost use Rattle.answer_model.specs.Top.{answer_by};
+ghost use Rattle.answer_model.specs.Top.{answer_by, most_reads};
 ghost use Rattle.xs1_top.specs.Call.{IsWhole, IsRead, IsSilent, Answers, AnswersInPart, TookInput, IsAnswerStatus, EndsWhere, IsCalm};
 ghost use Rattle.xs1_top.specs.Calls.{Calls};
 ghost use Rattle.xs1_top.specs.Reads.{ReadsAtMost};
 
 use crate::respond::{finish, respond};
 use crate::words::{form_of_words, usage_line};
-use crate::{check, make, play, run};
+use crate::{check, make, play, resume, run, save};
 pub use answer_model::Status;
 use answer_model::{Answer, Form};
 use std::alloc::{AllocError, Global};
@@ -24,23 +23,27 @@ use xs_edge::{Gate, Sink, Source};
 /// round, where each node passes `gate` in each round, and all four answer with the trace; `play SLOTS` takes the steps of its schedule
 /// one by one, in a run of so many slots, and answers with what each leaves and publishes; `make NUMBER` runs the load of the number for
 /// 60,000 slots, all nodes together, and answers with the line of what it came to; `check` runs nothing and answers with each node's
-/// source as its image gives it. `words` are the program's, without its name. Nothing is written before all is done, and writing takes
-/// no memory. See docs/OUTPUT.md.
+/// source as its image gives it; `save SLOTS` runs the system that the input stands for, all nodes together, and answers with the snapshot
+/// of it before slot SLOTS; `resume SLOTS` goes on from the snapshot that the input is, all nodes together, up to slot SLOTS, and answers
+/// with the rest of the trace. `words` are the program's, without its name. Nothing is written before all is done, and writing takes no
+/// memory. See docs/OUTPUT.md.
 ///
-/// With words of no form, or of one that asks for no input, nothing is read. Of an input no more than 4,194,305 bytes are
-/// read, and one of more than 4,194,304 bytes is refused as a system text.
+/// With words of no form, or of one that asks for no input, nothing is read. Of a system text no more than 4,194,305 bytes are
+/// read, and one of more than 4,194,304 bytes is refused; of a snapshot no more than 8,388,609, and one of more than 8,388,608 is refused.
 ///
 /// With `run SLOTS` and `run SLOTS free` it may never return, since workers wait for each other; with all other words it does what
 /// `top_plain` does, which returns.
 ///
 /// The statuses, of which `Status::number` gives the number; the definition of each form says which of `Done`,
-/// `SystemFault`, `SourceFault` and `ScriptFault` it answers, and `statuses_of_systems` of answer_model where:
+/// `SystemFault`, `SourceFault` and `ScriptFault` it answers, and `statuses_of_systems` and `statuses_of_snapshots` of answer_model where:
 ///
-/// - `Done`: the text of the answer was written, as the trace, or the text of `play`, of `make` or of `check`.
+/// - `Done`: the text of the answer was written, as the trace or the rest of it, the text of `play`, of `make` or of `check`, or the bytes
+///   of a snapshot.
 /// - `Memory`: memory was wanting. Nothing was written.
 /// - `Usage`: the words are of no form. The usage line was written.
 /// - `SystemFault`, `SourceFault`, `ScriptFault`: the frame, a node's source, or the pin script is refused, each where
-///   those before it are accepted. The line of the refusal was written.
+///   those before it are accepted. `SystemFault` too: a snapshot is refused, whatever is wrong in it, or its slot is out of range. The line of
+///   the refusal was written.
 /// - `ReadFault`: a read failed, so the source's count of faults has risen. Nothing was written.
 /// - `WriteFault`: a write failed, so the sink's count of faults has risen. A front of what was to be written, or
 ///   nothing, was written.
@@ -57,7 +60,7 @@ pub fn top<R: Threads + Wait + Sync, S: Source, K: Sink, G: Gate>(
     ensures part { result ≡ Status.WriteFault → AnswersInPart (map string_bytes words.now) (S.left source.old) (K.written sink.old) (K.written sink.new) }
     ensures silent { IsSilent result → sink.new ≡ sink.old }
     ensures left { IsRead result → TookInput (map string_bytes words.now) (S.left source.old) (S.left source.new) }
-    ensures reads { ReadsAtMost S.read_gives (longest_input + 1) source.old source.new }
+    ensures reads { ReadsAtMost S.read_gives (most_reads (form_of_words (map string_bytes words.now))) source.old source.new }
 
     // Where reads and writes fail.
     ensures read_fault { result ≡ Status.ReadFault → HasRisen (S.faults source.old) (S.faults source.new) }
@@ -159,5 +162,7 @@ fn answer_plainly<R: Threads + Sync, G: Gate>(
         Form::Play(slots) => play::answer(alloc, slots, input),
         Form::Make(number) => make::answer(alloc, number),
         Form::Check => check::answer(alloc, input),
+        Form::Save(slots) => save::answer(alloc, slots, input),
+        Form::Resume(slots) => resume::answer(alloc, slots, input),
     }
 }

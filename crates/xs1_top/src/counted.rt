@@ -1,6 +1,8 @@
 //! How often the program's call reads, at a source that counts it.
-ghost use Rattle.std.specs.Prelude.{◌+◌, ◌≤◌};
-ghost use Rattle.system_model.specs.System.{longest_input};
+ghost use Rattle.std.specs.Prelude.{◌+◌, ◌≤◌, map, string_bytes};
+ghost use Rattle.answer_model.specs.Forms.{form_of_words};
+ghost use Rattle.answer_model.specs.Top.{most_reads};
+ghost use Rattle.snap_codec.specs.Snaps.{longest_snapshot};
 
 use crate::top;
 use answer_model::Status;
@@ -9,7 +11,8 @@ use std::sync::Wait;
 use std::thread::Threads;
 use xs_edge::{CountingSource, Gate, Sink};
 
-/// The program's call over a source that counts its reads: it is read at most 4,194,305 times.
+/// The program's call over a source that counts its reads: it is read at most 4,194,305 times, and with `resume SLOTS` at most 8,388,609
+/// times.
 pub fn top_counted<R: Threads + Wait + Sync, K: Sink, G: Gate>(
     rt: &R,
     alloc: Global,
@@ -18,7 +21,8 @@ pub fn top_counted<R: Threads + Wait + Sync, K: Sink, G: Gate>(
     sink: &mut K,
     gate: &G,
 ) -> Status
-    ensures { source.new.reads ≤ source.old.reads + (longest_input + 1) }
+    ensures by_form { source.new.reads ≤ source.old.reads + most_reads (form_of_words (map string_bytes words.now)) }
+    ensures always { source.new.reads ≤ source.old.reads + (longest_snapshot + 1) }
 {
     top(rt, alloc, words, source, sink, gate)
 }

@@ -1,17 +1,13 @@
 //! Reading the input whole, or as much of it as shows that it is too long.
 ghost use Rattle.std.specs.Prelude.{◌≡◌, ◌<◌, ◌≤◌, ◌+◌, false, Some, length, take, vec_len, IfOk, IfSome};
-ghost use Rattle.system_model.specs.System.{longest_input};
 ghost use Rattle.answer_model.specs.Forms.{reads_input};
-ghost use Rattle.answer_model.specs.Top.{taken_by};
+ghost use Rattle.answer_model.specs.Top.{most_reads, taken_by};
 ghost use Rattle.xs1_top.specs.Input.{ReadsInput};
 
-use crate::words::reads_input;
+use crate::words::{most_bytes, reads_input};
 use answer_model::Form;
 use std::alloc::{AllocError, Global};
 use xs_edge::{Failed, Source};
-
-// One byte past the longest input, so that an input that is too long is seen.
-const MOST_TAKEN: usize = 4_194_305;
 
 // The bytes that one read may take.
 const BUFFER_LENGTH: usize = 65_536;
@@ -47,31 +43,31 @@ impl From<AllocError> for ReadError {
     }
 }
 
-/// The bytes of the input that a form asks for: none, and then nothing is read, or all up to 4,194,305, which is one more
-/// than an input may have. `ReadError::Failed` comes only where the source's count of faults has risen, and
-/// `ReadError::Memory` where memory was wanting; the bytes taken till then are lost.
+/// The bytes of the input that a form asks for: none, and then nothing is read, or all up to one more than its input may have.
+/// `ReadError::Failed` comes only where the source's count of faults has risen, and `ReadError::Memory` where memory was wanting; the bytes
+/// taken till then are lost.
 pub fn read_for<S: Source>(alloc: Global, form: Form, source: &mut S) -> Result<Vec<u8>, ReadError>
-    ensures input { ReadsInput S.left S.faults S.read_gives source.old source.new result }
+    ensures input { ReadsInput S.left S.faults S.read_gives (most_reads (Some form)) source.old source.new result }
     ensures front { IfOk result (λ bytes. IfSome (S.left source.old) (λ left. bytes.items ≡ take (taken_by (Some form) left) left)) }
     ensures nothing { reads_input form ≡ false → source.new ≡ source.old }
 {
     if !reads_input(form) {
         return Ok(Vec::new(alloc));
     }
-    read_all(alloc, source)
+    read_all(alloc, most_bytes(form), source)
 }
 
-// Reads until the input ends, a read fails, or 4,194,305 bytes are taken, which is one more than an input may
-// have. No more than that is ever taken, and no read is made after it. No read has an empty buffer.
-// `ReadError::Failed` comes only where the source's count of faults has risen, and `ReadError::Memory` where memory
-// was wanting; the bytes taken till then are lost.
-fn read_all<S: Source>(alloc: Global, source: &mut S) -> Result<Vec<u8>, ReadError>
-    ensures input { ReadsInput S.left S.faults S.read_gives source.old source.new result }
-    ensures front { IfOk result (λ bytes. IfSome (S.left source.old) (λ left. bytes.items ≡ take (longest_input + 1) left)) }
-    ensures within { IfOk result (λ bytes. vec_len bytes ≤ longest_input + 1) }
+// Reads until the input ends, a read fails, or so many bytes are taken. No more than that is ever taken, and no read is
+// made after it. No read has an empty buffer. `ReadError::Failed` comes only where the source's count of faults has
+// risen, and `ReadError::Memory` where memory was wanting; the bytes taken till then are lost.
+fn read_all<S: Source>(alloc: Global, most: usize, source: &mut S) -> Result<Vec<u8>, ReadError>
+    requires { 0 < most }
+    ensures input { ReadsInput S.left S.faults S.read_gives most source.old source.new result }
+    ensures front { IfOk result (λ bytes. IfSome (S.left source.old) (λ left. bytes.items ≡ take most left)) }
+    ensures within { IfOk result (λ bytes. vec_len bytes ≤ most) }
 {
     let mut buffer = make_buffer(alloc)?;
-    read_through(alloc, source, &mut buffer)
+    read_through(alloc, most, source, &mut buffer)
 }
 
 fn make_buffer(alloc: Global) -> Result<Vec<u8>, AllocError>
@@ -80,21 +76,23 @@ fn make_buffer(alloc: Global) -> Result<Vec<u8>, AllocError>
     vec![in alloc; 0; BUFFER_LENGTH]
 }
 
-// Reads by way of the buffer.
+// Reads so many bytes at most by way of the buffer.
 fn read_through<S: Source>(
     alloc: Global,
+    most: usize,
     source: &mut S,
     buffer: &mut [u8],
 ) -> Result<Vec<u8>, ReadError>
-    requires { 0 < length buffer.old }
-    ensures input { ReadsInput S.left S.faults S.read_gives source.old source.new result }
-    ensures front { IfOk result (λ bytes. IfSome (S.left source.old) (λ left. bytes.items ≡ take (longest_input + 1) left)) }
-    ensures within { IfOk result (λ bytes. vec_len bytes ≤ longest_input + 1) }
+    requires some { 0 < most }
+    requires room { 0 < length buffer.old }
+    ensures input { ReadsInput S.left S.faults S.read_gives most source.old source.new result }
+    ensures front { IfOk result (λ bytes. IfSome (S.left source.old) (λ left. bytes.items ≡ take most left)) }
+    ensures within { IfOk result (λ bytes. vec_len bytes ≤ most) }
 {
     let mut bytes = Vec::new(alloc);
-    while bytes.len() < MOST_TAKEN {
-        let most = (MOST_TAKEN - bytes.len()).min(buffer.len());
-        let piece = &mut buffer[..most];
+    while bytes.len() < most {
+        let fits = (most - bytes.len()).min(buffer.len());
+        let piece = &mut buffer[..fits];
         let count = source.read(piece)?;
         if count == 0 {
             return Ok(bytes);

@@ -12,7 +12,9 @@ mod output;
 mod play;
 mod refusals;
 mod respond;
+mod resume;
 mod run;
+mod save;
 mod words;
 
 pub use answer_model::Status;

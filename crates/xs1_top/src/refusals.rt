@@ -1,9 +1,11 @@
-//! The lines that refuse a system text.
+//! The lines that refuse a system text, and those that refuse a snapshot.
 ghost use Rattle.std.specs.Prelude.{◌≡◌, ◌++◌, IfOk, OnOk};
 ghost use Rattle.answer_model.specs.Refusals.{frame_text, pins_text, source_text, text_of_asm_kind, text_of_pin_kind, text_of_sys_kind};
+ghost use Rattle.answer_model.specs.ResumeForm.{snap_fault_line, text_of_snap_kind};
 
 use decimal_text::append_decimal;
 use pin_scripts::PinKind;
+use snap_codec::SnapKind;
 use source_model::AsmKind;
 use std::alloc::{AllocError, Global};
 use system_model::SysKind;
@@ -47,6 +49,19 @@ pub fn pins_line(alloc: Global, line: u32, kind: PinKind) -> Result<Text, AllocE
     append_decimal(&mut text, u64::from(line))?;
     text.append(b": ")?;
     text.append(text_of_pin_kind(kind))?;
+    text.append(b"\n")?;
+    Ok(text)
+}
+
+/// The line of a refused snapshot: `snapshot byte B: ` and what is wrong there. The error is want of memory. See docs/SNAPSHOTS.md.
+pub fn snap_fault_line(alloc: Global, byte: u32, wrong: &[u8]) -> Result<Text, AllocError>
+    ensures { IfOk result (λ text. text ≡ snap_fault_line byte wrong.now) }
+{
+    let mut text = Text::new(alloc);
+    text.append(b"snapshot byte ")?;
+    append_decimal(&mut text, u64::from(byte))?;
+    text.append(b": ")?;
+    text.append(wrong)?;
     text.append(b"\n")?;
     Ok(text)
 }
@@ -101,5 +116,16 @@ fn text_of_pin_kind(kind: PinKind) -> &'static [u8]
         PinKind::ValueTooWide => b"P4 value too wide",
         PinKind::NoSuchNode => b"P5 no such node",
         PinKind::PinGivenTwice => b"P6 pin given twice",
+    }
+}
+
+/// What is wrong in a snapshot that is refused.
+pub fn text_of_snap_kind(kind: SnapKind) -> &'static [u8]
+    ensures { result.now ≡ text_of_snap_kind kind }
+{
+    match kind {
+        SnapKind::BadSnapshot => b"N1 bad snapshot",
+        SnapKind::SystemRefused => b"N2 system refused",
+        SnapKind::TooLong => b"N4 input too long",
     }
 }
