@@ -7,11 +7,11 @@ use Rattle.answer_model.specs.declared.Answer.{Answer}
 use Rattle.answer_model.specs.OnSystem.{on_system}
 
 -- the snapshot of a run of so many slots by a plan that a text stands for
-abbrev pub snap_after : PlanRec → List ℕ → ℕ → SnapRec
-snap_after plan text slots = record { text = text; body = saved_at plan slots }
+abbrev pub saved_snap : PlanRec → List ℕ → ℕ → SnapRec
+saved_snap plan text slots = record { text = text; body = saved_at plan slots }
 
 abbrev pub saved_text : List ℕ → ℕ → PlanRec → List ℕ
-saved_text text slots plan = snap_bytes plan (snap_after plan text slots)
+saved_text text slots plan = snap_bytes plan (saved_snap plan text slots)
 
 abbrev pub save_answer : ℕ → List ℕ → Answer
 save_answer slots input = on_system (saved_text input slots) input

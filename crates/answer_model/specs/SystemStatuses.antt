@@ -58,5 +58,5 @@ pub record SystemStatuses : Type 0 where
   pub source_fault : AnswersExactly SourceFault IsSourceRefusal
   pub script_fault : AnswersExactly ScriptFault IsScriptRefusal
   pub done : AnswersExactly Done RefusesNothing
-  -- no other words have these statuses
+  -- words of no form have the status of the usage line
   pub others : (words : List (List ℕ)) (input : List ℕ) → form_of_words words ≡ None → (answer words input).status ≡ Usage
