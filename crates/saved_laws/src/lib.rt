@@ -16,20 +16,20 @@ pub fn saved_parts_are_those_of_the_run()
     ensures whole { SavedIsWhole }
 {}
 
-/// Of a node's events at most 262,144 are kept, and how many were left out is below 2^63, in runs of at most 16,000,000 slots. It does
+/// Of a node's events at most 262,144 are kept, and how many were left out is below 2^63, before every slot below 2^32. It does
 /// nothing.
 pub fn saved_counts_are_small()
     ensures events { EventsAreCounted }
 {}
 
-/// For every link of every plan, before every slot up to 16,000,000: what is in flight on its two directed links may be so, each window
+/// For every link of every plan, before every slot below 2^32: what is in flight on its two directed links may be so, each window
 /// is at most eight and is the tokens in flight, those in the buffer of the other end and the credits in flight back, and how much was
 /// sent is below 2^63. Its tokens are bytes, as `logs_carry_bytes` says. It does nothing.
 pub fn saved_links_may_be_kept()
     ensures links { LinksMayBeKept }
 {}
 
-/// For every wire of every plan, before every slot up to 16,000,000: what is in flight on it are levels, which fit its pins, and so does
+/// For every wire of every plan, before every slot below 2^32: what is in flight on it are levels, which fit its pins, and so does
 /// the level that it showed before that; and how often it changed is below 2^63. It does nothing.
 pub fn saved_wires_may_be_kept()
     ensures wires { WiresMayBeKept }
