@@ -4,7 +4,8 @@ use mathlib.Core.Logic.{◌⊎◌}
 use Rattle.std.specs.Prelude.{drop, slice_get}
 use Rattle.std.specs.List.{AllByRecursion, AllZip}
 use Rattle.std.proofs.lemmas.Bool.{cases_Bool, eqb-true, eqb-false}
-use Rattle.std.proofs.lemmas.List.{take_more, length-map, length-take}
+use Rattle.std.proofs.Math.ListN.{get_or-map as get_or-map-default}
+use Rattle.std.proofs.lemmas.List.{take_more, take_all, get_or-map, length-map, length-take}
 use Rattle.xs_base.specs.Ids.{port_width}
 use Rattle.xs_base.specs.Batch.{BatchRec}
 use Rattle.xs_base.specs.Numbers.{Slot, Word}
@@ -12,11 +13,13 @@ use Rattle.xs_base.specs.declared.entry.Entry.{Entry}
 use Rattle.xs_base.specs.declared.entry.What.{What}
 use Rattle.xs_base.specs.declared.entry.What.TheVariants as what
 use Rattle.xs_model.specs.declared.event.Event.{Event}
-use Rattle.xs_model.specs.Record.{CoreRec, NodeRec}
+use Rattle.xs_model.specs.Record.{CoreRec, NodeRec, port_of, first_node}
+use Rattle.pin_wires.specs.Wires.{driven_or_low}
 use Rattle.sys_plan.specs.declared.NodePlan.{NodePlan}
 use Rattle.sys_plan.specs.declared.LinkPlan.{LinkPlan}
 use Rattle.sys_plan.specs.declared.WirePlan.{WirePlan}
 use Rattle.sys_plan.specs.Plan.{PlanRec, Arc, IsPlan, IsLink, IsWire as IsWirePlan, AreDistinct, forth, back, arcs, link_arcs, wire_arcs, targets_of}
+use Rattle.sys_plan.proofs.Wires.{wires_length}
 use Rattle.step_laws.specs.Shape.{HasShape, HoldsWhatIsThere}
 use Rattle.serial_model.specs.Serial.{level_after, level_or, driven_level, node_by, is_credit, IsNoLevel}
 use Rattle.crossings.specs.declared.crossing.Crossing.{Crossing}
@@ -27,15 +30,16 @@ use Rattle.switch_routes.specs.declared.state.InputState.{InputState}
 use Rattle.switch_routes.specs.declared.state.InputState.TheVariants as kept
 use Rattle.core_step.specs.States.{node_rec}
 use Rattle.snap_parts.specs.declared.node.SnapNode.{SnapNode}
+use Rattle.snap_parts.specs.declared.log.SnapLog.{SnapLog}
 use Rattle.snap_parts.specs.InFlight.{IsOfLink, IsInFlight, ComesBefore, StandSo, is_token, is_credit as is_a_credit, AreLinkEntries, AreWireEntries}
-use Rattle.snap_parts.specs.Parts.{LogRec, BodyRec}
+use Rattle.snap_parts.specs.Parts.{LogRec, BodyRec, seen}
 use Rattle.snap_parts.specs.Snaps.{begun_of, IsOnWire, IsOnArc, AreOnArcs, IsSnapNode, AreSnapNodes, IsSnapSystem}
 use Rattle.run_plan.specs.declared.track.Track.{Track}
 use Rattle.run_plan.specs.declared.wire.Wire.{Wire}
 use Rattle.run_plan.specs.declared.station.Station.{Station}
 use Rattle.run_plan.specs.Stations.{IsStation}
 use Rattle.run_plan.specs.Wires.{IsWire, IsReadyWire, HasCome, target, targets, with_coming}
-use Rattle.run_plan.specs.Passes.{IsReadyTrack, IsHeeded, IsShownAt, SameButCome, cores_of, levels_of, due_at}
+use Rattle.run_plan.specs.Passes.{IsReadyTrack, IsHeeded, IsShownAt, SameButCome, cores_of, driven_by, levels_of, due_at}
 use Rattle.run_plan.specs.Run.{AllServe, AllCarry, AllTell, AreReady}
 use Rattle.run_plan.specs.Begins.{AllBegin, StationBegins, TrackBegins, LinkBegins, WireBegins, WireBeginsBy}
 use Rattle.run_plan.proofs.Through.{zip-length}
@@ -195,6 +199,32 @@ module _ (plan : PlanRec) (body : BodyRec) (is : IsSnapSystem plan body) where
       subst (IsOnWire body.slot wire.delay (port_width wire.b_port)) same
       (subst (λ (w : WirePlan). IsOnWire body.slot w.delay (port_width w.b_port) (get_or (drop L body.logs) j log)) here (wire-log body.slot [] plan.wires (drop L body.logs) j d log rest h))
 
+  pub wire-within : (j : ℕ) → j < length plan.wires → L + j < length body.logs
+  wire-within j h = omega (arith, h, all-logs, wires_length [] plan.wires)
+
+  pub wires-rest : length (drop L body.logs) ≡ length plan.wires
+  wires-rest = omega (arith, drop-length L body.logs (omega (arith, all-logs)), all-logs, wires_length [] plan.wires)
+
+  -- the links of which this many directed links were made
+  pub links-so-far : (i : ℕ) (tracks : List Track) → AllBegin (LinkBegins body.slot) 0 (link_arcs (take i plan.links)) (take (length tracks) body.logs) tracks → i < length plan.links
+      → (length tracks ≡ i + i) × (length tracks + 1 < length body.logs)
+  links-so-far i tracks begin h =
+      let count = begin-length (LinkBegins body.slot) 0 (link_arcs (take i plan.links)) (take (length tracks) body.logs) tracks begin in
+      let twice : length tracks ≡ i + i = omega (arith, count, arcs-length (take i plan.links), length-take i plan.links, h) in
+      (twice, omega (arith, twice, arcs-length plan.links, h, all-logs))
+
+-- what contracts see of the log at a place
+pub seen-here : (logs : List SnapLog) (k : ℕ) (log : SnapLog) → log ≡ get_or logs k log → get_or (map seen logs) k (seen log) ≡ seen log
+seen-here logs k log here = get_or-map-default seen logs k log ∙ ap seen (sym here)
+
+-- and what a port of the node at one drives
+pub driven-here : (stations : List Station) (n port : ℕ) (station d : Station) (driven : Option ℕ) → n < length stations → station ≡ get_or stations n d → driven ≡ (port_of station.seat.core.core port).driven
+    → driven_or_low driven ≡ driven_by (cores_of stations) n port
+driven-here stations n port station d driven inside here is =
+    let core : get_or (cores_of stations) n (first_node 0 0 []).core ≡ station.seat.core.core =
+    get_or-map (λ (s : Station). s.seat.core.core) stations n d (first_node 0 0 []).core inside ∙ ap (λ (s : Station). s.seat.core.core) (sym here) in
+    ap driven_or_low (is ∙ ap (λ (k : CoreRec). (port_of k port).driven) (sym core))
+
 -- ---- Lists that grow
 
 pub stations-grow : (plan : PlanRec) (slot n : ℕ) (snaps : List SnapNode) (stations : List Station) (node : NodePlan) (snap d : SnapNode) (station : Station)
@@ -207,23 +237,26 @@ stations-grow plan slot n snaps stations node snap d station all inside within m
     (subst (λ (xs : List SnapNode). AllBegin R 0 (take n plan.nodes ++ node ∷ []) xs (stations ++ station ∷ [])) (sym (take-more snaps n d snap within here))
     (begin-more R 0 n (take n plan.nodes) (take n snaps) stations node snap station all place begins))
 
-pub tracks-grow : (slot i : ℕ) (links : List LinkPlan) (logs : List LogRec) (tracks : List Track) (link d : LinkPlan) (there again log : LogRec) (to fro : Track)
+pub tracks-grow : (slot i : ℕ) (links : List LinkPlan) (logs : List LogRec) (tracks : List Track) (link d : LinkPlan) (there again : LogRec) (to fro : Track)
     → AllBegin (LinkBegins slot) 0 (link_arcs (take i links)) (take (length tracks) logs) tracks → i < length links → length tracks + 1 < length logs
-    → get_or links i d ≡ link → get_or logs (length tracks) log ≡ there → get_or logs (length tracks + 1) log ≡ again
+    → get_or links i d ≡ link → get_or logs (length tracks) there ≡ there → get_or logs (length tracks + 1) again ≡ again
     → TrackBegins slot link.a link.a_end link.b link.delay there.entries to → TrackBegins slot link.b link.b_end link.a link.delay again.entries fro
-    → AllBegin (LinkBegins slot) 0 (link_arcs (take (i + 1) links)) (take (length tracks + 1 + 1) logs) ((tracks ++ to ∷ []) ++ fro ∷ [])
-tracks-grow slot i links logs tracks link d there again log to fro all inside within here first second t f =
+    → AllBegin (LinkBegins slot) 0 (link_arcs (take (i + 1) links)) (take (length ((tracks ++ to ∷ []) ++ fro ∷ [])) logs) ((tracks ++ to ∷ []) ++ fro ∷ [])
+tracks-grow slot i links logs tracks link d there again to fro all inside within here first second t f =
     let R = LinkBegins slot in
     let n = length tracks in
     let ds = link_arcs (take i links) in
     let count : n ≡ length ds = begin-length R 0 ds (take n logs) tracks all in
+    let longer : length ((tracks ++ to ∷ []) ++ fro ∷ []) ≡ n + 1 + 1 = omega (arith, length-more (tracks ++ to ∷ []) fro, length-more tracks to) in
+    let arcs_more = ap link_arcs (take-more links i d link inside here) ∙ arcs-append (take i links) link in
     let one =
-    subst (λ (xs : List LogRec). AllBegin R 0 (ds ++ forth link ∷ []) xs (tracks ++ to ∷ [])) (sym (take-more logs n log there (omega (arith, within)) first))
+    subst (λ (xs : List LogRec). AllBegin R 0 (ds ++ forth link ∷ []) xs (tracks ++ to ∷ [])) (sym (take-more logs n there there (omega (arith, within)) first))
     (begin-more R 0 n ds (take n logs) tracks (forth link) there to all (omega (arith, count)) (record { begins = t; joins = refl })) in
     let two =
-    subst (λ (xs : List LogRec). AllBegin R 0 ((ds ++ forth link ∷ []) ++ back link ∷ []) xs ((tracks ++ to ∷ []) ++ fro ∷ [])) (sym (take-more logs (n + 1) log again within second))
+    subst (λ (xs : List LogRec). AllBegin R 0 ((ds ++ forth link ∷ []) ++ back link ∷ []) xs ((tracks ++ to ∷ []) ++ fro ∷ [])) (sym (take-more logs (n + 1) again again within second))
     (begin-more R 0 (n + 1) (ds ++ forth link ∷ []) (take (n + 1) logs) (tracks ++ to ∷ []) (back link) again fro one (omega (arith, count, length-more ds (forth link))) (record { begins = f; joins = refl })) in
-    subst (λ (xs : List Arc). AllBegin R 0 xs (take (n + 1 + 1) logs) ((tracks ++ to ∷ []) ++ fro ∷ [])) (sym (ap link_arcs (take-more links i d link inside here) ∙ arcs-append (take i links) link)) two
+    subst (λ (m : ℕ). AllBegin R 0 (link_arcs (take (i + 1) links)) (take m logs) ((tracks ++ to ∷ []) ++ fro ∷ [])) (sym longer)
+    (subst (λ (xs : List Arc). AllBegin R 0 xs (take (n + 1 + 1) logs) ((tracks ++ to ∷ []) ++ fro ∷ [])) (sym arcs_more) two)
 
 pub wires-grow : (slot j : ℕ) (cores : List CoreRec) (plans : List WirePlan) (logs : List LogRec) (wires : List Wire) (plan d : WirePlan) (log e : LogRec) (wire : Wire)
     → AllBegin (WireBeginsBy slot cores) 0 (take j plans) (take j logs) wires → j < length plans → j < length logs → get_or plans j d ≡ plan → get_or logs j e ≡ log → WireBeginsBy slot cores j plan log wire
@@ -234,6 +267,30 @@ wires-grow slot j cores plans logs wires plan d log e wire all inside within her
     subst (λ (xs : List WirePlan). AllBegin R 0 xs (take (j + 1) logs) (wires ++ wire ∷ [])) (sym (take-more plans j d plan inside here))
     (subst (λ (xs : List LogRec). AllBegin R 0 (take j plans ++ plan ∷ []) xs (wires ++ wire ∷ [])) (sym (take-more logs j e log within there))
     (begin-more R 0 j (take j plans) (take j logs) wires plan log wire all place begins))
+
+-- and have all items
+pub stations-whole : (plan : PlanRec) (slot n : ℕ) (snaps : List SnapNode) (stations : List Station) → length plan.nodes ≤ n → length snaps ≡ length plan.nodes
+    → AllBegin (StationBegins plan slot) 0 (take n plan.nodes) (take n snaps) stations → AllBegin (StationBegins plan slot) 0 plan.nodes snaps stations
+stations-whole plan slot n snaps stations all many begin =
+    subst (λ (xs : List NodePlan). AllBegin (StationBegins plan slot) 0 xs snaps stations) (take_all n plan.nodes all)
+    (subst (λ (xs : List SnapNode). AllBegin (StationBegins plan slot) 0 (take n plan.nodes) xs stations) (take_all n snaps (omega (arith, all, many))) begin)
+
+pub links-whole : (slot i : ℕ) (links : List LinkPlan) (logs : List LogRec) (tracks : List Track) → length links ≤ i → AllBegin (LinkBegins slot) 0 (link_arcs (take i links)) (take (length tracks) logs) tracks
+    → AllBegin (LinkBegins slot) 0 (link_arcs links) (take (length (link_arcs links)) logs) tracks
+links-whole slot i links logs tracks all begin =
+    let whole =
+    subst (λ (ls : List LinkPlan). AllBegin (LinkBegins slot) 0 (link_arcs ls) (take (length tracks) logs) tracks) (take_all i links all) begin in
+    subst (λ (m : ℕ). AllBegin (LinkBegins slot) 0 (link_arcs links) (take m logs) tracks) (begin-length (LinkBegins slot) 0 (link_arcs links) (take (length tracks) logs) tracks whole) whole
+
+pub wires-whole : (slot j : ℕ) (cores : List CoreRec) (plans : List WirePlan) (logs : List LogRec) (wires : List Wire) → length plans ≤ j → length logs ≡ length plans
+    → AllBegin (WireBeginsBy slot cores) 0 (take j plans) (take j logs) wires → AllBegin (WireBeginsBy slot cores) 0 plans logs wires
+wires-whole slot j cores plans logs wires all many begin =
+    subst (λ (xs : List WirePlan). AllBegin (WireBeginsBy slot cores) 0 xs logs wires) (take_all j plans all)
+    (subst (λ (xs : List LogRec). AllBegin (WireBeginsBy slot cores) 0 (take j plans) xs wires) (take_all j logs (omega (arith, all, many))) begin)
+
+-- so have copies of entries
+pub copied-more : (es got : List Entry) (i : ℕ) (d : Entry) (all : List Entry) → i < length es → all ≡ got ++ get_or es i d ∷ [] → got ≡ take i es → all ≡ take (i + 1) es
+copied-more es got i d all inside more so_far = more ∙ ap (λ xs. xs ++ get_or es i d ∷ []) so_far ∙ sym (take_more es i d inside)
 
 -- ---- A directed link
 

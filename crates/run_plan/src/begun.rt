@@ -36,7 +36,8 @@ pub(crate) fn stations_by(
 {
     let mut stations = Vec::new(alloc);
     for n in 0..plan.nodes().len() {
-        let station = station_by(alloc, plan, n as u8, snap.slot, &snap.nodes[n])?;
+        let node = &snap.nodes[n];
+        let station = station_by(alloc, plan, n as u8, snap.slot, node)?;
         stations.push(station)?;
     }
     Ok(stations)
