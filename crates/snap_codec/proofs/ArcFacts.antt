@@ -1,5 +1,5 @@
 -- The directed links and wires of a snapshot are what a run asks for that goes on from it.
-use Rattle.std.proofs.Common.{◌≡◌, ◌+◌, ◌<◌, ◌^◌, ℕ, zero, suc, List, [], ◌∷◌, ◌++◌, length, drop, get_or, refl, sym, ap, subst, ◌∙◌, arith}
+use Rattle.std.proofs.Common.{◌≡◌, ◌<◌, ◌^◌, ℕ, zero, suc, List, [], ◌∷◌, ◌++◌, length, map, drop, get_or, refl, sym, ap, subst, ◌∙◌, arith}
 use Rattle.std.specs.Prelude.{Some, None}
 use Rattle.std.specs.List.{AllByRecursion}
 use Rattle.std.proofs.lemmas.List.{length_push}
@@ -10,14 +10,15 @@ use Rattle.sys_plan.specs.declared.WirePlan.{WirePlan}
 use Rattle.sys_plan.specs.Plan.{PlanRec, Arc, link_arcs, wire_arcs, arcs}
 use Rattle.snap_parts.specs.declared.node.SnapNode.{SnapNode}
 use Rattle.snap_parts.specs.InFlight.{AreLinkEntries}
-use Rattle.snap_parts.specs.Parts.{LogRec, BodyRec}
-use Rattle.snap_parts.specs.Snaps.{IsOnWire, AreOnArcs, IsSnapSystem}
+use Rattle.snap_parts.specs.declared.log.SnapLog.{SnapLog}
+use Rattle.snap_parts.specs.Parts.{LogRec, BodyRec, seen}
+use Rattle.snap_parts.specs.Snaps.{AreOnArcs, IsSnapSystem}
 use Rattle.byte_forms.specs.Forms.{HoldInChain}
-use Rattle.log_forms.specs.InFlight.{IsLinkLog, IsWireLog}
+use Rattle.log_forms.specs.InFlight.{IsWireLog}
 use Rattle.log_forms.proofs.LinkFacts.{link_facts}
 use Rattle.log_forms.proofs.WireFacts.{wire_facts}
-use Rattle.snap_codec.specs.Body.{ends_of, link_pair, link_at, wire_at, pair_after, wire_after, by_number, in_pairs, links, wires, body}
-use Rattle.snap_codec.proofs.Bodies.{AreParts, parts_of}
+use Rattle.snap_codec.specs.Body.{ends_of, link_pair, link_at, wire_at, pair_after, wire_after, by_number, in_pairs, links, body}
+use Rattle.snap_codec.proofs.Bodies.{parts_of}
 use Rattle.snap_codec.proofs.NodeFacts.{nodes_are}
 
 -- ---- Elements at the front of what is left
@@ -131,3 +132,7 @@ pub logs_few : (plan : PlanRec) (b : BodyRec) → (body plan).Holds b → AreFew
 logs_few plan b h =
     let p = parts_of plan b h in
     subst AreFew (sym p.logs) (few_both p.directed p.rest (links_few plan b.slot b.nodes p.directed p.links) (wires_few plan b.slot [] p.rest p.wires.1))
+
+pub few_seen : (logs : List SnapLog) → AreFew (map seen logs) → AllByRecursion (λ log. length log.entries.entries < 2 ^ 32) logs
+few_seen [] h = tt
+few_seen (log ∷ logs) h = (h.0, few_seen logs h.1)

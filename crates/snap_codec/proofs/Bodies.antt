@@ -1,5 +1,5 @@
 -- The form of what a snapshot keeps beside its text is lawful, and the parts of what has it.
-use Rattle.std.proofs.Common.{◌≡◌, ◌*◌, List, ℕ, ◌++◌, length, take, drop, refl, sym, ap, ◌∙◌, arith}
+use Rattle.std.proofs.Common.{◌≡◌, List, ℕ, ◌++◌, length, take, drop, sym, ap, arith}
 use Rattle.std.specs.Prelude.{Some, None}
 use Rattle.std.proofs.lemmas.List.{take_at, drop_at}
 use Rattle.xs_base.specs.Ids.{port_width}

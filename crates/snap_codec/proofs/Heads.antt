@@ -1,5 +1,5 @@
 -- The form of the first line and the text is lawful.
-use Rattle.std.proofs.Common.{◌≡◌, ◌<◌, ◌^◌, List, ℕ, length, refl, sym, ap}
+use Rattle.std.proofs.Common.{◌≡◌, ◌<◌, ◌^◌, List, ℕ, ◌++◌, length, refl, sym, ap, ◌∙◌, append_assoc}
 use Rattle.std.specs.Prelude.{bytes_eq}
 use Rattle.std.proofs.lemmas.Slice.Eq.{bytes_eq-Decides}
 use Rattle.byte_forms.specs.Laws.{Lawful}
@@ -29,3 +29,8 @@ head-lawful =
 pub text_few : (text : List ℕ) → head.Holds text → length text < 2 ^ 32
 unfolding head text_field
 text_few text h = h.1.0
+
+-- the line, and the text after its length, written one after the other
+pub head_written : (out text one new : List ℕ) → one ≡ out ++ first_line → new ≡ one ++ text_field.write text → new ≡ out ++ head.write text
+unfolding head line
+head_written out text one new e1 e2 = e2 ∙ ap (λ (front : List ℕ). front ++ text_field.write text) e1 ∙ append_assoc out first_line (text_field.write text)

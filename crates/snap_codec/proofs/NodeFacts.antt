@@ -1,5 +1,5 @@
 -- The nodes of a snapshot are what a run asks for that goes on from it.
-use Rattle.std.proofs.Common.{◌≡◌, ◌+◌, List, [], ◌∷◌, ◌++◌, ℕ, length, refl, subst, ◌∙◌, arith}
+use Rattle.std.proofs.Common.{◌≡◌, List, [], ◌∷◌, ◌++◌, ℕ, length, refl, subst, arith}
 use Rattle.std.proofs.lemmas.List.{length_push}
 use Rattle.xs_base.specs.Numbers.{Slot, Position}
 use Rattle.sys_plan.specs.declared.NodePlan.{NodePlan}

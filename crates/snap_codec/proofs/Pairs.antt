@@ -1,5 +1,5 @@
 -- Directed links by number, and as pairs.
-use Rattle.std.proofs.Common.{◌≡◌, ℕ, ◌*◌, List, [], ◌∷◌, ◌++◌, length, refl, sym, ap, ◌∙◌, arith}
+use Rattle.std.proofs.Common.{◌≡◌, ◌*◌, List, [], ◌∷◌, ◌++◌, length, refl, sym, ap, ◌∙◌, arith}
 use Rattle.snap_parts.specs.Parts.{LogRec}
 use Rattle.snap_codec.specs.Body.{by_number, in_pairs}
 

@@ -1,5 +1,6 @@
 -- Snapshots that are read and written.
-use Rattle.std.proofs.Common.{◌≡◌, ℕ, ◌≤◌, ◌<◌, true, false, cond, ltb, List, ◌++◌, length, Result, Ok, Err, refl, sym, ap, subst, ◌∙◌, arith, inl, inr}
+use Rattle.std.proofs.Common.{◌≡◌, ℕ, ◌≤◌, false, ltb, List, [], ◌++◌, length, Result, Ok, Err, refl, sym, ap, subst, ◌∙◌, inl, inr}
+use Rattle.std.specs.Prelude.{IfOk}
 use Rattle.std.proofs.lemmas.Bool.{cases_Bool, le-ltb}
 use Rattle.sys_plan.specs.Plan.{PlanRec}
 use Rattle.system_model.specs.System as stands
@@ -71,3 +72,30 @@ snap_read plan snap is few =
     let e = head-lawful.again snap.text ((body plan).write snap.body) is.text in
     let w = whole_again (body-lawful plan) snap.body is.body in
     rw (fits, e, is.system, w) refl
+
+-- ---- The writer
+
+-- a text and what stands after it, written one after the other
+pub snap_written : (plan : PlanRec) (snap : SnapRec) (text empty one two : List ℕ) (b : BodyRec) → IsSnapOfSome snap → system_of snap.text ≡ stands.Plan plan → text ≡ snap.text → b ≡ snap.body
+    → empty ≡ [] → one ≡ empty ++ head.write text → ((p : PlanRec) → (body p).Holds b → two ≡ one ++ (body p).write b) → two ≡ snap_bytes plan snap
+unfolding snap_bytes
+snap_written plan snap text empty one two b s system same_text same_body none e1 e2 =
+    let same : s.plan ≡ plan = let a = s.is.system in cc in
+    let holds = subst (λ (p : PlanRec). (body p).Holds snap.body) same s.is.body in
+    let w = e2 plan (subst (λ (c : BodyRec). (body plan).Holds c) (sym same_body) holds) in
+    rw (w, e1, none, same_text, same_body) refl
+
+-- what is written where memory is not wanting
+abbrev pub Writes : SnapRec → List ℕ → Type 0
+Writes snap text = (plan : PlanRec) → system_of snap.text ≡ stands.Plan plan → text ≡ snap_bytes plan snap
+
+pub written_again : {E : Type 0} (r : Result (List ℕ) E) (snap : SnapRec) → IsSnapOfSome snap → IfOk r (Writes snap)
+    → IfOk r (λ text. (bytes : List ℕ) → AreBytes bytes → snap_of bytes ≡ read.Snap snap → text ≡ bytes)
+written_again (Ok text) snap s h = λ bytes fit is. h s.plan s.is.system ∙ snap_again bytes snap s.plan fit is s.is.system
+written_again (Err e) snap s h = tt
+
+pub written_read : {E : Type 0} (r : Result (List ℕ) E) (snap : SnapRec) → IsSnapOfSome snap → IfOk r (Writes snap) → IfOk r (λ text. length text ≤ longest_snapshot → snap_of text ≡ read.Snap snap)
+written_read (Ok text) snap s h = λ few.
+    let same = h s.plan s.is.system in
+    subst (λ (bytes : List ℕ). snap_of bytes ≡ read.Snap snap) (sym same) (snap_read s.plan snap s.is (subst (λ (bytes : List ℕ). length bytes ≤ longest_snapshot) same few))
+written_read (Err e) snap s h = tt

@@ -8,11 +8,10 @@ use Rattle.sys_plan.specs.Plan.{PlanRec}
 use Rattle.snap_parts.specs.declared.log.SnapLog.{SnapLog}
 use Rattle.snap_parts.specs.declared.node.SnapNode.{SnapNode}
 use Rattle.snap_parts.specs.Parts.{LogRec, BodyRec, seen}
-use Rattle.byte_forms.specs.Forms.{Form, word, write_chain, repeat}
+use Rattle.byte_forms.specs.Forms.{Form, word, write_chain}
 use Rattle.byte_forms.proofs.Lists.{writes_on}
 use Rattle.log_forms.proofs.Writes.{log_bytes, link_bytes, wire_bytes}
-use Rattle.snap_codec.specs.Body.{nodes, ends_of, link_pair, link_at, wire_at, pair_after, wire_after, by_number, in_pairs, links, wires, any_log, body}
-use Rattle.snap_codec.proofs.Bodies.{AreParts, parts_of}
+use Rattle.snap_codec.specs.Body.{nodes, ends_of, link_pair, link_at, wire_at, pair_after, wire_after, by_number, in_pairs, links, wires, any_log, directed_of, body}
 
 -- ---- Directed links and wires
 
@@ -89,8 +88,9 @@ pub body_written : (plan : PlanRec) (b : BodyRec) (out one two new : List ℕ) �
     → new ≡ two ++ write_chain (λ _. any_log) [] b.logs → new ≡ out ++ (body plan).write b
 unfolding body
 body_written plan b out one two new h e1 e2 e3 =
-    let p = parts_of plan b h in
-    let logs : (links plan b.slot b.nodes).write p.directed ++ (wires plan b.slot).write p.rest ≡ write_chain (λ _. any_log) [] b.logs
-    = logs_written plan b.slot b.nodes p.directed p.rest p.links ∙ ap (λ (ls : List LogRec). write_chain (λ _. any_log) [] ls) (sym p.logs) in
+    let front = take (directed_of plan) b.logs in
+    let rest = drop (directed_of plan) b.logs in
+    let logs : (links plan b.slot b.nodes).write front ++ (wires plan b.slot).write rest ≡ write_chain (λ _. any_log) [] b.logs
+    = logs_written plan b.slot b.nodes front rest h.0.1.1.0 ∙ ap (λ (c : BodyRec). write_chain (λ _. any_log) [] c.logs) h.1 in
     let all : new ≡ out ++ (word.write b.slot ++ ((nodes plan b.slot).write b.nodes ++ write_chain (λ _. any_log) [] b.logs)) = rw (e3, e2, e1) (simp append_assoc) in
     subst (λ (bytes : List ℕ). new ≡ out ++ (word.write b.slot ++ ((nodes plan b.slot).write b.nodes ++ bytes))) (sym logs) all

@@ -1,5 +1,5 @@
 -- How a snapshot's slot, its nodes, and its directed links and wires stand in bytes, where its text is that of a plan.
-use Rattle.std.specs.Prelude.{ℕ, ◌*◌, ◌==◌, nat_lt, Bool, Option, Some, None, List, [], ◌∷◌, ◌++◌, length, map, take, drop, slice_index_or, slice_get}
+use Rattle.std.specs.Prelude.{ℕ, ◌*◌, nat_lt, Bool, Option, Some, None, List, [], ◌∷◌, ◌++◌, length, map, take, drop, slice_index_or, slice_get}
 use Rattle.xs_base.specs.Numbers.{Slot, Position, EndNumber}
 use Rattle.xs_base.specs.Ids.{port_width}
 use Rattle.sys_plan.specs.declared.LinkPlan.{LinkPlan}

@@ -1,5 +1,5 @@
 -- Snapshots as bytes: the line that they begin with, the system text, and all else.
-use Rattle.std.specs.Prelude.{ℕ, ◌≡◌, ◌-◌, nat_lt, if◌then◌else◌, Bool, List, [], ◌∷◌, ◌++◌, length, Result, Ok, Err, bytes_eq, codes}
+use Rattle.std.specs.Prelude.{ℕ, ◌≡◌, ◌-◌, nat_lt, if◌then◌else◌, List, ◌++◌, length, Result, Ok, Err, bytes_eq, codes}
 use Rattle.sys_plan.specs.Plan.{PlanRec}
 use Rattle.system_model.specs.System as stands
 use Rattle.system_model.specs.System.{System, system_of}

@@ -104,12 +104,7 @@ pub(crate) fn read_wires(
 }
 
 // Reads a wire.
-fn read_wire(
-    alloc: Global,
-    from: &mut Reader,
-    slot: u32,
-    wire: &WirePlan,
-) -> Result<SnapLog, Fault>
+fn read_wire(alloc: Global, from: &mut Reader, slot: u32, wire: &WirePlan) -> Result<SnapLog, Fault>
     requires port { wire.now.b_port < 29 }
     ensures value { Gives (wire_log slot wire.now.delay (port_width wire.now.b_port)) seen from.old result from.new }
 {
