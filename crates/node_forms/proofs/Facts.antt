@@ -29,7 +29,8 @@ use Rattle.switch_forms.proofs.HeldFacts.{are_there}
 use Rattle.node_forms.specs.Nodes.{taken_of, used_of, core_fields, core_in, enable_fields, enables_in, net_fields, net_in, state_of_fields, fields_of_state, node_state}
 use Rattle.node_forms.proofs.Threads.{taken_alone}
 
-tells : TellsWaits IsRunState
+-- what may be so of a thread tells of each wait that what is waited at is there
+pub tells : TellsWaits IsRunState
 tells = record {
   free = tt;
   unstarted = tt;

@@ -1,12 +1,13 @@
 -- What a run comes to that goes on from a snapshot.
-use Rattle.std.specs.Prelude.{ℕ, ◌+◌, ◌-◌, nat_le, List, [], ◌∷◌, length, take, filter}
+use Rattle.std.specs.Prelude.{ℕ, ◌+◌, ◌-◌, nat_le, List, [], ◌∷◌, ◌++◌, length, take, filter}
 use Rattle.xs_base.specs.Numbers.{Slot}
 use Rattle.xs_base.specs.declared.entry.Entry.{Entry}
 use Rattle.xs_model.specs.declared.event.Event.{Event}
 use Rattle.xs_model.specs.FirstEvents.{kept_at_most}
 use Rattle.sys_plan.specs.Plan.{PlanRec}
-use Rattle.serial_model.specs.Serial.{SystemRec, since}
-use Rattle.trace_model.specs.Trace.{Sent, EndRec, tokens_sent, credits_sent, end_text}
+use Rattle.serial_model.specs.Serial.{SystemRec, serial, since}
+use Rattle.trace_model.specs.EventOrder.{Placed}
+use Rattle.trace_model.specs.Trace.{Sent, EndRec, tokens_sent, credits_sent, end_of, event_lines, events_in_order, lines_after_events, end_line, end_text}
 use Rattle.snap_parts.specs.declared.node.SnapNode.{SnapNode}
 use Rattle.snap_parts.specs.Parts.{LogRec, BodyRec}
 use Rattle.snap_parts.specs.Snaps.{begun_of}
@@ -59,3 +60,9 @@ serial_from plan snap slot = since plan (begun_of snap) (slot - snap.slot)
 -- the rest of the trace of a run of so many slots: the lines of the events from the snapshot's slot on, and what the whole run comes to
 unfoldable pub rest_text : PlanRec → BodyRec → ℕ → List ℕ
 rest_text plan snap slots = end_text plan slots (end_after snap (serial_from plan snap slots))
+
+-- the trace of a run of so many slots without the lines of the events before a slot
+unfoldable pub trace_from : PlanRec → Slot → ℕ → List ℕ
+trace_from plan from slots =
+    let end = end_of (serial plan slots) in
+    event_lines plan.nodes (filter (λ (e : Placed). nat_le from e.1.slot) (events_in_order end)) ++ (lines_after_events plan end ++ end_line slots)

@@ -6,7 +6,7 @@ use Rattle.trace_lines.specs.Kept.{Keeps}
 use Rattle.trace_merge.specs.Nodes.{events_of}
 use Rattle.trace_model.specs.Trace.{end_of}
 use Rattle.trace_text.proofs.Kept.{kept-first}
-use Rattle.trace_text.proofs.ended.FinishedRun.into_events.Goals as goal
+use Rattle.trace_text.proofs.ended.FinishedRunEndedRun.into_events.Goals as goal
 
 pub returns-clause-kept : goal.returns-clause-kept
 returns-clause-kept c =

@@ -1,0 +1,10 @@
+pub mod Lists
+pub mod Events
+pub mod Histories
+pub mod Steps
+pub mod Along
+pub mod Texts
+pub mod Units
+pub mod Saved
+pub mod Credits
+pub mod Said

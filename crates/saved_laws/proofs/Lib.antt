@@ -1,0 +1,9 @@
+pub mod Stand
+pub mod Flight
+pub mod Windows
+pub mod Counts
+pub mod Events
+pub mod Shape
+pub mod Kept
+pub mod Nodes
+pub mod Seen
