@@ -6,7 +6,7 @@ ghost use Rattle.system_model.specs.System.{system_of};
 ghost use Rattle.snap_codec.specs.Snaps.{IsSnap};
 ghost use Rattle.snap_model.specs.Rest.{rest_text};
 
-use crate::ended::RunOn;
+use crate::went_on::RunOn;
 use run_plan::SerialMachine;
 use snap_codec::{Snap, snaps_are_lawful};
 use std::alloc::{AllocError, Global};
