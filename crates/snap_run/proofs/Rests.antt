@@ -15,13 +15,15 @@ use Rattle.snap_parts.specs.declared.node.SnapNode.{SnapNode}
 use Rattle.snap_parts.specs.declared.log.SnapLog.{SnapLog}
 use Rattle.snap_parts.specs.Parts.{LogRec, BodyRec, seen}
 use Rattle.snap_parts.specs.Snaps.{begun_of}
-use Rattle.snap_codec.specs.Snaps.{SnapRec}
+use Rattle.system_model.specs.System as stands
+use Rattle.system_model.specs.System.{system_of as system_of_text}
+use Rattle.snap_codec.specs.Snaps.{SnapRec, IsSnap, IsSnapOfSome}
 use Rattle.snap_model.specs.Rest.{room_of, kept_after, more_after, sent_from, sent_after, all_sent_after, serial_from}
 use Rattle.snap_run.specs.RunsOn.{RunOnRec, WentOn, end_of_run}
 use Rattle.snap_run.proofs.Lists.{zipped, zipped_at}
 use Rattle.snap_run.proofs.Systems.{HasAll, all_since, all_begun}
 use Rattle.run_plan.proofs.Begins.{snaps-length, logs-length}
-use Rattle.sys_plan.specs.Plan.{arcs, arc_count}
+use Rattle.sys_plan.specs.Plan.{PlanRec, arcs, arc_count}
 
 -- what the machine has become
 pub went_on : (m : MachineRec) (snap : SnapRec) → WentOn m snap → system_of m ≡ serial_from m.plan snap.body m.now
@@ -132,3 +134,14 @@ module _ (m : MachineRec) (snap : SnapRec) (is : WentOn m snap) where
       ap (λ (ns : List SnapNode). kept_after ns (events_of kept)) are
       ∙ kept_cut snap.body.nodes kept (system_of m).events keeps
       ∙ ap (λ (s : SystemRec). kept_after snap.body.nodes s.events) (went_on m snap is)
+
+-- ---- Plans
+
+-- the plan of a snapshot's text is the plan of the snapshot
+pub same_plan : (snap : SnapRec) (some : IsSnapOfSome snap) (plan : PlanRec) → system_of_text snap.text ≡ stands.Plan plan → IsSnap plan snap
+same_plan snap some plan is =
+    let same : some.plan ≡ plan = cc (some.is.system, is) in
+    subst (λ (p : PlanRec). IsSnap p snap) same some.is
+
+pub other_plan : (snap : SnapRec) (one plan : PlanRec) → IsSnap one snap → system_of_text snap.text ≡ stands.Plan plan → one ≡ plan
+other_plan snap one plan snapped is = cc (snapped.system, is)

@@ -10,6 +10,7 @@ mod run_on;
 mod save;
 mod saved_logs;
 mod saved_nodes;
+mod snap_plan;
 mod went_on;
 
 pub use run_on::rest_of;

@@ -1,10 +1,9 @@
 //! `RunOn`, a run that went on from a snapshot, at its limit.
-ghost use Rattle.std.specs.Prelude.{◌≡◌, ◌^◌, ◌<◌, ◌≤◌, IfOk, length, slice_index_or};
+ghost use Rattle.std.specs.Prelude.{◌≡◌, ◌<◌, ◌≤◌, IfOk, length, slice_index_or};
 ghost use Rattle.sys_plan.specs.Plan.{arc_count};
 ghost use Rattle.core_step.specs.Core.{StandsAt};
 ghost use Rattle.trace_merge.specs.Nodes.{events_of};
 ghost use Rattle.trace_model.specs.Trace.{node_at, sent_on};
-ghost use Rattle.snap_parts.specs.Snaps.{IsSnapSystem, begun_of};
 ghost use Rattle.snap_codec.specs.Snaps.{IsSnap};
 ghost use Rattle.snap_model.specs.Rest.{kept_after};
 ghost use Rattle.snap_run.specs.RunsOn.{end_of_run};
@@ -13,10 +12,11 @@ use crate::counts::count_from;
 use crate::room::{cut, past_room, room_of};
 use core_step::Core;
 use run_plan::SerialMachine;
-use snap_codec::Snap;
+use snap_codec::{Snap, snaps_are_lawful};
 use snap_parts::SnapNode;
 use std::alloc::{AllocError, Global};
 use std::marker::Model;
+use sys_plan::Plan;
 use trace_lines::NodeEvents;
 
 /// A run that went on from a snapshot and has come to its limit. Contracts see a `RunOnRec` of `Rattle.snap_run.specs.RunsOn`.
@@ -38,16 +38,21 @@ impl<'a> Model for RunOn<'a> {
 }
 
 impl<'a> RunOn<'a> {
-    /// A run that a machine made of a snapshot. It takes no memory.
-    pub(crate) fn of(machine: SerialMachine, snap: &'a Snap) -> RunOn<'a>
-        requires snap { IsSnap machine.plan snap.now }
-        requires system { IsSnapSystem machine.plan snap.now.body }
-        requires begun { machine.begun ≡ begun_of snap.now.body }
-        requires on { snap.now.body.slot ≤ machine.now }
-        requires few { machine.now < 2 ^ 32 }
-        ensures value { result ≡ record { plan = machine.plan; body = snap.now.body; slots = machine.now } }
+    /// The run of a plan that goes on from a snapshot up to so many slots. The error is want of memory.
+    pub(crate) fn to(
+        alloc: Global,
+        plan: &Plan,
+        snap: &'a Snap,
+        limit: u32,
+    ) -> Result<RunOn<'a>, AllocError>
+        requires is { IsSnap plan.now snap.now }
+        requires limit { snap.now.body.slot ≤ limit }
+        ensures value { IfOk result (λ run. run ≡ record { plan = plan.now; body = snap.now.body; slots = limit }) }
     {
-        RunOn { machine, snap }
+        snaps_are_lawful();
+        let mut machine = SerialMachine::resumed(alloc, plan, snap.system())?;
+        machine.run(limit)?;
+        Ok(RunOn { machine, snap })
     }
 
     /// After how many slots it ended.
