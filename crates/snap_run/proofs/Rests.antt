@@ -1,5 +1,6 @@
 -- What is told of a run that went on from a snapshot.
 use Rattle.std.proofs.Common.{◌≡◌, ℕ, zero, suc, ◌+◌, ◌-◌, ◌<◌, ◌≤◌, List, [], ◌∷◌, ◌++◌, length, take, get_or, map, refl, sym, ap, ◌∙◌, subst, arith}
+use Rattle.std.specs.Prelude.{IfOk, Result, Ok, Err}
 use Rattle.std.specs.List.{AllZip, AllByRecursion}
 use Rattle.std.proofs.Math.ListN.{get_or-map}
 use Rattle.xs_base.specs.Numbers.{Slot}
@@ -8,7 +9,7 @@ use Rattle.xs_model.specs.declared.event.Event.{Event}
 use Rattle.xs_model.specs.FirstEvents.{kept_at_most}
 use Rattle.trace_lines.specs.Kept.{KeptEvents, Keeps}
 use Rattle.trace_merge.specs.Nodes.{events_of}
-use Rattle.trace_model.specs.Trace.{Sent, tokens_sent, credits_sent, sent_on}
+use Rattle.trace_model.specs.Trace.{Sent, tokens_sent, credits_sent, sent_on, end_text}
 use Rattle.run_plan.specs.Machine.{MachineRec, system_of}
 use Rattle.serial_model.specs.Serial.{Begun, SystemRec, since}
 use Rattle.snap_parts.specs.declared.node.SnapNode.{SnapNode}
@@ -18,7 +19,7 @@ use Rattle.snap_parts.specs.Snaps.{begun_of}
 use Rattle.system_model.specs.System as stands
 use Rattle.system_model.specs.System.{system_of as system_of_text}
 use Rattle.snap_codec.specs.Snaps.{SnapRec, IsSnap, IsSnapOfSome}
-use Rattle.snap_model.specs.Rest.{room_of, kept_after, more_after, sent_from, sent_after, all_sent_after, serial_from}
+use Rattle.snap_model.specs.Rest.{room_of, kept_after, more_after, sent_from, sent_after, all_sent_after, serial_from, rest_text}
 use Rattle.snap_run.specs.RunsOn.{RunOnRec, WentOn, end_of_run}
 use Rattle.snap_run.proofs.Lists.{zipped, zipped_at}
 use Rattle.snap_run.proofs.Systems.{HasAll, all_since, all_begun}
@@ -145,3 +146,14 @@ same_plan snap some plan is =
 
 pub other_plan : (snap : SnapRec) (one plan : PlanRec) → IsSnap one snap → system_of_text snap.text ≡ stands.Plan plan → one ≡ plan
 other_plan snap one plan snapped is = cc (snapped.system, is)
+
+-- what is written of it is the rest
+pub rest_is : {E : Type 0} (r : Result (List ℕ) E) (snap : SnapRec) (one : PlanRec) (run : RunOnRec) (limit : ℕ) → run ≡ record { plan = one; body = snap.body; slots = limit } → IsSnap one snap
+    → IfOk r (λ t. t ≡ end_text one run.slots (end_of_run run))
+    → IfOk r (λ t. (plan : PlanRec) → system_of_text snap.text ≡ stands.Plan plan → t ≡ rest_text plan snap.body limit)
+unfolding rest_text
+rest_is (Ok t) snap one run limit is snapped told = λ plan text.
+    told
+    ∙ (λ i. end_text one (is i).slots (end_of_run (is i)))
+    ∙ ap (λ (p : PlanRec). end_text p limit (end_of_run (record { plan = p; body = snap.body; slots = limit }))) (other_plan snap one plan snapped text)
+rest_is (Err e) snap one run limit is snapped told = tt
