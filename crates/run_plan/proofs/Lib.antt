@@ -8,6 +8,8 @@ pub mod Systems
 pub mod Steps
 pub mod Starts
 pub mod Begins
+pub mod InFlight
+pub mod Resumes
 pub mod Arrivals
 pub mod Stations
 pub mod Rested

@@ -1,5 +1,5 @@
 -- The facts of what a snapshot keeps of links and wires.
-use Rattle.std.proofs.Common.{◌≡◌, ℕ, zero, suc, ◌+◌, ◌-◌, ◌*◌, ◌<◌, ◌≤◌, ◌^◌, get_or, IfSome, Option, Some, None, List, [], ◌∷◌, ◌++◌, length, map, slice_get, refl, sym, ap, ◌∙◌, subst, arith}
+use Rattle.std.proofs.Common.{◌≡◌, ℕ, zero, suc, ◌+◌, ◌*◌, ◌<◌, ◌^◌, get_or, IfSome, Option, Some, None, List, [], ◌∷◌, ◌++◌, length, map, slice_get, refl, sym, ap, ◌∙◌, subst, arith}
 use Rattle.std.specs.Prelude.{nat_lt}
 use Rattle.std.specs.List.{AllByRecursion}
 use Rattle.std.proofs.lemmas.Option.{none-some, same_Some}
@@ -12,7 +12,7 @@ use Rattle.sys_plan.specs.declared.WirePlan.{WirePlan}
 use Rattle.sys_plan.specs.Plan.{PlanRec, Arc, Joined, IsPlan, arcs, link_arcs, wire_arcs, along, forth, back}
 use Rattle.sys_plan.proofs.Arcs.{arcs_length}
 use Rattle.sys_plan.proofs.Routes.{directed, link-arc, all-get}
-use Rattle.serial_model.specs.Serial.{serial, is_credit, is_sent_within}
+use Rattle.serial_model.specs.Serial.{serial, is_credit}
 use Rattle.trace_model.specs.Trace.{is_token}
 use Rattle.core_step.specs.States.{link_state}
 use Rattle.link_ends.specs.States.{absent_end}
@@ -27,7 +27,9 @@ use Rattle.snap_model.specs.Saved.{saved_log, saved_logs, saved_level, saved_at}
 use Rattle.locality_laws.specs.Locality.{node_in}
 use Rattle.locality_laws.proofs.Serial.{upto}
 use Rattle.saved_laws.specs.Bytes.{CarryBytes}
-use Rattle.saved_laws.specs.Laws.{most_slots, held_by, end_of, held_at, ends_of, IsKeptLink, LinksMayBeKept, WiresMayBeKept, LogsAreOnArcs}
+use Rattle.snap_codec.specs.Body.{held_by, end_of, held_at, ends_of}
+use Rattle.snap_sizes.proofs.Logs.{counted, rising_most}
+use Rattle.saved_laws.specs.Laws.{IsKeptLink, LinksMayBeKept, WiresMayBeKept, LogsAreOnArcs}
 use Rattle.saved_laws.proofs.Flight.{link_entries, wire_entries}
 use Rattle.saved_laws.proofs.Windows.{open_of, buffered_of, forth_at, back_at, window_a, window_b}
 use Rattle.saved_laws.proofs.Counts.{upto_few, filter_few, left_fits}
@@ -63,18 +65,16 @@ log_of plan slot l d = saved_log slot d (upto plan l slot)
 log_is : (plan : PlanRec) (slot : Slot) (l : ℕ) (d : Arc) (log : LogRec) → slice_get (arcs plan) l ≡ Some d → slice_get (saved_at plan slot).logs l ≡ Some log → log_of plan slot l d ≡ log
 log_is plan slot l d log here found = same_Some (log_of plan slot l d) log (sym (logs_are_saved plan slot l d here) ∙ found)
 
--- it has few entries, and few were sent
+-- few were sent
 record HasFew (log : LogRec) : Type 0 where
-  count : length log.entries < 2 ^ 32
   tokens : log.tokens < 2 ^ 63
   credits : log.credits < 2 ^ 63
 
-few_of : (plan : PlanRec) (slot : Slot) (l : ℕ) (d : Arc) → slot ≤ most_slots → HasFew (log_of plan slot l d)
+few_of : (plan : PlanRec) (slot : Slot) (l : ℕ) (d : Arc) → slot < 2 ^ 32 → HasFew (log_of plan slot l d)
 few_of plan slot l d few =
     let all = upto plan l slot in
     let most = upto_few plan l slot in
     record {
-      count = omega (arith, few, most, filter_few (is_sent_within (slot - d.delay) slot) all);
       tokens = omega (arith, few, most, filter_few (λ (e : Entry). is_token e.what) all);
       credits = omega (arith, few, most, filter_few (λ (e : Entry). is_credit e.what) all);
     }
@@ -82,12 +82,12 @@ few_of plan slot l d few =
 -- ---- Links
 
 module _ (plan : PlanRec) (is : IsPlan plan) (slot : Slot) where
-  link_log : (l : ℕ) (d : Arc) (ends : Option EndsRec) → slot ≤ most_slots → slice_get (link_arcs plan.links) l ≡ Some d
+  link_log : (l : ℕ) (d : Arc) (ends : Option EndsRec) → slot < 2 ^ 32 → length (log_of plan slot l d).entries < 2 ^ 32 → slice_get (link_arcs plan.links) l ≡ Some d
       → IfSome ends (λ (e : EndsRec). FitWindows e (log_of plan slot l d).entries) → CarryBytes (log_of plan slot l d).entries → IsLinkLog slot d.delay ends (log_of plan slot l d)
-  link_log l d ends few here windows bytes =
+  link_log l d ends few count here windows bytes =
       let counts = few_of plan slot l d few in
       record {
-        count = counts.count;
+        count = count;
         entries = link_entries plan is l d here slot bytes;
         windows = windows;
         tokens = counts.tokens;
@@ -126,11 +126,17 @@ module _ (plan : PlanRec) (is : IsPlan plan) (slot : Slot) where
           sum_b = omega (arith, b_window, a_buffered, other.sum);
         }
 
-    kept_link : slot ≤ most_slots → CarryBytes forth_log.entries → CarryBytes back_log.entries → IsKeptLink slot link (saved_at plan slot).nodes forth_log back_log
-    kept_link few forth_bytes back_bytes = record {
-      first = link_log (2 * k) (forth link) None few forth_here tt forth_bytes;
-      second = link_log (2 * k + 1) (back link) (Some (ends_of (saved_at plan slot).nodes link forth_log)) few back_here windows back_bytes;
-    }
+    kept_link : slot < 2 ^ 32 → CarryBytes forth_log.entries → CarryBytes back_log.entries → IsKeptLink slot link (saved_at plan slot).nodes forth_log back_log
+    kept_link few forth_bytes back_bytes =
+        -- the windows of both ends are at most 8
+        let forth_count = counted forth_log.entries (link_entries plan is (2 * k) (forth link) forth_here slot forth_bytes).kinds in
+        let back_count = counted back_log.entries (link_entries plan is (2 * k + 1) (back link) back_here slot back_bytes).kinds in
+        record {
+          first = link_log (2 * k) (forth link) None few (omega (arith, windows, forth_count)) forth_here tt forth_bytes;
+          second =
+              link_log (2 * k + 1) (back link) (Some (ends_of (saved_at plan slot).nodes link forth_log)) few (omega (arith, windows, back_count)) back_here
+              windows back_bytes;
+        }
 
 pub links_may_be_kept : LinksMayBeKept
 links_may_be_kept plan slot k link first second is few here first_is second_is first_bytes second_bytes =
@@ -165,12 +171,13 @@ module _ (plan : PlanRec) (is : IsPlan plan) (slot : Slot) (l : ℕ) (d : Arc) (
       subst (λ (o : Option Joined). saved_level slot d.delay o (upto plan l slot) < 2 ^ port_width joined.to_port) (sym joins)
       (left_fits plan l d joined is here joins slot (λ (e : Entry). nat_lt (e.slot + d.delay) slot))
 
-  wire_log : slot ≤ most_slots → IsWireLog slot d.delay (port_width joined.to_port) (log_of plan slot l d)
+  wire_log : slot < 2 ^ 32 → IsWireLog slot d.delay (port_width joined.to_port) (log_of plan slot l d)
   wire_log few =
       let counts = few_of plan slot l d few in
+      let entries = wire_entries plan is l d joined here joins slot in
       record {
-        count = counts.count;
-        entries = wire_entries plan is l d joined here joins slot;
+        count = omega (arith, few, rising_most slot d.delay (log_of plan slot l d).entries entries.in_flight entries.order);
+        entries = entries;
         tokens = counts.tokens;
         credits = counts.credits;
         level = wire_level;

@@ -1,5 +1,5 @@
 -- What a snapshot has: each node with its events, and each arc with its history.
-use Rattle.std.proofs.Common.{◌≡◌, ℕ, zero, suc, ◌*◌, ◌<◌, ◌≤◌, get_or, Some, List, [], ◌∷◌, length, slice_get, refl, ap, ◌∙◌, arith}
+use Rattle.std.proofs.Common.{◌≡◌, ℕ, zero, suc, ◌*◌, ◌<◌, ◌≤◌, ◌^◌, get_or, Some, List, [], ◌∷◌, length, slice_get, refl, ap, ◌∙◌, arith}
 use Rattle.std.specs.List.{AllByRecursion}
 use Rattle.std.proofs.lemmas.List.{length-take}
 use Rattle.std.proofs.lemmas.Option.{none-some, same_Some}
@@ -12,7 +12,7 @@ use Rattle.sys_plan.specs.Plan.{PlanRec, Arc, arcs}
 use Rattle.step_laws.specs.Shape.{most_events}
 use Rattle.serial_model.specs.Serial.{serial}
 use Rattle.snap_model.specs.Saved.{saved_node, saved_nodes, saved_log, saved_logs}
-use Rattle.saved_laws.specs.Laws.{NodesAreSaved, LogsAreSaved, SavedIsWhole, IsCounted, EventsAreCounted, most_slots}
+use Rattle.saved_laws.specs.Laws.{NodesAreSaved, LogsAreSaved, SavedIsWhole, IsCounted, EventsAreCounted}
 use Rattle.saved_laws.proofs.Events.{nodes_count, events_count, histories_count, AreFew, events_few}
 
 -- ---- Nodes
@@ -59,10 +59,10 @@ saved_is_whole plan slot = record {
 
 -- ---- Events
 
-one_counted : (slot : Slot) (rec : NodeRec) (events : List Event) → slot ≤ most_slots → length events ≤ most_events * slot → IsCounted (saved_node rec events)
+one_counted : (slot : Slot) (rec : NodeRec) (events : List Event) → slot < 2 ^ 32 → length events ≤ most_events * slot → IsCounted (saved_node rec events)
 one_counted slot rec events few h = record { kept = omega (arith, length-take kept_at_most events); more = omega (arith, h, few) }
 
-all_counted : (plan : PlanRec) (slot : Slot) → slot ≤ most_slots → (recs : List NodeRec) (all : List (List Event)) → AreFew plan slot all → AllByRecursion IsCounted (saved_nodes recs all)
+all_counted : (plan : PlanRec) (slot : Slot) → slot < 2 ^ 32 → (recs : List NodeRec) (all : List (List Event)) → AreFew plan slot all → AllByRecursion IsCounted (saved_nodes recs all)
 all_counted plan slot few [] all h = tt
 all_counted plan slot few (rec ∷ recs) [] h = tt
 all_counted plan slot few (rec ∷ recs) (events ∷ all) h = (one_counted slot rec events few h.0, all_counted plan slot few recs all h.1)

@@ -1,21 +1,18 @@
 -- That what a snapshot keeps of the serial machine has the facts that its bytes ask for.
-use Rattle.std.specs.Prelude.{ℕ, ◌≡◌, ◌+◌, ◌*◌, ◌≤◌, ◌<◌, ◌^◌, Option, Some, None, List, length, slice_get, slice_index_or}
+use Rattle.std.specs.Prelude.{ℕ, ◌≡◌, ◌+◌, ◌*◌, ◌≤◌, ◌<◌, ◌^◌, Some, None, List, length, slice_get}
 use Rattle.std.specs.List.{AllByRecursion}
 use Rattle.xs_base.specs.Ids.{port_width}
-use Rattle.xs_base.specs.Numbers.{Slot, Position, EndNumber, LinkNumber}
+use Rattle.xs_base.specs.Numbers.{Slot, Position, LinkNumber}
 use Rattle.xs_model.specs.FirstEvents.{kept_at_most}
 use Rattle.sys_plan.specs.declared.LinkPlan.{LinkPlan}
 use Rattle.sys_plan.specs.declared.WirePlan.{WirePlan}
 use Rattle.sys_plan.specs.Plan.{PlanRec, Arc, IsPlan, arcs, arc_count}
 use Rattle.serial_model.specs.Serial.{serial}
-use Rattle.link_ends.specs.States.{absent_end}
-use Rattle.link_ends.specs.declared.state.EndState.{EndState}
 use Rattle.snap_parts.specs.declared.node.SnapNode.{SnapNode}
 use Rattle.snap_parts.specs.Parts.{LogRec, BodyRec}
 use Rattle.snap_parts.specs.Snaps.{AreOnArcs, AreSnapNodes, IsSnapSystem}
-use Rattle.log_forms.specs.declared.ends.Held.{Held}
-use Rattle.log_forms.specs.Windows.{EndsRec}
 use Rattle.log_forms.specs.InFlight.{IsLinkLog, IsWireLog}
+use Rattle.snap_codec.specs.Body.{ends_of}
 use Rattle.snap_model.specs.Saved.{saved_node, saved_log, saved_at}
 use Rattle.locality_laws.specs.Locality.{node_in, events_in, history_in}
 use Rattle.state_laws.specs.Runs.{RunInRange}
@@ -43,34 +40,15 @@ SavedIsWhole = (plan : PlanRec) (slot : Slot) → IsWhole plan (saved_at plan sl
 
 -- ---- Counts
 
--- a run has at most so many slots
-abbrev pub most_slots : ℕ
-most_slots = 16000000
-
 -- of a node's events few enough are kept, and the number of the others fits
 pub record IsCounted (node : SnapNode) : Type 0 where
   pub kept : node.kept ≤ kept_at_most
   pub more : node.more < 2 ^ 63
 
 abbrev pub EventsAreCounted : Type 0
-EventsAreCounted = (plan : PlanRec) (slot : Slot) → slot ≤ most_slots → AllByRecursion IsCounted (saved_at plan slot).nodes
+EventsAreCounted = (plan : PlanRec) (slot : Slot) → slot < 2 ^ 32 → AllByRecursion IsCounted (saved_at plan slot).nodes
 
 -- ---- Links
-
--- what the node at a position holds at a link end
-abbrev pub held_by : EndState → Held
-held_by end = record { window = end.window; buffered = length end.buffer.items }
-
-abbrev pub end_of : EndNumber → Option SnapNode → EndState
-end_of end None = absent_end
-end_of end (Some node) = slice_index_or node.state.ends end absent_end
-
-abbrev pub held_at : List SnapNode → Position → EndNumber → Held
-held_at nodes n end = held_by (end_of end (slice_get nodes n))
-
--- what is known of a link's ends, where its first directed link is this, in a snapshot with these nodes
-abbrev pub ends_of : List SnapNode → LinkPlan → LogRec → EndsRec
-ends_of nodes link forth = record { forth = forth.entries; a = held_at nodes link.a link.a_end; b = held_at nodes link.b link.b_end }
 
 -- the two directed links of a link may be kept, in a snapshot with these nodes
 pub record IsKeptLink (slot : Slot) (link : LinkPlan) (nodes : List SnapNode) (forth back : LogRec) : Type 0 where
@@ -79,7 +57,7 @@ pub record IsKeptLink (slot : Slot) (link : LinkPlan) (nodes : List SnapNode) (f
 
 -- link k, whose directed links are 2k, which leads forth, and 2k + 1, which leads back
 abbrev pub LinksMayBeKept : Type 0
-LinksMayBeKept = (plan : PlanRec) (slot : Slot) (k : ℕ) (link : LinkPlan) (forth back : LogRec) → IsPlan plan → slot ≤ most_slots →
+LinksMayBeKept = (plan : PlanRec) (slot : Slot) (k : ℕ) (link : LinkPlan) (forth back : LogRec) → IsPlan plan → slot < 2 ^ 32 →
     slice_get plan.links k ≡ Some link →
     slice_get (saved_at plan slot).logs (2 * k) ≡ Some forth → slice_get (saved_at plan slot).logs (2 * k + 1) ≡ Some back →
     CarryBytes forth.entries → CarryBytes back.entries → IsKeptLink slot link (saved_at plan slot).nodes forth back
@@ -88,7 +66,7 @@ LinksMayBeKept = (plan : PlanRec) (slot : Slot) (k : ℕ) (link : LinkPlan) (for
 
 -- wire k, whose arc comes after those of the links, two for each
 abbrev pub WiresMayBeKept : Type 0
-WiresMayBeKept = (plan : PlanRec) (slot : Slot) (k : ℕ) (wire : WirePlan) (log : LogRec) → IsPlan plan → slot ≤ most_slots →
+WiresMayBeKept = (plan : PlanRec) (slot : Slot) (k : ℕ) (wire : WirePlan) (log : LogRec) → IsPlan plan → slot < 2 ^ 32 →
     slice_get plan.wires k ≡ Some wire → slice_get (saved_at plan slot).logs (2 * length plan.links + k) ≡ Some log →
     IsWireLog slot wire.delay (port_width wire.b_port) log
 

@@ -49,7 +49,7 @@ pub data SnapRead : Type 0 where
   Snap : (snap : SnapRec) → SnapRead
   Fault : (byte : ℕ) (kind : SnapKind) → SnapRead
 
--- The first of so many bytes in all of which so many are left
+-- the byte at which so many are left, of so many in all
 abbrev pub byte_at : (count left : ℕ) → ℕ
 byte_at count left = count - left
 

@@ -7,7 +7,7 @@ use Rattle.run_plan.specs.Wires.{IsReadyWire, HasCome, target, targets}
 use Rattle.run_plan.specs.Passes.{SameButCome, levels_of}
 use Rattle.run_plan.proofs.Through.{all-at, zip-length, first-item, first-all}
 use Rattle.run_plan.proofs.Told.{none-told, told-twice, told-shown, rest-told}
-use Rattle.run_plan.proofs.Begins.{earlier-apart}
+use Rattle.run_plan.proofs.Resumes.{earlier-apart}
 use Rattle.run_plan.proofs.begun.show_all.Goals as goal
 
 pub loop-wire-init : goal.loop-wire-init

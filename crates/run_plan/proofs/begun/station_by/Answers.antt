@@ -1,7 +1,7 @@
 use Rattle.std.proofs.Common.{◌∙◌, refl, arith}
 use Rattle.std.proofs.lemmas.List.{length-map}
 use Rattle.buffered_ports.specs.States.{port_of}
-use Rattle.run_plan.proofs.Begins.{hold-inputs}
+use Rattle.run_plan.proofs.Resumes.{hold-inputs}
 use Rattle.run_plan.proofs.begun.station_by.Goals as goal
 
 pub returns : goal.returns

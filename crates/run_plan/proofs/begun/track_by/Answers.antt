@@ -1,5 +1,5 @@
 use Rattle.std.proofs.Common.{◌∙◌}
-use Rattle.run_plan.proofs.Begins.{track-begins}
+use Rattle.run_plan.proofs.InFlight.{track-begins}
 use Rattle.run_plan.proofs.begun.track_by.Goals as goal
 
 pub returns : goal.returns

@@ -7,7 +7,8 @@ use Rattle.snap_parts.specs.InFlight.{AreLinkEntries}
 use Rattle.snap_parts.specs.Parts.{LogRec, seen, body_of}
 use Rattle.run_plan.specs.declared.track.Track.{Track}
 use Rattle.run_plan.specs.Begins.{AllBegin, LinkBegins}
-use Rattle.run_plan.proofs.Begins.{there-log, back-log, links-so-far, links-whole, links-ready, seen-here, tracks-grow}
+use Rattle.run_plan.proofs.Begins.{there-log, back-log, links-so-far, links-whole, seen-here, tracks-grow}
+use Rattle.run_plan.proofs.Resumes.{links-ready}
 use Rattle.run_plan.proofs.begun.tracks_by.Goals as goal
 
 pub index-there-requires : goal.index-there-requires

@@ -8,7 +8,7 @@ use Rattle.snap_parts.specs.Parts.{seen}
 use Rattle.run_plan.specs.declared.wire.Wire.{Wire}
 use Rattle.run_plan.specs.Wires.{IsWire, with_coming}
 use Rattle.run_plan.specs.Begins.{WireBegins}
-use Rattle.run_plan.proofs.Begins.{wire-begins, coming-same}
+use Rattle.run_plan.proofs.InFlight.{wire-begins, coming-same}
 use Rattle.run_plan.proofs.begun.wire_by.Goals as goal
 
 pub returns : goal.returns

@@ -12,7 +12,8 @@ use Rattle.snap_parts.specs.Snaps.{IsOnWire}
 use Rattle.run_plan.specs.Passes.{cores_of}
 use Rattle.run_plan.specs.Begins.{AllBegin, WireBegins, WireBeginsBy}
 use Rattle.run_plan.proofs.Through.{all-at}
-use Rattle.run_plan.proofs.Begins.{begin-length, arcs-length, drop-at, wire-log-at, wire-within, wires-rest, wires-whole, wires-ready, targets-apart, seen-here, driven-here, wires-grow}
+use Rattle.run_plan.proofs.Begins.{begin-length, arcs-length, drop-at, wire-log-at, wire-within, wires-rest, wires-whole, seen-here, driven-here, wires-grow}
+use Rattle.run_plan.proofs.Resumes.{wires-ready, targets-apart}
 use Rattle.run_plan.proofs.begun.wires_by.Goals as goal
 
 pub index-log-requires : goal.index-log-requires

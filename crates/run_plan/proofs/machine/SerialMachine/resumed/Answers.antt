@@ -14,7 +14,8 @@ use Rattle.run_plan.specs.Run.{AreReady}
 use Rattle.run_plan.specs.Begins.{AllBegin, StationBegins, WireBeginsBy}
 use Rattle.run_plan.proofs.Steps.{since_none}
 use Rattle.run_plan.proofs.Systems.{ready-alike}
-use Rattle.run_plan.proofs.Begins.{begin-length, shown-begin, ready-begun}
+use Rattle.run_plan.proofs.Begins.{begin-length}
+use Rattle.run_plan.proofs.Resumes.{shown-begin, ready-begun}
 use Rattle.run_plan.proofs.machine.SerialMachine.resumed.Goals as goal
 
 pub wires_by-requires-clause-stations : goal.wires_by-requires-clause-stations
