@@ -5,3 +5,4 @@ pub mod Saved
 pub mod Runs
 pub mod Bounds
 pub mod Rests
+pub mod Holds

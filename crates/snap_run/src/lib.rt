@@ -7,6 +7,7 @@ mod ended;
 mod keeping;
 mod room;
 mod run_on;
+mod savable;
 mod save;
 mod saved_logs;
 mod saved_nodes;
