@@ -6,3 +6,4 @@ pub mod Runs
 pub mod Bounds
 pub mod Rests
 pub mod Holds
+pub mod Snapshots
