@@ -1,6 +1,6 @@
 -- What a run saves has the form of a snapshot.
 use Rattle.std.proofs.Common.{◌≡◌, ℕ, zero, suc, ◌+◌, ◌-◌, ◌*◌, ◌<◌, ◌≤◌, ◌^◌, List, [], ◌∷◌, ◌++◌, length, take, drop, get_or, refl, sym, ap, ◌∙◌, subst, arith}
-use Rattle.std.specs.Prelude.{Some, None, slice_get}
+use Rattle.std.specs.Prelude.{Some, None, slice_get, map, nat_lt}
 use Rattle.std.specs.List.{AllByRecursion}
 use Rattle.std.proofs.lemmas.List.{length_push, length-take, take-append-drop}
 use Rattle.xs_base.specs.Ids.{port_width}
@@ -9,32 +9,39 @@ use Rattle.sys_plan.specs.declared.NodePlan.{NodePlan}
 use Rattle.sys_plan.specs.declared.LinkPlan.{LinkPlan}
 use Rattle.sys_plan.specs.declared.WirePlan.{WirePlan}
 use Rattle.sys_plan.specs.Plan.{PlanRec, gaps_of}
+use Rattle.xs_model.specs.FirstEvents.{kept_at_most}
+use Rattle.core_step.specs.States.{IsNodeState, IsStateBefore}
 use Rattle.snap_parts.specs.declared.node.SnapNode.{SnapNode}
 use Rattle.snap_parts.specs.Parts.{LogRec, BodyRec}
 use Rattle.snap_parts.specs.Snaps.{AreSnapNodes}
 use Rattle.byte_forms.specs.Forms.{HoldInChain}
 use Rattle.state_bridge.specs.Fits.{NumbersFit}
-use Rattle.state_bridge.proofs.Forms.{node_has}
+use Rattle.node_forms.specs.Nodes.{snap_node}
 use Rattle.snap_codec.specs.Body.{there_of, node_after, link_pair, link_at, wire_at, pair_after, wire_after, by_number, in_pairs, links, wires, nodes}
 use Rattle.log_forms.specs.Logs.{wire_log}
 use Rattle.saved_laws.specs.Laws.{IsCounted}
 
 -- ---- Nodes
 
-nodes_chain : (plan : PlanRec) (slot : Slot) → slot < 2 ^ 32 → (given : List NodePlan) (before snaps : List SnapNode) → AreSnapNodes plan slot (length before) given snaps
+-- what `nodes_have_the_form` of state_bridge ensures
+abbrev pub NodesHaveTheForm : Type 0
+NodesHaveTheForm = (gaps : List ℕ) (slot : Slot) (node : SnapNode) → length gaps ≡ 8 → slot < 2 ^ 32 → node.kept ≤ kept_at_most → node.more < 2 ^ 63
+    → IsNodeState gaps node.state → IsStateBefore slot node.state → NumbersFit node.state → (snap_node (map (λ gap. nat_lt 0 gap) gaps) slot).Holds node
+
+nodes_chain : NodesHaveTheForm → (plan : PlanRec) (slot : Slot) → slot < 2 ^ 32 → (given : List NodePlan) (before snaps : List SnapNode) → AreSnapNodes plan slot (length before) given snaps
     → AllByRecursion IsCounted snaps → AllByRecursion (λ (node : SnapNode). NumbersFit node.state) snaps → HoldInChain (node_after plan slot) before snaps
 unfolding HoldInChain
-nodes_chain plan slot small given before [] are counted fits = tt
-nodes_chain plan slot small [] before (snap ∷ snaps) are counted fits = absurd are
-nodes_chain plan slot small (node ∷ given) before (snap ∷ snaps) are counted fits =
+nodes_chain has plan slot small given before [] are counted fits = tt
+nodes_chain has plan slot small [] before (snap ∷ snaps) are counted fits = absurd are
+nodes_chain has plan slot small (node ∷ given) before (snap ∷ snaps) are counted fits =
     let n = length before in (
-      node_has (gaps_of plan n) slot snap refl small counted.0.kept counted.0.more are.0.state are.0.before fits.0,
-      nodes_chain plan slot small given (before ++ snap ∷ []) snaps (subst (λ (m : ℕ). AreSnapNodes plan slot m given snaps) (sym (length_push before snap)) are.1) counted.1 fits.1,
+      has (gaps_of plan n) slot snap refl small counted.0.kept counted.0.more are.0.state are.0.before fits.0,
+      nodes_chain has plan slot small given (before ++ snap ∷ []) snaps (subst (λ (m : ℕ). AreSnapNodes plan slot m given snaps) (sym (length_push before snap)) are.1) counted.1 fits.1,
     )
 
-pub nodes_hold : (plan : PlanRec) (slot : Slot) → slot < 2 ^ 32 → (snaps : List SnapNode) → length snaps ≡ length plan.nodes → AreSnapNodes plan slot 0 plan.nodes snaps
+pub nodes_hold : NodesHaveTheForm → (plan : PlanRec) (slot : Slot) → slot < 2 ^ 32 → (snaps : List SnapNode) → length snaps ≡ length plan.nodes → AreSnapNodes plan slot 0 plan.nodes snaps
     → AllByRecursion IsCounted snaps → AllByRecursion (λ (node : SnapNode). NumbersFit node.state) snaps → (nodes plan slot).Holds snaps
-nodes_hold plan slot small snaps many are counted fits = (many, nodes_chain plan slot small plan.nodes [] snaps are counted fits)
+nodes_hold has plan slot small snaps many are counted fits = (many, nodes_chain has plan slot small plan.nodes [] snaps are counted fits)
 
 -- ---- Pairs of directed links
 

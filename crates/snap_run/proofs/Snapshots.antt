@@ -28,7 +28,7 @@ use Rattle.saved_laws.specs.Bytes.{CarryBytes}
 use Rattle.saved_laws.specs.Laws.{SavedIsWhole, EventsAreCounted, LinksMayBeKept, WiresMayBeKept, NodesMayBeKept}
 use Rattle.snap_codec.specs.Body.{ends_of, link_pair, link_at, wire_at, body_of_fields, fields_of_body, directed_of, body}
 use Rattle.snap_codec.specs.Snaps.{IsSnap, first_line, line, text_field, head}
-use Rattle.snap_run.proofs.Holds.{no_log, nodes_hold, links_hold, wires_hold}
+use Rattle.snap_run.proofs.Holds.{NodesHaveTheForm, no_log, nodes_hold, links_hold, wires_hold}
 
 -- ---- Lists
 
@@ -105,15 +105,15 @@ module _ (plan : PlanRec) (slot : Slot) (is : IsPlan plan) (small : slot < 2 ^ 3
       subst (λ (log : LogRec). (wire_log slot wire.delay (port_width wire.b_port)).Holds log) (sym (drop_get directed logs k no_log))
       (wire_from_facts slot wire.delay (port_width wire.b_port) (log_at (directed + k)) small (low wire.b_port) facts)
 
-  pub body_holds : EventsAreCounted → NodesMayBeKept → RunInRange plan.nodes → AllByRecursion (λ (node : SnapNode). NumbersFit node.state) all → (body plan).Holds (saved_at plan slot)
+  pub body_holds : NodesHaveTheForm → EventsAreCounted → NodesMayBeKept → RunInRange plan.nodes → AllByRecursion (λ (node : SnapNode). NumbersFit node.state) all → (body plan).Holds (saved_at plan slot)
   unfolding body
-  body_holds counted nodes_kept range fits =
+  body_holds has counted nodes_kept range fits =
       let front : length (take directed logs) ≡ 2 * length plan.links = omega (arith, length-take directed logs, many) in
       let back : length (drop directed logs) ≡ length plan.wires = omega (arith, length-drop directed logs, many) in (
         (
           small,
           (
-            nodes_hold plan slot small all (whole plan slot).nodes (nodes_kept plan slot is range) (counted plan slot small) fits,
+            nodes_hold has plan slot small all (whole plan slot).nodes (nodes_kept plan slot is range) (counted plan slot small) fits,
             (links_hold plan slot all (take directed logs) front front_holds, wires_hold plan slot all (drop directed logs) back wire_holds),
           ),
         ),

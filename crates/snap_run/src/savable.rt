@@ -16,7 +16,7 @@ use saved_laws::{
     saved_parts_are_those_of_the_run, saved_wires_may_be_kept,
 };
 use snap_parts::{SnapLog, SnapNode};
-use state_bridge::node_fits;
+use state_bridge::{node_fits, nodes_have_the_form};
 use sys_plan::Plan;
 
 /// What a run of a plan, of which this is the text, saves before a slot is a snapshot.
@@ -37,6 +37,7 @@ pub(crate) fn saved_is_a_snapshot(
     bytes_are(text);
     nodes_fit(nodes);
     logs_carry_bytes(logs);
+    nodes_have_the_form();
     saved_parts_are_those_of_the_run();
     saved_counts_are_small();
     saved_nodes_may_be_kept();

@@ -20,7 +20,7 @@ returns c =
         text = text_holds c.args.text.now plan c.requires.text c.bytes_are.ensures.bytes;
         body =
             body_holds plan slot c.keeps.ensures.plan small c.saved_parts_are_those_of_the_run.ensures.whole c.saved_links_may_be_kept.ensures.links
-            c.saved_wires_may_be_kept.ensures.wires bytes c.saved_counts_are_small.ensures.events c.saved_nodes_may_be_kept.ensures.nodes
+            c.saved_wires_may_be_kept.ensures.wires bytes c.nodes_have_the_form.ensures.fits c.saved_counts_are_small.ensures.events c.saved_nodes_may_be_kept.ensures.nodes
             c.code_is_in_range.ensures.range fits;
       };
     }
