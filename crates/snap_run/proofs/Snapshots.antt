@@ -1,5 +1,5 @@
 -- What a run saves is a snapshot of its plan.
-use Rattle.std.proofs.Common.{◌≡◌, ℕ, zero, suc, ◌+◌, ◌-◌, ◌*◌, ◌<◌, ◌≤◌, ◌^◌, ◌⊎◌, inl, inr, Bool, true, false, ◌&&◌, ltb, List, [], ◌∷◌, ◌++◌, length, take, drop, get_or, refl, sym, ap, ◌∙◌, subst, arith}
+use Rattle.std.proofs.Common.{◌≡◌, ℕ, zero, suc, ◌+◌, ◌-◌, ◌*◌, ◌<◌, ◌≤◌, ◌^◌, ◌⊎◌, inl, inr, Bool, true, false, ◌&&◌, cond, ltb, List, [], ◌∷◌, ◌++◌, length, take, drop, get_or, refl, sym, ap, ◌∙◌, subst, arith}
 use Rattle.std.specs.Prelude.{Some, None, slice_get}
 use Rattle.std.specs.List.{AllByRecursion}
 use Rattle.std.proofs.lemmas.Bool.{cases_Bool, and_parts, ltb-true, ltb-false}
@@ -48,8 +48,15 @@ drop_get zero xs k d = let same : k ≡ 0 + k = omega arith in ap (λ m. get_or 
 drop_get (suc n) [] k d = refl
 drop_get (suc n) (x ∷ xs) k d = let same : suc n + k ≡ suc (n + k) = omega arith in drop_get n xs k d ∙ ap (λ m. get_or (x ∷ xs) m d) (sym same)
 
+one_of : (a b c d : Bool) → cond a 1 (cond b 4 (cond c 8 (cond d 16 32))) ≤ 32
+one_of true b c d = omega arith
+one_of false true c d = omega arith
+one_of false false true d = omega arith
+one_of false false false true = omega arith
+one_of false false false false = omega arith
+
 narrow : (port : ℕ) → port_width port ≤ 32
-narrow port = omega arith
+narrow port = one_of (ltb port 16) (ltb port 22) (ltb port 26) (ltb port 28)
 
 low : (port : ℕ) → 2 ^ port_width port ≤ 2 ^ 32
 low port = pow-le-pow_right {n = 2} (omega arith) (narrow port)
@@ -135,13 +142,10 @@ abbrev all_below : List ℕ → Bool
 all_below [] = true
 all_below (x ∷ xs) = ltb x 256 && all_below xs
 
-are_bytes : (xs : List ℕ) → all_below xs ≡ true → AreBytes xs
-are_bytes [] below = λ i. omega arith
-are_bytes (x ∷ xs) below = λ i. at i
-  where
-    at : (i : ℕ) → get_or (x ∷ xs) i 0 < 256
-    at zero = ltb-true x 256 (and_parts (ltb x 256) (all_below xs) below).0
-    at (suc i) = are_bytes xs (and_parts (ltb x 256) (all_below xs) below).1 i
+are_bytes : (xs : List ℕ) → all_below xs ≡ true → (i : ℕ) → get_or xs i 0 < 256
+are_bytes [] below i = omega arith
+are_bytes (x ∷ xs) below zero = ltb-true x 256 (and_parts (ltb x 256) (all_below xs) below).0
+are_bytes (x ∷ xs) below (suc i) = are_bytes xs (and_parts (ltb x 256) (all_below xs) below).1 i
 
 pub text_holds : (text : List ℕ) (plan : PlanRec) → system_of text ≡ stands.Plan plan → AreBytes text → head.Holds text
 unfolding head line text_field

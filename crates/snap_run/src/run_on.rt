@@ -19,6 +19,6 @@ pub fn rest_of(alloc: Global, snap: &Snap, limit: u32) -> Result<Text, AllocErro
     ensures text { IfOk result (λ t. (plan : PlanRec) → system_of snap.now.text ≡ stands.Plan plan → t ≡ rest_text plan snap.now.body limit) }
 {
     let plan = plan_of(alloc, snap)?;
-    let run = RunOn::to(alloc, &plan, snap, limit)?;
-    end_text(alloc, &plan, run)
+    let went = RunOn::to(alloc, &plan, snap, limit)?;
+    end_text(alloc, &plan, went)
 }
