@@ -5,3 +5,5 @@ pub mod Saved
 pub mod Runs
 pub mod Bounds
 pub mod Rests
+pub mod Holds
+pub mod Snapshots

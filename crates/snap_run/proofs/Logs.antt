@@ -85,10 +85,10 @@ all_at P (e ∷ es) zero d all h = all.0
 all_at P (e ∷ es) (suc i) d all h = all_at P es i d all.1 (omega (arith, h))
 
 -- a step of the loop over a history
-pub kept_more : (slot : Slot) (d : Arc) (h : List Entry) (i : ℕ) (default : Entry) (from : Slot) (wire : Bool) (old new : LogRec) → new ≡ log_with from wire old (get_or h i default)
-    → from ≡ slot - d.delay → is_wire d.joins ≡ wire → old ≡ saved_log slot d (take i h) → AllByRecursion (λ (e : Entry). e.slot < slot) h → i < length h
+pub kept_more : (slot : Slot) (d : Arc) (h : List Entry) (i : ℕ) (default : Entry) (first : Slot) (wire : Bool) (old new : LogRec) → new ≡ log_with first wire old (get_or h i default)
+    → first ≡ slot - d.delay → is_wire d.joins ≡ wire → old ≡ saved_log slot d (take i h) → AllByRecursion (λ (e : Entry). e.slot < slot) h → i < length h
     → new ≡ saved_log slot d (take (i + 1) h)
-kept_more slot d h i default from wire old new kept since joins was before inside =
+kept_more slot d h i default first wire old new kept since joins was before inside =
     let e = get_or h i default in
     kept
     ∙ (λ j. log_with (since j) (sym joins j) (was j) e)

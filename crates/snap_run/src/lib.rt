@@ -7,9 +7,12 @@ mod ended;
 mod keeping;
 mod room;
 mod run_on;
+mod savable;
 mod save;
 mod saved_logs;
 mod saved_nodes;
+mod snap_plan;
+mod went_on;
 
 pub use run_on::rest_of;
 pub use save::save_at;

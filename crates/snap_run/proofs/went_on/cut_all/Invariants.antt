@@ -1,7 +1,7 @@
 use Rattle.std.proofs.Common.{◌≡◌, length}
 use Rattle.trace_merge.specs.Nodes.{events_of}
 use Rattle.snap_model.specs.Rest.{kept_after}
-use Rattle.snap_run.proofs.ended.cut_all.Given as goal
+use Rattle.snap_run.proofs.went_on.cut_all.Given as goal
 
 abbrev pub invariant-loop-events : goal.invariant-loop-events
 invariant-loop-events l = record {
