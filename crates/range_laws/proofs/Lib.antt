@@ -12,3 +12,4 @@ mod Node
 mod Runs
 mod Numbers
 mod Saved
+mod Written
