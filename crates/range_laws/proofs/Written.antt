@@ -1,6 +1,7 @@
 -- What a snapshot keeps of a run may be written as bytes.
 use Rattle.std.proofs.Common.{◌≡◌, ℕ, ◌+◌, ◌*◌, ◌<◌, ◌≤◌, ◌^◌, Some, List, length, refl, subst, arith}
 use Rattle.std.specs.Prelude.{map, nat_lt, slice_get}
+use Rattle.std.specs.List.{AllByRecursion}
 use Rattle.std.proofs.lemmas.Option.{same_Some}
 use Rattle.xs_base.specs.Numbers.{Slot}
 use Rattle.xs_model.specs.FirstEvents.{kept_at_most}
@@ -18,7 +19,7 @@ use Rattle.state_laws.specs.Laws.{KeptMayBeRead}
 use Rattle.state_laws.specs.Runs.{KeptInEveryRun}
 use Rattle.state_bridge.specs.Fits.{NumbersFit}
 use Rattle.saved_laws.specs.Bytes.{CarryBytes}
-use Rattle.saved_laws.specs.Laws.{NodesAreSaved, IsCounted, EventsAreCounted, LinksMayBeKept}
+use Rattle.saved_laws.specs.Laws.{most_slots, NodesAreSaved, IsCounted, EventsAreCounted, LinksMayBeKept}
 use Rattle.range_laws.specs.Ranges.{RunsCarryBytes, SavedNodesHaveTheForm, SavedLinksMayBeKept}
 use Rattle.range_laws.proofs.Numbers.{numbers_at}
 use Rattle.range_laws.proofs.Runs.{run_in_range}
