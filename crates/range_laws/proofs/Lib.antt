@@ -12,4 +12,3 @@ mod Node
 mod Runs
 mod Numbers
 mod Saved
-mod Written

@@ -1,13 +1,13 @@
 -- The numbers of a node's state are of its types.
-use Rattle.std.proofs.Common.{◌≡◌, ℕ, suc, ◌<◌, ◌^◌, Option, Some, None, List, [], ◌∷◌, length, map, get_or, sym, ap, subst, ◌∙◌, arith, zero}
+use Rattle.std.proofs.Common.{◌≡◌, ℕ, suc, ◌<◌, ◌^◌, Option, Some, None, List, [], ◌∷◌, length, map, get_or, sym, ap, subst, ◌∙◌, arith}
 use Rattle.std.specs.Prelude.{IfSome, option_map}
 use Rattle.std.specs.List.{AllByRecursion}
 use Rattle.std.proofs.lemmas.List.{length-map}
-use Rattle.xs_base.specs.Numbers.{Slot, Position}
+use Rattle.xs_base.specs.Numbers.{Slot}
 use Rattle.xs_base.specs.Ids.{port_width}
 use Rattle.xs_model.specs.Record.{NodeRec, InputRec, LinkRec, SyncRec, PortRec, TransferRec, ChanRec, Idle, Head1, Head2, Want, Local, Out, Lost, first_node, unused_sync, off_port, sync_of, port_of}
 use Rattle.sys_plan.specs.declared.NodePlan.{NodePlan}
-use Rattle.sys_plan.specs.Plan.{PlanRec, IsPlan, gaps_of}
+use Rattle.sys_plan.specs.Plan.{gaps_of}
 use Rattle.serial_model.specs.Serial.{serial}
 use Rattle.port_laws.specs.Facts.{HasFacts, is_off, is_on, IsTransfer}
 use Rattle.chan_ends.specs.States.{chan_state}
@@ -27,7 +27,7 @@ use Rattle.port_forms.specs.Ports.{FitsHalves}
 use Rattle.switch_forms.specs.Inputs.{InputFits}
 use Rattle.state_bridge.specs.Fits.{AreSuch, TimerFits, ClockFits, SyncFits, EnableFits, EndFits, NumbersFit}
 use Rattle.rest_laws.specs.Rest.{IsByteDest, HasByteDests}
-use Rattle.range_laws.specs.Ranges.{AreRunnable, NumbersOfRunsFit, RunsHaveByteDests}
+use Rattle.range_laws.specs.Ranges.{NumbersOfRunsFit, RunsHaveByteDests}
 use Rattle.range_laws.proofs.Lists.{all_at, all_made}
 use Rattle.range_laws.proofs.Core.{IsByte, ChanWords, TimerWord, ClockByte, EnablingWords}
 use Rattle.range_laws.proofs.Rows.{shown_word}
@@ -122,12 +122,6 @@ dests_are (input ∷ inputs) all = (dest_is input all.0, dests_are inputs all.1)
 
 -- ---- Every node of a run
 
-range_at : (nodes : List NodePlan) (recs : List NodeRec) (k : ℕ) → k < length nodes → AllRange nodes recs → NodeRange (get_or recs k (first_node 0 0 []))
-range_at [] recs k low range = absurd (omega (arith, low))
-range_at (node ∷ nodes) [] k low range = absurd range
-range_at (node ∷ nodes) (rec ∷ recs) zero low range = range.0
-range_at (node ∷ nodes) (rec ∷ recs) (suc k) low range = range_at nodes recs k (omega (arith, low)) range.1
-
 -- what is so of each node, by its place
 all_of : (Q : NodeRec → Type 0) (nodes : List NodePlan) (recs : List NodeRec)
     → ((k : ℕ) → k < length nodes → NodeRange (get_or recs k (first_node 0 0 [])) → Q (get_or recs k (first_node 0 0 []))) → AllRange nodes recs → AllByRecursion Q recs
@@ -137,11 +131,6 @@ all_of Q (node ∷ nodes) [] so range = absurd range
 all_of Q (node ∷ nodes) (rec ∷ recs) so range = (so 0 (omega arith) range.0, all_of Q nodes recs (λ k low. so (suc k) (omega (arith, low))) range.1)
 
 module _ (shown : ShownLevelsFit) (kept : KeptInEveryRun) where
-  pub numbers_at : (plan : PlanRec) (slot : Slot) (n : Position) → IsPlan plan → AreRunnable plan.nodes → n < length plan.nodes → NumbersFit (node_state (node_in (serial plan slot) n))
-  numbers_at plan slot n is runs low =
-      numbers_fit (gaps_of plan n) slot (node_in (serial plan slot) n) (kept plan slot n is (run_in_range plan.nodes runs) low)
-      (range_at plan.nodes (serial plan slot).nodes n low (nodes_range shown kept plan is runs slot))
-
   pub numbers_of_runs_fit : NumbersOfRunsFit
   numbers_of_runs_fit plan slot is runs =
       all_of (λ rec. NumbersFit (node_state rec)) plan.nodes (serial plan slot).nodes

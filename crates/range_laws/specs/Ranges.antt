@@ -1,23 +1,18 @@
 -- That the numbers of every node of a run keep the ranges of the machine.
-use Rattle.std.specs.Prelude.{ℕ, ◌≡◌, ◌+◌, ◌*◌, ◌<◌, ◌≤◌, ◌^◌, nat_lt, List, length, map, Some, slice_get}
+use Rattle.std.specs.Prelude.{ℕ, ◌≡◌, ◌<◌, ◌≤◌, ◌^◌, List}
 use Rattle.std.specs.List.{AllByRecursion}
-use Rattle.xs_base.specs.Numbers.{Slot, Position}
+use Rattle.xs_base.specs.Numbers.{Slot}
 use Rattle.xs_model.specs.Record.{NodeRec}
 use Rattle.xs_instructions.specs.Image.{IsImage}
-use Rattle.sys_plan.specs.declared.LinkPlan.{LinkPlan}
 use Rattle.sys_plan.specs.declared.NodePlan.{NodePlan}
-use Rattle.sys_plan.specs.Plan.{PlanRec, IsPlan, gaps_of}
+use Rattle.sys_plan.specs.Plan.{PlanRec, IsPlan}
 use Rattle.serial_model.specs.Serial.{serial}
 use Rattle.core_step.specs.States.{node_state}
 use Rattle.state_bridge.specs.Fits.{NumbersFit}
-use Rattle.snap_parts.specs.declared.node.SnapNode.{SnapNode}
-use Rattle.snap_parts.specs.Parts.{LogRec}
 use Rattle.snap_parts.specs.Snaps.{IsSnapSystem}
-use Rattle.node_forms.specs.Nodes.{snap_node}
 use Rattle.snap_model.specs.Saved.{saved_at}
 use Rattle.snap_model.specs.Rest.{rest_text, trace_from}
 use Rattle.saved_laws.specs.Bytes.{CarryBytes}
-use Rattle.saved_laws.specs.Laws.{most_slots, IsKeptLink}
 use Rattle.rest_laws.specs.Rest.{HasByteDests}
 
 -- ---- What the plans of programs have
@@ -56,16 +51,3 @@ SavedRunsMayGoOn = (plan : PlanRec) (slot : Slot) → IsPlan plan → AreRunnabl
 -- and what is written of a run that goes on from it is the trace of the whole run, but for the lines of the events before it
 abbrev pub SavedRunsGoOn : Type 0
 SavedRunsGoOn = (plan : PlanRec) (slot : Slot) (slots : ℕ) → IsPlan plan → AreRunnable plan.nodes → slot ≤ slots → rest_text plan (saved_at plan slot) slots ≡ trace_from plan slot slots
-
--- each node that it keeps may be written, and is read again: it has the form of a node's block
-abbrev pub SavedNodesHaveTheForm : Type 0
-SavedNodesHaveTheForm = (plan : PlanRec) (slot : Slot) (n : Position) (node : SnapNode) →
-    IsPlan plan → AreRunnable plan.nodes → slot ≤ most_slots → n < length plan.nodes → slice_get (saved_at plan slot).nodes n ≡ Some node →
-    (snap_node (map (λ gap. nat_lt 0 gap) (gaps_of plan n)) slot).Holds node
-
--- and so may be what is in flight on each link
-abbrev pub SavedLinksMayBeKept : Type 0
-SavedLinksMayBeKept = (plan : PlanRec) (slot : Slot) (k : ℕ) (link : LinkPlan) (forth back : LogRec) →
-    IsPlan plan → AreRunnable plan.nodes → slot ≤ most_slots → slice_get plan.links k ≡ Some link →
-    slice_get (saved_at plan slot).logs (2 * k) ≡ Some forth → slice_get (saved_at plan slot).logs (2 * k + 1) ≡ Some back →
-    IsKeptLink slot link (saved_at plan slot).nodes forth back

@@ -1,7 +1,7 @@
 //! The numbers of every node of a run keep the ranges of the machine, whatever program runs. See docs/SNAPSHOTS.md.
 #![tactic(auto)]
 
-ghost use Rattle.range_laws.specs.Ranges.{NumbersOfRunsFit, RunsCarryBytes, RunsHaveByteDests, SavedRunsMayGoOn, SavedRunsGoOn, SavedNodesHaveTheForm, SavedLinksMayBeKept};
+ghost use Rattle.range_laws.specs.Ranges.{NumbersOfRunsFit, RunsCarryBytes, RunsHaveByteDests, SavedRunsMayGoOn, SavedRunsGoOn};
 
 mod runnable;
 
@@ -27,20 +27,4 @@ pub fn saved_runs_are_whole()
     numbers_of_runs_fit();
     saved_laws::saved_systems_may_go_on();
     rest_laws::rest_is_the_trace_from_there();
-}
-
-/// And it may be written as bytes, and is read again, before every slot up to 16,000,000: each node that it keeps has the form of a node's
-/// block, and what is in flight on the two directed links of each link may be so. Of wires `saved_wires_may_be_kept` of saved_laws says it.
-/// It does nothing. See docs/SNAPSHOTS.md.
-pub fn saved_runs_may_be_written()
-    ensures nodes { SavedNodesHaveTheForm }
-    ensures links { SavedLinksMayBeKept }
-{
-    numbers_of_runs_fit();
-    state_laws::nodes_may_be_kept();
-    state_laws::nodes_of_runs_may_be_kept();
-    state_bridge::nodes_have_the_form();
-    saved_laws::saved_parts_are_those_of_the_run();
-    saved_laws::saved_counts_are_small();
-    saved_laws::saved_links_may_be_kept();
 }
