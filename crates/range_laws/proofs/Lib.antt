@@ -9,6 +9,6 @@ mod Rows
 mod Issue
 mod Switch
 mod Node
-mod Runs
+pub mod Runs
 mod Numbers
-mod Saved
+pub mod Saved

@@ -13,7 +13,7 @@ use Rattle.rest_laws.specs.Rest.{RestIsTrace}
 use Rattle.range_laws.specs.Ranges.{RunsCarryBytes, RunsHaveByteDests, SavedRunsMayGoOn, SavedRunsGoOn}
 use Rattle.range_laws.proofs.Runs.{AllCarry, kept, run_in_range}
 
-logs_carry : (slot : Slot) (ds : List Arc) (histories : List (List Entry)) → AllCarry histories → AllByRecursion (λ (log : LogRec). CarryBytes log.entries) (saved_logs slot ds histories)
+pub logs_carry : (slot : Slot) (ds : List Arc) (histories : List (List Entry)) → AllCarry histories → AllByRecursion (λ (log : LogRec). CarryBytes log.entries) (saved_logs slot ds histories)
 logs_carry slot [] histories all = tt
 logs_carry slot (d ∷ ds) [] all = tt
 logs_carry slot (d ∷ ds) (history ∷ histories) all = (kept _ history all.0, logs_carry slot ds histories all.1)
