@@ -5,7 +5,7 @@ use Rattle.xs_base.specs.declared.numbers.TheConstants.{CHAN_ENDS}
 use Rattle.xs_model.specs.Masks.{in_mask}
 use Rattle.xs_model.specs.Record.{ChanRec, unused_chan}
 use Rattle.xs_model.specs.Choices.{waits_in}
-use Rattle.net_model.specs.Chans.{Found, Got, Waits, Refused, got_chan}
+use Rattle.net_model.specs.Chans.{Found, Got, Waits, Refused, put_in_use}
 
 abbrev pub chan_at : List ChanRec → ChanNumber → ChanRec
 chan_at chans c = slice_index_or chans c unused_chan
@@ -36,4 +36,4 @@ with_freed chans c (Some chan) = slice_set chans c chan
 -- the channel ends after the one with this number was got, if there is one
 abbrev pub with_got : List ChanRec → Option ChanNumber → List ChanRec
 with_got chans None = chans
-with_got chans (Some c) = slice_set chans c got_chan
+with_got chans (Some c) = slice_set chans c (put_in_use (chan_at chans c))

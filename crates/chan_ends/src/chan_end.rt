@@ -2,7 +2,7 @@
 ghost use Rattle.std.specs.Prelude.{◌≡◌, ◌↔◌, ◌<◌, ◌||◌, true, false, nat_lt, if◌then◌else◌, Some, None, [], ◌∷◌, ◌++◌, length, take, drop, slice_get, IsOk, OnOk, OnErr, IsTrue, IsFalse};
 ghost use Rattle.std.specs.List.{list_any};
 ghost use Rattle.xs_model.specs.Waits.{has_room, has_tokens, is_control};
-ghost use Rattle.net_model.specs.Chans.{Got, Refused, got_chan, put_away, freed_chan, found_at, chan_after, take_dest, take_net, put_tokens, put_token, bytes_of_word, put_word};
+ghost use Rattle.net_model.specs.Chans.{Got, Refused, put_in_use, put_away, freed_chan, found_at, chan_after, take_dest, take_net, put_tokens, put_token, bytes_of_word, put_word};
 ghost use Rattle.net_model.specs.Chans.{joined, take_word, take_byte, take_ctrl, check_token, look, control_place, look_word};
 ghost use Rattle.chan_ends.specs.Ends.{has_output, chan_where_freed};
 ghost use Rattle.chan_ends.specs.States.{chan_state, chan_of, IsChan, IsChanState};
@@ -61,15 +61,12 @@ impl Default for ChanEnd {
 }
 
 impl ChanEnd {
-    /// Puts it in use, with network 0, no destination and empty buffers.
+    /// Puts it in use, with network 0; its destination and its buffers stay.
     pub(crate) fn get(&mut self)
-        ensures { self.new ≡ got_chan }
+        ensures { self.new ≡ put_in_use self.old }
     {
         self.used = true;
         self.net = 0;
-        self.dest = None;
-        self.output.clear();
-        self.input.clear();
     }
 
     /// Puts it out of use, with no destination; its network stays. It is refused exactly where it is not in use, a buffer is not empty, or the

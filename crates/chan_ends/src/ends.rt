@@ -85,8 +85,8 @@ impl ChanEnds {
         self.ends[c as usize] = end;
     }
 
-    /// Gets the channel end with the lowest number that is not in use: it is in use then, of network 0, with no
-    /// destination and empty buffers. `None` comes exactly where all 32 are in use. See docs/LINKS.md.
+    /// Gets the channel end with the lowest number that is not in use: it is in use then, of network 0, and its destination and buffers are as they were,
+    /// which is none and empty but where a state said otherwise (`of_state`). `None` comes exactly where all 32 are in use. See docs/LINKS.md.
     pub fn alloc(&mut self) -> Option<u8>
         ensures lowest { result ≡ free_chan self.old 0 }
         ensures got { self.new ≡ with_got self.old (free_chan self.old 0) }

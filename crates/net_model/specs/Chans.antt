@@ -20,9 +20,13 @@ chan_named node id =
 abbrev pub free_chan : List ChanRec → ChanNumber → Option ChanNumber
 free_chan chans n = lowest_free (λ chan. chan.used) chans n
 
--- a channel end that was just got: its buffers are empty, it has no destination, and its packets take network 0
+-- a channel end that is put in use: its packets take network 0, and all else stays
+abbrev pub put_in_use : ChanRec → ChanRec
+put_in_use chan = record chan { used = true; net = 0 }
+
+-- one that was got for the first time: its buffers are empty, and it has no destination
 abbrev pub got_chan : ChanRec
-got_chan = record unused_chan { used = true }
+got_chan = put_in_use unused_chan
 
 -- a channel end that is put out of use: it keeps its network, which only being got sets anew
 abbrev pub put_away : ChanRec → ChanRec

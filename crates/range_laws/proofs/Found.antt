@@ -14,7 +14,7 @@ use Rattle.xs_model.specs.Record.{ChanRec, PortRec, TransferRec}
 use Rattle.xs_model.specs.Ports.{level_of}
 use Rattle.xs_model.specs.PortActions.{Acted, Did, Got as Gives, Waits as PausesAt, Refused as Refuses, has_left, wanting, turned_in, let_go, tell_value, tell_stamp, peek, turn_in, take_transfer, take_in, is_part, take_part, end_transfer, end_in}
 use Rattle.xs_model.specs.Waits.{has_room, is_control, has_tokens}
-use Rattle.net_model.specs.Chans.{Found, Got, Waits, Refused, put_away, got_chan, freed_chan, found_at, put_towards, put_token, bytes_of_word, put_word, value_of, joined, take_word, take_where, take_byte, take_ctrl, check_token, truth, look_at, look, control_place, look_word, is_chan_id, take_dest, dest_or_0, tell_dest, is_network, take_net, tell_net}
+use Rattle.net_model.specs.Chans.{Found, Got, Waits, Refused, put_away, put_in_use, freed_chan, found_at, put_towards, put_token, bytes_of_word, put_word, value_of, joined, take_word, take_where, take_byte, take_ctrl, check_token, truth, look_at, look, control_place, look_word, is_chan_id, take_dest, dest_or_0, tell_dest, is_network, take_net, tell_net}
 use Rattle.port_laws.specs.Facts.{HasFacts, is_off, is_on, IsTransfer}
 use Rattle.state_forms.specs.Buffers.{TokenFits, buffer_of, BufferFits}
 use Rattle.range_laws.proofs.Lists.{all_joined, all_dropped}
@@ -173,8 +173,8 @@ module _ (chan : ChanRec) (h : ChanWords chan) where
   pub at_fits : (does : ChanRec → Found) → FoundFits (does chan) → FoundFits (found_at does chan)
   at_fits does fits = either chan.used (does chan) Refused fits tt
 
-pub got_fits : ChanWords got_chan
-got_fits = record { net = omega arith; dest = tt; output = unused_fits.output; input = unused_fits.input }
+pub got_fits : (chan : ChanRec) → ChanWords chan → ChanWords (put_in_use chan)
+got_fits chan h = record { net = omega arith; dest = h.dest; output = h.output; input = h.input }
 
 pub freed_fits : (is_busy : Bool) (chan : ChanRec) → ChanWords chan → IfSome (freed_chan is_busy chan) ChanWords
 freed_fits is_busy chan h = by (chan.used && (length chan.output == 0) && (length chan.input == 0) && not is_busy)

@@ -21,7 +21,7 @@ use Rattle.xs_model.specs.declared.resource.Resource.TheVariants as resource
 use Rattle.xs_model.specs.Status.{without_bits}
 use Rattle.xs_model.specs.Threads.{register, with_register}
 use Rattle.xs_model.specs.Record.{CoreRec, ChanRec, TimerRec, ClockRec, SyncRec, LockRec, PortRec, EnablingRec, thread_of, chan_of, timer_of, clock_of, sync_of, lock_of, port_of, with_thread, with_run, with_chan, with_port, with_enabled}
-use Rattle.xs_model.specs.Syncs.{is_thread, freed_sync, Claimed, Owns, IsHeld, IsRefused, free_lock, claimed, released, freed_lock}
+use Rattle.xs_model.specs.Syncs.{is_thread, freed_sync, Claimed, Owns, IsHeld, IsRefused, free_lock, got_lock, claimed, released, freed_lock}
 use Rattle.xs_model.specs.Time.{time_at, with_after, timer_holds, with_value, divided_by, on_clock, turned_off, started, stopped, freed_timer, got_timer}
 use Rattle.xs_model.specs.Enabling.{with_vector, with_environment, in_mode as giving, enabled_for, forgotten}
 use Rattle.xs_model.specs.Ports.{pin_happens}
@@ -57,7 +57,7 @@ use Rattle.xs_model.specs.Syncs.{is_sync_used, got_sync, with_bound, unbound}
 use Rattle.xs_model.specs.Enabling.{cleared_by, without_threads, without_thread}
 use Rattle.xs_model.specs.Threads.{fresh_thread}
 use Rattle.xs_model.specs.Record.{with_sync, with_lock, with_timer, with_clock}
-use Rattle.net_model.specs.Chans.{got_chan, free_chan}
+use Rattle.net_model.specs.Chans.{put_in_use, free_chan}
 use Rattle.step_model.specs.DividerRows.{with_division}
 use Rattle.step_model.specs.ThreadRows.{is_taken, with_got_thread, with_slaves_run, thread_id}
 use Rattle.step_model.specs.WordRows.{words_row}
@@ -248,7 +248,7 @@ module _ (here : Setting) (core : CoreRec) (k : ThreadNumber) (few : k < 8) (id 
 
   chan_got_fits : (d : Register) (got : Option ChanNumber) → IfSome got (λ c. c < 32) → CoreFits (chan_was_got here.id core k d got)
   chan_got_fits d None low = nothing_got d
-  chan_got_fits d (Some c) low = goes_with (with_chan core c got_chan) d (chan_id here.id c) (chan_set core c got_chan h got_fits) (omega (arith, low, id))
+  chan_got_fits d (Some c) low = goes_with (with_chan core c (put_in_use (chan_of core c))) d (chan_id here.id c) (chan_set core c (put_in_use (chan_of core c)) h (got_fits (chan_of core c) (chan_fits core c h))) (omega (arith, low, id))
 
   sync_got_fits : (d : Register) (got : Option ℕ) → IfSome got (λ n. n < 7) → CoreFits (sync_was_got core k d got)
   sync_got_fits d None low = nothing_got d
@@ -261,14 +261,14 @@ module _ (here : Setting) (core : CoreRec) (k : ThreadNumber) (few : k < 8) (id 
 
   timer_got_fits : (d : Register) (got : Option ℕ) → IfSome got (λ n. n < 10) → CoreFits (timer_was_got core k d got)
   timer_got_fits d None low = nothing_got d
-  timer_got_fits d (Some n) low = goes_with (with_timer core n got_timer) d (res_id n TIMER_KIND) (timer_set core n got_timer h zero_word) (omega (arith, low))
+  timer_got_fits d (Some n) low = goes_with (with_timer core n (got_timer (timer_of core n))) d (res_id n TIMER_KIND) (timer_set core n (got_timer (timer_of core n)) h (timer_fits core n h)) (omega (arith, low))
 
   lock_set : (n : ℕ) (lock : LockRec) → CoreFits (with_lock core n lock)
   lock_set n lock = set_locks core (slice_set core.locks n lock) h (length-set core.locks n lock ∙ h.locks)
 
   lock_got_fits : (d : Register) (got : Option ℕ) → IfSome got (λ n. n < 4) → CoreFits (lock_was_got core k d got)
   lock_got_fits d None low = nothing_got d
-  lock_got_fits d (Some n) low = goes_with (with_lock core n free_lock) d (res_id n LOCK_KIND) (lock_set n free_lock) (omega (arith, low))
+  lock_got_fits d (Some n) low = goes_with (with_lock core n (got_lock (lock_of core n))) d (res_id n LOCK_KIND) (lock_set n (got_lock (lock_of core n))) (omega (arith, low))
 
   got_fits_all : (d : Register) (kind : Kind) → CoreFits (resource_got here core k d kind)
   got_fits_all d kind =

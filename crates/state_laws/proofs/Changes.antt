@@ -7,7 +7,7 @@ use Rattle.xs_base.specs.declared.numbers.TheConstants.{THREADS, PORTS}
 use Rattle.xs_model.specs.declared.clock.Clock.{Clock}
 use Rattle.xs_model.specs.declared.thread.Thread.{Thread}
 use Rattle.xs_model.specs.declared.thread.Run.{Run}
-use Rattle.xs_model.specs.Record.{CoreRec, ChanRec, TimerRec, ClockRec, LockRec, PortRec, EnabledRec, unused_sync, thread_of, chan_of, sync_of, port_of, with_thread, with_last, with_chan, with_timer, with_clock, with_port, with_enabled, with_sync, with_lock}
+use Rattle.xs_model.specs.Record.{CoreRec, ChanRec, TimerRec, ClockRec, LockRec, PortRec, EnabledRec, unused_sync, thread_of, chan_of, sync_of, lock_of, port_of, with_thread, with_last, with_chan, with_timer, with_clock, with_port, with_enabled, with_sync, with_lock}
 use Rattle.xs_model.specs.Syncs.{is_thread, sync_with, got_sync, with_bound}
 use Rattle.xs_model.specs.PortActions.{Acted, Did, Got, Waits, Refused, in_mode, set_clock, set_strobe, set_transfer_width, set_value, set_time, clear_time, tell_value, tell_stamp, peek, take_in, take_part, end_in, put_out, put_part, sync}
 use Rattle.step_model.specs.Effect.{Setting}
@@ -75,7 +75,7 @@ pub data Change (S : Type 0) (here : Setting) (k : ThreadNumber) (core : CoreRec
   gets_slave : (j : ThreadNumber) (n : ℕ) → thread_to_get core ≡ Some j → is_thread k (sync_of core n).master ≡ true → Change S here k core (with_sync (with_got_thread core j here.slot) n (with_bound j (sync_of core n)))
   gets_sync : (n : ℕ) → Change S here k core (with_sync core n (got_sync k))
   frees_sync : (n : ℕ) → Change S here k core (with_sync core n unused_sync)
-  sets_lock : (n : ℕ) (lock : LockRec) → IfSome lock.owner (λ owner. owner ≡ k) → Change S here k core (with_lock core n lock)
+  sets_lock : (n : ℕ) (lock : LockRec) → (lock.owner ≡ (lock_of core n).owner) ⊎ IfSome lock.owner (λ owner. owner ≡ k) → Change S here k core (with_lock core n lock)
   sets_timer : (n : ℕ) (timer : TimerRec) → Change S here k core (with_timer core n timer)
   sets_clock : (n : ℕ) (clock : ClockRec) → Change S here k core (with_clock core n clock)
   sets_chan : (c : ChanNumber) (chan : ChanRec) → ChanStays (here.is_busy c) (chan_of core c) chan → Change S here k core (with_chan core c chan)

@@ -8,7 +8,7 @@ use Rattle.xs_base.specs.Numbers.{Word, Identifier}
 use Rattle.xs_base.specs.declared.token.Token.{Token}
 use Rattle.xs_model.specs.Record.{ChanRec}
 use Rattle.xs_model.specs.Waits.{has_room, has_tokens, is_control}
-use Rattle.net_model.specs.Chans.{Found, Got, Waits, Refused, got_chan, put_away, freed_chan, found_at, put_towards, put_token, put_word, take_word, take_where, take_byte, take_ctrl, check_token, look_at, look, look_word, is_chan_id, take_dest, tell_dest, is_network, take_net, tell_net}
+use Rattle.net_model.specs.Chans.{Found, Got, Waits, Refused, put_in_use, put_away, freed_chan, found_at, put_towards, put_token, put_word, take_word, take_where, take_byte, take_ctrl, check_token, look_at, look, look_word, is_chan_id, take_dest, tell_dest, is_network, take_net, tell_net}
 use Rattle.chan_ends.specs.States.{IsChan}
 use Rattle.state_laws.proofs.Changes.{ChanStays}
 
@@ -90,8 +90,8 @@ module _ (old : ChanRec) where
   pub chan_stays : (is_busy : Bool) (chan : ChanRec) → (IsChan old → IsChan chan) × (chan.used ≡ old.used) → ChanStays is_busy old chan
   chan_stays is_busy chan h = record { fits = h.0; used = λ used. inl (h.1 ∙ used) }
 
-  pub got_stays : (is_busy : Bool) → ChanStays is_busy old got_chan
-  got_stays is_busy = record { fits = λ is. record { net = omega arith; dest = tt; output = λ none. refl }; used = λ used. inl refl }
+  pub got_stays : (is_busy : Bool) → ChanStays is_busy old (put_in_use old)
+  got_stays is_busy = record { fits = λ is. record { net = omega arith; dest = is.dest; output = is.output }; used = λ used. inl refl }
 
   -- a channel end is freed while the switch is not at work with it
   abbrev pub FreedStays : Bool → Option ChanRec → Type 0

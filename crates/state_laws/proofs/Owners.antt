@@ -3,7 +3,7 @@ use Rattle.std.proofs.Common.{◌≡◌, ℕ, ◌<◌, Option, Some, None, List,
 use Rattle.std.specs.Prelude.{IfSome}
 use Rattle.xs_base.specs.Numbers.{Slot, ThreadNumber}
 use Rattle.xs_base.specs.declared.numbers.TheConstants.{THREADS}
-use Rattle.xs_model.specs.Record.{CoreRec, EnabledRec, LockRec, unused_lock, sync_of}
+use Rattle.xs_model.specs.Record.{CoreRec, EnabledRec, LockRec, unused_lock, sync_of, lock_of}
 use Rattle.step_model.specs.Effect.{Setting}
 use Rattle.step_model.specs.Step.{setting_of, before_issue, node_step}
 use Rattle.state_laws.specs.Facts.{IsThread, AreByThreads, NamesThreads}
@@ -39,9 +39,10 @@ noted core j slot h = record { lasts_are = length-set core.slots.last j (Some sl
 enabled_so : (core : CoreRec) (enabled : EnabledRec) → Names core → AreByThreads enabled → Name core.slots.last enabled core.locks
 enabled_so core enabled h by = record { lasts_are = h.lasts_are; enabled_are = by; owners_are = h.owners_are }
 
-owner_is : (k : ThreadNumber) (owner : Option ThreadNumber) → k < THREADS → IfSome owner (λ o. o ≡ k) → IsThread owner
-owner_is k None thread is = tt
-owner_is k (Some o) thread is = subst (λ (n : ℕ). n < THREADS) (sym is) thread
+owner_is : (k : ThreadNumber) (owner before : Option ThreadNumber) → k < THREADS → IsThread before → (owner ≡ before) ⊎ IfSome owner (λ o. o ≡ k) → IsThread owner
+owner_is k owner before thread was (inl is) = subst IsThread (sym is) was
+owner_is k None before thread was (inr is) = tt
+owner_is k (Some o) before thread was (inr is) = subst (λ (n : ℕ). n < THREADS) (sym is) thread
 
 change_names : (S : Type 0) (here : Setting) (k : ThreadNumber) → k < THREADS → (core after : CoreRec) → Change S here k core after → Names core → Names after
 change_names S here k thread core _ (change.sets j th is) h = h
@@ -57,7 +58,7 @@ change_names S here k thread core _ (change.frees_sync n) h = h
 change_names S here k thread core _ (change.sets_lock n lock is) h = record {
   lasts_are = h.lasts_are;
   enabled_are = h.enabled_are;
-  owners_are = each_set HasOwner unused_lock core.locks n lock h.owners_are (owner_is k lock.owner thread is);
+  owners_are = each_set HasOwner unused_lock core.locks n lock h.owners_are (owner_is k lock.owner (lock_of core n).owner thread (h.owners_are n) is);
 }
 change_names S here k thread core _ (change.sets_timer n timer) h = h
 change_names S here k thread core _ (change.sets_clock n clock) h = h

@@ -22,7 +22,7 @@ use Rattle.xs_model.specs.declared.resource.Resource.TheVariants as resource
 use Rattle.xs_model.specs.Status.{without_bits}
 use Rattle.xs_model.specs.Threads.{with_register}
 use Rattle.xs_model.specs.Record.{CoreRec, ChanRec, TimerRec, ClockRec, SyncRec, LockRec, PortRec, EnablingRec, unused_sync, unused_lock, thread_of, chan_of, timer_of, clock_of, sync_of, lock_of, port_of, with_thread, with_run, with_chan, with_port, with_enabled}
-use Rattle.xs_model.specs.Syncs.{is_thread, freed_sync, Claimed, Owns, IsHeld, IsRefused, free_lock, claimed_from, claimed, released, freed_lock}
+use Rattle.xs_model.specs.Syncs.{is_thread, freed_sync, Claimed, Owns, IsHeld, IsRefused, got_lock, free_lock, claimed_from, claimed, released, freed_lock}
 use Rattle.xs_model.specs.Time.{timer_holds, with_value, divided_by, on_clock, turned_off, started, stopped, freed_timer, got_timer}
 use Rattle.xs_model.specs.Enabling.{with_vector, with_environment, in_mode as giving, enabled_for, forgotten}
 use Rattle.xs_model.specs.PortActions.{Acted, Did, Got as Gives, Waits as PausesAt, Refused as Refuses, in_mode, set_clock, set_strobe, may_strobe, set_value, tell_value, take_in, take_part, put_out, end_in, sync, tell_stamp, set_time, clear_time}
@@ -256,11 +256,11 @@ module _ (S : Type 0) (here : Setting) (core : CoreRec) (k : ThreadNumber) where
 
   timer_got_goes : (d : Register) (got : Option ℕ) → Goes (timer_was_got core k d got)
   timer_got_goes d None = goes_with core d 0 stays
-  timer_got_goes d (Some n) = goes_with _ d _ (one _ (change.sets_timer n got_timer))
+  timer_got_goes d (Some n) = goes_with _ d _ (one _ (change.sets_timer n (got_timer (timer_of core n))))
 
   lock_got_goes : (d : Register) (got : Option ℕ) → Goes (lock_was_got core k d got)
   lock_got_goes d None = goes_with core d 0 stays
-  lock_got_goes d (Some n) = goes_with _ d _ (one _ (change.sets_lock n free_lock tt))
+  lock_got_goes d (Some n) = goes_with _ d _ (one _ (change.sets_lock n (got_lock (lock_of core n)) (inl refl)))
 
   got_goes : (d : Register) (kind : Kind) → Goes (resource_got here core k d kind)
   got_goes d kind =
@@ -300,7 +300,7 @@ module _ (S : Type 0) (here : Setting) (core : CoreRec) (k : ThreadNumber) where
 
   lock_left : (n : ℕ) (left : Option LockRec) → IfSome left (λ lock. IfSome lock.owner (λ owner. owner ≡ k)) → LeftGoes (without_lock core n left)
   lock_left n None h = tt
-  lock_left n (Some lock) h = one _ (change.sets_lock n lock h)
+  lock_left n (Some lock) h = one _ (change.sets_lock n lock (inr h))
 
   without_goes : (r : Resource) → LeftGoes (without here core k r)
   without_goes (resource.Chan c) = chan_left c (freed_chan (here.is_busy c) (chan_of core c)) (freed_stays (chan_of core c) (here.is_busy c))
@@ -481,7 +481,7 @@ module _ (S : Type 0) (here : Setting) (core : CoreRec) (k : ThreadNumber) where
   puts_out_goes name word _ there = tt
 
   claimed_goes : (d : Register) (name : Identifier) (n : ℕ) (found : Claimed) → IsThere (resource.Lock n) → OwnsRight k found → EffectGoes (claimed_there core k d name n found)
-  claimed_goes d name n (Owns lock) there right = goes_with _ d name (one _ (change.sets_lock n lock right))
+  claimed_goes d name n (Owns lock) there right = goes_with _ d name (one _ (change.sets_lock n lock (inr right)))
   claimed_goes d name n IsHeld there right = (stays, there)
   claimed_goes d name n IsRefused there right = tt
 

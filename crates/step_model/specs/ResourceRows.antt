@@ -17,14 +17,14 @@ use Rattle.xs_model.specs.Threads.{with_register}
 use Rattle.xs_model.specs.Record.{CoreRec, ChanRec, TimerRec, SyncRec, LockRec, thread_of, chan_of, timer_of}
 use Rattle.xs_model.specs.Record.{clock_of, sync_of, lock_of, with_thread, with_chan, with_timer, with_sync, with_lock, with_enabled}
 use Rattle.xs_model.specs.Free.{lowest_free}
-use Rattle.xs_model.specs.Syncs.{is_sync_used, got_sync, freed_sync, free_lock, Claimed, Owns, IsHeld, IsRefused, claimed, released, freed_lock}
+use Rattle.xs_model.specs.Syncs.{is_sync_used, got_sync, freed_sync, got_lock, Claimed, Owns, IsHeld, IsRefused, claimed, released, freed_lock}
 use Rattle.xs_model.specs.Time.{got_timer, freed_timer, with_value, divided_by}
 use Rattle.xs_model.specs.Enabling.{with_vector, with_environment, forgotten}
 use Rattle.xs_model.specs.PortActions.{set_value, tell_value, take_in, take_part, put_out, end_in, sync, tell_stamp, set_time, clear_time}
 use Rattle.xs_model.specs.Waits.{is_paused_on}
 use Rattle.xs_instructions.specs.declared.instr.ResIns.{ResIns}
 use Rattle.xs_instructions.specs.declared.instr.ResIns.TheVariants as resources
-use Rattle.net_model.specs.Chans.{Found, Got, Waits, Refused, got_chan, free_chan, freed_chan, chan_named, found_at}
+use Rattle.net_model.specs.Chans.{Found, Got, Waits, Refused, put_in_use, free_chan, freed_chan, chan_named, found_at}
 use Rattle.net_model.specs.Chans.{put_token, put_word, take_word, take_byte, take_ctrl, check_token, look, look_word, take_dest, tell_dest, take_net, tell_net}
 use Rattle.step_model.specs.Effect.{Setting, Effect, Done, Pause, Trap, reg, after_it, goes_on, goes_on_with, goes_on_in, pauses_at}
 use Rattle.step_model.specs.Named.{resource_named}
@@ -40,7 +40,7 @@ use Rattle.step_model.specs.ThreadRows.{thread_id, thread_to_get, with_got_threa
 -- register d takes the identifier of the channel end that was got, or 0 where none is free
 abbrev pub chan_was_got : NodeId → CoreRec → ThreadNumber → Register → Option ChanNumber → CoreRec
 chan_was_got id core k d None = goes_on_with core k d 0
-chan_was_got id core k d (Some c) = goes_on_with (with_chan core c got_chan) k d (chan_id id c)
+chan_was_got id core k d (Some c) = goes_on_with (with_chan core c (put_in_use (chan_of core c))) k d (chan_id id c)
 
 -- the same for a synchroniser, whose master is the thread; for a thread, whose last issue is the slot; for a timer; and for a
 -- lock
@@ -54,11 +54,11 @@ thread_was_got slot core k d (Some j) = goes_on_with (with_got_thread core j slo
 
 abbrev pub timer_was_got : CoreRec → ThreadNumber → Register → Option ℕ → CoreRec
 timer_was_got core k d None = goes_on_with core k d 0
-timer_was_got core k d (Some n) = goes_on_with (with_timer core n got_timer) k d (res_id n TIMER_KIND)
+timer_was_got core k d (Some n) = goes_on_with (with_timer core n (got_timer (timer_of core n))) k d (res_id n TIMER_KIND)
 
 abbrev pub lock_was_got : CoreRec → ThreadNumber → Register → Option ℕ → CoreRec
 lock_was_got core k d None = goes_on_with core k d 0
-lock_was_got core k d (Some n) = goes_on_with (with_lock core n free_lock) k d (res_id n LOCK_KIND)
+lock_was_got core k d (Some n) = goes_on_with (with_lock core n (got_lock (lock_of core n))) k d (res_id n LOCK_KIND)
 
 -- the lowest free resource of a kind is got, where there is one: ports and clock blocks are not got, but turned on
 abbrev pub resource_got : Setting → CoreRec → ThreadNumber → Register → Kind → CoreRec

@@ -2,7 +2,7 @@
 use Rattle.std.specs.Prelude.{ℕ, Option, Some, None, List, replicate, slice_index_or, slice_set}
 use Rattle.xs_base.specs.Numbers.{ThreadNumber}
 use Rattle.xs_model.specs.Record.{SyncRec, LockRec, unused_sync, unused_lock}
-use Rattle.xs_model.specs.Syncs.{got_sync, free_lock, Claimed, Owns, IsHeld, IsRefused}
+use Rattle.xs_model.specs.Syncs.{got_sync, got_lock, Claimed, Owns, IsHeld, IsRefused}
 
 pub record SyncsRec : Type 0 where
   pub syncs : List SyncRec  -- 7
@@ -32,7 +32,7 @@ with_got_sync all master (Some n) = with_sync_at all n (got_sync master)
 
 abbrev pub with_got_lock : SyncsRec → Option ℕ → SyncsRec
 with_got_lock all None = all
-with_got_lock all (Some n) = with_lock_at all n free_lock
+with_got_lock all (Some n) = with_lock_at all n (got_lock (lock_at all.locks n))
 
 -- one of them after a call that makes it this, or is refused
 abbrev pub sync_after : SyncRec → Option SyncRec → SyncRec

@@ -1,7 +1,7 @@
 //! `Lock`, one lock.
 ghost use Rattle.std.specs.Prelude.{◌≡◌, ◌≢◌, ◌↔◌, true, false, Some, None, OnOk, OnErr, IsErr, IsSome, IsSomeAnd, ◌⊎◌};
 ghost use Rattle.xs_model.specs.Record.{unused_lock};
-ghost use Rattle.xs_model.specs.Syncs.{is_thread, free_lock, claimed, released, freed_lock};
+ghost use Rattle.xs_model.specs.Syncs.{is_thread, got_lock, free_lock, claimed, released, freed_lock};
 ghost use Rattle.sync_locks.specs.declared.answers.Claim.TheVariants as claim;
 ghost use Rattle.sync_locks.specs.Answers.{claim_answer};
 ghost use Rattle.sync_locks.specs.Syncs.{lock_after, lock_after_claim};
@@ -42,14 +42,11 @@ impl Default for Lock {
 }
 
 impl Lock {
-    /// Puts it in use, with no owner.
+    /// Puts it in use; its owner stays.
     pub(crate) fn get(&mut self)
-        ensures { self.new ≡ free_lock }
+        ensures { self.new ≡ got_lock self.old }
     {
-        *self = Lock {
-            used: true,
-            owner: None,
-        };
+        self.used = true;
     }
 
     pub(crate) fn is_used(&self) -> bool

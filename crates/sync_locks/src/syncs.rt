@@ -64,8 +64,8 @@ impl Syncs {
         free
     }
 
-    /// Gets the lock with the lowest number that is not in use: it is in use then, and nobody owns it. `None` comes
-    /// exactly where all 4 are in use. See docs/THREADS.md.
+    /// Gets the lock with the lowest number that is not in use: it is in use then, and nobody owns it but where a state said otherwise (`of_state`). `None`
+    /// comes exactly where all 4 are in use. See docs/THREADS.md.
     pub fn get_lock(&mut self) -> Option<u8>
         ensures lowest { result ≡ lowest_free (λ lock. lock.used) self.old.locks 0 }
         ensures got { self.new ≡ with_got_lock self.old (lowest_free (λ lock. lock.used) self.old.locks 0) }

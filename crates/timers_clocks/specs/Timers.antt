@@ -36,7 +36,7 @@ clock_after clock (Some after) = after
 -- after the one with this number was got, if there is one
 abbrev pub with_got_timer : List TimerRec → Option ℕ → List TimerRec
 with_got_timer timers None = timers
-with_got_timer timers (Some n) = slice_set timers n got_timer
+with_got_timer timers (Some n) = slice_set timers n (got_timer (timer_at timers n))
 
 -- all of them after a call on the one with number n that makes it this, or is refused
 abbrev pub timers_after : List TimerRec → ℕ → Option TimerRec → List TimerRec

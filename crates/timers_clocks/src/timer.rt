@@ -45,14 +45,11 @@ impl Default for Timer {
 }
 
 impl Timer {
-    /// Puts it in use, with the value 0 and no condition.
+    /// Puts it in use; its value and its condition stay.
     pub(crate) fn get(&mut self)
-        ensures { self.new ≡ got_timer }
+        ensures { self.new ≡ got_timer self.old }
     {
-        *self = Timer {
-            used: true,
-            ..Timer::default()
-        };
+        self.used = true;
     }
 
     /// Puts it out of use, with the value 0 and no condition: refused exactly where it is not in use.

@@ -52,8 +52,8 @@ impl Timers {
         }
     }
 
-    /// Gets the timer with the lowest number that is not in use: it is in use then, with the value 0 and no condition.
-    /// `None` comes exactly where all 10 are in use. See docs/TIME.md.
+    /// Gets the timer with the lowest number that is not in use: it is in use then, and its value and condition are as they were, which is 0 and none but
+    /// where a state said otherwise (`of_state`). `None` comes exactly where all 10 are in use. See docs/TIME.md.
     pub fn get(&mut self) -> Option<u8>
         ensures lowest { result ≡ lowest_free (λ timer. timer.used) self.old 0 }
         ensures got { self.new ≡ with_got_timer self.old (lowest_free (λ timer. timer.used) self.old 0) }

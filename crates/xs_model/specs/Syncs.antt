@@ -52,7 +52,11 @@ freed_sync by sync = if is_thread by sync.master && (length sync.slaves == 0) th
 
 -- ---- Locks
 
--- a lock that was just got, or released
+-- a lock that is put in use: what was said of its owner stays
+abbrev pub got_lock : LockRec → LockRec
+got_lock lock = record lock { used = true }
+
+-- a lock that was released
 abbrev pub free_lock : LockRec
 free_lock = record { used = true; owner = None }
 

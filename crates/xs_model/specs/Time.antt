@@ -21,9 +21,9 @@ is_after x time = let passed = (time + (2 ^ 32 - x)) % 2 ^ 32 in nat_lt 0 passed
 abbrev pub timer_holds : Slot → TimerRec → Bool
 timer_holds slot timer = not timer.after || is_after timer.value (time_at slot)
 
--- a timer that was just got
-abbrev pub got_timer : TimerRec
-got_timer = record unused_timer { used = true }
+-- a timer that is put in use: what was set of it stays
+abbrev pub got_timer : TimerRec → TimerRec
+got_timer timer = record timer { used = true }
 
 abbrev pub freed_timer : TimerRec → Option TimerRec
 freed_timer timer = if timer.used then Some unused_timer else None
