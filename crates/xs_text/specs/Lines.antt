@@ -57,6 +57,10 @@ abbrev pub end_length : List ℕ → ℕ
 end_length [] = 0
 end_length (b ∷ rest) = if b == 10 then 1 else 2
 
+-- how many bytes the first line has with its end
+abbrev pub whole_line : List ℕ → ℕ
+whole_line bytes = line_length bytes + end_length (drop (line_length bytes) bytes)
+
 -- A part of the text that begins at `from`, and ends at `after` or past it, begins with the line. Its other lines
 -- are those of the part from `after` on.
 abbrev pub IsLineOfParts : List ℕ → Line → ℕ → ℕ → Type 0

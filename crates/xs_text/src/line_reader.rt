@@ -1,5 +1,5 @@
 ghost use Rattle.std.specs.Prelude.{◌≡◌, ◌+◌, ◌^◌, ◌<◌, ◌≤◌, ◌↔◌, ◌∷◌, [], length, drop, slice_index, IsNone, IfNone, IfSome};
-ghost use Rattle.xs_text.specs.Lines.{lines_of, line_bytes, bytes_left, start_of, is_line_end, line_length, end_length, IsLineOfParts};
+ghost use Rattle.xs_text.specs.Lines.{lines_of, line_bytes, bytes_left, start_of, is_line_end, line_length, end_length, whole_line, IsLineOfParts};
 
 use std::marker::Model;
 
@@ -57,6 +57,7 @@ impl<'a> Lines<'a> {
         ensures ordered { IfSome result (λ line. line.from ≤ line.to) }
         ensures in_text { IfSome result (λ line. line.to ≤ length self.old.text) }
         ensures passed { IfSome result (λ line. line.to ≤ self.new.at) }
+        ensures whole { IfSome result (λ _. self.new.at ≡ self.old.at + whole_line (bytes_left self.old)) }
         ensures numbered { IfSome result (λ line. line.number ≡ self.old.number + 1) }
         ensures counted { IfSome result (λ line. self.new.number ≡ line.number) }
         ensures progress { IfSome result (λ _. self.old.at < self.new.at) }
