@@ -1,0 +1,66 @@
+-- What is true of each directed link before every slot of a run: what it has carried are packets, and what its two ends are at.
+use Rattle.std.specs.Prelude.{ℕ, ◌≡◌, ◌<◌, Bool, true, false, Some, List, [], take, slice_get, slice_index_or}
+use Rattle.xs_base.specs.Numbers.{Slot, NodeId, InputNumber, LinkNumber}
+use Rattle.xs_base.specs.declared.token.Token.{Token}
+use Rattle.xs_model.specs.declared.dest.Dest.{Dest}
+use Rattle.xs_model.specs.Record.{NodeRec, InputRec, Idle, Head1, Head2, Want, Local, Out, Lost}
+use Rattle.net_model.specs.Switch.{state_at, is_out_by}
+use Rattle.sys_plan.specs.Plan.{PlanRec, IsPlan, Arc, link_arcs}
+use Rattle.serial_model.specs.Serial.{SystemRec, serial, node_by}
+use Rattle.link_laws.specs.Travel.{opposite, tokens_of, credits_of}
+use Rattle.rank_model.specs.Next.{arc_at, net_of, is_next}
+use Rattle.packet_laws.specs.Packets.{Place, Between, AfterOne, AfterTwo, Within, place_of, place_sent}
+
+-- whether a directed link is on the way of what is for a node's id, in its network
+abbrev pub leads : PlanRec → LinkNumber → NodeId → Bool
+leads plan l dest = is_next plan (arc_at plan l).from (net_of plan l) dest l
+
+-- the tokens that a directed link has carried, and those of them that were taken at its far end: as many as credits went back
+abbrev pub carried : SystemRec → LinkNumber → List Token
+carried system l = tokens_of (slice_index_or system.histories l [])
+
+abbrev pub taken : SystemRec → LinkNumber → List Token
+taken system l = take (credits_of (slice_index_or system.histories (opposite l) [])) (carried system l)
+
+-- ---- The sender's end. Its tokens are packets, each for an id that the link is on the way of; at most one input of the node holds the link
+-- end, and the last packet is cut where one does.
+pub record Sent (plan : PlanRec) (system : SystemRec) (l : LinkNumber) (d : Arc) : Type 0 where
+  pub place : Place
+  pub packets : place_of (leads plan l) (carried system l) ≡ Some place
+  -- the packet that is cut is that of the input that holds the link end, of which so many header bytes have gone out
+  pub held : (i : InputNumber) (headers : ℕ) (dest : Dest) → state_at (node_by system.nodes d.from) i ≡ Out d.from_end headers dest
+      → (leads plan l dest.node ≡ true) × (place ≡ place_sent headers dest)
+  pub one : (i j : InputNumber) → is_out_by d.from_end (state_at (node_by system.nodes d.from) i) ≡ true
+      → is_out_by d.from_end (state_at (node_by system.nodes d.from) j) ≡ true → i ≡ j
+  pub free : ((i : InputNumber) → is_out_by d.from_end (state_at (node_by system.nodes d.from) i) ≡ false) → place ≡ Between
+
+-- ---- The receiver's end. What was taken are packets too, and the input is where they end.
+
+-- an input of a node, at the position where a link of network net ends, is where the tokens that it took end
+abbrev pub IsAt : PlanRec → ℕ → ℕ → Place → InputRec → Type 0
+IsAt plan v net Between Idle = Unit {0}
+IsAt plan v net (AfterOne high) (Head1 b) = b ≡ high
+IsAt plan v net (AfterTwo high low) (Head2 b c) = (b ≡ high) × (c ≡ low)
+IsAt plan v net (Within dest) (Want to by) = (to ≡ dest) × (by ≡ net)
+IsAt plan v net (Within dest) (Local chan) = chan ≡ dest.chan
+IsAt plan v net (Within dest) (Out end headers to) = (to ≡ dest) × IsOnWay plan v net dest.node end
+IsAt plan v net (Within dest) Lost = Unit {0}
+IsAt plan v net _ _ = ⊥
+  where
+    IsOnWay : PlanRec → ℕ → ℕ → NodeId → ℕ → Type 0
+    IsOnWay plan v net dest end = (k : LinkNumber) (d : Arc) → slice_get (link_arcs plan.links) k ≡ Some d → d.from ≡ v → d.from_end ≡ end
+        → is_next plan v net dest k ≡ true
+
+pub record Taken (plan : PlanRec) (system : SystemRec) (l : LinkNumber) (d : Arc) : Type 0 where
+  pub place : Place
+  pub packets : place_of (leads plan l) (taken system l) ≡ Some place
+  pub at : IsAt plan d.to (net_of plan l) place (state_at (node_by system.nodes d.to) d.to_end)
+
+-- ---- Both, before every slot
+pub record WholePackets (plan : PlanRec) (system : SystemRec) (l : LinkNumber) (d : Arc) : Type 0 where
+  pub sent : Sent plan system l d
+  pub taken : Taken plan system l d
+
+abbrev pub PacketsAreWhole : Type 0
+PacketsAreWhole = (plan : PlanRec) (slot : Slot) (l : LinkNumber) (d : Arc) → IsPlan plan → slice_get (link_arcs plan.links) l ≡ Some d
+    → WholePackets plan (serial plan slot) l d
