@@ -1,6 +1,6 @@
 -- What is true of each directed link before every slot of a run: what it has carried are packets, and what its two ends are at.
 use Rattle.std.specs.Prelude.{ℕ, ◌≡◌, ◌<◌, Bool, true, false, Some, List, [], take, slice_get, slice_index_or}
-use Rattle.xs_base.specs.Numbers.{Slot, NodeId, InputNumber, LinkNumber}
+use Rattle.xs_base.specs.Numbers.{Slot, NodeId, Position, EndNumber, InputNumber, LinkNumber}
 use Rattle.xs_base.specs.declared.token.Token.{Token}
 use Rattle.xs_model.specs.declared.dest.Dest.{Dest}
 use Rattle.xs_model.specs.Record.{NodeRec, InputRec, Idle, Head1, Head2, Want, Local, Out, Lost}
@@ -36,8 +36,13 @@ pub record Sent (plan : PlanRec) (system : SystemRec) (l : LinkNumber) (d : Arc)
 
 -- ---- The receiver's end. What was taken are packets too, and the input is where they end.
 
--- an input of a node, at the position where a link of network net ends, is where the tokens that it took end
-abbrev pub IsAt : PlanRec → ℕ → ℕ → Place → InputRec → Type 0
+-- whatever leaves the node at a position by a link end is on the way of what is for an id, in a network
+abbrev pub IsOnWay : PlanRec → Position → ℕ → NodeId → EndNumber → Type 0
+IsOnWay plan v net dest end = (k : LinkNumber) (d : Arc) → slice_get (link_arcs plan.links) k ≡ Some d → d.from ≡ v → d.from_end ≡ end
+    → is_next plan v net dest k ≡ true
+
+-- an input of the node at a position, where a link of a network ends, is where the tokens that it took end
+abbrev pub IsAt : PlanRec → Position → ℕ → Place → InputRec → Type 0
 IsAt plan v net Between Idle = Unit {0}
 IsAt plan v net (AfterOne high) (Head1 b) = b ≡ high
 IsAt plan v net (AfterTwo high low) (Head2 b c) = (b ≡ high) × (c ≡ low)
@@ -46,10 +51,6 @@ IsAt plan v net (Within dest) (Local chan) = chan ≡ dest.chan
 IsAt plan v net (Within dest) (Out end headers to) = (to ≡ dest) × IsOnWay plan v net dest.node end
 IsAt plan v net (Within dest) Lost = Unit {0}
 IsAt plan v net _ _ = ⊥
-  where
-    IsOnWay : PlanRec → ℕ → ℕ → NodeId → ℕ → Type 0
-    IsOnWay plan v net dest end = (k : LinkNumber) (d : Arc) → slice_get (link_arcs plan.links) k ≡ Some d → d.from ≡ v → d.from_end ≡ end
-        → is_next plan v net dest k ≡ true
 
 pub record Taken (plan : PlanRec) (system : SystemRec) (l : LinkNumber) (d : Arc) : Type 0 where
   pub place : Place
