@@ -24,15 +24,18 @@ taken system l = take (credits_of (slice_index_or system.histories (opposite l) 
 
 -- ---- The sender's end. Its tokens are packets, each for an id that the link is on the way of; at most one input of the node holds the link
 -- end, and the last packet is cut where one does.
-pub record Sent (plan : PlanRec) (system : SystemRec) (l : LinkNumber) (d : Arc) : Type 0 where
+
+-- these inputs of a node, and the tokens that have left by a link end
+pub record Sends (passes : NodeId → Bool) (end : EndNumber) (inputs : List InputRec) (tokens : List Token) : Type 0 where
   pub place : Place
-  pub packets : place_of (leads plan l) (carried system l) ≡ Some place
+  pub packets : place_of passes tokens ≡ Some place
   -- the packet that is cut is that of the input that holds the link end, of which so many header bytes have gone out
-  pub held : (i : InputNumber) (headers : ℕ) (dest : Dest) → state_at (node_by system.nodes d.from) i ≡ Out d.from_end headers dest
-      → (leads plan l dest.node ≡ true) × (place ≡ place_sent headers dest)
-  pub one : (i j : InputNumber) → is_out_by d.from_end (state_at (node_by system.nodes d.from) i) ≡ true
-      → is_out_by d.from_end (state_at (node_by system.nodes d.from) j) ≡ true → i ≡ j
-  pub free : ((i : InputNumber) → is_out_by d.from_end (state_at (node_by system.nodes d.from) i) ≡ false) → place ≡ Between
+  pub held : (i : InputNumber) (headers : ℕ) (dest : Dest) → slice_index_or inputs i Idle ≡ Out end headers dest → (passes dest.node ≡ true) × (place ≡ place_sent headers dest)
+  pub one : (i j : InputNumber) → is_out_by end (slice_index_or inputs i Idle) ≡ true → is_out_by end (slice_index_or inputs j Idle) ≡ true → i ≡ j
+  pub free : ((i : InputNumber) → is_out_by end (slice_index_or inputs i Idle) ≡ false) → place ≡ Between
+
+abbrev pub Sent : PlanRec → SystemRec → LinkNumber → Arc → Type 0
+Sent plan system l d = Sends (leads plan l) d.from_end (node_by system.nodes d.from).inputs (carried system l)
 
 -- ---- The receiver's end. What was taken are packets too, and the input is where they end.
 
@@ -41,21 +44,22 @@ abbrev pub IsOnWay : PlanRec → Position → ℕ → NodeId → EndNumber → T
 IsOnWay plan v net dest end = (k : LinkNumber) (d : Arc) → slice_get (link_arcs plan.links) k ≡ Some d → d.from ≡ v → d.from_end ≡ end
     → is_next plan v net dest k ≡ true
 
--- an input of the node at a position, where a link of a network ends, is where the tokens that it took end
-abbrev pub IsAt : PlanRec → Position → ℕ → Place → InputRec → Type 0
-IsAt plan v net Between Idle = Unit {0}
-IsAt plan v net (AfterOne high) (Head1 b) = b ≡ high
-IsAt plan v net (AfterTwo high low) (Head2 b c) = (b ≡ high) × (c ≡ low)
-IsAt plan v net (Within dest) (Want to by) = (to ≡ dest) × (by ≡ net)
-IsAt plan v net (Within dest) (Local chan) = chan ≡ dest.chan
-IsAt plan v net (Within dest) (Out end headers to) = (to ≡ dest) × IsOnWay plan v net dest.node end
-IsAt plan v net (Within dest) Lost = Unit {0}
-IsAt plan v net _ _ = ⊥
+-- an input where a link of a network ends is where the tokens that it took end. OnWay says of an id and a link end that the one is on the way
+-- to the other
+abbrev pub IsAt : (NodeId → EndNumber → Type 0) → ℕ → Place → InputRec → Type 0
+IsAt OnWay net Between Idle = Unit {0}
+IsAt OnWay net (AfterOne high) (Head1 b) = b ≡ high
+IsAt OnWay net (AfterTwo high low) (Head2 b c) = (b ≡ high) × (c ≡ low)
+IsAt OnWay net (Within dest) (Want to by) = (to ≡ dest) × (by ≡ net)
+IsAt OnWay net (Within dest) (Local chan) = chan ≡ dest.chan
+IsAt OnWay net (Within dest) (Out end headers to) = (to ≡ dest) × OnWay dest.node end
+IsAt OnWay net (Within dest) Lost = Unit {0}
+IsAt OnWay net _ _ = ⊥
 
 pub record Taken (plan : PlanRec) (system : SystemRec) (l : LinkNumber) (d : Arc) : Type 0 where
   pub place : Place
   pub packets : place_of (leads plan l) (taken system l) ≡ Some place
-  pub at : IsAt plan d.to (net_of plan l) place (state_at (node_by system.nodes d.to) d.to_end)
+  pub at : IsAt (IsOnWay plan d.to (net_of plan l)) (net_of plan l) place (state_at (node_by system.nodes d.to) d.to_end)
 
 -- ---- Both, before every slot
 pub record WholePackets (plan : PlanRec) (system : SystemRec) (l : LinkNumber) (d : Arc) : Type 0 where
