@@ -1,9 +1,9 @@
 -- What is true of each directed link before every slot of a run: what it has carried are packets, and what its two ends are at.
-use Rattle.std.specs.Prelude.{ℕ, ◌≡◌, ◌<◌, Bool, true, false, Some, List, [], take, slice_get, slice_index_or}
+use Rattle.std.specs.Prelude.{ℕ, ◌≡◌, Bool, true, false, Some, List, [], take, slice_get, slice_index_or}
 use Rattle.xs_base.specs.Numbers.{Slot, NodeId, Position, EndNumber, InputNumber, LinkNumber}
 use Rattle.xs_base.specs.declared.token.Token.{Token}
 use Rattle.xs_model.specs.declared.dest.Dest.{Dest}
-use Rattle.xs_model.specs.Record.{NodeRec, InputRec, Idle, Head1, Head2, Want, Local, Out, Lost}
+use Rattle.xs_model.specs.Record.{InputRec, Idle, Head1, Head2, Want, Local, Out, Lost}
 use Rattle.net_model.specs.Switch.{state_at, is_out_by}
 use Rattle.sys_plan.specs.Plan.{PlanRec, IsPlan, Arc, link_arcs}
 use Rattle.serial_model.specs.Serial.{SystemRec, serial, node_by}
