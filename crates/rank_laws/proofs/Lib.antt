@@ -1,0 +1,5 @@
+pub mod Arrives
+pub mod Firsts
+pub mod Hops
+pub mod Rises
+pub mod Verdicts
