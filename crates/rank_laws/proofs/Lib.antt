@@ -3,3 +3,4 @@ pub mod Firsts
 pub mod Hops
 pub mod Rises
 pub mod Verdicts
+pub mod Held
