@@ -77,8 +77,8 @@ module _ (plan : PlanRec) (lines : List RankLine) (yes : verdict_of plan (ranks_
 
     pub falls : ahead (arc_at plan l).to < ahead v
     falls =
-        let less : ahead (arc_at plan l).to < count_of (get_or ranks l 0) ranks = all_below (ahead_by (arc_at plan l).to) (count_of (get_or ranks l 0) ranks) 0 (link_count plan) (omega (arith, counted)) less_by in
-        omega (arith, less, is_ahead)
+        let m : ℕ = count_of (get_or ranks l 0) ranks in
+        omega (arith, is_ahead, all_below (ahead_by (arc_at plan l).to) m 0 (link_count plan) (omega (arith, counted)) less_by)
 
   ends_lower : (v : Position) (ls : List LinkNumber) → IsWalk plan net dest v ls → ahead (end_of plan v ls) + length ls ≤ ahead v
   ends_lower v [] walk = omega arith

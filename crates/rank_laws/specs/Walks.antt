@@ -23,7 +23,7 @@ abbrev pub end_of : PlanRec → Position → List LinkNumber → Position
 end_of plan v [] = v
 end_of plan v (l ∷ ls) = end_of plan (arc_at plan l).to ls
 
--- a walk from a node towards another, in a network of the plan
+-- a walk from a node towards the id of a node, in a network of the plan
 pub record IsWalkTo (plan : PlanRec) (net : ℕ) (m v : Position) (ls : List LinkNumber) : Type 0 where
   pub from : v < length plan.nodes
   pub to : m < length plan.nodes
