@@ -2,20 +2,19 @@
 use Rattle.std.proofs.Common.{◌≡◌, ◌≢◌, ℕ, ◌<◌, Bool, true, false, not, ◌&&◌, eqb, List, [], ◌∷◌, length, arith, inl, inr, ◌⊎◌}
 use Rattle.std.specs.List.{AllByRecursion, list_any}
 use Rattle.std.proofs.lemmas.Bool.{cases_eq, and_cases, not-false, eqb-true, or_cases, both_ways, false≢true}
-use Rattle.std.proofs.lemmas.Option.{slice_get-get_or}
 use Rattle.xs_base.specs.Numbers.{NodeId, Position, LinkNumber}
 use Rattle.sys_plan.specs.declared.LinkPlan.{LinkPlan}
-use Rattle.sys_plan.specs.Plan.{PlanRec, IsPlan, IsLink, link_arcs}
-use Rattle.sys_plan.proofs.Routes.{directed}
+use Rattle.sys_plan.specs.Plan.{PlanRec, IsPlan, IsLink}
 use Rattle.rank_model.specs.declared.verdict.Verdict.TheVariants.{Yes}
-use Rattle.rank_model.specs.Next.{link_count, no_arc, arc_at, id_at, is_next, has_next}
+use Rattle.rank_model.specs.Next.{link_count, arc_at, id_at, is_next, has_next}
 use Rattle.rank_model.specs.Verdicts.{has_net, verdict_of}
 use Rattle.rank_model.specs.Checks.{ranks_by_link}
 use Rattle.rank_laws.specs.Walks.{IsHop, IsWalk, IsWalkTo, end_of, WalksArriveWhereYes}
 use Rattle.rank_laws.proofs.Firsts.{some_number}
 use Rattle.rank_laws.proofs.Hops.{none_at_home}
 use Rattle.rank_laws.proofs.Verdicts.{verdict_is, not_cut_off}
-use Rattle.rank_laws.proofs.Rises.{two_each, few}
+use Rattle.rank_laws.proofs.Rises.{ends_at_node, few}
+use Rattle.rank_laws.proofs.Nodes.{returns_never, fewer}
 
 -- a network of the plan is one of 0 to 3
 module _ (nodes net : ℕ) where
@@ -33,14 +32,9 @@ module _ (nodes net : ℕ) where
   below_four (link ∷ links) all hit = of_link (link ∷ links) all hit
 
 module _ (plan : PlanRec) (is : IsPlan plan) where
-  -- a hop ends at a node
-  ends_at_node : (l : LinkNumber) → l < link_count plan → (arc_at plan l).to < length plan.nodes
-  ends_at_node l less =
-      (directed plan is l (arc_at plan l) (slice_get-get_or (link_arcs plan.links) l no_arc (omega (arith, less, two_each plan.links)))).to
-
   end_is_node : (net : ℕ) (dest : NodeId) (v : Position) (ls : List LinkNumber) → v < length plan.nodes → IsWalk plan net dest v ls → end_of plan v ls < length plan.nodes
   end_is_node net dest v [] there walk = there
-  end_is_node net dest v (l ∷ ls) there walk = end_is_node net dest (arc_at plan l).to ls (ends_at_node l walk.0.there) walk.1
+  end_is_node net dest v (l ∷ ls) there walk = end_is_node net dest (arc_at plan l).to ls (ends_at_node plan is l walk.0.there) walk.1
 
   module _ (ranks : List ℕ) (yes : verdict_of plan ranks ≡ Yes) where
     has_one : (v m : Position) (net : ℕ) → v < length plan.nodes → m < length plan.nodes → has_net plan.links net ≡ true → v ≢ m → has_next plan v net (id_at plan m) ≡ true
@@ -62,7 +56,7 @@ module _ (plan : PlanRec) (is : IsPlan plan) where
     next_hop net m v ls h apart =
         let end : Position = end_of plan v ls in
         let found = some_number (is_next plan end net (id_at plan m)) 0 (link_count plan)
-            (has_one end m net (end_is_node net (id_at plan m) v ls h.from h.walk) h.to h.in_plan apart) in
+        (has_one end m net (end_is_node net (id_at plan m) v ls h.from h.walk) h.to h.in_plan apart) in
         (found.0, record { there = omega (arith, found.1); next = found.2 })
 
     has_come : (net : ℕ) (m v : Position) (ls : List LinkNumber) → IsWalkTo plan net m v ls → ((l : LinkNumber) → IsHop plan net (id_at plan m) (end_of plan v ls) l → ⊥) → end_of plan v ls ≡ m
@@ -77,6 +71,8 @@ arrive_where_yes plan ranks is judged =
     let yes : verdict_of plan (ranks_by_link plan ranks.lines) ≡ Yes = verdict_is Yes plan ranks judged in
     record {
       few_hops = few plan ranks.lines yes;
+      fewer_than_nodes = λ net dest. fewer plan ranks.lines yes net dest is;
+      no_return = returns_never plan ranks.lines yes;
       goes_on = next_hop plan is (ranks_by_link plan ranks.lines) yes;
       arrives = has_come plan is (ranks_by_link plan ranks.lines) yes;
       stays = λ net m l hop. none_at_home plan net m l hop.next;

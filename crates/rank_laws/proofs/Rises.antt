@@ -3,12 +3,14 @@ use Rattle.std.proofs.Common.{◌≡◌, ℕ, suc, ◌*◌, ◌<◌, ◌≤◌, 
 use Rattle.std.proofs.lemmas.Bool.{and_from}
 use Rattle.std.proofs.lemmas.List.{length-map}
 use Rattle.std.proofs.lemmas.Nat.{mod_below}
+use Rattle.std.proofs.lemmas.Option.{slice_get-get_or}
 use Rattle.xs_base.specs.Numbers.{NodeId, Position, LinkNumber}
 use Rattle.sys_plan.specs.declared.LinkPlan.{LinkPlan}
-use Rattle.sys_plan.specs.Plan.{PlanRec, Arc, link_arcs}
+use Rattle.sys_plan.specs.Plan.{PlanRec, IsPlan, Arc, link_arcs}
+use Rattle.sys_plan.proofs.Routes.{directed}
 use Rattle.rank_model.specs.declared.rank_line.RankLine.{RankLine}
 use Rattle.rank_model.specs.declared.verdict.Verdict.TheVariants.{Yes}
-use Rattle.rank_model.specs.Next.{link_count, arc_at, net_of, is_next}
+use Rattle.rank_model.specs.Next.{link_count, no_arc, arc_at, net_of, is_next}
 use Rattle.rank_model.specs.Verdicts.{goes_on, verdict_of}
 use Rattle.rank_model.specs.Checks.{given_rank, rank_or_0, ranks_by_link}
 use Rattle.rank_laws.specs.Walks.{IsHop, IsWalk}
@@ -20,14 +22,19 @@ pub two_each : (links : List LinkPlan) → length (link_arcs links) ≡ 2 * leng
 two_each [] = refl
 two_each (link ∷ links) = omega (arith, two_each links)
 
+-- a hop ends at a node
+pub ends_at_node : (plan : PlanRec) → IsPlan plan → (l : LinkNumber) → l < link_count plan → (arc_at plan l).to < length plan.nodes
+ends_at_node plan is l less =
+    (directed plan is l (arc_at plan l) (slice_get-get_or (link_arcs plan.links) l no_arc (omega (arith, less, two_each plan.links)))).to
+
 module _ (plan : PlanRec) (lines : List RankLine) (yes : verdict_of plan (ranks_by_link plan lines) ≡ Yes) where
   abbrev ranks : List ℕ
   ranks = ranks_by_link plan lines
 
-  as_many : length ranks ≡ link_count plan
+  pub as_many : length ranks ≡ link_count plan
   as_many = length-map (link_arcs plan.links) (λ (arc : Arc). rank_or_0 (given_rank plan lines arc)) ∙ two_each plan.links
 
-  rises : (net : ℕ) (dest : NodeId) (v : Position) (l k : LinkNumber) → IsHop plan net dest v l → IsHop plan net dest (arc_at plan l).to k → get_or ranks l 0 < get_or ranks k 0
+  pub rises : (net : ℕ) (dest : NodeId) (v : Position) (l k : LinkNumber) → IsHop plan net dest v l → IsHop plan net dest (arc_at plan l).to k → get_or ranks l 0 < get_or ranks k 0
   rises net dest v l k one other = rank_above plan ranks yes l k (low dest) one.there other.there (mod_below dest 65536 (omega arith)) on
     where
       in_net : net ≡ net_of plan l

@@ -11,7 +11,8 @@ use Rattle.rank_model.specs.declared.verdict.Verdict.{Verdict}
 use Rattle.rank_model.specs.declared.verdict.Verdict.TheVariants.{Yes, NoWay, NoRank}
 use Rattle.rank_model.specs.Lines.{RanksRec}
 use Rattle.rank_model.specs.Next.{link_count, or_first}
-use Rattle.rank_model.specs.Verdicts.{is_cut_off, no_way_in, no_way_to, no_way_from, no_way, goes_on, dest_if, first_dest, is_not_above, no_rank_for, no_rank_between, no_rank_after, no_rank, yes_unless, verdict_of}
+use Rattle.rank_model.specs.Verdicts.{is_cut_off, no_way_in, no_way_to, no_way_from, no_way}
+use Rattle.rank_model.specs.Verdicts.{goes_on, dest_if, first_dest, is_not_above, no_rank_for, no_rank_between, no_rank_after, no_rank, yes_unless, verdict_of}
 use Rattle.rank_model.specs.Checks.{Checked, Refused, Judged, fault_of, unless_faulty, lines_checked, ranks_by_link, is_missing, judged, checked}
 use Rattle.rank_laws.proofs.Firsts.{or_none, none_at, first_keeps}
 

@@ -1,4 +1,4 @@
--- Where packets come by the ways of a plan, whichever links they take.
+-- Walks by the ways of a plan, whichever links they take; and that they arrive.
 use Rattle.std.specs.Prelude.{ℕ, ◌≡◌, ◌≢◌, ◌<◌, ◌≤◌, true, List, [], ◌∷◌, length}
 use Rattle.xs_base.specs.Numbers.{NodeId, Position, LinkNumber}
 use Rattle.sys_plan.specs.Plan.{PlanRec, IsPlan}
@@ -23,16 +23,21 @@ abbrev pub end_of : PlanRec → Position → List LinkNumber → Position
 end_of plan v [] = v
 end_of plan v (l ∷ ls) = end_of plan (arc_at plan l).to ls
 
--- a walk from a node towards another, in a network of the plan
+-- a walk from a node towards the id of a node, in a network of the plan
 pub record IsWalkTo (plan : PlanRec) (net : ℕ) (m v : Position) (ls : List LinkNumber) : Type 0 where
   pub from : v < length plan.nodes
   pub to : m < length plan.nodes
   pub in_plan : has_net plan.links net ≡ true
   pub walk : IsWalk plan net (id_at plan m) v ls
 
+-- every walk towards a node arrives, and soon
 pub record WalksArrive (plan : PlanRec) : Type 0 where
   -- no walk, towards whichever id, has more hops than there are directed links
   pub few_hops : (net : ℕ) (dest : NodeId) (v : Position) (ls : List LinkNumber) → IsWalk plan net dest v ls → length ls ≤ link_count plan
+  -- one that begins at a node has fewer hops than there are nodes
+  pub fewer_than_nodes : (net : ℕ) (dest : NodeId) (v : Position) (ls : List LinkNumber) → v < length plan.nodes → IsWalk plan net dest v ls → length ls < length plan.nodes
+  -- and none with a hop comes back to where it began
+  pub no_return : (net : ℕ) (dest : NodeId) (v : Position) (l : LinkNumber) (ls : List LinkNumber) → IsWalk plan net dest v (l ∷ ls) → end_of plan v (l ∷ ls) ≢ v
   -- one towards a node that has not come there has a next hop
   pub goes_on : (net : ℕ) (m v : Position) (ls : List LinkNumber) → IsWalkTo plan net m v ls → end_of plan v ls ≢ m
       → (l : LinkNumber) × IsHop plan net (id_at plan m) (end_of plan v ls) l
