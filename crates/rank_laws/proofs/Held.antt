@@ -1,25 +1,22 @@
 -- A route that is held is one on which a packet may go on, so ranks rise along it.
-use Rattle.std.proofs.Common.{◌≡◌, ◌≢◌, ℕ, suc, ◌+◌, ◌*◌, ◌<◌, ◌≤◌, Bool, true, false, if◌then◌else◌, Option, Some, None, List, [], ◌∷◌, get_or, slice_get, refl, sym, ap, subst, ◌∙◌, arith}
+use Rattle.std.proofs.Common.{◌≡◌, ℕ, ◌+◌, ◌*◌, ◌<◌, Bool, true, false, if◌then◌else◌, Option, Some, None, List, [], ◌∷◌, get_or, slice_get, refl, subst, arith}
 use Rattle.std.specs.Prelude.{option_and_then, IfSome}
-use Rattle.std.proofs.lemmas.Bool.{false≢true}
-use Rattle.std.proofs.lemmas.Option.{slice_get-get_or, same_Some}
+use Rattle.std.proofs.lemmas.Option.{slice_get-get_or}
 use Rattle.xs_base.specs.Numbers.{NodeId, Slot, LinkNumber}
 use Rattle.xs_base.specs.declared.token.Token.{Token}
 use Rattle.xs_base.specs.declared.token.Token.TheVariants.{Byte, Ctrl}
 use Rattle.xs_model.specs.declared.dest.Dest.{Dest}
-use Rattle.xs_model.specs.Record.{InputRec, Out}
-use Rattle.net_model.specs.Switch.{state_at, ends_packet}
-use Rattle.sys_plan.specs.Plan.{PlanRec, IsPlan, Arc, link_arcs}
-use Rattle.serial_model.specs.Serial.{serial, node_by}
+use Rattle.xs_model.specs.Record.{Out}
+use Rattle.net_model.specs.Switch.{ends_packet}
+use Rattle.sys_plan.specs.Plan.{PlanRec, IsPlan, link_arcs}
+use Rattle.serial_model.specs.Serial.{serial}
 use Rattle.rank_model.specs.declared.verdict.Verdict.TheVariants.{Yes}
 use Rattle.rank_model.specs.Next.{link_count, arc_at, no_arc, net_of, is_next}
-use Rattle.rank_model.specs.Verdicts.{verdict_of}
 use Rattle.rank_model.specs.Lines.{RanksRec}
 use Rattle.rank_model.specs.Checks.{Judged, checked, ranks_by_link}
 use Rattle.packet_laws.specs.Packets.{Place, Between, AfterOne, AfterTwo, Within, place_after, place_from, place_of}
-use Rattle.packet_laws.specs.Whole.{leads, IsAt, IsOnWay, Taken}
+use Rattle.packet_laws.specs.Whole.{leads, IsAt, IsOnWay}
 use Rattle.packet_laws.proofs.Runs.{whole_packets}
-use Rattle.rank_laws.specs.Walks.{IsHop}
 use Rattle.rank_laws.specs.Held.{Holds, IsHeldRow, last_of, HeldRise, HeldRiseWhereYes}
 use Rattle.rank_laws.proofs.Rises.{two_each, rises}
 use Rattle.rank_laws.proofs.Verdicts.{verdict_is}
