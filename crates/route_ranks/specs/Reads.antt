@@ -1,6 +1,5 @@
 -- What reading ranks returns.
 use Rattle.std.specs.Prelude.{ℕ, ◌≡◌, Result, Ok, Err, List}
-use Rattle.rank_model.specs.declared.rank_kind.RankKind.{RankKind}
 use Rattle.rank_model.specs.declared.rank_kind.RankKind.TheVariants as kinds
 use Rattle.rank_model.specs.declared.rank_line.RankLine.{RankLine}
 use Rattle.rank_model.specs.Lines.{RanksRec, RanksRead, Ranks, BadLine}

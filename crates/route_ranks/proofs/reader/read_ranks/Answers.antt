@@ -1,4 +1,4 @@
-use Rattle.std.proofs.Common.{◌≡◌, ℕ, ◌+◌, ◌++◌, [], List, Err, refl, sym, ap, ◌∙◌, subst, append-nil, arith}
+use Rattle.std.proofs.Common.{◌≡◌, ℕ, ◌≤◌, ◌+◌, ◌∷◌, ◌++◌, [], List, length, Err, refl, sym, ap, ◌∙◌, subst, append-nil, arith}
 use Rattle.std.proofs.lemmas.Grind.{common_steps}
 use Rattle.xs_text.specs.Lines.{Reading, lines_of, bytes_left, line_bytes}
 use Rattle.rank_model.specs.declared.rank_line.RankLine.{RankLine}
@@ -74,7 +74,8 @@ returns-in-System-clause-exact c =
     let same = c.loop-line.invariant.same_text in
     let said : says line.number (line_bytes text line) ≡ System = sym c.says.ensures ∙ c.in-System.is in
     let there = bytes-next text old new same c.loop-line.invariant.at c.in-Some.ensures.whole (c.in-Some.ensures.counted ∙ c.in-Some.ensures.numbered) in
-    let before = bytes-before text c.rest.result.now new (c.in-Some.ensures.same_text ∙ same) (omega arith) c.rest.ensures in
+    let within = subst (λ (t : List ℕ). new.at ≤ length t) same c.in-Some.ensures.within in
+    let before = bytes-before text c.rest.result.now new (c.in-Some.ensures.same_text ∙ same) within c.rest.ensures in
     let rest = sym (before ∙ there ∙ ap (λ n. bytes_of_lines n text) c.in-Some.ensures.counted) in
     ap (λ (h : Head). ranks_with text h) (c.loop-line.invariant.whole ∙ line-read text old new line given System same c.in-Some.ensures.line c.in-Some.ensures.numbered said)
     ∙ ap (λ n. Ranks (record { lines = given; system = line.number; rest = n })) rest
