@@ -1,7 +1,6 @@
 use Rattle.std.proofs.Common.{◌≡◌, ℕ, ◌≤◌, ◌+◌, ◌∷◌, ◌++◌, [], List, length, Err, refl, sym, ap, ◌∙◌, subst, append-nil, arith}
 use Rattle.std.proofs.lemmas.Grind.{common_steps}
 use Rattle.xs_text.specs.Lines.{Reading, lines_of, bytes_left, line_bytes}
-use Rattle.rank_model.specs.declared.rank_line.RankLine.{RankLine}
 use Rattle.rank_model.specs.declared.rank_line.RankSays.TheVariants.{Blank, System, Rank}
 use Rattle.rank_model.specs.Lines.{Head, Ranks, BadLine, bytes_of_lines, head_from, ranks_of, ranks_with, says}
 use Rattle.route_ranks.specs.declared.rank_error.RankError.{RankError}
