@@ -1,0 +1,12 @@
+//! Route ranks, a certificate that packets arrive: the ranks that stand before a system text are read, and what they come to is told. See docs/NETWORKS.md.
+#![tactic(auto)]
+
+mod rank_error;
+mod rank_words;
+mod ranks;
+mod reader;
+
+pub use rank_error::RankError;
+pub use rank_model::{RankKind, RankLine, Verdict};
+pub use ranks::Ranks;
+pub use reader::read_ranks;
