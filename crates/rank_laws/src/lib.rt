@@ -6,7 +6,7 @@ ghost use Rattle.rank_laws.specs.Walks.{WalksArriveWhereYes};
 
 /// Where the verdict is `Yes`, every walk from any node towards the id of any node, in any network of the plan and by any choice among the
 /// links of the way on, arrives, after at most as many hops as there are directed links, and after fewer than there are nodes: none comes
-/// back to a node where it has been. It does nothing. See docs/NETWORKS.md.
+/// back to a node where it has been. It does nothing. See docs/ROUTES.md.
 pub fn walks_arrive()
     ensures arrive { WalksArriveWhereYes }
 {}

@@ -1,4 +1,4 @@
-//! Route ranks, a certificate that packets arrive: the ranks that stand before a system text are read, and what they come to is told. See docs/NETWORKS.md.
+//! Route ranks, a certificate that packets arrive: the ranks that stand before a system text are read, and what they come to is told. See docs/ROUTES.md.
 #![tactic(auto)]
 
 mod rank_error;

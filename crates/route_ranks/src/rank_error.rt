@@ -5,7 +5,7 @@ use rank_model::RankKind;
 use std::alloc::{AllocError, AllocFailed};
 use thiserror::Error;
 
-/// Why there is no verdict on the ranks of a system. See docs/NETWORKS.md.
+/// Why there is no verdict on the ranks of a system. See docs/ROUTES.md.
 #[derive(Debug, Drop, Error)]
 pub enum RankError {
     /// The ranks are refused: the first faulty line, counted from 1, and why.

@@ -6,7 +6,7 @@ use rank_model::RankLine;
 use std::marker::Model;
 
 /// The ranks that stand before a system text, in the order of their lines. Contracts see the record `RanksRec` of
-/// `Rattle.rank_model.specs.Lines`. See docs/NETWORKS.md.
+/// `Rattle.rank_model.specs.Lines`. See docs/ROUTES.md.
 #[derive(Drop)]
 pub struct Ranks {
     lines: Vec<RankLine>,

@@ -12,7 +12,7 @@ use xs_text::Lines;
 
 /// The ranks that stand before the system text in a text of fewer than 2^32 bytes. A fault comes exactly where a line before the
 /// line `system` is no line of ranks, at the first such line, or where there is no line `system`, at the line after the last; want
-/// of memory may come in place of either. What stands after the line `system` is not read. See docs/NETWORKS.md.
+/// of memory may come in place of either. What stands after the line `system` is not read. See docs/ROUTES.md.
 #[tactic(auto, unfolding(rank_model::specs::Lines::head_from))]
 pub fn read_ranks(alloc: Global, text: &[u8]) -> Result<Ranks, RankError>
     requires { length text.now < 2 ^ 32 }
