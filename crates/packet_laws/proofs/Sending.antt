@@ -18,8 +18,8 @@ use Rattle.packet_laws.specs.Whole.{Sends}
 use Rattle.packet_laws.proofs.SendingMoves.{AllPass, SendsSo, Good, moves_so}
 
 module _ (fixed : Fixed) (rec : NodeRec) (slot : Slot) (arrivals : Arrivals) (pins : PinView) (e : EndNumber) (passes : NodeId → Bool)
-  (before : List Token) (low : e < LINK_ENDS) (long : 1 ≤ slice_index fixed.routes.gaps e) (ways : AllPass fixed.routes passes e)
-  (all : length rec.inputs ≡ INPUTS) (sends : Sends passes e rec.inputs before) where
+    (before : List Token) (low : e < LINK_ENDS) (long : 1 ≤ slice_index fixed.routes.gaps e) (ways : AllPass fixed.routes passes e)
+    (all : length rec.inputs ≡ INPUTS) (sends : Sends passes e rec.inputs before) where
   -- before the switch's steps nothing has left
   first_so : Good fixed.routes slot passes e before (ports_step slot pins (arrive slot arrivals (slot_begins rec)))
   first_so =

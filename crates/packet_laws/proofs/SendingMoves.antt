@@ -107,12 +107,15 @@ module _ (routes : Routes) (slot : Slot) (passes : NodeId → Bool) (e : EndNumb
       take_in : (state : InputRec) (m : AtWork) → In state m → In state (take_first i m)
       take_in state m h =
           cond_both (is_link_input i) _ _ (In state)
-          (λ link. (record {
-            has_token = h.0.has_token;
-            all = h.0.all;
-            once = λ gone. may_after_take routes slot m.rec.links i e ∙ h.0.once gone;
-            sends = h.0.sends;
-          }, h.1))
+          (λ link. (
+            record {
+              has_token = h.0.has_token;
+              all = h.0.all;
+              once = λ gone. may_after_take routes slot m.rec.links i e ∙ h.0.once gone;
+              sends = h.0.sends;
+            },
+            h.1,
+          ))
           (λ chan. h)
 
       may_still : (m : AtWork) → end_may_send routes slot e (link_at m.rec e) ≡ true → end_may_send routes slot e (link_at (take_first i m).rec e) ≡ true
@@ -123,13 +126,15 @@ module _ (routes : Routes) (slot : Slot) (passes : NodeId → Bool) (e : EndNumb
       -- from a state in which it does not hold the link end to another
       apart_in : (old new : InputRec) (m : AtWork) → IsApart old → IsApart new → In old m → In new (to_state i new m)
       apart_in old new m was will h =
-          let inside : i < length m.rec.inputs = omega (arith, within, h.0.all) in
-          (record {
-            has_token = h.0.has_token;
-            all = length-set m.rec.inputs i new ∙ h.0.all;
-            once = h.0.once;
-            sends = still_sends passes e m.rec.inputs i new inside (ap (is_out_by e) h.1 ∙ was) will (row m.tokens) h.0.sends;
-          }, get_or-set_same m.rec.inputs i new Idle inside)
+          let inside : i < length m.rec.inputs = omega (arith, within, h.0.all) in (
+            record {
+              has_token = h.0.has_token;
+              all = length-set m.rec.inputs i new ∙ h.0.all;
+              once = h.0.once;
+              sends = still_sends passes e m.rec.inputs i new inside (ap (is_out_by e) h.1 ∙ was) will (row m.tokens) h.0.sends;
+            },
+            get_or-set_same m.rec.inputs i new Idle inside,
+          )
 
       token_so : (old state : InputRec) (t : Token) (m : AtWork) → IsApart old → IsApart state → In old m → Good (after_token i state t m)
       token_so old state t m was will h =
@@ -161,13 +166,15 @@ module _ (routes : Routes) (slot : Slot) (passes : NodeId → Bool) (e : EndNumb
       send_in : (state : InputRec) (end : EndNumber) (t : Token) (m : AtWork) → (e ≡ end → ⊥) → In state m → In state (send slot end t m)
       send_in state end t m other h =
           let same_link = get_or-set_other m.rec.links end e (sent_in slot (link_at m.rec end)) None other in
-          let same_token = get_or-set_other m.tokens end e (Some t) None other in
-          (record {
-            has_token = omega (arith, length-set m.tokens end (Some t), h.0.has_token);
-            all = h.0.all;
-            once = λ gone. ap (end_may_send routes slot e) same_link ∙ h.0.once (sym (ap is_some same_token) ∙ gone);
-            sends = subst (λ token. Sends passes e m.rec.inputs (before ++ option_to_list token)) (sym same_token) h.0.sends;
-          }, h.1)
+          let same_token = get_or-set_other m.tokens end e (Some t) None other in (
+            record {
+              has_token = omega (arith, length-set m.tokens end (Some t), h.0.has_token);
+              all = h.0.all;
+              once = λ gone. ap (end_may_send routes slot e) same_link ∙ h.0.once (sym (ap is_some same_token) ∙ gone);
+              sends = subst (λ token. Sends passes e m.rec.inputs (before ++ option_to_list token)) (sym same_token) h.0.sends;
+            },
+            h.1,
+          )
 
       other_so : (end : EndNumber) (headers : ℕ) (dest : Dest) (m : AtWork) →
           (e ≡ end → ⊥) → In (Out end headers dest) m → Good (out_step routes slot i end headers dest m)
@@ -203,15 +210,15 @@ module _ (routes : Routes) (slot : Slot) (passes : NodeId → Bool) (e : EndNumb
           let was : row m.tokens ≡ before = ap (λ token. before ++ option_to_list token) none ∙ append-nil before in
           let is : get_or (slice_set m.tokens e (Some t)) e None ≡ Some t = get_or-set_same m.tokens e (Some t) None h.0.has_token in
           let packets : place_of passes before ≡ Some (place_sent headers dest) =
-              sym (ap (place_of passes) was) ∙ h.0.sends.packets ∙ ap Some its.1 in
+          sym (ap (place_of passes) was) ∙ h.0.sends.packets ∙ ap Some its.1 in
           let after : place_of passes (before ++ t ∷ []) ≡ Some next =
-              one_more passes Between (place_sent headers dest) next before t packets (goes its.0) in
+          one_more passes Between (place_sent headers dest) next before t packets (goes its.0) in
           record {
             has_token = omega (arith, length-set m.tokens e (Some t), h.0.has_token);
             all = length-set m.rec.inputs i new ∙ h.0.all;
             once = λ gone. not_again_at routes slot e long m.rec.links e;
             sends = subst (λ token. Sends passes e (slice_set m.rec.inputs i new) (before ++ option_to_list token)) (sym is)
-            (alone_sends passes e m.rec.inputs i new (omega (arith, within, h.0.all)) next (before ++ t ∷ []) alone after (cut its.0) free);
+                (alone_sends passes e m.rec.inputs i new (omega (arith, within, h.0.all)) next (before ++ t ∷ []) alone after (cut its.0) free);
           }
         where
           alone : (j : InputNumber) → (j ≡ i → ⊥) → is_out_by e (at m.rec.inputs j) ≡ false
@@ -259,14 +266,16 @@ module _ (routes : Routes) (slot : Slot) (passes : NodeId → Bool) (e : EndNumb
           end_is_held m.rec e ≡ false → passes dest.node ≡ true → In state m → In (Out e 0 dest) (to_state i (Out e 0 dest) m)
       own_in state dest m none passed h =
           let inside : i < length m.rec.inputs = omega (arith, within, h.0.all) in
-          let frees = none_holds e m.rec.inputs none in
-          (record {
-            has_token = h.0.has_token;
-            all = length-set m.rec.inputs i (Out e 0 dest) ∙ h.0.all;
-            once = h.0.once;
-            sends = alone_sends passes e m.rec.inputs i (Out e 0 dest) inside h.0.sends.place (row m.tokens) (λ j other. frees j) h.0.sends.packets
-            (passed, h.0.sends.free frees) (λ apart. absurd (both_ways _ apart (eq-eqb e e refl)));
-          }, get_or-set_same m.rec.inputs i (Out e 0 dest) Idle inside)
+          let frees = none_holds e m.rec.inputs none in (
+            record {
+              has_token = h.0.has_token;
+              all = length-set m.rec.inputs i (Out e 0 dest) ∙ h.0.all;
+              once = h.0.once;
+              sends = alone_sends passes e m.rec.inputs i (Out e 0 dest) inside h.0.sends.place (row m.tokens) (λ j other. frees j) h.0.sends.packets
+                  (passed, h.0.sends.free frees) (λ apart. absurd (both_ways _ apart (eq-eqb e e refl)));
+            },
+            get_or-set_same m.rec.inputs i (Out e 0 dest) Idle inside,
+          )
 
       hold_so : (state : InputRec) (mask : ℕ) (dest : Dest) (end : Option EndNumber) (m : AtWork) →
           IsApart state →
