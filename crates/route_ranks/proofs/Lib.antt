@@ -1,0 +1,6 @@
+pub mod Dests
+pub mod Differences
+pub mod Lines
+pub mod Links
+pub mod Nets
+pub mod Searches

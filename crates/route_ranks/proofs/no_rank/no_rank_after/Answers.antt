@@ -1,0 +1,19 @@
+use Rattle.std.proofs.Common.{◌∙◌, ◌-◌, ◌+◌, sym, arith}
+use Rattle.rank_model.specs.Next.{link_count}
+use Rattle.rank_model.specs.Verdicts.{no_rank_between}
+use Rattle.route_ranks.proofs.Searches.{none_found, found_later, found_here, is_none_then}
+use Rattle.route_ranks.proofs.no_rank.no_rank_after.Goals as goal
+
+pub returns-then-is_some : goal.returns-then-is_some
+returns-then-is_some c = record {
+  value = found_here (no_rank_between c.args.plan.now c.args.ranks.now c.args.first) c.loop-second.second (link_count c.args.plan.now - c.loop-second.second) (link_count c.args.plan.now - (c.loop-second.second + 1)) (omega arith) c.no_rank_between-found.result c.no_rank_between-found.ensures.value (sym c.is_some.ensures ∙ c.if-is_some.true)
+      ∙ sym c.loop-second.invariant;
+}
+
+pub loop-second-preserved : goal.loop-second-preserved
+loop-second-preserved c =
+    c.loop-second.invariant
+    ∙ found_later (no_rank_between c.args.plan.now c.args.ranks.now c.args.first) c.loop-second.second (link_count c.args.plan.now - c.loop-second.second) (link_count c.args.plan.now - (c.loop-second.second + 1)) (omega arith) (sym c.no_rank_between-found.ensures.value ∙ is_none_then c.no_rank_between-found.result (sym c.is_some.ensures ∙ c.if-is_some.false))
+
+pub returns : goal.returns
+returns c = record { value = sym (c.loop-second.invariant ∙ none_found (no_rank_between c.args.plan.now c.args.ranks.now c.args.first) c.loop-second.second (link_count c.args.plan.now - c.loop-second.second) (omega arith)) }
