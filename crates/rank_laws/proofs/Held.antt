@@ -11,7 +11,7 @@ use Rattle.net_model.specs.Switch.{ends_packet}
 use Rattle.sys_plan.specs.Plan.{PlanRec, IsPlan, link_arcs}
 use Rattle.serial_model.specs.Serial.{serial}
 use Rattle.rank_model.specs.declared.verdict.Verdict.TheVariants.{Yes}
-use Rattle.rank_model.specs.Next.{link_count, arc_at, no_arc, net_of, is_next}
+use Rattle.rank_model.specs.Next.{link_count, arc_at, no_arc, net_of, leads_by, is_next}
 use Rattle.rank_model.specs.Lines.{RanksRec}
 use Rattle.rank_model.specs.Checks.{Judged, checked, ranks_by_link}
 use Rattle.packet_laws.specs.Packets.{Place, Between, AfterOne, AfterTwo, Within, place_after, place_from, place_of}
@@ -83,12 +83,12 @@ module _ (plan : PlanRec) (is : IsPlan plan) where
     its_place (Within dest) tokens packets at = record {
       dest = dest.node;
       first = within_passes (leads plan l) tokens dest packets;
-      second = at.1 k (arc_at plan k) (there k holds.next) holds.same_node refl;
+      second = and_from ((arc_at plan k).from == (arc_at plan l).to) (leads_by plan (arc_at plan l).to (net_of plan l) dest.node (arc_at plan k).from_end) (eq-eqb (arc_at plan k).from (arc_at plan l).to holds.same_node) at.1;
     }
 
     goes_where : Leads l k
     goes_where =
-        let taken = (whole_packets plan is l (arc_at plan l) (there l holds.there) slot).taken in
+        let taken = (whole_packets plan is l (arc_at plan l) (there l holds.l_there) slot).receiver in
         its_place taken.place _ taken.packets (subst (IsAt (IsOnWay plan (arc_at plan l).to (net_of plan l)) (net_of plan l) taken.place) holds.out taken.at)
 
   module _ (ranks : RanksRec) (judged : checked plan ranks ≡ Judged Yes) (slot : Slot) where
@@ -98,7 +98,7 @@ module _ (plan : PlanRec) (is : IsPlan plan) where
     held_rises : (l k : LinkNumber) → Holds plan (serial plan slot) l k → get_or by_link l 0 < get_or by_link k 0
     held_rises l k holds =
         let on = goes_where slot l k holds in
-        rises plan ranks.lines (verdict_is Yes plan ranks judged) (net_of plan l) on.dest (arc_at plan l).from l k (record { there = holds.there; next = on.first }) (record { there = holds.next; next = on.second })
+        rises plan ranks.lines (verdict_is Yes plan ranks judged) (net_of plan l) on.dest (arc_at plan l).from l k (record { there = holds.l_there; next = on.first }) (record { there = holds.k_there; next = on.second })
 
     row_rises : (l k : LinkNumber) (ks : List LinkNumber) → IsHeldRow plan (serial plan slot) l (k ∷ ks) → get_or by_link l 0 < get_or by_link (last_of l (k ∷ ks)) 0
     row_rises l k [] row = held_rises l k row.0

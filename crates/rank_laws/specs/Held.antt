@@ -13,23 +13,24 @@ use Rattle.rank_model.specs.Checks.{Judged, checked, ranks_by_link}
 
 -- the input at which directed link l ends holds the link end that directed link k leaves by: what comes by l goes out by k
 pub record Holds (plan : PlanRec) (system : SystemRec) (l k : LinkNumber) : Type 0 where
-  pub there : l < link_count plan
-  pub next : k < link_count plan
+  pub l_there : l < link_count plan
+  pub k_there : k < link_count plan
   pub same_node : (arc_at plan k).from ≡ (arc_at plan l).to
   pub headers : ℕ
   pub dest : Dest
   pub out : state_at (node_by system.nodes (arc_at plan l).to) (arc_at plan l).to_end ≡ Out (arc_at plan k).from_end headers dest
 
--- each of a row of directed links is held by the one before it, the first by l; and the last of them, l where there is none
+-- each of a row of directed links is held by the one before it, the first by l
 abbrev pub IsHeldRow : PlanRec → SystemRec → LinkNumber → List LinkNumber → Type 0
 IsHeldRow plan system l [] = Unit {0}
 IsHeldRow plan system l (k ∷ ks) = Holds plan system l k × IsHeldRow plan system k ks
 
+-- the last of a row, or l where it is empty
 abbrev pub last_of : LinkNumber → List LinkNumber → LinkNumber
 last_of l [] = l
 last_of l (k ∷ ks) = last_of k ks
 
--- what is held in a system has ranks that rise, by the ranks of all directed links by number
+-- wherever an input holds a link end in a system, the rank goes up, by the ranks of all directed links by number
 pub record HeldRise (plan : PlanRec) (ranks : List ℕ) (system : SystemRec) : Type 0 where
   pub rises : (l k : LinkNumber) → Holds plan system l k → slice_index ranks l < slice_index ranks k
   -- so no row of held links comes back to where it began
@@ -37,4 +38,5 @@ pub record HeldRise (plan : PlanRec) (ranks : List ℕ) (system : SystemRec) : T
 
 -- where the verdict is `Yes`, that is so before every slot
 abbrev pub HeldRiseWhereYes : Type 0
-HeldRiseWhereYes = (plan : PlanRec) (ranks : RanksRec) (slot : Slot) → IsPlan plan → checked plan ranks ≡ Judged Yes → HeldRise plan (ranks_by_link plan ranks.lines) (serial plan slot)
+HeldRiseWhereYes = (plan : PlanRec) (ranks : RanksRec) (slot : Slot) → IsPlan plan → checked plan ranks ≡ Judged Yes
+    → HeldRise plan (ranks_by_link plan ranks.lines) (serial plan slot)
