@@ -11,9 +11,9 @@ pub fn walks_arrive()
     ensures arrive { WalksArriveWhereYes }
 {}
 
-/// Where the verdict is `Yes`, in every run and before every slot: where the input at which a directed link ends holds the link end by
-/// which another leaves, the other has a higher rank. So no row of directed links, each of which holds the next one, comes back to where it began. That a
-/// run never stands still is not said. It does nothing. See docs/ROUTES.md.
+/// Where the verdict is `Yes`, in every run and before every slot: where the input at which a directed link ends holds the link end by which
+/// another leaves, or waits for it, the other has a higher rank. So no row of directed links, each of which holds the next one or waits for
+/// it, comes back to where it began. That a run never stands still is not said. It does nothing. See docs/ROUTES.md.
 pub fn held_routes_rise()
     ensures rise { HeldRiseWhereYes }
 {}
