@@ -1,6 +1,7 @@
 //! Laws of packets: what a link carries are whole packets, and the inputs of switches are where they end. See docs/NETWORKS.md.
 #![tactic(auto)]
 
+ghost use Rattle.packet_laws.specs.Flow.{SwitchesKeepTokens};
 ghost use Rattle.packet_laws.specs.Whole.{PacketsAreWhole};
 
 /// For every plan, before every slot and for each directed link: the tokens that it has carried are packets one after the other, each with the
@@ -10,4 +11,14 @@ ghost use Rattle.packet_laws.specs.Whole.{PacketsAreWhole};
 /// docs/NETWORKS.md.
 pub fn packets_are_whole()
     ensures { PacketsAreWhole }
+{}
+
+/// In one step of an input of a switch, what leaves the input's buffer is nothing or its first token, and a token that is taken goes to
+/// exactly one place: it leaves by the link end that the input holds, or it is put at the end of the input buffer of the channel end that the
+/// input holds; or nowhere, if it is of the header at a link end, of a lost packet, or PAUSE at a channel end. Nothing else moves but the three header
+/// bytes of the packet's destination, which leave first. An input takes hold of a link end or a channel end only if no input holds it,
+/// and lets it go with END or PAUSE alone; no other input's step changes that. So nothing that goes through a switch is lost, doubled,
+/// reordered or mixed with another packet. It does nothing. See docs/LINKS.md.
+pub fn switches_keep_tokens()
+    ensures { SwitchesKeepTokens }
 {}

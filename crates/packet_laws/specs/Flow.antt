@@ -1,0 +1,118 @@
+-- One step of an input of the switch: what becomes of the tokens at a node, and of what its inputs hold.
+use Rattle.std.specs.Prelude.{ℕ, ◌≡◌, ◌≢◌, ◌⊎◌, ◌+◌, ◌<◌, ◌≤◌, ◌==◌, Bool, true, false, if◌then◌else◌, Option, Some, None, is_some, option_map, option_to_list, List, [], ◌∷◌, ◌++◌, length, slice_index, slice_index_or}
+use Rattle.xs_base.specs.Numbers.{Slot, ChanNumber, EndNumber, InputNumber}
+use Rattle.xs_base.specs.declared.numbers.TheConstants.{LINK_ENDS, CHAN_ENDS, INPUTS, HEADER_BYTES}
+use Rattle.xs_base.specs.declared.token.Token.{Token}
+use Rattle.xs_base.specs.declared.token.Token.TheVariants.{Byte}
+use Rattle.xs_model.specs.declared.dest.Dest.{Dest}
+use Rattle.xs_model.specs.Dests.{dest_of}
+use Rattle.xs_model.specs.Record.{NodeRec, InputRec, Idle, Head1, Head2, Want, Local, Out, Lost, chan_of}
+use Rattle.xs_model.specs.AtWork.{AtWork}
+use Rattle.net_model.specs.Switch.{Routes, is_link_input, chan_of_input, link_at, waiting_at, state_at, is_local_to, is_out_by, ends_packet, is_pause, header_byte, end_may_send, input_step}
+
+-- ---- Where tokens go
+
+pub data Move : Type 0 where
+  -- no token moves
+  Rests : Move
+  -- the first token that waits at the input is taken, and goes nowhere
+  TakesOff : (t : Token) → Move
+  -- it is taken, and leaves by a link end
+  Forwards : (end : EndNumber) (t : Token) → Move
+  -- it is taken, and is put into the input buffer of a channel end
+  Delivers : (chan : ChanNumber) (t : Token) → Move
+  -- none is taken, and a header byte leaves by a link end
+  SendsHeader : (end : EndNumber) (t : Token) → Move
+
+-- what leaves the input's buffer, what leaves the node by a link end, and what is put into the input buffer of a channel end
+abbrev pub takes : Move → List Token
+takes (TakesOff t) = t ∷ []
+takes (Forwards end t) = t ∷ []
+takes (Delivers chan t) = t ∷ []
+takes _ = []
+
+abbrev pub sends : Move → EndNumber → List Token
+sends (Forwards end t) e = if end == e then t ∷ [] else []
+sends (SendsHeader end t) e = if end == e then t ∷ [] else []
+sends _ e = []
+
+abbrev pub puts : Move → ChanNumber → List Token
+puts (Delivers chan t) n = if chan == n then t ∷ [] else []
+puts _ n = []
+
+-- what has left by a link end in the slot so far: a token or none
+abbrev pub left_by : AtWork → EndNumber → List Token
+left_by m e = option_to_list (slice_index_or m.tokens e None)
+
+-- The move of input i, from a node at work to what it is after: all buffers of inputs, all input buffers of channel ends, and what has left by
+-- all link ends. Nothing else is done to any of them.
+pub record Flows (i : InputNumber) (move : Move) (m after : AtWork) : Type 0 where
+  pub own : waiting_at m.rec i ≡ takes move ++ waiting_at after.rec i
+  pub others : (j : InputNumber) → j ≢ i → waiting_at after.rec j ≡ waiting_at m.rec j
+  pub out : (e : EndNumber) → left_by after e ≡ left_by m e ++ sends move e
+  pub into : (n : ChanNumber) → (chan_of after.rec.core n).input ≡ (chan_of m.rec.core n).input ++ puts move n
+
+-- ---- What inputs hold. An input that holds a link end or a channel end lets it go with END or PAUSE, and with nothing else.
+
+abbrev pub after_first : InputRec → Token → InputRec
+after_first state t = if ends_packet t then Idle else state
+
+-- at the input of a link end, a token is of a header, and the input holds nothing after it
+abbrev pub IsOfHeader : InputNumber → InputRec → Type 0
+IsOfHeader i (Local chan) = ⊥
+IsOfHeader i (Out end headers dest) = ⊥
+IsOfHeader i _ = is_link_input i ≡ true
+
+-- what an input may do in a state, and the state after it
+abbrev pub Does : InputNumber → InputRec → Move → InputRec → Type 0
+Does i state Rests new = new ≡ state
+Does i Idle (TakesOff t) new = IsOfHeader i new
+Does i (Head1 high) (TakesOff t) new = IsOfHeader i new
+Does i (Head2 high low) (TakesOff t) new = IsOfHeader i new
+Does i Lost (TakesOff t) new = new ≡ after_first Lost t
+Does i (Local chan) (TakesOff t) new = (is_pause t ≡ true) × (new ≡ Idle)
+Does i (Local chan) (Delivers n t) new = (n ≡ chan) × (new ≡ after_first (Local chan) t)
+Does i (Out end headers dest) (SendsHeader e t) new = (e ≡ end) × (headers < HEADER_BYTES) × (t ≡ Byte (header_byte dest headers)) × (new ≡ Out end (headers + 1) dest)
+Does i (Out end headers dest) (Forwards e t) new = (e ≡ end) × (HEADER_BYTES ≤ headers) × (new ≡ after_first (Out end headers dest) t)
+Does i _ _ new = ⊥
+
+-- where an input wants to go: it says so, or it is idle and its channel end says so
+abbrev pub wanted : NodeRec → InputNumber → InputRec → Option Dest
+wanted rec i (Want dest net) = Some dest
+wanted rec i Idle = if is_link_input i then None else option_map dest_of (chan_of rec.core (chan_of_input i)).dest
+wanted rec i _ = None
+
+-- what an input that wants to go somewhere may be then: it takes hold only of what no input holds
+abbrev pub MayBe : NodeRec → Option Dest → InputRec → Type 0
+MayBe rec (Some dest) (Want to net) = to ≡ dest
+MayBe rec (Some dest) (Local chan) = (chan ≡ dest.chan) × ((j : InputNumber) → is_local_to chan (state_at rec j) ≡ false)
+MayBe rec (Some dest) (Out end headers to) = (to ≡ dest) × (headers ≡ 0) × ((j : InputNumber) → is_out_by end (state_at rec j) ≡ false)
+MayBe rec (Some dest) Lost = Unit {0}
+MayBe rec _ _ = ⊥
+
+-- ---- Both, in one step
+
+-- A node at work as it is before each of these steps: it has as many inputs, link ends and channel ends as every node has, an input holds only a
+-- channel end that is there, link ends that are there have gaps, and one by which a token has left in the slot may send no other in it.
+pub record Works (routes : Routes) (slot : Slot) (m : AtWork) : Type 0 where
+  pub inputs : length m.rec.inputs ≡ INPUTS
+  pub links : length m.rec.links ≡ LINK_ENDS
+  pub chans : length m.rec.core.chans ≡ CHAN_ENDS
+  pub tokens : length m.tokens ≡ LINK_ENDS
+  pub there : (j : InputNumber) (n : ChanNumber) → state_at m.rec j ≡ Local n → n < CHAN_ENDS
+  pub gaps : (e : EndNumber) → is_some (link_at m.rec e) ≡ true → 1 ≤ slice_index routes.gaps e
+  pub once : (e : EndNumber) → is_some (slice_index_or m.tokens e None) ≡ true → end_may_send routes slot e (link_at m.rec e) ≡ false
+
+pub record Steps (routes : Routes) (slot : Slot) (i : InputNumber) (m after : AtWork) : Type 0 where
+  pub move : Move
+  -- the state in which the input moves: its own, or it has found its way first
+  pub state : InputRec
+  pub finds : (state ≡ state_at m.rec i) ⊎ MayBe m.rec (wanted m.rec i (state_at m.rec i)) state
+  pub does : Does i state move (state_at after.rec i)
+  pub flows : Flows i move m after
+  pub others : (j : InputNumber) → j ≢ i → state_at after.rec j ≡ state_at m.rec j
+  pub works : Works routes slot after
+
+abbrev pub SwitchesKeepTokens : Type 0
+SwitchesKeepTokens = (routes : Routes) (slot : Slot) (i : InputNumber) (m : AtWork) → i < INPUTS → Works routes slot m
+    → Steps routes slot i m (input_step routes slot i m)
