@@ -64,16 +64,16 @@ IsOfHeader i (Out end headers dest) = ⊥
 IsOfHeader i _ = is_link_input i ≡ true
 
 -- what an input may do in a state, and the state after it
-abbrev pub Does : InputNumber → InputRec → Move → InputRec → Type 0
-Does i state Rests new = new ≡ state
-Does i Idle (TakesOff t) new = IsOfHeader i new
-Does i (Head1 high) (TakesOff t) new = IsOfHeader i new
-Does i (Head2 high low) (TakesOff t) new = IsOfHeader i new
-Does i Lost (TakesOff t) new = new ≡ after_first Lost t
-Does i (Local chan) (TakesOff t) new = (is_pause t ≡ true) × (new ≡ Idle)
-Does i (Local chan) (Delivers n t) new = (n ≡ chan) × (new ≡ after_first (Local chan) t)
-Does i (Out end headers dest) (SendsHeader e t) new = (e ≡ end) × (headers < HEADER_BYTES) × (t ≡ Byte (header_byte dest headers)) × (new ≡ Out end (headers + 1) dest)
-Does i (Out end headers dest) (Forwards e t) new = (e ≡ end) × (HEADER_BYTES ≤ headers) × (new ≡ after_first (Out end headers dest) t)
+abbrev pub Does : InputNumber → Move → InputRec → InputRec → Type 0
+Does i Rests state new = new ≡ state
+Does i (TakesOff t) Idle new = IsOfHeader i new
+Does i (TakesOff t) (Head1 high) new = IsOfHeader i new
+Does i (TakesOff t) (Head2 high low) new = IsOfHeader i new
+Does i (TakesOff t) Lost new = new ≡ after_first Lost t
+Does i (TakesOff t) (Local chan) new = (is_pause t ≡ true) × (new ≡ Idle)
+Does i (Delivers n t) (Local chan) new = (n ≡ chan) × (new ≡ after_first (Local chan) t)
+Does i (SendsHeader e t) (Out end headers dest) new = (e ≡ end) × (headers < HEADER_BYTES) × (t ≡ Byte (header_byte dest headers)) × (new ≡ Out end (headers + 1) dest)
+Does i (Forwards e t) (Out end headers dest) new = (e ≡ end) × (HEADER_BYTES ≤ headers) × (new ≡ after_first (Out end headers dest) t)
 Does i _ _ new = ⊥
 
 -- where an input wants to go: it says so, or it is idle and its channel end says so
@@ -108,7 +108,7 @@ pub record Steps (routes : Routes) (slot : Slot) (i : InputNumber) (m after : At
   -- the state in which the input moves: its own, or it has found its way first
   pub state : InputRec
   pub finds : (state ≡ state_at m.rec i) ⊎ MayBe m.rec (wanted m.rec i (state_at m.rec i)) state
-  pub does : Does i state move (state_at after.rec i)
+  pub does : Does i move state (state_at after.rec i)
   pub flows : Flows i move m after
   pub others : (j : InputNumber) → j ≢ i → state_at after.rec j ≡ state_at m.rec j
   pub works : Works routes slot after
