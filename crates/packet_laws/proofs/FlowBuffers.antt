@@ -3,7 +3,7 @@ use Rattle.std.proofs.Common.{◌≡◌, ◌≢◌, ◌⊎◌, inl, inr, ℕ, ze
 use Rattle.std.proofs.lemmas.Bool.{both_ways, cases_eq, cond_both, and_right, eq-eqb, ne_eqb, lt-leb, ltb-true, ltb-false}
 use Rattle.std.specs.Prelude.{option_to_list}
 use Rattle.xs_base.specs.Numbers.{Slot, ChanNumber, EndNumber, InputNumber}
-use Rattle.xs_base.specs.declared.numbers.TheConstants.{LINK_ENDS, CHAN_ENDS}
+use Rattle.xs_base.specs.declared.numbers.TheConstants.{LINK_ENDS}
 use Rattle.xs_base.specs.declared.token.Token.{Token}
 use Rattle.xs_model.specs.Record.{CoreRec, ChanRec, LinkRec, unused_chan, chan_of}
 use Rattle.xs_model.specs.AtWork.{AtWork}
@@ -56,14 +56,20 @@ taken_output [] c = refl
 taken_output (chan ∷ chans) zero = refl
 taken_output (chan ∷ chans) (suc c) = taken_output chans c
 
--- a channel end's buffer stays, whichever one is set, if that one keeps its own
-module _ (buffer : ChanRec → List Token) where
-  same_buffer : (chans : List ChanRec) (c : ℕ) (new : ChanRec) (d : ℕ) → buffer new ≡ buffer (get_or chans c unused_chan) → buffer (get_or (slice_set chans c new) d unused_chan) ≡ buffer (get_or chans d unused_chan)
-  same_buffer [] c new d same = refl
-  same_buffer (x ∷ chans) zero new zero same = same
-  same_buffer (x ∷ chans) zero new (suc d) same = refl
-  same_buffer (x ∷ chans) (suc c) new zero same = refl
-  same_buffer (x ∷ chans) (suc c) new (suc d) same = same_buffer chans c new d same
+-- what is read of a channel end stays, whichever one is set, if that one keeps it
+module _ {A : Type 0} (read : ChanRec → A) where
+  chan_same : (chans : List ChanRec) (c : ℕ) (new : ChanRec) (d : ℕ) → read new ≡ read (get_or chans c unused_chan) → read (get_or (slice_set chans c new) d unused_chan) ≡ read (get_or chans d unused_chan)
+  chan_same [] c new d same = refl
+  chan_same (x ∷ chans) zero new zero same = same
+  chan_same (x ∷ chans) zero new (suc d) same = refl
+  chan_same (x ∷ chans) (suc c) new zero same = refl
+  chan_same (x ∷ chans) (suc c) new (suc d) same = chan_same chans c new d same
+
+-- one that is in use is one of the list
+used_within : (chans : List ChanRec) (n : ℕ) → (get_or chans n unused_chan).used ≡ true → n < length chans
+used_within [] n is = cc
+used_within (chan ∷ chans) zero is = omega arith
+used_within (chan ∷ chans) (suc n) is = let less = used_within chans n is in omega (arith, less)
 
 -- ---- A link end that sent in a slot may not send again in it
 
@@ -94,7 +100,7 @@ module _ (routes : Routes) (slot : Slot) (i : InputNumber) (m0 : AtWork) where
     pub out : (e : EndNumber) → option_to_list (get_or tokens e None) ≡ left_by m0 e ++ sends move e
     pub into : (n : ChanNumber) → (chan_of core n).input ≡ (chan_of m0.rec.core n).input ++ puts move n
     pub many_links : length links ≡ LINK_ENDS
-    pub many_chans : length core.chans ≡ CHAN_ENDS
+    pub used : (n : ChanNumber) → (chan_of core n).used ≡ (chan_of m0.rec.core n).used
     pub many_tokens : length tokens ≡ LINK_ENDS
     pub gaps : (e : EndNumber) → is_some (get_or links e None) ≡ true → 1 ≤ slice_index routes.gaps e
     pub once : (e : EndNumber) → is_some (get_or tokens e None) ≡ true → end_may_send routes slot e (get_or links e None) ≡ false
@@ -108,10 +114,10 @@ module _ (routes : Routes) (slot : Slot) (i : InputNumber) (m0 : AtWork) where
     others = λ j other. refl;
     out = λ e. sym (append-nil (left_by m0 e));
     into = λ n. sym (append-nil (chan_of m0.rec.core n).input);
-    many_links = works.links;
-    many_chans = works.chans;
+    many_links = works.switch.links;
+    used = λ n. refl;
     many_tokens = works.tokens;
-    gaps = works.gaps;
+    gaps = works.switch.gap;
     once = works.once;
   }
 
@@ -128,7 +134,7 @@ module _ (routes : Routes) (slot : Slot) (i : InputNumber) (m0 : AtWork) where
         out = h.out;
         into = h.into;
         many_links = length-set m.rec.links i _ ∙ h.many_links;
-        many_chans = h.many_chans;
+        used = h.used;
         many_tokens = h.many_tokens;
         gaps = λ e is. h.gaps e (sym (there e) ∙ is);
         once = λ e gone. may_after_take routes slot m.rec.links i e ∙ h.once e gone;
@@ -146,9 +152,9 @@ module _ (routes : Routes) (slot : Slot) (i : InputNumber) (m0 : AtWork) where
         own = h.own ∙ first ∙ ap (λ r. t ∷ r) (sym (ap (drop 1) (sym (its m.rec.core) ∙ first)) ∙ sym (taken_output m.rec.core.chans c) ∙ sym (its (record m.rec.core { chans = chans })));
         others = λ j other. either_same (is_link_input j) _ _ _ _ (λ link. refl) (λ also. ap (λ (x : ChanRec). x.output) (get_or-set_other m.rec.core.chans c (chan_of_input j) _ unused_chan (apart j other also))) ∙ h.others j other;
         out = h.out;
-        into = λ n. same_buffer (λ x. x.input) m.rec.core.chans c _ n refl ∙ h.into n;
+        into = λ n. chan_same (λ x. x.input) m.rec.core.chans c _ n refl ∙ h.into n;
         many_links = h.many_links;
-        many_chans = length-set m.rec.core.chans c _ ∙ h.many_chans;
+        used = λ n. chan_same (λ x. x.used) m.rec.core.chans c _ n refl ∙ h.used n;
         many_tokens = h.many_tokens;
         gaps = h.gaps;
         once = h.once;
@@ -168,16 +174,16 @@ module _ (routes : Routes) (slot : Slot) (i : InputNumber) (m0 : AtWork) where
 
   -- ---- It is put into the input buffer of a channel end
 
-  pub puts_flowed : (n : ChanNumber) (t : Token) (m : AtWork) → n < CHAN_ENDS → IsFlowed (TakesOff t) m → IsFlowed (Delivers n t) (put_into n t m)
-  puts_flowed n t m low h =
-      let same = λ (j : InputNumber). either_same (is_link_input j) (buffer_of_link (get_or m.rec.links j None)) _ _ _ (λ link. refl) (λ chan. same_buffer (λ x. x.output) m.rec.core.chans n new (chan_of_input j) refl) in
+  pub puts_flowed : (n : ChanNumber) (t : Token) (m : AtWork) → (chan_of m0.rec.core n).used ≡ true → IsFlowed (TakesOff t) m → IsFlowed (Delivers n t) (put_into n t m)
+  puts_flowed n t m is h =
+      let same = λ (j : InputNumber). either_same (is_link_input j) (buffer_of_link (get_or m.rec.links j None)) _ _ _ (λ link. refl) (λ chan. chan_same (λ x. x.output) m.rec.core.chans n new (chan_of_input j) refl) in
       record {
         own = h.own ∙ ap (λ r. t ∷ r) (sym (same i));
         others = λ j other. same j ∙ h.others j other;
         out = h.out;
         into = λ k. put_at k (cases_eq k n);
         many_links = h.many_links;
-        many_chans = length-set m.rec.core.chans n new ∙ h.many_chans;
+        used = λ k. chan_same (λ x. x.used) m.rec.core.chans n new k refl ∙ h.used k;
         many_tokens = h.many_tokens;
         gaps = h.gaps;
         once = h.once;
@@ -192,7 +198,7 @@ module _ (routes : Routes) (slot : Slot) (i : InputNumber) (m0 : AtWork) where
       put_at : (k : ChanNumber) → (k ≡ n) ⊎ (k ≡ n → ⊥) → (get_or (slice_set m.rec.core.chans n new) k unused_chan).input ≡ (chan_of m0.rec.core k).input ++ puts (Delivers n t) k
       put_at k (inl same) =
           subst (λ k. (get_or (slice_set m.rec.core.chans n new) k unused_chan).input ≡ (chan_of m0.rec.core k).input ++ puts (Delivers n t) k) (sym same)
-          (ap (λ (x : ChanRec). x.input) (get_or-set_same m.rec.core.chans n new unused_chan (omega (arith, low, h.many_chans)))
+          (ap (λ (x : ChanRec). x.input) (get_or-set_same m.rec.core.chans n new unused_chan (used_within m.rec.core.chans n (h.used n ∙ is)))
           ∙ ap (λ xs. xs ++ t ∷ []) (before n) ∙ ap (λ test. (chan_of m0.rec.core n).input ++ (if test then t ∷ [] else [])) (sym (eq-eqb n n refl)))
       put_at k (inr other) =
           ap (λ (x : ChanRec). x.input) (get_or-set_other m.rec.core.chans n k new unused_chan other)
@@ -215,7 +221,7 @@ module _ (routes : Routes) (slot : Slot) (i : InputNumber) (m0 : AtWork) where
           out = λ k. sent_at k (cases_eq k e) ∙ ap (λ xs. left_by m0 k ++ xs) (sym (one k));
           into = λ n. h.into n ∙ ap (λ xs. (chan_of m0.rec.core n).input ++ xs) (sym (as_put n));
           many_links = length-set m.rec.links e _ ∙ h.many_links;
-          many_chans = h.many_chans;
+          used = h.used;
           many_tokens = length-set m.tokens e (Some t) ∙ h.many_tokens;
           gaps = λ k is. h.gaps k (sym (is_some_still (sent_in slot) (some_sent slot) m.rec.links e k) ∙ is);
           once = λ k. once_at k (cases_eq k e);

@@ -11,7 +11,7 @@ use Rattle.xs_base.specs.declared.token.Token.TheVariants.{Byte, Ctrl}
 use Rattle.xs_model.specs.declared.event.Happen.TheVariants as happen
 use Rattle.xs_model.specs.declared.dest.Dest.{Dest}
 use Rattle.xs_model.specs.Dests.{dest_of}
-use Rattle.xs_model.specs.Record.{NodeRec, InputRec, Idle, Head1, Head2, Want, Local, Out, Lost, chan_of}
+use Rattle.xs_model.specs.Record.{CoreRec, NodeRec, InputRec, Idle, Head1, Head2, Want, Local, Out, Lost, chan_of}
 use Rattle.xs_model.specs.Waits.{has_room}
 use Rattle.xs_model.specs.AtWork.{AtWork, it_happens}
 use Rattle.net_model.specs.Ways.{Way, Here, Behind, way_to}
@@ -38,27 +38,31 @@ found_free rec mask end (suc count) =
 
 -- ---- States
 
--- an input that holds a channel end holds one that is there
-abbrev IsThere : InputRec → Type 0
-IsThere (Local n) = n < CHAN_ENDS
-IsThere _ = Unit {0}
+-- an input that holds a channel end holds one that is in use
+module _ (core : CoreRec) where
+  abbrev IsUsed : InputRec → Type 0
+  IsUsed (Local n) = (chan_of core n).used ≡ true
+  IsUsed _ = Unit {0}
 
-there_is : (state : InputRec) → ((n : ChanNumber) → state ≡ Local n → n < CHAN_ENDS) → IsThere state
-there_is Idle there = tt
-there_is (Head1 high) there = tt
-there_is (Head2 high low) there = tt
-there_is (Want dest net) there = tt
-there_is (Local n) there = there n refl
-there_is (Out end headers dest) there = tt
-there_is Lost there = tt
+  used_is : (state : InputRec) → ((n : ChanNumber) → state ≡ Local n → (chan_of core n).used ≡ true) → IsUsed state
+  used_is Idle used = tt
+  used_is (Head1 high) used = tt
+  used_is (Head2 high low) used = tt
+  used_is (Want dest net) used = tt
+  used_is (Local n) used = used n refl
+  used_is (Out end headers dest) used = tt
+  used_is Lost used = tt
 
-first_there : (ends : Bool) (state : InputRec) → IsThere state → IsThere (if ends then Idle else state)
-first_there true state there = tt
-first_there false state there = there
+  first_used : (ends : Bool) (state : InputRec) → IsUsed state → IsUsed (if ends then Idle else state)
+  first_used true state used = tt
+  first_used false state used = used
 
 module _ (routes : Routes) (slot : Slot) (i : InputNumber) (m0 : AtWork) (within : i < INPUTS) (works : Works routes slot m0) where
   abbrev Flowing : Move → AtWork → Type 0
   Flowing move m = IsFlowed routes slot i m0 move m
+
+  abbrev Uses : InputRec → Type 0
+  Uses state = IsUsed m0.rec.core state
 
   abbrev old : InputRec
   old = state_at m0.rec i
@@ -82,15 +86,15 @@ module _ (routes : Routes) (slot : Slot) (i : InputNumber) (m0 : AtWork) (within
   -- the input has found its way, as far as it does in this step, and no token has moved
   record Before (state : InputRec) (m : AtWork) : Type 0 where
     finds : Finds state
-    there : IsThere state
+    used : Uses state
     at : InState state m.rec.inputs
     flows : Flowing Rests m
 
   abbrev Done : AtWork → Type 0
   Done m = Steps routes slot i m0 m
 
-  done : (state new : InputRec) (move : Move) (m : AtWork) → Finds state → IsThere new → InState new m.rec.inputs → Does i move state new → Flowing move m → Done m
-  done state new move m finds there at does flows = record {
+  done : (state new : InputRec) (move : Move) (m : AtWork) → Finds state → Uses new → InState new m.rec.inputs → Does i move state new → Flowing move m → Done m
+  done state new move m finds used at does flows = record {
     move = move;
     state = state;
     finds = finds;
@@ -98,36 +102,32 @@ module _ (routes : Routes) (slot : Slot) (i : InputNumber) (m0 : AtWork) (within
     flows = record { own = flows.own; others = flows.others; out = flows.out; into = flows.into };
     others = at.others;
     works = record {
-      inputs = at.many;
-      links = flows.many_links;
-      chans = flows.many_chans;
+      switch = record { inputs = at.many; links = flows.many_links; used = all_used; gap = flows.gaps };
       tokens = flows.many_tokens;
-      there = all_there;
-      gaps = flows.gaps;
       once = flows.once;
     };
   }
     where
-      all_there : (j : InputNumber) (n : ChanNumber) → state_at m.rec j ≡ Local n → n < CHAN_ENDS
-      all_there j n is = elim (cases_eq j i) [
-        | inl same ↦ subst IsThere (sym at.is ∙ ap (state_at m.rec) (sym same) ∙ is) there
-        | inr other ↦ works.there j n (sym (at.others j other) ∙ is)
+      all_used : (j : InputNumber) (n : ChanNumber) → state_at m.rec j ≡ Local n → (chan_of m.rec.core n).used ≡ true
+      all_used j n is = flows.used n ∙ elim (cases_eq j i) [
+        | inl same ↦ subst Uses (sym at.is ∙ ap (state_at m.rec) (sym same) ∙ is) used
+        | inr other ↦ works.switch.used j n (sym (at.others j other) ∙ is)
       ]
 
   rests : (state : InputRec) (m : AtWork) → Before state m → Done m
-  rests state m h = done state state Rests m h.finds h.there h.at refl h.flows
+  rests state m h = done state state Rests m h.finds h.used h.at refl h.flows
 
   first : (state : InputRec) → old ≡ state → Before state m0
   first state is = record {
     finds = inl (sym is);
-    there = there_is state (λ n same. works.there i n (is ∙ same));
-    at = record { is = is; others = λ j other. refl; many = works.inputs };
+    used = used_is m0.rec.core state (λ n same. works.switch.used i n (is ∙ same));
+    at = record { is = is; others = λ j other. refl; many = works.switch.inputs };
     flows = flowed_itself routes slot i m0 works;
   }
 
   -- it finds its way
-  turns : (state new : InputRec) (m : AtWork) → Finds new → IsThere new → Before state m → Before new (to_state i new m)
-  turns state new m finds there h = record { finds = finds; there = there; at = sets state new m.rec.inputs h.at; flows = h.flows }
+  turns : (state new : InputRec) (m : AtWork) → Finds new → Uses new → Before state m → Before new (to_state i new m)
+  turns state new m finds used h = record { finds = finds; used = used; at = sets state new m.rec.inputs h.at; flows = h.flows }
 
   -- ---- The rules
 
@@ -156,7 +156,7 @@ module _ (routes : Routes) (slot : Slot) (i : InputNumber) (m0 : AtWork) (within
     takes_header (Out end headers dest) new t head is = absurd head
     takes_header Lost new t head is = absurd head
 
-    byte_is : (state : InputRec) (net b : ℕ) → IsHead state → IsOfHeader i (after_header net state b) × IsThere (after_header net state b)
+    byte_is : (state : InputRec) (net b : ℕ) → IsHead state → IsOfHeader i (after_header net state b) × Uses (after_header net state b)
     byte_is Idle net b head = (link, tt)
     byte_is (Head1 high) net b head = (link, tt)
     byte_is (Head2 high low) net b head = (link, tt)
@@ -182,14 +182,14 @@ module _ (routes : Routes) (slot : Slot) (i : InputNumber) (m0 : AtWork) (within
         done state new (TakesOff (Byte b)) (to_state i new (take_first i m)) h.finds is.1 (sets state new _ (taken_at state m h.at)) (takes_header state new (Byte b) head is.0)
         (takes_flowed routes slot i m0 (Byte b) rest m waits h.flows)
     head_does state (Ctrl c ∷ rest) m head waits h =
-        done state state (TakesOff (Ctrl c)) (take_first i m) h.finds h.there (taken_at state m h.at) (takes_header state state (Ctrl c) head (still_is state head))
+        done state state (TakesOff (Ctrl c)) (take_first i m) h.finds h.used (taken_at state m h.at) (takes_header state state (Ctrl c) head (still_is state head))
         (takes_flowed routes slot i m0 (Ctrl c) rest m waits h.flows)
 
   -- a token that is taken at an input that goes on up to END or PAUSE
-  first_does : (state : InputRec) (move : Move) (t : Token) (m : AtWork) → Finds state → IsThere state → InState state m.rec.inputs → Does i move state (after_first state t) → Flowing move m
+  first_does : (state : InputRec) (move : Move) (t : Token) (m : AtWork) → Finds state → Uses state → InState state m.rec.inputs → Does i move state (after_first state t) → Flowing move m
       → Done (after_token i state t m)
-  first_does state move t m finds there at does flows =
-      done state (after_first state t) move (after_token i state t m) finds (first_there (ends_packet t) state there) (sets state (after_first state t) m.rec.inputs at) does flows
+  first_does state move t m finds used at does flows =
+      done state (after_first state t) move (after_token i state t m) finds (first_used m0.rec.core (ends_packet t) state used) (sets state (after_first state t) m.rec.inputs at) does flows
 
   -- rule 6
   lost_does : (waiting : List Token) (m : AtWork) → Waits m waiting → Before Lost m → Done (lost_step i waiting m)
@@ -212,9 +212,9 @@ module _ (routes : Routes) (slot : Slot) (i : InputNumber) (m0 : AtWork) (within
       let at = taken_at (Local n) m h.at in
       let put = it_happens (happen.Chan n t) (put_into n t (take_first i m)) in
       cond_both (is_pause t) _ _ Done
-      (λ pause. first_does (Local n) (TakesOff t) t (take_first i m) h.finds h.there at (pause, pause_ends t (Local n) pause) taken)
+      (λ pause. first_does (Local n) (TakesOff t) t (take_first i m) h.finds h.used at (pause, pause_ends t (Local n) pause) taken)
       (λ other. cond_both (has_room 1 (chan_of m.rec.core n).input) _ m Done
-      (λ room. first_does (Local n) (Delivers n t) t put h.finds h.there at (refl, refl) (puts_flowed routes slot i m0 n t (take_first i m) h.there taken))
+      (λ room. first_does (Local n) (Delivers n t) t put h.finds h.used at (refl, refl) (puts_flowed routes slot i m0 n t (take_first i m) h.used taken))
       (λ full. rests (Local n) m h))
 
   -- rule 5
@@ -292,10 +292,7 @@ module _ (routes : Routes) (slot : Slot) (i : InputNumber) (m0 : AtWork) (within
         cond_both (not (nat_lt n CHAN_ENDS) || not (chan_of m.rec.core n).used) _ _ Done (λ lost. loses_does state m h)
         (λ there. cond_both (chan_is_held m.rec n) m _ Done (λ held. rests state m h)
         (λ free. local_does n (waiting_at next.rec i) next refl
-        (turns state (Local n) m (found (Local n) (refl, free_first (is_local_to n) state m refl (holds_no_chan n old wants) h free)) (low there) h)))
-      where
-        low : (not (nat_lt dest.chan CHAN_ENDS) || not (chan_of m.rec.core dest.chan).used) ≡ false → dest.chan < CHAN_ENDS
-        low there = ltb-true dest.chan CHAN_ENDS (not-false _ (or_parts _ _ there).0)
+        (turns state (Local n) m (found (Local n) (refl, free_first (is_local_to n) state m refl (holds_no_chan n old wants) h free)) (sym (h.flows.used n) ∙ not-false _ (or_parts _ _ there).1) h)))
     way_does state (Behind mask) m h =
         cond_both (mask == 0) _ _ Done (λ lost. loses_does state m h) (λ some. hold_does state (free_end m.rec mask 0 LINK_ENDS) m (found_free m.rec mask 0 LINK_ENDS) h)
 

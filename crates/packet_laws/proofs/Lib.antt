@@ -9,3 +9,4 @@ pub mod Nets
 pub mod Runs
 pub mod FlowBuffers
 pub mod FlowSteps
+pub mod FlowSlots

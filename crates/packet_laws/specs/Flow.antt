@@ -1,14 +1,19 @@
 -- One step of an input of the switch: what becomes of the tokens at a node, and of what its inputs hold.
 use Rattle.std.specs.Prelude.{ℕ, ◌≡◌, ◌≢◌, ◌⊎◌, ◌+◌, ◌<◌, ◌≤◌, ◌==◌, Bool, true, false, if◌then◌else◌, Option, Some, None, is_some, option_map, option_to_list, List, [], ◌∷◌, ◌++◌, length, slice_index, slice_index_or}
 use Rattle.xs_base.specs.Numbers.{Slot, ChanNumber, EndNumber, InputNumber}
-use Rattle.xs_base.specs.declared.numbers.TheConstants.{LINK_ENDS, CHAN_ENDS, INPUTS, HEADER_BYTES}
+use Rattle.xs_base.specs.declared.numbers.TheConstants.{LINK_ENDS, INPUTS, HEADER_BYTES}
 use Rattle.xs_base.specs.declared.token.Token.{Token}
 use Rattle.xs_base.specs.declared.token.Token.TheVariants.{Byte}
 use Rattle.xs_model.specs.declared.dest.Dest.{Dest}
 use Rattle.xs_model.specs.Dests.{dest_of}
 use Rattle.xs_model.specs.Record.{NodeRec, InputRec, Idle, Head1, Head2, Want, Local, Out, Lost, chan_of}
-use Rattle.xs_model.specs.AtWork.{AtWork}
+use Rattle.xs_model.specs.declared.outside.Arrivals.{Arrivals}
+use Rattle.xs_model.specs.declared.outside.PinView.{PinView}
+use Rattle.xs_model.specs.AtWork.{AtWork, slot_begins}
+use Rattle.net_model.specs.Links.{arrive}
 use Rattle.net_model.specs.Switch.{Routes, is_link_input, chan_of_input, link_at, waiting_at, state_at, is_local_to, is_out_by, ends_packet, is_pause, header_byte, end_may_send, input_step}
+use Rattle.step_model.specs.Fixed.{Fixed}
+use Rattle.step_model.specs.Step.{ports_step}
 
 -- ---- Where tokens go
 
@@ -92,15 +97,17 @@ MayBe rec _ _ = ⊥
 
 -- ---- Both, in one step
 
--- A node at work as it is before each of these steps: it has as many inputs, link ends and channel ends as every node has, an input holds only a
--- channel end that is there, link ends that are there have gaps, and one by which a token has left in the slot may send no other in it.
+-- a node has as many inputs and link ends as every node has, an input holds only a channel end that is in use, and link ends have gaps
+pub record IsSwitch (gaps : List ℕ) (rec : NodeRec) : Type 0 where
+  pub inputs : length rec.inputs ≡ INPUTS
+  pub links : length rec.links ≡ LINK_ENDS
+  pub used : (j : InputNumber) (n : ChanNumber) → state_at rec j ≡ Local n → (chan_of rec.core n).used ≡ true
+  pub gap : (e : EndNumber) → is_some (link_at rec e) ≡ true → 1 ≤ slice_index gaps e
+
+-- one at work is so before each of these steps, and a link end by which a token has left in the slot may send no other in it
 pub record Works (routes : Routes) (slot : Slot) (m : AtWork) : Type 0 where
-  pub inputs : length m.rec.inputs ≡ INPUTS
-  pub links : length m.rec.links ≡ LINK_ENDS
-  pub chans : length m.rec.core.chans ≡ CHAN_ENDS
+  pub switch : IsSwitch routes.gaps m.rec
   pub tokens : length m.tokens ≡ LINK_ENDS
-  pub there : (j : InputNumber) (n : ChanNumber) → state_at m.rec j ≡ Local n → n < CHAN_ENDS
-  pub gaps : (e : EndNumber) → is_some (link_at m.rec e) ≡ true → 1 ≤ slice_index routes.gaps e
   pub once : (e : EndNumber) → is_some (slice_index_or m.tokens e None) ≡ true → end_may_send routes slot e (link_at m.rec e) ≡ false
 
 pub record Steps (routes : Routes) (slot : Slot) (i : InputNumber) (m after : AtWork) : Type 0 where
@@ -116,3 +123,8 @@ pub record Steps (routes : Routes) (slot : Slot) (i : InputNumber) (m after : At
 abbrev pub SwitchesKeepTokens : Type 0
 SwitchesKeepTokens = (routes : Routes) (slot : Slot) (i : InputNumber) (m : AtWork) → i < INPUTS → Works routes slot m
     → Steps routes slot i m (input_step routes slot i m)
+
+-- so works a node that is so before a slot, when the inputs of its switch make their steps
+abbrev pub SwitchesWork : Type 0
+SwitchesWork = (fixed : Fixed) (rec : NodeRec) (slot : Slot) (arrivals : Arrivals) (pins : PinView) → IsSwitch fixed.routes.gaps rec
+    → Works fixed.routes slot (ports_step slot pins (arrive slot arrivals (slot_begins rec)))

@@ -1,7 +1,7 @@
 //! Laws of packets: what a link carries are whole packets, and the inputs of switches are where they end. See docs/NETWORKS.md.
 #![tactic(auto)]
 
-ghost use Rattle.packet_laws.specs.Flow.{SwitchesKeepTokens};
+ghost use Rattle.packet_laws.specs.Flow.{SwitchesKeepTokens, SwitchesWork};
 ghost use Rattle.packet_laws.specs.Whole.{PacketsAreWhole};
 
 /// For every plan, before every slot and for each directed link: the tokens that it has carried are packets one after the other, each with the
@@ -20,5 +20,6 @@ pub fn packets_are_whole()
 /// and lets it go with END or PAUSE alone; no other input's step changes that. So nothing that goes through a switch is lost, doubled,
 /// reordered or mixed with another packet. It does nothing. See docs/LINKS.md.
 pub fn switches_keep_tokens()
-    ensures { SwitchesKeepTokens }
+    ensures step { SwitchesKeepTokens }
+    ensures slot { SwitchesWork }
 {}
