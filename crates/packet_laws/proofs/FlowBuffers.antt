@@ -1,6 +1,6 @@
 -- What the parts of an input's step do to the buffers of a node, and to what has left by its link ends.
-use Rattle.std.proofs.Common.{◌≡◌, ◌≢◌, ◌⊎◌, inl, inr, ℕ, zero, suc, ◌+◌, ◌-◌, ◌<◌, ◌≤◌, ◌==◌, Bool, true, false, is_some, if◌then◌else◌, Option, Some, None, List, [], ◌∷◌, ◌++◌, length, get_or, slice_index, slice_set, drop, refl, sym, ap, subst, ◌∙◌, arith, append-nil, length-set, get_or-set_same, get_or-set_other}
-use Rattle.std.proofs.lemmas.Bool.{both_ways, cases_eq, cond_both, and_right, eq-eqb, ne_eqb, lt-leb, ltb-true, ltb-false}
+use Rattle.std.proofs.Common.{◌≡◌, ◌≢◌, ◌⊎◌, inl, inr, ℕ, zero, suc, ◌+◌, ◌<◌, ◌≤◌, ◌==◌, Bool, true, false, is_some, if◌then◌else◌, Option, Some, None, List, [], ◌∷◌, ◌++◌, length, get_or, slice_index, slice_set, drop, refl, sym, ap, subst, ◌∙◌, arith, append-nil, length-set, get_or-set_same, get_or-set_other}
+use Rattle.std.proofs.lemmas.Bool.{both_ways, cases_eq, cond_both, and_right, eq-eqb, ne_eqb, lt-leb, ltb-false}
 use Rattle.std.specs.Prelude.{option_to_list}
 use Rattle.xs_base.specs.Numbers.{Slot, ChanNumber, EndNumber, InputNumber}
 use Rattle.xs_base.specs.declared.numbers.TheConstants.{LINK_ENDS}
@@ -58,7 +58,8 @@ taken_output (chan ∷ chans) (suc c) = taken_output chans c
 
 -- what is read of a channel end stays, whichever one is set, if that one keeps it
 module _ {A : Type 0} (read : ChanRec → A) where
-  chan_same : (chans : List ChanRec) (c : ℕ) (new : ChanRec) (d : ℕ) → read new ≡ read (get_or chans c unused_chan) → read (get_or (slice_set chans c new) d unused_chan) ≡ read (get_or chans d unused_chan)
+  chan_same : (chans : List ChanRec) (c : ℕ) (new : ChanRec) (d : ℕ) → read new ≡ read (get_or chans c unused_chan)
+      → read (get_or (slice_set chans c new) d unused_chan) ≡ read (get_or chans d unused_chan)
   chan_same [] c new d same = refl
   chan_same (x ∷ chans) zero new zero same = same
   chan_same (x ∷ chans) zero new (suc d) same = refl
@@ -150,7 +151,7 @@ module _ (routes : Routes) (slot : Slot) (i : InputNumber) (m0 : AtWork) where
       let chans = slice_set m.rec.core.chans c (chan_without_first (chan_of m.rec.core c)) in
       record {
         own = h.own ∙ first ∙ ap (λ r. t ∷ r) (sym (ap (drop 1) (sym (its m.rec.core) ∙ first)) ∙ sym (taken_output m.rec.core.chans c) ∙ sym (its (record m.rec.core { chans = chans })));
-        others = λ j other. either_same (is_link_input j) _ _ _ _ (λ link. refl) (λ also. ap (λ (x : ChanRec). x.output) (get_or-set_other m.rec.core.chans c (chan_of_input j) _ unused_chan (apart j other also))) ∙ h.others j other;
+        others = λ j other. either_same (is_link_input j) _ _ _ _ (λ link. refl) (λ also. other_output j (apart j other also)) ∙ h.others j other;
         out = h.out;
         into = λ n. chan_same (λ x. x.input) m.rec.core.chans c _ n refl ∙ h.into n;
         many_links = h.many_links;
@@ -162,6 +163,13 @@ module _ (routes : Routes) (slot : Slot) (i : InputNumber) (m0 : AtWork) where
     where
       its : (core : CoreRec) → waits core m.rec.links i ≡ (chan_of core (chan_of_input i)).output
       its core = ap (λ test. if test then buffer_of_link (get_or m.rec.links i None) else (chan_of core (chan_of_input i)).output) chan
+
+      new : ChanRec
+      new = chan_without_first (chan_of m.rec.core (chan_of_input i))
+
+      other_output : (j : InputNumber) → chan_of_input j ≢ chan_of_input i
+          → (get_or (slice_set m.rec.core.chans (chan_of_input i) new) (chan_of_input j) unused_chan).output ≡ (chan_of m.rec.core (chan_of_input j)).output
+      other_output j other = ap (λ (x : ChanRec). x.output) (get_or-set_other m.rec.core.chans (chan_of_input i) (chan_of_input j) new unused_chan other)
 
       apart : (j : InputNumber) → j ≢ i → is_link_input j ≡ false → chan_of_input j ≢ chan_of_input i
       apart j other also same =
@@ -176,7 +184,8 @@ module _ (routes : Routes) (slot : Slot) (i : InputNumber) (m0 : AtWork) where
 
   pub puts_flowed : (n : ChanNumber) (t : Token) (m : AtWork) → (chan_of m0.rec.core n).used ≡ true → IsFlowed (TakesOff t) m → IsFlowed (Delivers n t) (put_into n t m)
   puts_flowed n t m is h =
-      let same = λ (j : InputNumber). either_same (is_link_input j) (buffer_of_link (get_or m.rec.links j None)) _ _ _ (λ link. refl) (λ chan. chan_same (λ x. x.output) m.rec.core.chans n new (chan_of_input j) refl) in
+      let same = λ (j : InputNumber).
+      either_same (is_link_input j) (buffer_of_link (get_or m.rec.links j None)) _ _ _ (λ link. refl) (λ chan. chan_same (λ x. x.output) m.rec.core.chans n new (chan_of_input j) refl) in
       record {
         own = h.own ∙ ap (λ r. t ∷ r) (sym (same i));
         others = λ j other. same j ∙ h.others j other;
@@ -211,7 +220,8 @@ module _ (routes : Routes) (slot : Slot) (i : InputNumber) (m0 : AtWork) where
     only k = if e == k then t ∷ [] else []
 
     -- where none has left by this move, to a move that takes the same and puts the same
-    sends_flowed : (move next : Move) (m : AtWork) → ((k : EndNumber) → sends move k ≡ []) → ((k : EndNumber) → sends next k ≡ only k) → takes next ≡ takes move → ((n : ChanNumber) → puts next n ≡ puts move n)
+    sends_flowed : (move next : Move) (m : AtWork) → ((k : EndNumber) → sends move k ≡ []) → ((k : EndNumber) → sends next k ≡ only k)
+        → takes next ≡ takes move → ((n : ChanNumber) → puts next n ≡ puts move n)
         → end_may_send routes slot e (link_at m.rec e) ≡ true → IsFlowed move m → IsFlowed next (send slot e t m)
     sends_flowed move next m none one as_taken as_put may h =
         let same = λ (j : InputNumber). either_same (is_link_input j) _ (chan_of m.rec.core (chan_of_input j)).output _ _ (λ link. send_buffer slot m.rec.links e j) (λ chan. refl) in

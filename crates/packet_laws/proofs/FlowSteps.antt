@@ -1,6 +1,6 @@
 -- One step of an input of the switch, rule by rule: what it does, of tokens and of what inputs hold.
 use Rattle.std.proofs.Common.{◌≡◌, ◌≢◌, ◌⊎◌, inl, inr, ℕ, zero, suc, ◌+◌, ◌<◌, ◌≤◌, ◌==◌, Bool, true, false, not, ◌||◌, ◌&&◌, nat_lt, IfSome, if◌then◌else◌, Option, Some, None, List, [], ◌∷◌, length, get_or, slice_set, refl, sym, ap, subst, ◌∙◌, arith, length-set, get_or-set_same, get_or-set_other}
-use Rattle.std.proofs.lemmas.Bool.{both_ways, cases_eq, cond_both, and_parts, not-true, not-false, ltb-true, ltb-false, or_parts, false≢true}
+use Rattle.std.proofs.lemmas.Bool.{cases_eq, cond_both, and_parts, not-true, not-false, ltb-true, ltb-false, or_parts, false≢true}
 use Rattle.std.specs.Prelude.{option_map}
 use Rattle.std.specs.Int.{bit_at}
 use Rattle.std.specs.List.{list_any}
@@ -275,7 +275,8 @@ module _ (routes : Routes) (slot : Slot) (i : InputNumber) (m0 : AtWork) (within
       | inr other ↦ ap test (sym (h.at.others j other)) ∙ none_at test m.rec.inputs idle none j
     ]
 
-    hold_does : (state : InputRec) (end : Option EndNumber) (m : AtWork) → IfSome end (λ e. end_is_held m.rec e ≡ false) → Before state m → Done (hold_end (λ e m. out_step routes slot i e 0 dest m) i dest end m)
+    hold_does : (state : InputRec) (end : Option EndNumber) (m : AtWork) → IfSome end (λ e. end_is_held m.rec e ≡ false) → Before state m
+        → Done (hold_end (λ e m. out_step routes slot i e 0 dest m) i dest end m)
     hold_does state None m free h = rests state m h
     hold_does state (Some e) m free h =
         let new = Out e 0 dest in
@@ -306,7 +307,7 @@ module _ (routes : Routes) (slot : Slot) (i : InputNumber) (m0 : AtWork) (within
     start_does net (Some id) is =
         let want = Want (dest_of id) net in
         let wants : wanted m0.rec i old ≡ Some (dest_of id) =
-            ap (wanted m0.rec i) idle ∙ ap (λ test. if test then None else option_map dest_of (chan_of m0.rec.core (chan_of_input i)).dest) chan ∙ ap (option_map dest_of) is in
+        ap (wanted m0.rec i) idle ∙ ap (λ test. if test then None else option_map dest_of (chan_of m0.rec.core (chan_of_input i)).dest) chan ∙ ap (option_map dest_of) is in
         want_does (dest_of id) wants want net (to_state i want m0) (turns Idle want m0 (found (dest_of id) wants want refl) tt (first Idle idle))
 
     packet_does : (waiting : List Token) → Done (packet_step (want_step routes slot i) i waiting m0)

@@ -1,5 +1,5 @@
 -- One step of an input of the switch: what becomes of the tokens at a node, and of what its inputs hold.
-use Rattle.std.specs.Prelude.{ℕ, ◌≡◌, ◌≢◌, ◌⊎◌, ◌+◌, ◌<◌, ◌≤◌, ◌==◌, Bool, true, false, if◌then◌else◌, Option, Some, None, is_some, option_map, option_to_list, List, [], ◌∷◌, ◌++◌, length, slice_index, slice_index_or}
+use Rattle.std.specs.Prelude.{ℕ, ◌≡◌, ◌≢◌, ◌⊎◌, ◌+◌, ◌<◌, ◌≤◌, ◌==◌, true, false, if◌then◌else◌, Option, Some, None, is_some, option_map, option_to_list, List, [], ◌∷◌, ◌++◌, length, slice_index, slice_index_or}
 use Rattle.xs_base.specs.Numbers.{Slot, ChanNumber, EndNumber, InputNumber}
 use Rattle.xs_base.specs.declared.numbers.TheConstants.{LINK_ENDS, INPUTS, HEADER_BYTES}
 use Rattle.xs_base.specs.declared.token.Token.{Token}
@@ -49,20 +49,20 @@ puts _ n = []
 abbrev pub left_by : AtWork → EndNumber → List Token
 left_by m e = option_to_list (slice_index_or m.tokens e None)
 
--- The move of input i, from a node at work to what it is after: all buffers of inputs, all input buffers of channel ends, and what has left by
--- all link ends. Nothing else is done to any of them.
+-- the move of input i, from a node at work to what it is after: of all that wait at inputs, of what has left by all link ends, and of all input
+-- buffers of channel ends
 pub record Flows (i : InputNumber) (move : Move) (m after : AtWork) : Type 0 where
   pub own : waiting_at m.rec i ≡ takes move ++ waiting_at after.rec i
   pub others : (j : InputNumber) → j ≢ i → waiting_at after.rec j ≡ waiting_at m.rec j
   pub out : (e : EndNumber) → left_by after e ≡ left_by m e ++ sends move e
   pub into : (n : ChanNumber) → (chan_of after.rec.core n).input ≡ (chan_of m.rec.core n).input ++ puts move n
 
--- ---- What inputs hold. An input that holds a link end or a channel end lets it go with END or PAUSE, and with nothing else.
+-- ---- What inputs hold. Tokens go only to what their input holds, and it lets go with END or PAUSE, and with nothing else.
 
 abbrev pub after_first : InputRec → Token → InputRec
 after_first state t = if ends_packet t then Idle else state
 
--- at the input of a link end, a token is of a header, and the input holds nothing after it
+-- where a token may be of a header: at the input of a link end, which holds nothing after it
 abbrev pub IsOfHeader : InputNumber → InputRec → Type 0
 IsOfHeader i (Local chan) = ⊥
 IsOfHeader i (Out end headers dest) = ⊥
