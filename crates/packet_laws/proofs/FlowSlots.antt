@@ -41,6 +41,8 @@ switch_works fixed rec slot arrivals pins h = record {
     inputs = h.inputs;
     links = as_many slot arrivals.tokens arrivals.credits 0 rec.links ∙ h.links;
     used = h.used;
+    chans = h.chans;
+    ends = h.ends;
     gap = λ e is. h.gap e (sym (still_there slot arrivals.tokens arrivals.credits 0 rec.links e) ∙ is);
   };
   tokens = refl;

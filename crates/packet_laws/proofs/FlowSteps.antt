@@ -1,6 +1,6 @@
 -- One step of an input of the switch, rule by rule: what it does, of tokens and of what inputs hold.
 use Rattle.std.proofs.Common.{◌≡◌, ◌≢◌, ◌⊎◌, inl, inr, ℕ, zero, suc, ◌+◌, ◌<◌, ◌≤◌, ◌==◌, Bool, true, false, not, ◌||◌, ◌&&◌, nat_lt, IfSome, if◌then◌else◌, Option, Some, None, List, [], ◌∷◌, length, get_or, slice_set, refl, sym, ap, subst, ◌∙◌, arith, length-set, get_or-set_same, get_or-set_other}
-use Rattle.std.proofs.lemmas.Bool.{cases_eq, cond_both, and_parts, not-true, not-false, ltb-true, ltb-false, or_parts, false≢true}
+use Rattle.std.proofs.lemmas.Bool.{cases_eq, eqb-true, cond_both, and_parts, not-true, not-false, ltb-true, ltb-false, or_parts, false≢true}
 use Rattle.std.specs.Prelude.{option_map}
 use Rattle.std.specs.Int.{bit_at}
 use Rattle.std.specs.List.{list_any}
@@ -57,6 +57,44 @@ module _ (core : CoreRec) where
   first_used true state used = tt
   first_used false state used = used
 
+-- what is held in a state was held in another
+record Holds (before after : InputRec) : Type 0 where
+  chan : (n : ChanNumber) → is_local_to n after ≡ true → is_local_to n before ≡ true
+  end : (e : EndNumber) → is_out_by e after ≡ true → is_out_by e before ≡ true
+
+holds_same : (state : InputRec) → Holds state state
+holds_same state = record { chan = λ n is. is; end = λ e is. is }
+
+holds_first : (ends : Bool) (state : InputRec) → Holds state (if ends then Idle else state)
+holds_first true state = record { chan = λ n is. absurd (false≢true is); end = λ e is. absurd (false≢true is) }
+holds_first false state = holds_same state
+
+-- an input held something, or no input did
+abbrev Took : (InputRec → Bool) → InputNumber → (InputNumber → InputRec) → Type 0
+Took test i before = (test (before i) ≡ true) ⊎ ((j : InputNumber) → test (before j) ≡ false)
+
+-- one input changes, and what it holds then it held before, or none did
+module _ (test : InputRec → Bool) (i : InputNumber) (before after : InputNumber → InputRec) (others : (j : InputNumber) → j ≢ i → after j ≡ before j) where
+  still_one : (test (after i) ≡ true → Took test i before) → ((j k : InputNumber) → test (before j) ≡ true → test (before k) ≡ true → j ≡ k)
+      → (j k : InputNumber) → test (after j) ≡ true → test (after k) ≡ true → j ≡ k
+  still_one took one j k this that = by (cases_eq j i) (cases_eq k i)
+    where
+      was : (j : InputNumber) → j ≢ i → test (after j) ≡ true → test (before j) ≡ true
+      was j other holds = ap test (sym (others j other)) ∙ holds
+
+      beside : (j : InputNumber) → j ≢ i → test (before j) ≡ true → Took test i before → i ≡ j
+      beside j other holds (inl its) = one i j its holds
+      beside j other holds (inr free) = absurd (false≢true (sym (free j) ∙ holds))
+
+      its : (j : InputNumber) → j ≡ i → test (after j) ≡ true → Took test i before
+      its j same holds = took (ap (λ k. test (after k)) (sym same) ∙ holds)
+
+      by : (j ≡ i) ⊎ (j ≡ i → ⊥) → (k ≡ i) ⊎ (k ≡ i → ⊥) → j ≡ k
+      by (inl j_is) (inl k_is) = j_is ∙ sym k_is
+      by (inl j_is) (inr k_other) = j_is ∙ beside k k_other (was k k_other that) (its j j_is this)
+      by (inr j_other) (inl k_is) = sym (k_is ∙ beside j j_other (was j j_other this) (its k k_is that))
+      by (inr j_other) (inr k_other) = one j k (was j j_other this) (was k k_other that)
+
 module _ (routes : Routes) (slot : Slot) (i : InputNumber) (m0 : AtWork) (within : i < INPUTS) (works : Works routes slot m0) where
   abbrev Flowing : Move → AtWork → Type 0
   Flowing move m = IsFlowed routes slot i m0 move m
@@ -83,6 +121,29 @@ module _ (routes : Routes) (slot : Slot) (i : InputNumber) (m0 : AtWork) (within
   abbrev Finds : InputRec → Type 0
   Finds state = (state ≡ old) ⊎ MayBe m0.rec (wanted m0.rec i old) state
 
+  -- what it holds it held before, or none did
+  finds_chan : (n : ChanNumber) (to : Option Dest) (state : InputRec) → (state ≡ old) ⊎ MayBe m0.rec to state → is_local_to n state ≡ true → Took (is_local_to n) i (state_at m0.rec)
+  finds_chan n to state (inl same) holds = inl (ap (is_local_to n) (sym same) ∙ holds)
+  finds_chan n to Idle (inr may) holds = absurd (false≢true holds)
+  finds_chan n to (Head1 high) (inr may) holds = absurd (false≢true holds)
+  finds_chan n to (Head2 high low) (inr may) holds = absurd (false≢true holds)
+  finds_chan n to (Want dest net) (inr may) holds = absurd (false≢true holds)
+  finds_chan n None (Local chan) (inr may) holds = absurd may
+  finds_chan n (Some dest) (Local chan) (inr may) holds = inr (subst (λ c. (j : InputNumber) → is_local_to c (state_at m0.rec j) ≡ false) (eqb-true chan n holds) may.1)
+  finds_chan n to (Out end headers dest) (inr may) holds = absurd (false≢true holds)
+  finds_chan n to Lost (inr may) holds = absurd (false≢true holds)
+
+  finds_end : (e : EndNumber) (to : Option Dest) (state : InputRec) → (state ≡ old) ⊎ MayBe m0.rec to state → is_out_by e state ≡ true → Took (is_out_by e) i (state_at m0.rec)
+  finds_end e to state (inl same) holds = inl (ap (is_out_by e) (sym same) ∙ holds)
+  finds_end e to Idle (inr may) holds = absurd (false≢true holds)
+  finds_end e to (Head1 high) (inr may) holds = absurd (false≢true holds)
+  finds_end e to (Head2 high low) (inr may) holds = absurd (false≢true holds)
+  finds_end e to (Want dest net) (inr may) holds = absurd (false≢true holds)
+  finds_end e to (Local chan) (inr may) holds = absurd (false≢true holds)
+  finds_end e None (Out end headers dest) (inr may) holds = absurd may
+  finds_end e (Some to) (Out end headers dest) (inr may) holds = inr (subst (λ k. (j : InputNumber) → is_out_by k (state_at m0.rec j) ≡ false) (eqb-true end e holds) may.2)
+  finds_end e to Lost (inr may) holds = absurd (false≢true holds)
+
   -- the input has found its way, as far as it does in this step, and no token has moved
   record Before (state : InputRec) (m : AtWork) : Type 0 where
     finds : Finds state
@@ -93,8 +154,8 @@ module _ (routes : Routes) (slot : Slot) (i : InputNumber) (m0 : AtWork) (within
   abbrev Done : AtWork → Type 0
   Done m = Steps routes slot i m0 m
 
-  done : (state new : InputRec) (move : Move) (m : AtWork) → Finds state → Uses new → InState new m.rec.inputs → Does i move state new → Flowing move m → Done m
-  done state new move m finds used at does flows = record {
+  done : (state new : InputRec) (move : Move) (m : AtWork) → Finds state → Uses new → Holds state new → InState new m.rec.inputs → Does i move state new → Flowing move m → Done m
+  done state new move m finds used holds at does flows = record {
     move = move;
     state = state;
     finds = finds;
@@ -102,7 +163,16 @@ module _ (routes : Routes) (slot : Slot) (i : InputNumber) (m0 : AtWork) (within
     flows = record { own = flows.own; others = flows.others; out = flows.out; into = flows.into };
     others = at.others;
     works = record {
-      switch = record { inputs = at.many; links = flows.many_links; used = all_used; gap = flows.gaps };
+      switch = record {
+        inputs = at.many;
+        links = flows.many_links;
+        used = all_used;
+        chans = λ n. still_one (is_local_to n) i (state_at m0.rec) (state_at m.rec) at.others
+            (λ is. finds_chan n (wanted m0.rec i old) state finds (holds.chan n (ap (is_local_to n) (sym at.is) ∙ is))) (works.switch.chans n);
+        ends = λ e. still_one (is_out_by e) i (state_at m0.rec) (state_at m.rec) at.others
+            (λ is. finds_end e (wanted m0.rec i old) state finds (holds.end e (ap (is_out_by e) (sym at.is) ∙ is))) (works.switch.ends e);
+        gap = flows.gaps;
+      };
       tokens = flows.many_tokens;
       once = flows.once;
     };
@@ -115,7 +185,7 @@ module _ (routes : Routes) (slot : Slot) (i : InputNumber) (m0 : AtWork) (within
       ]
 
   rests : (state : InputRec) (m : AtWork) → Before state m → Done m
-  rests state m h = done state state Rests m h.finds h.used h.at refl h.flows
+  rests state m h = done state state Rests m h.finds h.used (holds_same state) h.at refl h.flows
 
   first : (state : InputRec) → old ≡ state → Before state m0
   first state is = record {
@@ -156,10 +226,13 @@ module _ (routes : Routes) (slot : Slot) (i : InputNumber) (m0 : AtWork) (within
     takes_header (Out end headers dest) new t head is = absurd head
     takes_header Lost new t head is = absurd head
 
-    byte_is : (state : InputRec) (net b : ℕ) → IsHead state → IsOfHeader i (after_header net state b) × Uses (after_header net state b)
-    byte_is Idle net b head = (link, tt)
-    byte_is (Head1 high) net b head = (link, tt)
-    byte_is (Head2 high low) net b head = (link, tt)
+    holds_nothing : {state new : InputRec} → ((n : ChanNumber) → is_local_to n new ≡ false) → ((e : EndNumber) → is_out_by e new ≡ false) → Holds state new
+    holds_nothing chan end = record { chan = λ n is. absurd (false≢true (sym (chan n) ∙ is)); end = λ e is. absurd (false≢true (sym (end e) ∙ is)) }
+
+    byte_is : (state : InputRec) (net b : ℕ) → IsHead state → IsOfHeader i (after_header net state b) × Uses (after_header net state b) × Holds state (after_header net state b)
+    byte_is Idle net b head = (link, tt, holds_nothing (λ n. refl) (λ e. refl))
+    byte_is (Head1 high) net b head = (link, tt, holds_nothing (λ n. refl) (λ e. refl))
+    byte_is (Head2 high low) net b head = (link, tt, holds_nothing (λ n. refl) (λ e. refl))
     byte_is (Want dest to) net b head = absurd head
     byte_is (Local n) net b head = absurd head
     byte_is (Out end headers dest) net b head = absurd head
@@ -179,17 +252,19 @@ module _ (routes : Routes) (slot : Slot) (i : InputNumber) (m0 : AtWork) (within
     head_does state (Byte b ∷ rest) m head waits h =
         let new = after_header (net_of_end routes i) state b in
         let is = byte_is state (net_of_end routes i) b head in
-        done state new (TakesOff (Byte b)) (to_state i new (take_first i m)) h.finds is.1 (sets state new _ (taken_at state m h.at)) (takes_header state new (Byte b) head is.0)
+        done state new (TakesOff (Byte b)) (to_state i new (take_first i m)) h.finds is.1 is.2 (sets state new _ (taken_at state m h.at)) (takes_header state new (Byte b) head is.0)
         (takes_flowed routes slot i m0 (Byte b) rest m waits h.flows)
     head_does state (Ctrl c ∷ rest) m head waits h =
-        done state state (TakesOff (Ctrl c)) (take_first i m) h.finds h.used (taken_at state m h.at) (takes_header state state (Ctrl c) head (still_is state head))
+        done state state (TakesOff (Ctrl c)) (take_first i m) h.finds h.used (holds_same state) (taken_at state m h.at) (takes_header state state (Ctrl c) head (still_is state head))
         (takes_flowed routes slot i m0 (Ctrl c) rest m waits h.flows)
 
   -- a token that is taken at an input that goes on up to END or PAUSE
   first_does : (state : InputRec) (move : Move) (t : Token) (m : AtWork) → Finds state → Uses state → InState state m.rec.inputs → Does i move state (after_first state t) → Flowing move m
       → Done (after_token i state t m)
   first_does state move t m finds used at does flows =
-      done state (after_first state t) move (after_token i state t m) finds (first_used m0.rec.core (ends_packet t) state used) (sets state (after_first state t) m.rec.inputs at) does flows
+      let new = after_first state t in
+      let ends = ends_packet t in
+      done state new move (after_token i state t m) finds (first_used m0.rec.core ends state used) (holds_first ends state) (sets state new m.rec.inputs at) does flows
 
   -- rule 6
   lost_does : (waiting : List Token) (m : AtWork) → Waits m waiting → Before Lost m → Done (lost_step i waiting m)
@@ -236,9 +311,10 @@ module _ (routes : Routes) (slot : Slot) (i : InputNumber) (m0 : AtWork) (within
       let t = Byte (header_byte dest headers) in
       let state = Out e headers dest in
       let new = Out e (headers + 1) dest in
+      let one_more : Holds state new = record { chan = λ n is. is; end = λ k is. is } in
       cond_both (end_may_send routes slot e (link_at m.rec e)) _ m Done
       (λ may. cond_both (nat_lt headers HEADER_BYTES) _ _ Done
-      (λ less. done state new (SendsHeader e t) (to_state i new (send slot e t m)) h.finds tt (sets state new m.rec.inputs h.at) (refl, ltb-true headers HEADER_BYTES less, refl, refl)
+      (λ less. done state new (SendsHeader e t) (to_state i new (send slot e t m)) h.finds tt one_more (sets state new m.rec.inputs h.at) (refl, ltb-true headers HEADER_BYTES less, refl, refl)
       (header_flowed routes slot i m0 e t m may h.flows))
       (λ more. token_does e headers dest (waiting_at m.rec i) m (ltb-false headers HEADER_BYTES more) may refl h))
       (λ never. rests state m h)
@@ -284,7 +360,7 @@ module _ (routes : Routes) (slot : Slot) (i : InputNumber) (m0 : AtWork) (within
         (turns state new m (found new (refl, refl, free_first (is_out_by e) state m refl (holds_no_end e old wants) h free)) tt h)
 
     loses_does : (state : InputRec) (m : AtWork) → Before state m → Done (loses i dest m)
-    loses_does state m h = let next = turns state Lost m (found Lost tt) tt h in done Lost Lost Rests (loses i dest m) next.finds tt next.at refl next.flows
+    loses_does state m h = let next = turns state Lost m (found Lost tt) tt h in done Lost Lost Rests (loses i dest m) next.finds tt (holds_same Lost) next.at refl next.flows
 
     way_does : (state : InputRec) (way : Way) (m : AtWork) → Before state m → Done (want_way routes slot i dest way m)
     way_does state Here m h =

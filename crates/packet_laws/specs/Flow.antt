@@ -97,11 +97,14 @@ MayBe rec _ _ = ⊥
 
 -- ---- Both, in one step
 
--- a node has as many inputs and link ends as every node has, an input holds only a channel end that is in use, and link ends have gaps
+-- a node has as many inputs and link ends as every node has, an input holds only a channel end that is in use, no two inputs hold the same, and
+-- link ends have gaps
 pub record IsSwitch (gaps : List ℕ) (rec : NodeRec) : Type 0 where
   pub inputs : length rec.inputs ≡ INPUTS
   pub links : length rec.links ≡ LINK_ENDS
   pub used : (j : InputNumber) (n : ChanNumber) → state_at rec j ≡ Local n → (chan_of rec.core n).used ≡ true
+  pub chans : (n : ChanNumber) (j k : InputNumber) → is_local_to n (state_at rec j) ≡ true → is_local_to n (state_at rec k) ≡ true → j ≡ k
+  pub ends : (e : EndNumber) (j k : InputNumber) → is_out_by e (state_at rec j) ≡ true → is_out_by e (state_at rec k) ≡ true → j ≡ k
   pub gap : (e : EndNumber) → is_some (link_at rec e) ≡ true → 1 ≤ slice_index gaps e
 
 -- one at work is so before each of these steps, and a link end by which a token has left in the slot may send no other in it
