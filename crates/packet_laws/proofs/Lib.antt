@@ -7,3 +7,6 @@ pub mod Sending
 pub mod Places
 pub mod Nets
 pub mod Runs
+pub mod FlowBuffers
+pub mod FlowSteps
+pub mod FlowSlots
