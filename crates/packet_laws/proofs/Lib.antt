@@ -1,10 +1,10 @@
+pub mod LinkEnds
 pub mod Alike
+pub mod Places
 pub mod Taking
-pub mod SendingPlaces
 pub mod SendingInputs
 pub mod SendingMoves
 pub mod Sending
-pub mod Places
 pub mod Nets
 pub mod Runs
 pub mod FlowBuffers
