@@ -85,7 +85,7 @@ pub fn statuses_of_snapshots()
 {}
 
 /// By which statuses `routes` answers: `Done` exactly where the ranks and the system are taken, whatever the verdict, and `SystemFault` exactly
-/// where the ranks or the frame of the system are refused. See docs/NETWORKS.md.
+/// where the ranks or the frame of the system are refused. See docs/ROUTES.md.
 pub fn statuses_of_routes()
     ensures { RouteStatuses }
 {}

@@ -8,7 +8,7 @@ use Rattle.rank_model.specs.declared.verdict.Verdict.{Verdict}
 use Rattle.rank_model.specs.declared.verdict.Verdict.TheVariants.{NoWay, NoRank}
 use Rattle.rank_model.specs.Lines.{RanksRec}
 use Rattle.rank_model.specs.Next.{link_count, or_first, first_from}
-use Rattle.rank_model.specs.Verdicts.{number_at, is_cut_off, no_way_in, no_way_to, no_way_from, no_way, is_not_above, first_dest, no_rank_for, no_rank_between, no_rank_after, no_rank, yes_unless, verdict_of}
+use Rattle.rank_model.specs.Verdicts.{number_at, is_cut_off, no_way_in, no_way_to, no_way_from, no_way, does_not_rise, first_dest, no_rank_for, no_rank_between, no_rank_after, no_rank, yes_unless, verdict_of}
 use Rattle.rank_model.specs.Checks.{Checked, Refused, Judged, fault_of, unless_faulty, lines_checked, is_missing, ranks_by_link, judged, checked}
 use Rattle.xs1_top.specs.Routes.{NamesLinks}
 
@@ -48,7 +48,7 @@ ranks_name : (plan : PlanRec) (ranks : List ℕ) → IfSome (no_rank plan ranks)
 ranks_name plan ranks =
     first_holds (NamesLinks plan) (no_rank_after plan ranks) 0 (link_count plan) (λ l first.
     first_holds (NamesLinks plan) (no_rank_between plan ranks l) 0 (link_count plan) (λ k second.
-    rank_names plan (is_not_above ranks l k) l k (first_dest plan l k) (omega (arith, first)) (omega (arith, second))))
+    rank_names plan (does_not_rise ranks l k) l k (first_dest plan l k) (omega (arith, first)) (omega (arith, second))))
 
 yes_names : (plan : PlanRec) (found : Option Verdict) → IfSome found (NamesLinks plan) → NamesLinks plan (yes_unless found)
 yes_names plan None h = tt

@@ -1,0 +1,9 @@
+pub mod Alike
+pub mod Taking
+pub mod SendingPlaces
+pub mod SendingInputs
+pub mod SendingMoves
+pub mod Sending
+pub mod Places
+pub mod Nets
+pub mod Runs
