@@ -1,13 +1,11 @@
 -- Ranks of plans worked out by hand.
-use Rattle.std.specs.Prelude.{ℕ, ◌≡◌, true, false, Bool, Option, Some, None, List, [], ◌∷◌, map, replicate}
+use Rattle.std.specs.Prelude.{ℕ, ◌≡◌, true, false, Bool, Some, None, List, [], ◌∷◌, map, replicate}
 use Rattle.sys_plan.specs.declared.NodePlan.{NodePlan}
 use Rattle.sys_plan.specs.declared.LinkPlan.{LinkPlan}
 use Rattle.sys_plan.specs.Plan.{PlanRec, numbers_from}
 use Rattle.rank_model.specs.declared.rank_kind.RankKind.TheVariants.{NoSuchLinkEnd, GivenTwice, RankMissing}
 use Rattle.rank_model.specs.declared.rank_line.RankLine.{RankLine}
-use Rattle.rank_model.specs.declared.verdict.Verdict.{Verdict}
 use Rattle.rank_model.specs.declared.verdict.Verdict.TheVariants.{Yes, NoWay, NoRank}
-use Rattle.rank_model.specs.Lines.{RanksRec}
 use Rattle.rank_model.specs.Next.{link_count, id_at, net_of, is_next, has_next}
 use Rattle.rank_model.specs.Verdicts.{has_net, number_at, is_cut_off, no_way_in, no_way_to, no_way, goes_on, no_rank_between, verdict_of}
 use Rattle.rank_model.specs.Checks.{Checked, Refused, Judged, ranks_by_link, is_missing, checked}
