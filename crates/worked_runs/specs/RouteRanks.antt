@@ -153,6 +153,26 @@ pub record WorkedGoesOn : Type 0 where
   pub equal : no_rank_between one_net (2 ∷ 2 ∷ 2 ∷ 1 ∷ []) 0 2 ≡ Some (NoRank 0 2 2)
   pub falls : no_rank_between one_net (1 ∷ 1 ∷ 2 ∷ 9 ∷ []) 3 1 ≡ Some (NoRank 3 1 0)
 
+-- ---- Verdicts, which look at all 65,536 ids
+
+-- two nodes and a link, by which both may send on what is for bit 1 as well, as the mask says, though no node has such an id
+abbrev pub pair_of : ℕ → PlanRec
+pair_of first = record {
+  nodes = routing_node 3 0 1 first (replicate 8 0) ∷ routing_node 5 1 1 first (replicate 8 0) ∷ [];
+  links = link_of 0 0 1 0 0 ∷ [];
+  script = [];
+  steps = [];
+  wires = [];
+}
+
+pub record WorkedVerdicts : Type 0 where
+  -- the link's two directions may have one rank
+  pub pair : verdict_of (pair_of 0) (1 ∷ 1 ∷ []) ≡ Yes
+  -- but no ranks are right where a packet may turn back
+  pub turns : verdict_of (pair_of 1) (1 ∷ 2 ∷ []) ≡ NoRank 1 0 2
+  -- equal ranks along the line: the first pair of links is told, and the least id
+  pub equal : verdict_of one_net (2 ∷ 3 ∷ 2 ∷ 3 ∷ []) ≡ NoRank 0 2 2
+
 -- ---- Lines and ranks
 
 -- the rank of link end E of node N in a line

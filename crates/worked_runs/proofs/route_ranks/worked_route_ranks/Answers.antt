@@ -1,5 +1,6 @@
 use Rattle.std.proofs.Common.{refl}
 use Rattle.worked_runs.proofs.Computes.{computes}
+use Rattle.worked_runs.proofs.Verdicts.{pair-ways, pair-ranks, turns, equal}
 use Rattle.worked_runs.proofs.route_ranks.worked_route_ranks.Goals as goal
 
 pub returns-clause-next : goal.returns-clause-next
@@ -75,6 +76,9 @@ returns-clause-goes_on c = record {
   equal = refl;
   falls = refl;
 }
+
+pub returns-clause-verdicts : goal.returns-clause-verdicts
+returns-clause-verdicts c = record { pair = rw (pair-ways, pair-ranks); turns = turns; equal = equal }
 
 pub returns-clause-checks : goal.returns-clause-checks
 unfolding computes
