@@ -1,4 +1,5 @@
 mod Modes
+mod RouteStatuses
 mod SnapStatuses
 mod Statuses
 pub mod Numbers

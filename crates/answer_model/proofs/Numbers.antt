@@ -7,8 +7,8 @@ use Rattle.std.specs.Char.{is_ascii_digit}
 use Rattle.xs_text.specs.Numbers.{at_most, value_in}
 use Rattle.word_numbers.specs.Decimal.{decimal_up_to}
 use Rattle.answer_model.specs.declared.Form.{Form}
-use Rattle.answer_model.specs.declared.Form.TheVariants.{Free, Serial, Rounds, Play, Make, Check, Save, Resume}
-use Rattle.answer_model.specs.Forms.{most_slots, greatest_number, form_of_two, form_of_mode, form_of_words}
+use Rattle.answer_model.specs.declared.Form.TheVariants.{Free, Serial, Rounds, Play, Make, Check, Save, Resume, Routes}
+use Rattle.answer_model.specs.Forms.{most_slots, greatest_number, form_of_one, form_of_two, form_of_mode, form_of_words}
 use Rattle.answer_model.specs.Top.{answer, answer_of_form}
 use Rattle.answer_model.specs.MakeForm.{made_answer}
 
@@ -73,6 +73,12 @@ none_few n e = cc
 check_few : SaysFew (Some Check)
 check_few n e = cc
 
+routes_few : SaysFew (Some Routes)
+routes_few n e = cc
+
+one_few : (command : List ℕ) → SaysFew (form_of_one command)
+one_few command = choice_few (same_name (codes "check") command) _ _ check_few (choice_few (same_name (codes "routes") command) _ _ routes_few none_few)
+
 two_few : (command word : List ℕ) → SaysFew (form_of_two command word)
 two_few command word =
     choice_few _ _ _ (free_few (decimal_up_to most_slots word))
@@ -88,7 +94,7 @@ mode_few slots mode =
 pub number_is_small : (words : List (List ℕ)) (n : ℕ) → form_of_words words ≡ Some (Make n) → n < 4294967296
 unfolding form_of_words
 number_is_small [] n e = cc
-number_is_small (a ∷ []) n e = choice_few (same_name (codes "check") a) _ _ check_few none_few n e
+number_is_small (a ∷ []) n e = one_few a n e
 number_is_small (a ∷ word ∷ []) n e = two_few a word n e
 number_is_small (a ∷ word ∷ mode ∷ []) n e = choice_few (same_name (codes "run") a) _ _ (mode_few word mode) none_few n e
 number_is_small (a ∷ word ∷ mode ∷ more ∷ words) n e = cc

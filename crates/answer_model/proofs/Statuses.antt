@@ -3,7 +3,7 @@ use Rattle.std.proofs.Common.{◌≡◌, ℕ, ◌↔◌, List, Option, Some, Non
 use Rattle.sys_plan.specs.Plan.{PlanRec}
 use Rattle.system_model.specs.System.{System, Plan, Frame, Source, Pins, system_of}
 use Rattle.answer_model.specs.declared.Form.{Form}
-use Rattle.answer_model.specs.declared.Form.TheVariants.{Free, Serial, Rounds, Play, Make, Check, Save, Resume}
+use Rattle.answer_model.specs.declared.Form.TheVariants.{Free, Serial, Rounds, Play, Make, Check, Save, Resume, Routes}
 use Rattle.answer_model.specs.declared.Status.{Status}
 use Rattle.answer_model.specs.declared.Status.TheVariants as status
 use Rattle.answer_model.specs.Forms.{form_of_words}
@@ -29,15 +29,16 @@ of_form wanted IsOfKind tells (Some (Make number)) input h = absurd h
 of_form wanted IsOfKind tells (Some Check) input h = tells check_text (system_of input)
 of_form wanted IsOfKind tells (Some (Save slots)) input h = tells (saved_text input slots) (system_of input)
 of_form wanted IsOfKind tells (Some (Resume slots)) input h = absurd h
+of_form wanted IsOfKind tells (Some Routes) input h = absurd h
 
 exactly : (wanted : Status) (IsOfKind : System → Type 0) → Tells wanted IsOfKind → AnswersExactly wanted IsOfKind
 unfolding answer
 exactly wanted IsOfKind tells words input h = of_form wanted IsOfKind tells (form_of_words words) input h
 
-differ : (a b : Status) → ¬ (a ≡ b) → (a ≡ b) ↔ ⊥
+pub differ : (a b : Status) → ¬ (a ≡ b) → (a ≡ b) ↔ ⊥
 differ a b differs = (differs, λ h. absurd h)
 
-same : (a : Status) → (a ≡ a) ↔ Unit {0}
+pub same : (a : Status) → (a ≡ a) ↔ Unit {0}
 same a = (λ e. tt, λ h. refl)
 
 frame_told : Tells status.SystemFault IsFrameRefusal

@@ -3,7 +3,7 @@ use Rattle.std.specs.Prelude.{ℕ, Bool, true, false, if◌then◌else◌, Optio
 use Rattle.xs_instructions.specs.Image.{same_name}
 use Rattle.word_numbers.specs.Decimal.{decimal_up_to}
 use Rattle.answer_model.specs.declared.Form.{Form}
-use Rattle.answer_model.specs.declared.Form.TheVariants.{Free, Serial, Rounds, Play, Make, Check, Save, Resume}
+use Rattle.answer_model.specs.declared.Form.TheVariants.{Free, Serial, Rounds, Play, Make, Check, Save, Resume, Routes}
 
 abbrev pub most_slots : ℕ
 most_slots = 16000000
@@ -50,16 +50,20 @@ form_of_mode slots mode =
     if same_name (codes "free") mode then free_of slots
     else (if same_name (codes "serial") mode then serial_of slots else (if same_name (codes "rounds") mode then rounds_of slots else None))
 
--- the form of the words, if they have one: `check`, `play SLOTS`, `make NUMBER`, `save SLOTS`, `resume SLOTS`, `run SLOTS` and
+-- the form of one word
+abbrev pub form_of_one : List ℕ → Option Form
+form_of_one command = if same_name (codes "check") command then Some Check else (if same_name (codes "routes") command then Some Routes else None)
+
+-- the form of the words, if they have one: `check`, `routes`, `play SLOTS`, `make NUMBER`, `save SLOTS`, `resume SLOTS`, `run SLOTS` and
 -- `run SLOTS free`, which are the same, `run SLOTS serial`, or `run SLOTS rounds`
 unfoldable pub form_of_words : List (List ℕ) → Option Form
-form_of_words (a ∷ []) = if same_name (codes "check") a then Some Check else None
+form_of_words (a ∷ []) = form_of_one a
 form_of_words (a ∷ n ∷ []) = form_of_two a n
 form_of_words (a ∷ n ∷ mode ∷ []) = if same_name (codes "run") a then form_of_mode n mode else None
 form_of_words _ = None
 
 abbrev pub usage_text : List ℕ
-usage_text = codes "usage: xs1 run SLOTS [serial|free|rounds] | play SLOTS | make NUMBER | check | save SLOTS | resume SLOTS\n"
+usage_text = codes "usage: xs1 run SLOTS [serial|free|rounds] | play SLOTS | make NUMBER | check | save SLOTS | resume SLOTS | routes\n"
 
 -- whether a form asks for the input
 abbrev pub reads_input : Form → Bool
@@ -71,6 +75,7 @@ reads_input (Make number) = false
 reads_input Check = true
 reads_input (Save slots) = true
 reads_input (Resume slots) = true
+reads_input Routes = true
 
 -- whether words of this form, or of none, ask for the input
 abbrev pub asks_for_input : Option Form → Bool
@@ -87,6 +92,7 @@ may_wait (Make number) = false
 may_wait Check = false
 may_wait (Save slots) = false
 may_wait (Resume slots) = false
+may_wait Routes = false
 
 -- whether words of this form, or of none, may wait
 abbrev pub form_may_wait : Option Form → Bool

@@ -7,6 +7,8 @@ pub mod OnSystem
 pub mod PlayForm
 pub mod Refusals
 pub mod ResumeForm
+pub mod RouteStatuses
+pub mod RoutesForm
 pub mod RunForm
 pub mod SaveForm
 pub mod SnapStatuses

@@ -10,9 +10,9 @@ use Rattle.system_model.specs.declared.SysKind.TheVariants as sys
 use Rattle.system_model.specs.System.{System, longest_input, system_of}
 use Rattle.system_model.specs.System as system
 use Rattle.rank_model.specs.declared.rank_kind.RankKind.{RankKind}
-use Rattle.rank_model.specs.declared.rank_kind.RankKind.TheVariants as ranks
+use Rattle.rank_model.specs.declared.rank_kind.RankKind.TheVariants as kinds
 use Rattle.rank_model.specs.declared.verdict.Verdict.{Verdict}
-use Rattle.rank_model.specs.declared.verdict.Verdict.TheVariants as verdict
+use Rattle.rank_model.specs.declared.verdict.Verdict.TheVariants as verdicts
 use Rattle.rank_model.specs.Lines.{RanksRec, RanksRead, Ranks, BadLine, ranks_of, system_after}
 use Rattle.rank_model.specs.Next.{arc_at}
 use Rattle.rank_model.specs.Verdicts.{number_at}
@@ -49,7 +49,7 @@ routes_with ranks (system.Pins line kind) = Pins line kind
 -- by the lines before the system text. The lines of the system text count from 1
 abbrev pub routes_after : List ℕ → RanksRead → Routes
 routes_after input (Ranks ranks) = routes_with ranks (system_of (system_after input ranks))
-routes_after input (BadLine line) = BadRanks line ranks.BadLine
+routes_after input (BadLine line) = BadRanks line kinds.BadLine
 
 -- the whole input may be as long as a system text
 abbrev pub routes_of : List ℕ → Routes
@@ -58,10 +58,10 @@ routes_of input = if nat_lt longest_input (length input) then Frame 0 sys.TooLon
 -- ---- What is written
 
 abbrev pub text_of_rank_kind : RankKind → List ℕ
-text_of_rank_kind ranks.BadLine = codes "K1 bad line"
-text_of_rank_kind ranks.NoSuchLinkEnd = codes "K2 no such link end"
-text_of_rank_kind ranks.GivenTwice = codes "K3 given twice"
-text_of_rank_kind ranks.RankMissing = codes "K4 rank missing"
+text_of_rank_kind kinds.BadLine = codes "K1 bad line"
+text_of_rank_kind kinds.NoSuchLinkEnd = codes "K2 no such link end"
+text_of_rank_kind kinds.GivenTwice = codes "K3 given twice"
+text_of_rank_kind kinds.RankMissing = codes "K4 rank missing"
 
 -- `ranks line L: KIND TEXT`
 abbrev pub ranks_text : ℕ → RankKind → List ℕ
@@ -73,10 +73,10 @@ link_end_text plan l = codes " " ++ (decimal (number_at plan (arc_at plan l).fro
 
 -- `routes yes`, `no way N M net K`, or `no rank N:E M:F dest ID`
 abbrev pub verdict_text : PlanRec → Verdict → List ℕ
-verdict_text plan verdict.Yes = codes "routes yes\n"
-verdict_text plan (verdict.NoWay from to net) =
+verdict_text plan verdicts.Yes = codes "routes yes\n"
+verdict_text plan (verdicts.NoWay from to net) =
     codes "no way " ++ (decimal from ++ (codes " " ++ (decimal to ++ (codes " net " ++ (decimal net ++ (10 ∷ []))))))
-verdict_text plan (verdict.NoRank first second dest) =
+verdict_text plan (verdicts.NoRank first second dest) =
     codes "no rank" ++ (link_end_text plan first ++ (link_end_text plan second ++ (codes " dest " ++ (hex_word dest ++ (10 ∷ [])))))
 
 -- the verdict, whatever it is, or the line that refuses the input

@@ -2,7 +2,7 @@
 use Rattle.std.specs.Prelude.{ℕ, ◌≡◌, ◌↔◌, Option, Some, None, List}
 use Rattle.system_model.specs.System.{System, Plan, Frame, Source, Pins, system_of}
 use Rattle.answer_model.specs.declared.Form.{Form}
-use Rattle.answer_model.specs.declared.Form.TheVariants.{Free, Serial, Rounds, Play, Make, Check, Save, Resume}
+use Rattle.answer_model.specs.declared.Form.TheVariants.{Free, Serial, Rounds, Play, Make, Check, Save, Resume, Routes}
 use Rattle.answer_model.specs.declared.Status.{Status}
 use Rattle.answer_model.specs.declared.Status.TheVariants.{Done, Usage, SystemFault, SourceFault, ScriptFault}
 use Rattle.answer_model.specs.Forms.{form_of_words}
@@ -47,6 +47,7 @@ ReadsSystem (Some (Make number)) = ⊥
 ReadsSystem (Some Check) = Unit {0}
 ReadsSystem (Some (Save slots)) = Unit {0}
 ReadsSystem (Some (Resume slots)) = ⊥
+ReadsSystem (Some Routes) = ⊥
 
 -- to words of such a form, this status is answered exactly where the system of the input is of this kind
 abbrev pub AnswersExactly : Status → (System → Type 0) → Type 0

@@ -5,6 +5,7 @@
 ghost use Rattle.std.specs.Prelude.{◌≡◌};
 ghost use Rattle.answer_model.specs.Loads.{LoadsAreMade};
 ghost use Rattle.answer_model.specs.Modes.{ModesAreAlike};
+ghost use Rattle.answer_model.specs.RouteStatuses.{RouteStatuses};
 ghost use Rattle.answer_model.specs.SnapStatuses.{SnapStatuses};
 ghost use Rattle.answer_model.specs.StatusNumber.{number_of_status};
 ghost use Rattle.answer_model.specs.SystemStatuses.{SystemStatuses};
@@ -31,6 +32,8 @@ pub enum Form {
     Save(u32),
     /// `resume SLOTS`: what a run of so many slots comes to that goes on from a snapshot.
     Resume(u32),
+    /// `routes`: whether packets arrive in the system, by the ranks that stand before its text.
+    Routes,
 }
 
 /// How the program ends.
@@ -79,6 +82,12 @@ pub fn statuses_of_systems()
 /// `Done` exactly where it goes on from one, with the rest of the trace. See docs/SNAPSHOTS.md.
 pub fn statuses_of_snapshots()
     ensures { SnapStatuses }
+{}
+
+/// By which statuses `routes` answers: `Done` exactly where the ranks and the system are taken, whatever the verdict, and `SystemFault` exactly
+/// where the ranks or the frame of the system are refused. See docs/ROUTES.md.
+pub fn statuses_of_routes()
+    ensures { RouteStatuses }
 {}
 
 /// A run answers alike in all modes, whatever its slots and its input are: the same text, the same status, and as many bytes of the input

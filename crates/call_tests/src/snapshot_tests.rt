@@ -24,10 +24,30 @@ const OTHER_FOR_40: &[u8] =
 const LATER_FOR_40: &[u8] =
     b"link 0:0>1:0 tokens 4 credits 0\nlink 1:0>0:0 tokens 0 credits 4\nn0 mem 0x00010000 0x00010002\nend 40\n";
 
-// The snapshot of the pair before slot 20 as it was worked out by hand, with this word: zeros but for these bytes.
-fn pair_before_20(alloc: Global, word: &[u8]) -> Result<Vec<u8>, AllocError> {
+// A node that gets the first timer, channel end and lock and uses them; how many bytes its snapshot has; and the trace where the
+// snapshot says something of them before they are got.
+const GETS: &[u8] =
+    b"xs1 1\nnode 0 id 0\nsource 0\n  getr r0, 1\n  in r1, res[r0]\n  stw r1, dp[0]\n  getr r0, 2\n  getd r1, res[r0]\n  stw r1, dp[1]\n  getn r1, res[r0]\n  stw r1, dp[2]\n  int r1, res[r0]\n  stw r1, dp[3]\n  getr r0, 5\n  in r1, res[r0]\nend\n";
+
+const GETS_LENGTH: usize = 69_552;
+
+const GETS_FOR_60: &[u8] =
+    b"52 n0.t0 trap 4 pc 0x0004002c data 0x00000005\n52 n0.t0 halt\nn0.t0 halted\nn0 mem 0x00010000 0x00000003\nn0 mem 0x00010004 0x00050002\nn0 mem 0x0001000c 0x00000009\nend 60\n";
+
+// Zeros but for these fields, each from its byte on.
+fn laid_out(alloc: Global, fields: &[(usize, &[u8])]) -> Result<Vec<u8>, AllocError> {
     let mut bytes = Vec::new(alloc);
-    for (at, field) in [
+    for &(at, field) in fields {
+        let zeros = vec![in alloc; 0; at.saturating_sub(bytes.len())]?;
+        bytes.extend_from_slice(&zeros)?;
+        bytes.extend_from_slice(field)?;
+    }
+    Ok(bytes)
+}
+
+// The snapshot of the pair before slot 20 as it was worked out by hand, with this word.
+fn pair_before_20(alloc: Global, word: &[u8]) -> Result<Vec<u8>, AllocError> {
+    let fields = [
         (0, b"xs1 snapshot 1\n\xf5".as_slice()),
         (19, PAIR),
         // The slot.
@@ -56,12 +76,26 @@ fn pair_before_20(alloc: Global, word: &[u8]) -> Result<Vec<u8>, AllocError> {
         (138_909, b"\x01\0\0\0\x12\0\0\0\x02"),
         (138_930, b"\x01"),
         (LENGTH, b""),
-    ] {
-        let zeros = vec![in alloc; 0; at.saturating_sub(bytes.len())]?;
-        bytes.extend_from_slice(&zeros)?;
-        bytes.extend_from_slice(field)?;
-    }
-    Ok(bytes)
+    ];
+    laid_out(alloc, &fields)
+}
+
+// A snapshot of the node before slot 0, in which no resource is in use.
+fn gets_before_0(alloc: Global) -> Result<Vec<u8>, AllocError> {
+    let fields = [
+        (0, b"xs1 snapshot 1\n\xe0".as_slice()),
+        (19, GETS),
+        // The registers of thread 0, which goes.
+        (309, b"\x01\0\0\0\x01\0\xfc\xff\x01"),
+        (325, b"\x04"),
+        (359, b"\x03"),
+        // Channel end 0 has network 3, a destination and a byte that came; timer 0 the value 2 and a condition; lock 0 the owner 0.
+        (1_132, b"\x03\x01\x02\0\x05\0\0\x01\0\x09"),
+        (1_422, b"\x01\x02"),
+        (1_521, b"\x01"),
+        (GETS_LENGTH, b""),
+    ];
+    laid_out(alloc, &fields)
 }
 
 // What is answered to these words and this input.
@@ -96,6 +130,15 @@ fn goes_on_from_a_snapshot(rt: HostRuntime) -> Result<(), Fail> {
         let (ended, sink) = answer_to(&rt, rt.alloc(), &["resume", "40"], input)?;
         assert!(rt; ended == Status::Done && sink.bytes() == text);
     }
+    Ok(())
+}
+
+// The timer's condition holds from slot 12 on, and the thread that would own the lock owns it.
+#[test]
+fn gets_what_a_snapshot_says_of_resources_not_in_use(rt: HostRuntime) -> Result<(), Fail> {
+    let input = gets_before_0(rt.alloc())?;
+    let (ended, sink) = answer_to(&rt, rt.alloc(), &["resume", "60"], input)?;
+    assert!(rt; ended == Status::Done && sink.bytes() == GETS_FOR_60);
     Ok(())
 }
 

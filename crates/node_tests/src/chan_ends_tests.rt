@@ -251,6 +251,26 @@ fn a_network_is_kept_until_it_is_got_again(rt: HostRuntime) {
     );
 }
 
+// A state says that channel end 0 is not in use, and all else as it was.
+#[test]
+fn one_that_is_got_keeps_its_destination_and_its_tokens(rt: HostRuntime) {
+    let mut ends = two_in_use(&rt);
+    let set = (ends.set_net(0, 3), ends.set_dest(0, 0x00030102));
+    let put = (ends.put(0, END), ends.push_in(0, Token::Byte(5)));
+    assert!(rt; set == (Ok(()), Ok(())) && put == (Put::Done, true));
+    let mut states = ends.state();
+    states[0].used = false;
+    let mut ends = ChanEnds::of_state(3, &states);
+    let before = (ends.used(0), ends.net(0));
+    let got = (ends.alloc(), ends.net(0), ends.dest(0));
+    let kept = (ends.pop_out(0), ends.take_byte(0));
+    assert!(rt;
+        before == (false, 3)
+            && got == (Some(0), 0, Some(0x00030102))
+            && kept == (Some(END), Take::Got(5))
+    );
+}
+
 #[test]
 fn freed_where_nothing_is_left_in_it(rt: HostRuntime) {
     let mut ends = ChanEnds::new(3);

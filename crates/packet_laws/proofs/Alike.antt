@@ -30,6 +30,11 @@ send_buffer slot (link ∷ links) zero (suc j) = refl
 send_buffer slot (link ∷ links) (suc i) zero = refl
 send_buffer slot (link ∷ links) (suc i) (suc j) = send_buffer slot links i j
 
+-- what is true of each of two is true whichever it is
+pub either : (P : AtWork → Type 0) (holds : Bool) (x y : AtWork) → P x → P y → P (if holds then x else y)
+either P true x y this that = this
+either P false x y this that = that
+
 module _ (e : EndNumber) (m0 : AtWork) where
   -- input e is as it was, and so are what waits there, where it is a link end's, and whether a token has left
   pub record Alike (inputs : List InputRec) (links : List (Option LinkRec)) (credits : List Bool) : Type 0 where
@@ -44,10 +49,6 @@ module _ (e : EndNumber) (m0 : AtWork) where
 
   pub alike_itself : IsAlike m0
   alike_itself = record { state = refl; many = refl; buffer = refl; credit = refl; as_many = refl }
-
-  either : (holds : Bool) (x y : AtWork) → IsAlike x → IsAlike y → IsAlike (if holds then x else y)
-  either true x y this that = this
-  either false x y this that = that
 
   sends_alike : (slot : Slot) (end : EndNumber) (t : Token) (m : AtWork) → IsAlike m → IsAlike (send slot end t m)
   sends_alike slot end t m h = record { state = h.state; many = h.many; buffer = send_buffer slot m.rec.links end e ∙ h.buffer; credit = h.credit; as_many = h.as_many }
@@ -72,7 +73,7 @@ module _ (e : EndNumber) (m0 : AtWork) where
     }
 
     takes_alike : (m : AtWork) → IsAlike m → IsAlike (take_first i m)
-    takes_alike m h = either (is_link_input i) _ _ (without_first_alike m h) h
+    takes_alike m h = either IsAlike (is_link_input i) _ _ (without_first_alike m h) h
 
     token_alike : (state : InputRec) (t : Token) (m : AtWork) → IsAlike m → IsAlike (after_token i state t m)
     token_alike state t m h = sets_alike (if ends_packet t then Idle else state) m h
@@ -87,8 +88,8 @@ module _ (e : EndNumber) (m0 : AtWork) where
       local_alike n [] m h = h
       local_alike n (t ∷ rest) m h =
           let first = takes_alike m h in
-          either (is_pause t) _ _ (token_alike (Local n) t (take_first i m) first)
-          (either (has_room 1 (chan_of m.rec.core n).input) _ m (token_alike (Local n) t (it_happens (happen.Chan n t) (put_into n t (take_first i m))) first) h)
+          either IsAlike (is_pause t) _ _ (token_alike (Local n) t (take_first i m) first)
+          (either IsAlike (has_room 1 (chan_of m.rec.core n).input) _ m (token_alike (Local n) t (it_happens (happen.Chan n t) (put_into n t (take_first i m))) first) h)
 
       lost_alike : (waiting : List Token) (m : AtWork) → IsAlike m → IsAlike (lost_step i waiting m)
       lost_alike [] m h = h
@@ -102,8 +103,8 @@ module _ (e : EndNumber) (m0 : AtWork) where
       out_alike : (end : EndNumber) (headers : ℕ) (dest : Dest) (m : AtWork) → IsAlike m → IsAlike (out_step routes slot i end headers dest m)
       out_alike end headers dest m h =
           let header = Byte (header_byte dest headers) in
-          either (end_may_send routes slot end (link_at m.rec end)) _ m
-          (either (nat_lt headers HEADER_BYTES) _ _ (sets_alike (Out end (headers + 1) dest) (send slot end header m) (sends_alike slot end header m h))
+          either IsAlike (end_may_send routes slot end (link_at m.rec end)) _ m
+          (either IsAlike (nat_lt headers HEADER_BYTES) _ _ (sets_alike (Out end (headers + 1) dest) (send slot end header m) (sends_alike slot end header m h))
           (out_token_alike end headers dest (waiting_at m.rec i) m h)) h
 
       hold_alike : (dest : Dest) (end : Option EndNumber) (m : AtWork) → IsAlike m → IsAlike (hold_end (λ e m. out_step routes slot i e 0 dest m) i dest end m)
@@ -117,9 +118,9 @@ module _ (e : EndNumber) (m0 : AtWork) where
       way_alike dest Here m h =
           let n = dest.chan in
           let held = to_state i (Local n) m in
-          either (not (nat_lt n CHAN_ENDS) || not (chan_of m.rec.core n).used) _ _ (loses_alike dest m h)
-          (either (chan_is_held m.rec n) m _ h (local_alike n (waiting_at held.rec i) held (sets_alike (Local n) m h)))
-      way_alike dest (Behind mask) m h = either (mask == 0) _ _ (loses_alike dest m h) (hold_alike dest (free_end m.rec mask 0 LINK_ENDS) m h)
+          either IsAlike (not (nat_lt n CHAN_ENDS) || not (chan_of m.rec.core n).used) _ _ (loses_alike dest m h)
+          (either IsAlike (chan_is_held m.rec n) m _ h (local_alike n (waiting_at held.rec i) held (sets_alike (Local n) m h)))
+      way_alike dest (Behind mask) m h = either IsAlike (mask == 0) _ _ (loses_alike dest m h) (hold_alike dest (free_end m.rec mask 0 LINK_ENDS) m h)
 
       want_alike : (dest : Dest) (net : ℕ) (m : AtWork) → IsAlike m → IsAlike (want_step routes slot i dest net m)
       want_alike dest net m h = way_alike dest (way_to routes.id routes.ways routes.nets net dest.node) m h
@@ -133,9 +134,9 @@ module _ (e : EndNumber) (m0 : AtWork) where
       packet_alike (t ∷ rest) m h = let chan = chan_of m.rec.core (chan_of_input i) in start_alike chan.net chan.dest m h
 
       pub step_alike : (state : InputRec) (m : AtWork) → IsAlike m → IsAlike (step_at routes slot i state m)
-      step_alike Idle m h = either (is_link_input i) _ _ (head_alike Idle (waiting_at m.rec i) m h) (packet_alike (waiting_at m.rec i) m h)
-      step_alike (Head1 high) m h = either (is_link_input i) _ m (head_alike (Head1 high) (waiting_at m.rec i) m h) h
-      step_alike (Head2 high low) m h = either (is_link_input i) _ m (head_alike (Head2 high low) (waiting_at m.rec i) m h) h
+      step_alike Idle m h = either IsAlike (is_link_input i) _ _ (head_alike Idle (waiting_at m.rec i) m h) (packet_alike (waiting_at m.rec i) m h)
+      step_alike (Head1 high) m h = either IsAlike (is_link_input i) _ m (head_alike (Head1 high) (waiting_at m.rec i) m h) h
+      step_alike (Head2 high low) m h = either IsAlike (is_link_input i) _ m (head_alike (Head2 high low) (waiting_at m.rec i) m h) h
       step_alike (Want dest net) m h = want_alike dest net m h
       step_alike (Local n) m h = local_alike n (waiting_at m.rec i) m h
       step_alike (Out end headers dest) m h = out_alike end headers dest m h

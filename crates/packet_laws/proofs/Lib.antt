@@ -1,9 +1,12 @@
+pub mod LinkEnds
 pub mod Alike
+pub mod Places
 pub mod Taking
-pub mod SendingPlaces
 pub mod SendingInputs
 pub mod SendingMoves
 pub mod Sending
-pub mod Places
 pub mod Nets
 pub mod Runs
+pub mod FlowBuffers
+pub mod FlowSteps
+pub mod FlowSlots

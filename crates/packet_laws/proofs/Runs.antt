@@ -12,7 +12,7 @@ use Rattle.xs_model.specs.declared.dest.Dest.{Dest}
 use Rattle.xs_model.specs.Record.{NodeRec, InputRec, Idle, Out, first_node}
 use Rattle.net_model.specs.Ways.{Behind, first_difference, ends_of_net, way_at, way_to}
 use Rattle.net_model.specs.Links.{link_after_arrivals}
-use Rattle.net_model.specs.Switch.{state_at, is_out_by, buffer_of_link}
+use Rattle.net_model.specs.Switch.{state_at, is_out_by, buffer_of_link, link_at}
 use Rattle.sys_plan.specs.declared.NodePlan.{NodePlan}
 use Rattle.sys_plan.specs.Plan.{PlanRec, Arc, IsPlan, link_arcs, arcs, gaps_of}
 use Rattle.sys_plan.proofs.Routes.{IsDirected, directed, link-arc, gap-at}
@@ -28,9 +28,9 @@ use Rattle.link_laws.proofs.TravelEnds.{arrived}
 use Rattle.link_laws.proofs.TravelKept.{arrive-keeps}
 use Rattle.link_laws.proofs.TravelLists.{one_if, tokens-append, credits-append, sent-tokens, sent-credits}
 use Rattle.link_laws.proofs.TravelSerial.{Joined, joined}
-use Rattle.rank_model.specs.Next.{arc_at, no_arc, id_at, ways_at, nets_at, net_of, is_behind, is_next}
+use Rattle.rank_model.specs.Next.{arc_at, no_arc, id_at, ways_at, nets_at, net_of, is_behind, leads_by}
 use Rattle.packet_laws.specs.Packets.{Place, Between, place_of}
-use Rattle.packet_laws.specs.Whole.{leads, carried, taken, Sends, IsOnWay, IsAt, WholePackets}
+use Rattle.packet_laws.specs.Whole.{leads, carried, taken, Sends, SenderEnd, ReceiverEnd, IsOnWay, IsAt, WholePackets}
 use Rattle.packet_laws.proofs.Places.{GoesOn, goes_on_past, place_of_none}
 use Rattle.packet_laws.proofs.Nets.{is_of_net, nets_are_same}
 use Rattle.packet_laws.proofs.Taking.{Took, node_takes}
@@ -89,16 +89,9 @@ module _ (plan : PlanRec) (is : IsPlan plan) (l : ℕ) (d : Arc) (here : slice_g
     nets_are : nets_at plan v ≡ node.nets
     nets_are = get_or_from_slice_get (map (λ (x : NodePlan). x.nets) plan.nodes) v node.nets [] (map-at (λ (x : NodePlan). x.nets) plan.nodes v node node_is)
 
-    -- a directed link that leaves it by a link end of a mask is on the way that the mask is of
-    way_is : (by : ℕ) (dest : NodeId) (mask end k : ℕ) (e : Arc) → way_to node.id node.ways node.nets by dest ≡ Behind mask → bit_at mask end ≡ 1
-        → arc_at plan k ≡ e → e.from ≡ v → e.from_end ≡ end → is_next plan v by dest k ≡ true
-    way_is by dest mask end k e way bit arc leaves by_end =
-        let its_way : way_to (id_at plan v) (ways_at plan v) (nets_at plan v) by dest ≡ Behind mask = (λ i. way_to (id_is i) (ways_are i) (nets_are i) by dest) ∙ way in
-        let its_from : (arc_at plan k).from ≡ v = ap (λ (x : Arc). x.from) arc ∙ leaves in
-        let its_end : (arc_at plan k).from_end ≡ end = ap (λ (x : Arc). x.from_end) arc ∙ by_end in
-        let behind : is_behind (arc_at plan k).from_end (way_to (id_at plan v) (ways_at plan v) (nets_at plan v) by dest) ≡ true =
-        (λ i. is_behind (its_end i) (its_way i)) ∙ eq-eqb (bit_at mask end) 1 bit in
-        ap (λ (b : Bool). b && is_behind (arc_at plan k).from_end (way_to (id_at plan v) (ways_at plan v) (nets_at plan v) by dest)) (eq-eqb (arc_at plan k).from v its_from) ∙ behind
+    -- a link end of a mask is on the way that the mask is of
+    way_is : (by : ℕ) (dest : NodeId) (mask end : ℕ) → way_to node.id node.ways node.nets by dest ≡ Behind mask → bit_at mask end ≡ 1 → leads_by plan v by dest end ≡ true
+    way_is by dest mask end way bit = ap (is_behind end) ((λ i. way_to (id_is i) (ways_are i) (nets_are i) by dest) ∙ way) ∙ eq-eqb (bit_at mask end) 1 bit
 
   its_net : net ≡ slice_index from.0.nets d.from_end
   its_net = (λ i. slice_index (nets_at plan (its_arc i).from) (its_arc i).from_end) ∙ ap (λ nets. slice_index nets d.from_end) (nets_are d.from from.0 from.1)
@@ -120,15 +113,14 @@ module _ (plan : PlanRec) (is : IsPlan plan) (l : ℕ) (d : Arc) (here : slice_g
   sender_ways : (by : ℕ) (dest : NodeId) (mask : ℕ) → way_to from.0.id from.0.ways from.0.nets by dest ≡ Behind mask → bit_at mask d.from_end ≡ 1 → passes dest ≡ true
   sender_ways by dest mask way bit =
       let same : by ≡ net = mask_net by dest mask way bit in
-      let its_from : (arc_at plan l).from ≡ d.from = ap (λ (x : Arc). x.from) its_arc in
-      ap (λ v. is_next plan v net dest l) its_from
-      ∙ way_is d.from from.0 from.1 net dest mask d.from_end l d (ap (λ n. way_to from.0.id from.0.ways from.0.nets n dest) (sym same) ∙ way) bit its_arc refl refl
+      let leaves : leads_by plan d.from net dest d.from_end ≡ true =
+      way_is d.from from.0 from.1 net dest mask d.from_end (ap (λ n. way_to from.0.id from.0.ways from.0.nets n dest) (sym same) ∙ way) bit in
+      ap (λ (b : Bool). b && leads_by plan (arc_at plan l).from net dest (arc_at plan l).from_end) (eq-eqb (arc_at plan l).from (arc_at plan l).from refl)
+      ∙ ap (λ (x : Arc). leads_by plan x.from net dest x.from_end) its_arc ∙ leaves
 
   receiver_ways : (dest : NodeId) (mask : ℕ) (e : EndNumber) → e < LINK_ENDS → way_to to.0.id to.0.ways to.0.nets (slice_index to.0.nets d.to_end) dest ≡ Behind mask → bit_at mask e ≡ 1
       → IsOnWay plan d.to net dest e
-  receiver_ways dest mask e low way bit k other other_is leaves by_end =
-      way_is d.to to.0 to.1 net dest mask e k other (ap (λ n. way_to to.0.id to.0.ways to.0.nets n dest) (sym net_there) ∙ way) bit
-      (get_or_from_slice_get (link_arcs plan.links) k other no_arc other_is) leaves by_end
+  receiver_ways dest mask e low way bit = way_is d.to to.0 to.1 net dest mask e (ap (λ n. way_to to.0.id to.0.ways to.0.nets n dest) (sym net_there) ∙ way) bit
 
   -- ---- Before a slot
 
@@ -138,7 +130,8 @@ module _ (plan : PlanRec) (is : IsPlan plan) (l : ℕ) (d : Arc) (here : slice_g
   record Holds (system : SystemRec) : Type 0 where
     from_all : length (node_by system.nodes d.from).inputs ≡ INPUTS
     to_all : length (node_by system.nodes d.to).inputs ≡ INPUTS
-    whole : WholePackets plan system l d
+    sent : SenderEnd plan system l d
+    taken : ReceiverEnd plan system l d
 
   at_start : Holds (system_at_start plan)
   at_start =
@@ -158,13 +151,11 @@ module _ (plan : PlanRec) (is : IsPlan plan) (l : ℕ) (d : Arc) (here : slice_g
       record {
         from_all = ap (λ (rec : NodeRec). length rec.inputs) from_node;
         to_all = ap (λ (rec : NodeRec). length rec.inputs) to_node;
-        whole = record {
-          sent = subst₂ (Sends passes d.from_end) (sym (ap (λ (rec : NodeRec). rec.inputs) from_node)) (sym nothing) first_sends;
-          taken = record {
-            place = Between;
-            packets = ap (λ tokens. place_of passes (take (credits_of (slice_index_or (system_at_start plan).histories (opposite l) [])) tokens)) nothing ∙ none_taken (credits_of (slice_index_or (system_at_start plan).histories (opposite l) []));
-            at = subst (At Between) (sym (ap (λ (rec : NodeRec). state_at rec d.to_end) to_node ∙ idle_at INPUTS d.to_end)) tt;
-          };
+        sent = subst₂ (Sends passes d.from_end) (sym (ap (λ (rec : NodeRec). rec.inputs) from_node)) (sym nothing) first_sends;
+        taken = record {
+          place = Between;
+          packets = ap (λ tokens. place_of passes (take (credits_of (slice_index_or (system_at_start plan).histories (opposite l) [])) tokens)) nothing ∙ none_taken (credits_of (slice_index_or (system_at_start plan).histories (opposite l) []));
+          at = subst (At Between) (sym (ap (λ (rec : NodeRec). state_at rec d.to_end) to_node ∙ idle_at INPUTS d.to_end)) tt;
         };
       }
     where
@@ -241,7 +232,7 @@ module _ (plan : PlanRec) (is : IsPlan plan) (l : ℕ) (d : Arc) (here : slice_g
     sends_now =
         node_sends (fixed_of from.0 (gaps_of plan d.from)) j.from_node slot (arrivals_at plan system.histories slot d.from) (pins_at plan system.histories d.from slot) d.from_end passes (tokens_of j.forth)
         within.from_end (omega (arith, gap-at plan is l d here, within.gap)) sender_ways (sym (ap (λ (rec : NodeRec). length rec.inputs) from_was) ∙ h.from_all)
-        (subst₂ (Sends passes d.from_end) (ap (λ (rec : NodeRec). rec.inputs) from_was) carried_was h.whole.sent)
+        (subst₂ (Sends passes d.from_end) (ap (λ (rec : NodeRec). rec.inputs) from_was) carried_was h.sent)
 
     -- ---- The receiver
 
@@ -263,12 +254,12 @@ module _ (plan : PlanRec) (is : IsPlan plan) (l : ℕ) (d : Arc) (here : slice_g
         let history : IsHistory plan system.histories slot l d j.forth = record { plan_is = is; here = here; history_is = j.forth_is; inside = within.to_end } in
         λ i. buffer_of_link (link_after_arrivals slot (token-at plan system.histories slot l d j.forth history i) (credit-at plan system.histories slot l d j.forth history i) (j.receiver_is i))
 
-    took : Took passes (IsOnWay plan d.to net) net h.whole.taken.place waits credit (state_at to_step.rec d.to_end)
+    took : Took passes (IsOnWay plan d.to net) net h.taken.place waits credit (state_at to_step.rec d.to_end)
     took =
-        subst₂ (λ n tokens. Took passes (IsOnWay plan d.to net) n h.whole.taken.place tokens credit (state_at to_step.rec d.to_end)) net_there arrived_is
-        (node_takes (fixed_of to.0 (gaps_of plan d.to)) j.to_node slot (arrivals_at plan system.histories slot d.to) (pins_at plan system.histories d.to slot) d.to_end passes (IsOnWay plan d.to net) h.whole.taken.place
+        subst₂ (λ n tokens. Took passes (IsOnWay plan d.to net) n h.taken.place tokens credit (state_at to_step.rec d.to_end)) net_there arrived_is
+        (node_takes (fixed_of to.0 (gaps_of plan d.to)) j.to_node slot (arrivals_at plan system.histories slot d.to) (pins_at plan system.histories d.to slot) d.to_end passes (IsOnWay plan d.to net) h.taken.place
         within.to_end (sym (ap (λ (rec : NodeRec). length rec.inputs) to_was) ∙ h.to_all) receiver_ways
-        (subst₂ (λ n rec. IsAt (IsOnWay plan d.to net) n h.whole.taken.place (state_at rec d.to_end)) (sym net_there) to_was h.whole.taken.at))
+        (subst₂ (λ n rec. IsAt (IsOnWay plan d.to net) n h.taken.place (state_at rec d.to_end)) (sym net_there) to_was h.taken.at))
 
     -- the place where all that was taken ends
     record Ends (tokens : List Token) (state : InputRec) : Type 0 where
@@ -276,21 +267,21 @@ module _ (plan : PlanRec) (is : IsPlan plan) (l : ℕ) (d : Arc) (here : slice_g
       packets : place_of passes tokens ≡ Some place
       at : At place state
 
-    was_taken : place_of passes j.taken ≡ Some h.whole.taken.place
-    was_taken = ap (place_of passes) (sym taken_was) ∙ h.whole.taken.packets
+    was_taken : place_of passes j.taken ≡ Some h.taken.place
+    was_taken = ap (place_of passes) (sym taken_was) ∙ h.taken.packets
 
-    takes_now : (tokens : List Token) (gone : Bool) (state : InputRec) → tokens_of j.forth ≡ j.taken ++ (tokens ++ flight) → Took passes (IsOnWay plan d.to net) net h.whole.taken.place tokens gone state
+    takes_now : (tokens : List Token) (gone : Bool) (state : InputRec) → tokens_of j.forth ≡ j.taken ++ (tokens ++ flight) → Took passes (IsOnWay plan d.to net) net h.taken.place tokens gone state
         → Ends (take (length j.taken + one_if gone) (tokens_of j.forth ++ option_to_list token)) state
     takes_now tokens false state all its =
         record {
-          place = h.whole.taken.place;
+          place = h.taken.place;
           packets = ap (place_of passes) (ap₂ take {y = length j.taken} (omega arith) (ap (λ ts. ts ++ option_to_list token) all ∙ simp append_assoc) ∙ take_first_part j.taken (tokens ++ (flight ++ option_to_list token)) (length j.taken) refl) ∙ was_taken;
           at = its;
         }
     takes_now [] true state all its = absurd its
     takes_now (t ∷ rest) true state all its =
-        let more : GoesOn passes j.taken h.whole.taken.place t =
-        goes_on_past passes j.taken t (rest ++ flight) h.whole.taken.place h.whole.sent.place was_taken (ap (place_of passes) (sym all ∙ sym carried_was) ∙ h.whole.sent.packets) in
+        let more : GoesOn passes j.taken h.taken.place t =
+        goes_on_past passes j.taken t (rest ++ flight) h.taken.place h.sent.place was_taken (ap (place_of passes) (sym all ∙ sym carried_was) ∙ h.sent.packets) in
         record {
           place = more.next;
           packets = ap (place_of passes) (take_one t rest all) ∙ more.whole;
@@ -310,13 +301,11 @@ module _ (plan : PlanRec) (is : IsPlan plan) (l : ℕ) (d : Arc) (here : slice_g
               ∙ sym (ap (λ (rec : NodeRec). length rec.inputs) from_was) ∙ h.from_all;
           to_all = ap (λ (rec : NodeRec). length rec.inputs) to_now ∙ node_counts (fixed_of to.0 (gaps_of plan d.to)) j.to_node slot (arrivals_at plan system.histories slot d.to) (pins_at plan system.histories d.to slot)
               ∙ sym (ap (λ (rec : NodeRec). length rec.inputs) to_was) ∙ h.to_all;
-          whole = record {
-            sent = subst₂ (Sends passes d.from_end) (sym (ap (λ (rec : NodeRec). rec.inputs) from_now)) (sym carried_now) sends_now;
-            taken = record {
-              place = ends.place;
-              packets = ap (place_of passes) (ap₂ take credits_now carried_now) ∙ ends.packets;
-              at = subst (At ends.place) (sym (ap (λ (rec : NodeRec). state_at rec d.to_end) to_now)) ends.at;
-            };
+          sent = subst₂ (Sends passes d.from_end) (sym (ap (λ (rec : NodeRec). rec.inputs) from_now)) (sym carried_now) sends_now;
+          taken = record {
+            place = ends.place;
+            packets = ap (place_of passes) (ap₂ take credits_now carried_now) ∙ ends.packets;
+            at = subst (At ends.place) (sym (ap (λ (rec : NodeRec). state_at rec d.to_end) to_now)) ends.at;
           };
         }
 
@@ -326,4 +315,15 @@ module _ (plan : PlanRec) (is : IsPlan plan) (l : ℕ) (d : Arc) (here : slice_g
   holds (suc slot) = next_slot (serial plan slot) slot (joined plan is l d here slot_at_link_end slot) (holds slot)
 
   pub whole_packets : (slot : ℕ) → WholePackets plan (serial plan slot) l d
-  whole_packets slot = (holds slot).whole
+  whole_packets slot =
+      let system = serial plan slot in
+      let j : Joined system slot l d = joined plan is l d here slot_at_link_end slot in
+      let h = holds slot in
+      let waiting : buffer_of_link (link_at (node_by system.nodes d.to) d.to_end) ≡ j.receiver.buffer = ap (λ (rec : NodeRec). buffer_of_link (link_at rec d.to_end)) (to_was system slot j h) ∙ ap buffer_of_link j.receiver_is in
+      record {
+        sender = h.sent;
+        receiver = h.taken;
+        on_their_way = tokens_of (in_flight slot d.delay j.forth);
+        order = carried_was system slot j h ∙ j.kept.order
+            ∙ (λ i. sym (taken_was system slot j h) i ++ (sym waiting i ++ tokens_of (in_flight slot d.delay j.forth)));
+      }

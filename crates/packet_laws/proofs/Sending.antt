@@ -15,11 +15,11 @@ use Rattle.net_model.specs.Links.{arrive}
 use Rattle.step_model.specs.Fixed.{Fixed}
 use Rattle.step_model.specs.Step.{node_step, ports_step}
 use Rattle.packet_laws.specs.Whole.{Sends}
-use Rattle.packet_laws.proofs.SendingMoves.{AllPass, SendsSo, Good, moves_so}
+use Rattle.packet_laws.proofs.SendingMoves.{AllPass, Good, moves_so}
 
 module _ (fixed : Fixed) (rec : NodeRec) (slot : Slot) (arrivals : Arrivals) (pins : PinView) (e : EndNumber) (passes : NodeId → Bool)
-  (before : List Token) (low : e < LINK_ENDS) (long : 1 ≤ slice_index fixed.routes.gaps e) (ways : AllPass fixed.routes passes e)
-  (all : length rec.inputs ≡ INPUTS) (sends : Sends passes e rec.inputs before) where
+    (before : List Token) (low : e < LINK_ENDS) (long : 1 ≤ slice_index fixed.routes.gaps e) (ways : AllPass fixed.routes passes e)
+    (all : length rec.inputs ≡ INPUTS) (sends : Sends passes e rec.inputs before) where
   -- before the switch's steps nothing has left
   first_so : Good fixed.routes slot passes e before (ports_step slot pins (arrive slot arrivals (slot_begins rec)))
   first_so =
@@ -32,17 +32,9 @@ module _ (fixed : Fixed) (rec : NodeRec) (slot : Slot) (arrivals : Arrivals) (pi
         sends = subst (Sends passes e rec.inputs) (sym (ap (λ token. before ++ option_to_list token) none ∙ append-nil before)) sends;
       }
 
-  node_so : let after = node_step fixed rec slot arrivals pins in
-      SendsSo fixed.routes slot passes e before after.rec.inputs after.rec.links after.emitted.tokens
-  unfolding node_step
-  node_so =
-      let edged = ports_step slot pins (arrive slot arrivals (slot_begins rec)) in
-      moves_so fixed.routes slot passes e before long ways 0 INPUTS edged (omega arith) first_so
-
-  -- it has as many inputs as before
-  pub node_inputs : length (node_step fixed rec slot arrivals pins).rec.inputs ≡ INPUTS
-  node_inputs = node_so.all
-
   pub node_sends : let after = node_step fixed rec slot arrivals pins in
       Sends passes e after.rec.inputs (before ++ option_to_list (slice_index_or after.emitted.tokens e None))
-  node_sends = node_so.sends
+  unfolding node_step
+  node_sends =
+      let edged = ports_step slot pins (arrive slot arrivals (slot_begins rec)) in
+      (moves_so fixed.routes slot passes e before long ways 0 INPUTS edged (omega arith) first_so).sends

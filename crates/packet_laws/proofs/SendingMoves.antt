@@ -1,9 +1,8 @@
 -- The switch and one link end: in a slot at most one token leaves by it, and it is the next one of the packet of the input that holds it.
-use Rattle.std.proofs.Common.{◌≡◌, ◌⊎◌, inl, inr, ℕ, zero, suc, ◌+◌, ◌<◌, ◌≤◌, ◌==◌, Bool, true, false, not, ◌||◌, ◌&&◌, nat_lt, is_some, IfSome, if◌then◌else◌, Option, Some, None, List, [], ◌∷◌, ◌++◌, length, get_or, slice_index, slice_set, refl, ap, sym, subst, ◌∙◌, append-nil, length-set, get_or-set_same, get_or-set_other, arith}
-use Rattle.std.proofs.lemmas.Bool.{both_ways, cases_eq, cond_both, and_parts, and_right, not-true, eqb-true, eq-eqb, ne_eqb, lt-leb, ltb-true, ltb-false, false_from_ne_true, or_parts}
+use Rattle.std.proofs.Common.{◌≡◌, ◌⊎◌, inl, inr, ℕ, zero, suc, ◌+◌, ◌<◌, ◌≤◌, ◌==◌, Bool, true, false, not, ◌||◌, nat_lt, is_some, IfSome, if◌then◌else◌, Option, Some, None, List, [], ◌∷◌, ◌++◌, length, get_or, slice_index, slice_set, refl, ap, sym, subst, ◌∙◌, append-nil, length-set, get_or-set_same, get_or-set_other, arith}
+use Rattle.std.proofs.lemmas.Bool.{both_ways, cases_eq, cond_both, eq-eqb, ne_eqb, ltb-true, ltb-false, false_from_ne_true}
 use Rattle.std.specs.Prelude.{option_to_list}
 use Rattle.std.specs.Int.{bit_at}
-use Rattle.std.specs.List.{list_any}
 use Rattle.xs_base.specs.Numbers.{Slot, NodeId, ChanNumber, EndNumber, InputNumber, Identifier}
 use Rattle.xs_base.specs.declared.numbers.TheConstants.{LINK_ENDS, CHAN_ENDS, INPUTS, HEADER_BYTES}
 use Rattle.xs_base.specs.declared.token.Token.{Token}
@@ -11,60 +10,21 @@ use Rattle.xs_base.specs.declared.token.Token.TheVariants.{Byte, Ctrl}
 use Rattle.xs_model.specs.declared.event.Happen.TheVariants as happen
 use Rattle.xs_model.specs.declared.dest.Dest.{Dest}
 use Rattle.xs_model.specs.Dests.{dest_of}
-use Rattle.xs_model.specs.Record.{NodeRec, LinkRec, InputRec, Idle, Head1, Head2, Want, Local, Out, Lost, chan_of}
+use Rattle.xs_model.specs.Record.{LinkRec, InputRec, Idle, Head1, Head2, Want, Local, Out, Lost, chan_of}
 use Rattle.xs_model.specs.Waits.{has_room}
 use Rattle.xs_model.specs.AtWork.{AtWork, it_happens}
-use Rattle.net_model.specs.Links.{gap_is_over}
 use Rattle.net_model.specs.Ways.{Way, Here, Behind, way_to}
 use Rattle.net_model.specs.Switch.{Routes, net_of_end, is_link_input, is_out_by, chan_of_input, sent_in, to_state, waiting_at, state_at, chan_is_held, end_is_held, link_at, free_end, take_first, end_may_send, ends_packet, after_token, put_into, send, start_packet, packet_step, after_header, header_byte, head_step, hold_end, is_pause, local_step, out_token, out_step, lost_step, want_way, want_step, step_at, moves_from}
-use Rattle.link_laws.proofs.SlotAtEnd.{latest_is}
 use Rattle.link_laws.proofs.SlotAtEndLists.{may_after_take}
 use Rattle.packet_laws.specs.Packets.{Place, Between, place_after, place_of, place_sent}
 use Rattle.packet_laws.specs.Whole.{Sends}
-use Rattle.packet_laws.proofs.SendingPlaces.{one_more, one_header, one_token}
+use Rattle.packet_laws.proofs.LinkEnds.{IsFreeEnd, free_end_is, none_at, may_still, not_again_at}
+use Rattle.packet_laws.proofs.Places.{one_more, one_header, one_token}
 use Rattle.packet_laws.proofs.SendingInputs.{at, is_out, IsCutAt, still_sends, alone_sends}
-
--- ---- A link end that is free
-
--- one of a mask, which no input holds
-record IsFreeEnd (rec : NodeRec) (mask : ℕ) (end : EndNumber) : Type 0 where
-  in_mask : bit_at mask end ≡ 1
-  free : end_is_held rec end ≡ false
-
-free_is : (rec : NodeRec) (mask end count : ℕ) → IfSome (free_end rec mask end count) (IsFreeEnd rec mask)
-unfolding free_end
-free_is rec mask end zero = tt
-free_is rec mask end (suc count) =
-    cond_both ((bit_at mask end == 1) && not (end_is_held rec end)) (Some end) _ (λ found. IfSome found (IsFreeEnd rec mask))
-    (λ yes.
-    let parts = and_parts (bit_at mask end == 1) (not (end_is_held rec end)) yes in
-    record { in_mask = eqb-true (bit_at mask end) 1 parts.0; free = not-true (end_is_held rec end) parts.1 })
-    (λ other. free_is rec mask (end + 1) count)
-
-none_holds : (e : EndNumber) (inputs : List InputRec) → list_any (is_out_by e) inputs ≡ false → (j : InputNumber) → is_out_by e (at inputs j) ≡ false
-none_holds e [] none j = refl
-none_holds e (first ∷ inputs) none zero = (or_parts (is_out_by e first) (list_any (is_out_by e) inputs) none).0
-none_holds e (first ∷ inputs) none (suc j) = none_holds e inputs (or_parts (is_out_by e first) (list_any (is_out_by e) inputs) none).1 j
 
 nothing_there : (token : Option Token) → (is_some token ≡ true → ⊥) → token ≡ None
 nothing_there None never = refl
 nothing_there (Some t) never = absurd (never refl)
-
--- ---- A link end that sent in a slot may not send again in it
-
-module _ (routes : Routes) (slot : Slot) (e : EndNumber) (long : 1 ≤ slice_index routes.gaps e) where
-  not_again : (link : Option LinkRec) → end_may_send routes slot e (sent_in slot link) ≡ false
-  not_again None = refl
-  not_again (Some link) =
-      let gap = slice_index routes.gaps e in
-      and_right _ _ (ap (gap_is_over gap slot) (latest_is link.sent slot) ∙ lt-leb (slot + gap) slot (omega arith))
-
-  -- the link end has place j here
-  not_again_at : (links : List (Option LinkRec)) (j : ℕ) →
-      end_may_send routes slot e (get_or (slice_set links j (sent_in slot (get_or links j None))) j None) ≡ false
-  not_again_at [] j = refl
-  not_again_at (link ∷ links) zero = not_again link
-  not_again_at (link ∷ links) (suc j) = not_again_at links j
 
 -- each id that lies behind a link end, in whatever network, passes
 abbrev pub AllPass : Routes → (NodeId → Bool) → EndNumber → Type 0
@@ -107,29 +67,29 @@ module _ (routes : Routes) (slot : Slot) (passes : NodeId → Bool) (e : EndNumb
       take_in : (state : InputRec) (m : AtWork) → In state m → In state (take_first i m)
       take_in state m h =
           cond_both (is_link_input i) _ _ (In state)
-          (λ link. (record {
-            has_token = h.0.has_token;
-            all = h.0.all;
-            once = λ gone. may_after_take routes slot m.rec.links i e ∙ h.0.once gone;
-            sends = h.0.sends;
-          }, h.1))
+          (λ link. (
+            record {
+              has_token = h.0.has_token;
+              all = h.0.all;
+              once = λ gone. may_after_take routes slot m.rec.links i e ∙ h.0.once gone;
+              sends = h.0.sends;
+            },
+            h.1,
+          ))
           (λ chan. h)
-
-      may_still : (m : AtWork) → end_may_send routes slot e (link_at m.rec e) ≡ true → end_may_send routes slot e (link_at (take_first i m).rec e) ≡ true
-      may_still m may =
-          cond_both (is_link_input i) _ _ (λ (taken : AtWork). end_may_send routes slot e (link_at taken.rec e) ≡ true)
-          (λ link. may_after_take routes slot m.rec.links i e ∙ may) (λ chan. may)
 
       -- from a state in which it does not hold the link end to another
       apart_in : (old new : InputRec) (m : AtWork) → IsApart old → IsApart new → In old m → In new (to_state i new m)
       apart_in old new m was will h =
-          let inside : i < length m.rec.inputs = omega (arith, within, h.0.all) in
-          (record {
-            has_token = h.0.has_token;
-            all = length-set m.rec.inputs i new ∙ h.0.all;
-            once = h.0.once;
-            sends = still_sends passes e m.rec.inputs i new inside (ap (is_out_by e) h.1 ∙ was) will (row m.tokens) h.0.sends;
-          }, get_or-set_same m.rec.inputs i new Idle inside)
+          let inside : i < length m.rec.inputs = omega (arith, within, h.0.all) in (
+            record {
+              has_token = h.0.has_token;
+              all = length-set m.rec.inputs i new ∙ h.0.all;
+              once = h.0.once;
+              sends = still_sends passes e m.rec.inputs i new inside (ap (is_out_by e) h.1 ∙ was) will (row m.tokens) h.0.sends;
+            },
+            get_or-set_same m.rec.inputs i new Idle inside,
+          )
 
       token_so : (old state : InputRec) (t : Token) (m : AtWork) → IsApart old → IsApart state → In old m → Good (after_token i state t m)
       token_so old state t m was will h =
@@ -161,13 +121,15 @@ module _ (routes : Routes) (slot : Slot) (passes : NodeId → Bool) (e : EndNumb
       send_in : (state : InputRec) (end : EndNumber) (t : Token) (m : AtWork) → (e ≡ end → ⊥) → In state m → In state (send slot end t m)
       send_in state end t m other h =
           let same_link = get_or-set_other m.rec.links end e (sent_in slot (link_at m.rec end)) None other in
-          let same_token = get_or-set_other m.tokens end e (Some t) None other in
-          (record {
-            has_token = omega (arith, length-set m.tokens end (Some t), h.0.has_token);
-            all = h.0.all;
-            once = λ gone. ap (end_may_send routes slot e) same_link ∙ h.0.once (sym (ap is_some same_token) ∙ gone);
-            sends = subst (λ token. Sends passes e m.rec.inputs (before ++ option_to_list token)) (sym same_token) h.0.sends;
-          }, h.1)
+          let same_token = get_or-set_other m.tokens end e (Some t) None other in (
+            record {
+              has_token = omega (arith, length-set m.tokens end (Some t), h.0.has_token);
+              all = h.0.all;
+              once = λ gone. ap (end_may_send routes slot e) same_link ∙ h.0.once (sym (ap is_some same_token) ∙ gone);
+              sends = subst (λ token. Sends passes e m.rec.inputs (before ++ option_to_list token)) (sym same_token) h.0.sends;
+            },
+            h.1,
+          )
 
       other_so : (end : EndNumber) (headers : ℕ) (dest : Dest) (m : AtWork) →
           (e ≡ end → ⊥) → In (Out end headers dest) m → Good (out_step routes slot i end headers dest m)
@@ -203,15 +165,15 @@ module _ (routes : Routes) (slot : Slot) (passes : NodeId → Bool) (e : EndNumb
           let was : row m.tokens ≡ before = ap (λ token. before ++ option_to_list token) none ∙ append-nil before in
           let is : get_or (slice_set m.tokens e (Some t)) e None ≡ Some t = get_or-set_same m.tokens e (Some t) None h.0.has_token in
           let packets : place_of passes before ≡ Some (place_sent headers dest) =
-              sym (ap (place_of passes) was) ∙ h.0.sends.packets ∙ ap Some its.1 in
+          sym (ap (place_of passes) was) ∙ h.0.sends.packets ∙ ap Some its.1 in
           let after : place_of passes (before ++ t ∷ []) ≡ Some next =
-              one_more passes Between (place_sent headers dest) next before t packets (goes its.0) in
+          one_more passes (place_sent headers dest) next before t packets (goes its.0) in
           record {
             has_token = omega (arith, length-set m.tokens e (Some t), h.0.has_token);
             all = length-set m.rec.inputs i new ∙ h.0.all;
             once = λ gone. not_again_at routes slot e long m.rec.links e;
             sends = subst (λ token. Sends passes e (slice_set m.rec.inputs i new) (before ++ option_to_list token)) (sym is)
-            (alone_sends passes e m.rec.inputs i new (omega (arith, within, h.0.all)) next (before ++ t ∷ []) alone after (cut its.0) free);
+                (alone_sends passes e m.rec.inputs i new (omega (arith, within, h.0.all)) next (before ++ t ∷ []) alone after (cut its.0) free);
           }
         where
           alone : (j : InputNumber) → (j ≡ i → ⊥) → is_out_by e (at m.rec.inputs j) ≡ false
@@ -224,7 +186,7 @@ module _ (routes : Routes) (slot : Slot) (passes : NodeId → Bool) (e : EndNumb
           Good (out_token slot i e headers dest waiting m)
       own_token_so headers dest [] m more may h = h.0
       own_token_so headers dest (t ∷ rest) m more may h =
-          leaves headers dest t _ _ (take_first i m) (may_still m may) (λ passed. one_token passes headers dest t more)
+          leaves headers dest t _ _ (take_first i m) (may_still routes slot e i m may) (λ passed. one_token passes headers dest t more)
           (λ passed. cut passed (ends_packet t)) (free (ends_packet t)) (take_in (Out e headers dest) m h)
         where
           cut : passes dest.node ≡ true → (ends : Bool) →
@@ -259,19 +221,21 @@ module _ (routes : Routes) (slot : Slot) (passes : NodeId → Bool) (e : EndNumb
           end_is_held m.rec e ≡ false → passes dest.node ≡ true → In state m → In (Out e 0 dest) (to_state i (Out e 0 dest) m)
       own_in state dest m none passed h =
           let inside : i < length m.rec.inputs = omega (arith, within, h.0.all) in
-          let frees = none_holds e m.rec.inputs none in
-          (record {
-            has_token = h.0.has_token;
-            all = length-set m.rec.inputs i (Out e 0 dest) ∙ h.0.all;
-            once = h.0.once;
-            sends = alone_sends passes e m.rec.inputs i (Out e 0 dest) inside h.0.sends.place (row m.tokens) (λ j other. frees j) h.0.sends.packets
-            (passed, h.0.sends.free frees) (λ apart. absurd (both_ways _ apart (eq-eqb e e refl)));
-          }, get_or-set_same m.rec.inputs i (Out e 0 dest) Idle inside)
+          let frees = none_at (is_out_by e) m.rec.inputs refl none in (
+            record {
+              has_token = h.0.has_token;
+              all = length-set m.rec.inputs i (Out e 0 dest) ∙ h.0.all;
+              once = h.0.once;
+              sends = alone_sends passes e m.rec.inputs i (Out e 0 dest) inside h.0.sends.place (row m.tokens) (λ j other. frees j) h.0.sends.packets
+                  (passed, h.0.sends.free frees) (λ apart. absurd (both_ways _ apart (eq-eqb e e refl)));
+            },
+            get_or-set_same m.rec.inputs i (Out e 0 dest) Idle inside,
+          )
 
       hold_so : (state : InputRec) (mask : ℕ) (dest : Dest) (end : Option EndNumber) (m : AtWork) →
           IsApart state →
           (bit_at mask e ≡ 1 → passes dest.node ≡ true) →
-          IfSome end (IsFreeEnd m.rec mask) →
+          IfSome end (IsFreeEnd m.rec mask LINK_ENDS) →
           In state m →
           Good (hold_end (λ e m. out_step routes slot i e 0 dest m) i dest end m)
       hold_so state mask dest None m apart leads is h = h.0
@@ -279,8 +243,8 @@ module _ (routes : Routes) (slot : Slot) (passes : NodeId → Bool) (e : EndNumb
         where
           by : (e ≡ end) ⊎ (e ≡ end → ⊥) → In (Out end 0 dest) (to_state i (Out end 0 dest) m)
           by (inl same) =
-              subst (λ end. IsFreeEnd m.rec mask end → In (Out end 0 dest) (to_state i (Out end 0 dest) m)) same
-              (λ (free : IsFreeEnd m.rec mask e). own_in state dest m free.free (leads free.in_mask) h) is
+              subst (λ end. IsFreeEnd m.rec mask LINK_ENDS end → In (Out end 0 dest) (to_state i (Out end 0 dest) m)) same
+              (λ (free : IsFreeEnd m.rec mask LINK_ENDS e). own_in state dest m free.free (leads free.in_mask) h) is
           by (inr other) = apart_in state (Out end 0 dest) m apart (ne_eqb end e (λ same. other (sym same))) h
 
       way_so : (state : InputRec) (dest : Dest) (way : Way) (m : AtWork) →
@@ -296,7 +260,7 @@ module _ (routes : Routes) (slot : Slot) (passes : NodeId → Bool) (e : EndNumb
           (λ free. local_so n (waiting_at next.rec i) next (apart_in state (Local n) m apart refl h)))
       way_so state dest (Behind mask) m apart leads h =
           cond_both (mask == 0) _ _ Good (λ lost. (apart_in state Lost m apart refl h).0)
-          (λ some. hold_so state mask dest (free_end m.rec mask 0 LINK_ENDS) m apart (leads mask refl) (free_is m.rec mask 0 LINK_ENDS) h)
+          (λ some. hold_so state mask dest (free_end m.rec mask 0 LINK_ENDS) m apart (leads mask refl) (free_end_is m.rec mask 0 LINK_ENDS LINK_ENDS refl) h)
 
       want_so : (state : InputRec) (dest : Dest) (net : ℕ) (m : AtWork) → IsApart state → In state m → Good (want_step routes slot i dest net m)
       want_so state dest net m apart h = way_so state dest (way_to routes.id routes.ways routes.nets net dest.node) m apart (ways net dest.node) h

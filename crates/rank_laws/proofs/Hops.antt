@@ -1,32 +1,16 @@
 -- What a hop says: from where it is, in which network, and of an id only its low 16 bits.
 use Rattle.std.proofs.Common.{◌≡◌, ℕ, zero, suc, ◌+◌, ◌*◌, ◌/◌, ◌%◌, ◌^◌, ◌<◌, Bool, true, false}
-use Rattle.std.proofs.Common.{cond, eqb, ◌&&◌, Option, Some, None, List, [], ◌∷◌, get_or, bit_and, refl, sym, ap, ◌∙◌, arith, div-add-mod'}
+use Rattle.std.proofs.Common.{cond, eqb, ◌&&◌, Option, Some, None, List, get_or, bit_and, refl, sym, ap, ◌∙◌, arith, div-add-mod'}
 use Rattle.std.specs.Int.{bit_at}
 use Rattle.std.proofs.lemmas.Bool.{and_parts, eqb-true, eq-eqb, false≢true}
-use Rattle.std.proofs.lemmas.Nat.Bits.{bit_at_and, bit_at_lowest, bit_at-suc, bit_at-zero, bit_at-lt, bit_at_cat_low}
+use Rattle.std.proofs.lemmas.Nat.Bits.{bit_at_and, bit_at-lt, bit_at_cat_low}
 use Rattle.xs_base.specs.Numbers.{NodeId, Position, EndNumber, LinkNumber}
 use Rattle.net_model.specs.Ways.{first_difference, ends_of_net, way_at, way_to}
 use Rattle.sys_plan.specs.Plan.{PlanRec}
+use Rattle.packet_laws.proofs.Nets.{is_of_net}
 use Rattle.rank_model.specs.Next.{arc_at, id_at, ways_at, nets_at, net_of, is_behind, is_next}
 
 -- ---- The link ends of a network
-
-module _ (net : ℕ) where
-  lowest : (b : Bool) (rest : ℕ) → bit_at (cond b 1 0 + 2 * rest) 0 ≡ 1 → b ≡ true
-  lowest true rest is = refl
-  lowest false rest is = absurd (omega (arith, is, bit_at_lowest (0 + 2 * rest)))
-
-  above : (b : Bool) (rest end : ℕ) → bit_at (cond b 1 0 + 2 * rest) (suc end) ≡ bit_at rest end
-  above true rest end =
-      let half : (1 + 2 * rest) / 2 ≡ rest = omega arith in bit_at-suc (1 + 2 * rest) end ∙ ap (λ n. bit_at n end) half
-  above false rest end =
-      let half : (0 + 2 * rest) / 2 ≡ rest = omega arith in bit_at-suc (0 + 2 * rest) end ∙ ap (λ n. bit_at n end) half
-
-  -- each link end in the mask is of the network
-  pub is_of_net : (nets : List ℕ) (end : EndNumber) → bit_at (ends_of_net nets net) end ≡ 1 → get_or nets end 0 ≡ net
-  is_of_net [] end is = absurd (omega (arith, is, bit_at-zero end))
-  is_of_net (n ∷ nets) zero is = eqb-true n net (lowest (eqb n net) (ends_of_net nets net) is)
-  is_of_net (n ∷ nets) (suc end) is = is_of_net nets end (sym (above (eqb n net) (ends_of_net nets net) end) ∙ is)
 
 in_both : (a b end : ℕ) → bit_at (bit_and a b) end ≡ 1 → bit_at b end ≡ 1
 in_both a b end both = omega (arith, bit_at_and a b end, both, bit_at-lt b end)

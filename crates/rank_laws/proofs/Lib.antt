@@ -4,3 +4,4 @@ pub mod Hops
 pub mod Nodes
 pub mod Rises
 pub mod Verdicts
+pub mod Held

@@ -12,7 +12,7 @@ use Rattle.rank_model.specs.declared.verdict.Verdict.TheVariants.{Yes, NoWay, No
 use Rattle.rank_model.specs.Lines.{RanksRec}
 use Rattle.rank_model.specs.Next.{link_count, or_first}
 use Rattle.rank_model.specs.Verdicts.{is_cut_off, no_way_in, no_way_to, no_way_from, no_way}
-use Rattle.rank_model.specs.Verdicts.{goes_on, dest_if, first_dest, is_not_above, no_rank_for, no_rank_between, no_rank_after, no_rank, yes_unless, verdict_of}
+use Rattle.rank_model.specs.Verdicts.{goes_on, dest_if, first_dest, does_not_rise, no_rank_for, no_rank_between, no_rank_after, no_rank, yes_unless, verdict_of}
 use Rattle.rank_model.specs.Checks.{Checked, Refused, Judged, fault_of, unless_faulty, lines_checked, ranks_by_link, is_missing, judged, checked}
 use Rattle.rank_laws.proofs.Firsts.{or_none, none_at, first_keeps}
 
@@ -76,7 +76,7 @@ rank_no_yes plan ranks = first_keeps _ _ (λ l. first_keeps _ _ (λ k. in_one l 
     of_dest l k (Some dest) = λ yes. yes
 
     in_one : (l k : LinkNumber) → NoYes (no_rank_between plan ranks l k)
-    in_one l k = cond_both (is_not_above ranks l k) (no_rank_for l k (first_dest plan l k)) None NoYes (λ hit. of_dest l k (first_dest plan l k)) (λ miss. tt)
+    in_one l k = cond_both (does_not_rise ranks l k) (no_rank_for l k (first_dest plan l k)) None NoYes (λ hit. of_dest l k (first_dest plan l k)) (λ miss. tt)
 
 none_if_yes : (found : Option Verdict) → NoYes found → yes_unless found ≡ Yes → found ≡ None
 none_if_yes None never is = refl
@@ -108,7 +108,7 @@ module _ (plan : PlanRec) (ranks : List ℕ) (yes : verdict_of plan ranks ≡ Ye
   -- where a packet may go on from a directed link to another, the rank of that is above
   pub rank_above : (l k : LinkNumber) (dest : NodeId) → l < link_count plan → k < link_count plan → dest < 65536 → goes_on plan l k dest ≡ true
       → get_or ranks l 0 < get_or ranks k 0
-  rank_above l k dest there also in_range on = by_case (cases_Bool (is_not_above ranks l k))
+  rank_above l k dest there also in_range on = by_case (cases_Bool (does_not_rise ranks l k))
     where
       at_l : no_rank_after plan ranks l ≡ None
       at_l = none_at (no_rank_after plan ranks) 0 (link_count plan) neither.1 l (omega arith) (omega (arith, there))
@@ -120,7 +120,7 @@ module _ (plan : PlanRec) (ranks : List ℕ) (yes : verdict_of plan ranks ≡ Ye
       no_dest None none = refl
       no_dest (Some d) none = absurd (none-some _ (sym none))
 
-      by_case : (is_not_above ranks l k ≡ true) ⊎ (is_not_above ranks l k ≡ false) → get_or ranks l 0 < get_or ranks k 0
+      by_case : (does_not_rise ranks l k ≡ true) ⊎ (does_not_rise ranks l k ≡ false) → get_or ranks l 0 < get_or ranks k 0
       by_case (inr miss) = leb-false (get_or ranks k 0) (get_or ranks l 0) miss
       by_case (inl hit) =
           let none : first_dest plan l k ≡ None = no_dest (first_dest plan l k) (ap (λ b. cond b (no_rank_for l k (first_dest plan l k)) None) (sym hit) ∙ at_k) in

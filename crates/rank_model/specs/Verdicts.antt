@@ -1,5 +1,5 @@
 -- What ranks come to: whether packets have a way on wherever they are, and whether ranks rise along it.
-use Rattle.std.specs.Prelude.{ℕ, ◌+◌, Bool, not, ◌&&◌, ◌==◌, nat_le, if◌then◌else◌, Option, Some, None, List, [], ◌∷◌, map, length, slice_index}
+use Rattle.std.specs.Prelude.{ℕ, Bool, not, ◌&&◌, ◌==◌, nat_le, if◌then◌else◌, Option, Some, None, List, [], ◌∷◌, length, slice_index}
 use Rattle.std.specs.List.{list_any}
 use Rattle.xs_base.specs.Numbers.{NodeId, Position, LinkNumber}
 use Rattle.sys_plan.specs.declared.LinkPlan.{LinkPlan}
@@ -10,7 +10,7 @@ use Rattle.rank_model.specs.Next.{link_count, arc_at, id_at, net_of, is_next, ha
 
 -- ---- Is there a way on?
 
--- whether some link is of a network, which without a link network 0 is
+-- whether a network is one of a plan: some link is of it, or there is no link and it is network 0
 abbrev pub has_net : List LinkPlan → ℕ → Bool
 has_net [] net = net == 0
 has_net (link ∷ links) net = list_any (λ (some : LinkPlan). some.net == net) (link ∷ links)
@@ -38,7 +38,7 @@ no_way plan = first_from (no_way_from plan) 0 (length plan.nodes)
 
 -- ---- Do ranks rise?
 
--- where a packet may go on from directed link l to directed link k: for which ids
+-- for which ids a packet may go on from directed link l to directed link k
 abbrev pub goes_on : PlanRec → LinkNumber → LinkNumber → NodeId → Bool
 goes_on plan l k dest = is_next plan (arc_at plan l).from (net_of plan l) dest l && is_next plan (arc_at plan l).to (net_of plan l) dest k
 
@@ -49,17 +49,17 @@ dest_if plan l k dest = if goes_on plan l k dest then Some dest else None
 abbrev pub first_dest : PlanRec → LinkNumber → LinkNumber → Option NodeId
 first_dest plan l k = first_from (dest_if plan l k) 0 65536
 
--- whether the rank of l is at least that of k, by the ranks of all directed links by number
-abbrev pub is_not_above : List ℕ → LinkNumber → LinkNumber → Bool
-is_not_above ranks l k = nat_le (slice_index ranks k) (slice_index ranks l)
+-- whether the rank of k is not above that of l, by the ranks of all directed links by number
+abbrev pub does_not_rise : List ℕ → LinkNumber → LinkNumber → Bool
+does_not_rise ranks l k = nat_le (slice_index ranks k) (slice_index ranks l)
 
 abbrev pub no_rank_for : LinkNumber → LinkNumber → Option NodeId → Option Verdict
 no_rank_for l k None = None
 no_rank_for l k (Some dest) = Some (NoRank l k dest)
 
--- the rank of k is not above that of l, and for this id a packet may go on from l to k
+-- the rank does not rise from l to k, and for this id a packet may go on from the one to the other
 abbrev pub no_rank_between : PlanRec → List ℕ → LinkNumber → LinkNumber → Option Verdict
-no_rank_between plan ranks l k = if is_not_above ranks l k then no_rank_for l k (first_dest plan l k) else None
+no_rank_between plan ranks l k = if does_not_rise ranks l k then no_rank_for l k (first_dest plan l k) else None
 
 abbrev pub no_rank_after : PlanRec → List ℕ → LinkNumber → Option Verdict
 no_rank_after plan ranks l = first_from (no_rank_between plan ranks l) 0 (link_count plan)

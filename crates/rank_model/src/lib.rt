@@ -1,4 +1,4 @@
-//! Route ranks, a certificate that packets arrive: definitions alone, with the plain types that they speak of. See docs/NETWORKS.md.
+//! Route ranks, a certificate that packets arrive: definitions alone, with the plain types that they speak of. See docs/ROUTES.md.
 #![tactic(auto)]
 
 mod rank_kind;

@@ -1,6 +1,6 @@
 //! Why ranks are refused.
 
-/// Why ranks are refused. See docs/NETWORKS.md.
+/// Why ranks are refused. See docs/ROUTES.md.
 #[derive(Clone, Copy, PartialEq, Eq, Debug)]
 pub enum RankKind {
     /// K1: a line is no rank line, or the line `system` is missing.

@@ -1,6 +1,6 @@
 //! Timers and clock blocks: calls in turn, and tables of times and edges, by hand.
 use std::process::Abort;
-use timers_clocks::{Bad, Clock, Clocks, Edge, Timers};
+use timers_clocks::{Bad, Clock, Clocks, Edge, TimerState, Timers};
 
 #[test]
 fn timers_are_got_and_freed(rt: HostRuntime) {
@@ -21,6 +21,20 @@ fn timers_are_got_and_freed(rt: HostRuntime) {
     assert!(rt; freed == [Ok(()); 2] && !timers.has_conditions());
     let got = [timers.get(), timers.get(), timers.get()];
     assert!(rt; got == [Some(4), Some(9), None] && timers.used(9) && timers.value(9) == 0);
+}
+
+// Its time is 8 from slot 32 on.
+#[test]
+fn a_timer_that_is_got_keeps_what_a_state_says(rt: HostRuntime) {
+    let state = TimerState {
+        used: false,
+        after: true,
+        value: 7,
+    };
+    let mut timers = Timers::of_state(&[state; 10]);
+    let got = timers.get();
+    assert!(rt; got == Some(0) && timers.used(0) && !timers.used(1) && timers.value(0) == 7);
+    assert!(rt; timers.has_conditions() && !timers.holds(0, 31) && timers.holds(0, 32));
 }
 
 #[test]

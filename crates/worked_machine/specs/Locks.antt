@@ -52,6 +52,17 @@ passed name word locks = among (next (with_three name word 0)) Halted locks
 abbrev pub four_locks : LockRec → LockRec → List LockRec
 four_locks two three = owned_by 5 ∷ ownerless ∷ two ∷ three ∷ []
 
+-- lock 2 is not in use, and this thread is its owner all the same
+abbrev pub set_before : ThreadNumber → List LockRec
+set_before k = four_locks (record { used = false; owner = Some k }) unused_lock
+
+-- thread 0 gets it and would own it: at `in` in slot 14
+abbrev pub gets_and_claims : List Instr
+gets_and_claims = getr_5 ∷ Resources (resources.In 0 1) ∷ []
+
+abbrev pub at_in : ThreadNumber → NodeRec
+at_in k = after_from gets_and_claims (named 1 (set_before k)) 10 4
+
 pub record WorkedGetLock : Type 0 where
   -- nobody owns it
   pub got : in_10 getr_5 (named 1 (four_locks unused_lock unused_lock)) ≡
@@ -60,6 +71,14 @@ pub record WorkedGetLock : Type 0 where
       leaves by_0 (passed 1 0x305 (four_locks ownerless ownerless))
   pub none_free : in_10 getr_5 (named 1 (four_locks ownerless (owned_by 0))) ≡
       leaves by_0 (passed 1 0 (four_locks ownerless (owned_by 0)))
+  -- one that is not in use keeps the owner that it has
+  pub stays : in_10 getr_5 (named 1 (set_before 5)) ≡ leaves by_0 (passed 1 0x205 (four_locks (owned_by 5) unused_lock))
+  -- so another thread waits for it, and the owner itself traps
+  pub waits : thread_of (after_from gets_and_claims (at_in 5) 14 1).core 0 ≡
+      record (next (with_three 1 0x205 0)) { run = Paused (Lock 2) }
+  pub own : (slot_of gets_and_claims (at_in 0) 14).emitted.events ≡
+      in_slot 14 (happen.Trap 0 4 0x00040004 0x205) ∷ in_slot 14 (happen.Halt 0) ∷ []
+  pub still_owned : lock_of (slot_of gets_and_claims (at_in 0) 14).rec.core 2 ≡ owned_by 0
 
 -- ---- in r1, res[r0] and out res[r0], r1
 

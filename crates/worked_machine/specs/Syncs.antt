@@ -54,6 +54,9 @@ pub record WorkedGetSync : Type 0 where
       leaves by_0 (lone (next (with_three 1 0x603 0)) (all_but (sync_of_thread 0)))
   pub none_free : in_10 getr_3 (lone (with_three 1 7 0) (all_but (sync_of_thread 4))) ≡
       leaves by_0 (lone (next (with_three 1 0 0)) (all_but (sync_of_thread 4)))
+  -- nor has it any where a record says so of one without a master
+  pub none_stays : in_10 getr_3 (lone (with_three 1 7 0) (first_three (record { master = None; slaves = 2 ∷ 4 ∷ [] }))) ≡
+      leaves by_0 (lone (next (with_three 1 0x103 0)) (first_three (sync_of_thread 0)))
   pub by_thread_1 : in_10 getr_3 (thread_1_next (with_three 1 7 0) (first_three unused_sync)) ≡
       leaves (Some 9 ∷ Some 10 ∷ replicate 6 None) (thread_1_next (next (with_three 1 0x103 0)) (first_three (sync_of_thread 1)))
 

@@ -69,10 +69,17 @@ GetsTimer three nine three_then nine_then word =
     in_10 (getr_of 1) (timed (with_three 1 7 0) Halted (timers_with three nine) off_clock) ≡
     leaves by_0 (timed (next (with_three 1 word 0)) Halted (timers_with three_then nine_then) off_clock)
 
+-- a timer that is not in use, with this value, and with the condition or without
+abbrev pub set_before : ℕ → Bool → TimerRec
+set_before value after = record { used = false; value = value; after = after }
+
 pub record WorkedGetTimer : Type 0 where
   pub lowest : GetsTimer unused_timer unused_timer (timer 0 false) unused_timer 0x301
   pub last : GetsTimer (timer 4 true) unused_timer (timer 4 true) (timer 0 false) 0x901
   pub all_used : GetsTimer (timer 4 true) (timer 6 true) (timer 4 true) (timer 6 true) 0
+  -- one that is not in use keeps the value and the condition that it has, or either
+  pub stays : GetsTimer (set_before 7 true) (set_before 8 true) (timer 7 true) (set_before 8 true) 0x301
+  pub last_stays : GetsTimer (timer 4 true) (set_before 0xffffffff false) (timer 4 true) (timer 0xffffffff false) 0x901
 
 -- ---- in r1, res[r0]
 

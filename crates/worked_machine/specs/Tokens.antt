@@ -1,6 +1,6 @@
 -- The rows that put words and tokens into a channel end, take them and look at them, worked out by hand: thread 0 of node 3
 -- issues one of them in slot 1.
-use Rattle.std.specs.Prelude.{ℕ, ◌≡◌, true, Some, None, List, [], ◌∷◌, ◌++◌, replicate}
+use Rattle.std.specs.Prelude.{ℕ, ◌≡◌, true, false, Some, None, List, [], ◌∷◌, ◌++◌, replicate}
 use Rattle.xs_base.specs.declared.token.Token.{Token}
 use Rattle.xs_base.specs.declared.token.Token.TheVariants.{Byte, Ctrl}
 use Rattle.xs_model.specs.declared.thread.Thread.{Thread}
@@ -263,6 +263,27 @@ pub record WorkedLastGetr : Type 0 where
   -- the lowest one, among those in use
   pub lowest : thread_in_1 getr_chan (with_chans (got_chan ∷ unused_chan ∷ got_chan ∷ replicate 29 unused_chan)) ≡ went_on 0x00030102 7
 
+-- channel end 0 is not in use, and has a destination, network 3 and tokens in both buffers, the first of which may go out from slot
+-- 4 on
+abbrev pub set_before : ChanRec
+set_before = record { used = false; net = 3; dest = Some far_id; output = nines 2; input = Byte 6 ∷ Ctrl 1 ∷ [] }
+
+abbrev pub was_set : NodeRec
+was_set = with_network (start_as (with_three 9 7 0)) set_before sent_in_0 header_out
+
+-- then the thread takes a byte from what it got
+abbrev pub gets_and_takes : List Instr
+gets_and_takes = getr_chan ∷ Resources (resources.Int 1 0) ∷ []
+
+pub record WorkedGetrOfSet : Type 0 where
+  -- it is in use, with network 0, and all else stays
+  pub got : thread_in_1 getr_chan was_set ≡ went_on own_id 7
+  pub stays : chan_in_1 getr_chan was_set ≡ record set_before { used = true; net = 0 }
+  -- its first byte goes out in slot 4, and the thread finds what came
+  pub goes_out : (chan_of (after_from gets_and_takes was_set 1 4).core 0).output ≡ nines 1
+  pub takes : thread_of (after_from gets_and_takes was_set 1 5).core 0 ≡ record (with_three own_id 6 0) { pc = 0x00040008 }
+  pub rest : (chan_of (after_from gets_and_takes was_set 1 5).core 0).input ≡ Ctrl 1 ∷ []
+
 -- ---- `in` and `out` on a channel end and on a lock
 
 -- r0 has this name, and r1 a word; lock 0 is free, or thread 0 owns it; four bytes came to channel end 0, which sends to
@@ -316,4 +337,5 @@ pub record WorkedTokens : Type 0 where
   pub testwct : WorkedTestwct
   pub getd : WorkedGetd
   pub last_getr : WorkedLastGetr
+  pub getr_of_set : WorkedGetrOfSet
   pub both : WorkedBoth

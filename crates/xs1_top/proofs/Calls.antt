@@ -6,7 +6,7 @@ use Rattle.std.proofs.Math.Seq.{drop-append_seam}
 use Rattle.std.specs.Io.KnownBytes.{Appends, Consumes}
 use Rattle.xs_edge.specs.Edge.{AppendsPart}
 use Rattle.answer_model.specs.declared.Form.{Form}
-use Rattle.answer_model.specs.declared.Form.TheVariants.{Free, Serial, Rounds, Play, Make, Check, Save, Resume}
+use Rattle.answer_model.specs.declared.Form.TheVariants.{Free, Serial, Rounds, Play, Make, Check, Save, Resume, Routes}
 use Rattle.answer_model.specs.declared.Answer.{Answer}
 use Rattle.answer_model.specs.declared.Status.{Status}
 use Rattle.answer_model.specs.declared.Status.TheVariants as status
@@ -22,6 +22,8 @@ use Rattle.answer_model.specs.PlayForm.{played_text}
 use Rattle.answer_model.specs.CheckForm.{check_text}
 use Rattle.answer_model.specs.SaveForm.{saved_text, save_answer}
 use Rattle.answer_model.specs.ResumeForm.{refused, slot_at, is_out_of_range, rest_answer, answer_to_snap}
+use Rattle.answer_model.specs.RoutesForm as found
+use Rattle.answer_model.specs.RoutesForm.{Routes as Found, routes_of, answer_to_routes}
 use Rattle.answer_model.specs.Refusals.{frame_text}
 use Rattle.load_model.specs.Load.{load_text}
 use Rattle.load_model.specs.Made.{made_text}
@@ -29,7 +31,7 @@ use Rattle.answer_model.specs.Top.{answer, answer_by, answer_of_form, usage_answ
 use Rattle.xs1_top.specs.Call.{IsWhole, IsSilent, IsInput, Answers, AnswersInPart, TookInput, IsAnswerStatus, EndsWhere, Ends, Finishes}
 use Rattle.xs1_top.specs.Calls.{Calls}
 use Rattle.xs1_top.specs.Reads.{ReadGives, ReadsAtMost}
-use Rattle.xs1_top.proofs.Systems.{of_taken, system_of-long, system_of-taken, snap_of-taken}
+use Rattle.xs1_top.proofs.Systems.{of_taken, system_of-long, system_of-taken, snap_of-taken, routes_of-taken}
 
 -- a text is in the snapshot that is answered to it
 save_answer-taken : (slots : ℕ) (input : List ℕ) → save_answer slots (take (min (length input) (longest_input + 1)) input) ≡ save_answer slots input
@@ -46,6 +48,7 @@ answer_by-taken (Make number) input = refl
 answer_by-taken Check input = ap (answer_to check_text) (system_of-taken input)
 answer_by-taken (Save slots) input = save_answer-taken slots input
 answer_by-taken (Resume slots) input = ap (answer_to_snap slots) (snap_of-taken input)
+answer_by-taken Routes input = ap answer_to_routes (routes_of-taken input)
 
 -- the answer to the words and an input that the source may have
 abbrev pub IsAnswer : Answer → List (List ℕ) → Option (List ℕ) → Type 0
@@ -165,6 +168,13 @@ answer_to_snap-status : (slots : ℕ) (read : SnapRead) → IsFormStatus (answer
 answer_to_snap-status slots (Snap snap) = ranged-status (is_out_of_range slots snap) slots snap
 answer_to_snap-status slots (Fault byte kind) = tt
 
+answer_to_routes-status : (routes : Found) → IsFormStatus (answer_to_routes routes).status
+answer_to_routes-status (found.Judged plan verdict) = tt
+answer_to_routes-status (found.BadRanks line kind) = tt
+answer_to_routes-status (found.Frame line kind) = tt
+answer_to_routes-status (found.Source node line kind) = tt
+answer_to_routes-status (found.Pins line kind) = tt
+
 pub answer_by-status : (form : Form) (input : List ℕ) → IsFormStatus (answer_by form input).status
 answer_by-status (Free slots) input = answer_to-status (run_text slots) (system_of input)
 answer_by-status (Serial slots) input = answer_to-status (run_text slots) (system_of input)
@@ -174,6 +184,7 @@ answer_by-status (Make number) input = answer_to-status (made_text number) (syst
 answer_by-status Check input = answer_to-status check_text (system_of input)
 answer_by-status (Save slots) input = answer_to-status (saved_text input slots) (system_of input)
 answer_by-status (Resume slots) input = answer_to_snap-status slots (snap_of input)
+answer_by-status Routes input = answer_to_routes-status (routes_of input)
 
 form_whole : (s : Status) → IsFormStatus s → IsWhole s
 form_whole status.Done h = tt

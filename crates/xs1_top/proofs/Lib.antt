@@ -1,7 +1,10 @@
 mod Calls
 mod CountedReads
 mod FormOfWords
+mod Links
 mod Pieces
+mod Ranks
 mod Rests
+mod Routed
 mod RowsOfReads
 mod Systems

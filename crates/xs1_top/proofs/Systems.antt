@@ -1,11 +1,14 @@
 -- What an input stands for: of one that is too long the first bytes are enough.
-use Rattle.std.proofs.Common.{◌≡◌, ℕ, ◌+◌, ◌<◌, ◌≤◌, true, min, List, length, take, sym, ap, ◌∙◌, refl, arith, inl, inr, nat_lt}
+use Rattle.std.proofs.Common.{◌≡◌, ℕ, ◌+◌, ◌<◌, ◌≤◌, true, false, min, if◌then◌else◌, List, length, take, sym, ap, ◌∙◌, refl, arith, inl, inr, nat_lt}
 use Rattle.std.proofs.lemmas.Bool.{cases_lt}
 use Rattle.std.proofs.lemmas.Bool.Decides.{nat_tests}
 use Rattle.std.proofs.lemmas.List.{length-take, take_all}
 use Rattle.sys_plan.specs.Plan.{PlanRec}
 use Rattle.system_model.specs.declared.SysKind.TheVariants.{TooLong}
 use Rattle.system_model.specs.System.{Plan, Frame, system_of, longest_input}
+use Rattle.rank_model.specs.Lines.{ranks_of}
+use Rattle.answer_model.specs.RoutesForm as found
+use Rattle.answer_model.specs.RoutesForm.{routes_of, routes_after}
 use Rattle.snap_codec.specs.declared.snap_kind.SnapKind.TheVariants as snap_kind
 use Rattle.snap_codec.specs.Snaps.{Fault, SnapRec, IsSnapOfSome, snap_of, longest_snapshot}
 
@@ -36,6 +39,19 @@ snap_of-long bytes h =
 
 pub snap_of-taken : (bytes : List ℕ) → snap_of (take (min (length bytes) (longest_snapshot + 1)) bytes) ≡ snap_of bytes
 snap_of-taken bytes = of_taken snap_of longest_snapshot (Fault 0 snap_kind.TooLong) snap_of-long bytes
+
+pub routes_of-long : (bytes : List ℕ) → longest_input < length bytes → routes_of bytes ≡ found.Frame 0 TooLong
+routes_of-long bytes h =
+    let long : nat_lt longest_input (length bytes) ≡ true = grind (arith, nat_tests) in
+    ap (λ long. if long then found.Frame 0 TooLong else routes_after bytes (ranks_of bytes)) long
+
+pub routes_of-short : (bytes : List ℕ) → length bytes ≤ longest_input → routes_of bytes ≡ routes_after bytes (ranks_of bytes)
+routes_of-short bytes h =
+    let short : nat_lt longest_input (length bytes) ≡ false = grind (arith, nat_tests) in
+    ap (λ long. if long then found.Frame 0 TooLong else routes_after bytes (ranks_of bytes)) short
+
+pub routes_of-taken : (bytes : List ℕ) → routes_of (take (min (length bytes) (longest_input + 1)) bytes) ≡ routes_of bytes
+routes_of-taken bytes = of_taken routes_of longest_input (found.Frame 0 TooLong) routes_of-long bytes
 
 -- a text that stands for a plan is not too long
 pub planned-short : (bytes : List ℕ) (plan : PlanRec) → system_of bytes ≡ Plan plan → length bytes ≤ longest_input

@@ -3,7 +3,7 @@ use Rattle.std.specs.Prelude.{ℕ, ◌≡◌, ◌≤◌, ◌⊎◌, Option, Some
 use Rattle.std.specs.Io.KnownBytes.{Appends}
 use Rattle.xs_edge.specs.Edge.{HasRisen, AppendsPart}
 use Rattle.answer_model.specs.declared.Form.{Form}
-use Rattle.answer_model.specs.declared.Form.TheVariants.{Free, Serial, Rounds, Play, Make, Check, Save, Resume}
+use Rattle.answer_model.specs.declared.Form.TheVariants.{Free, Serial, Rounds, Play, Make, Check, Save, Resume, Routes}
 use Rattle.answer_model.specs.declared.Status.{Status}
 use Rattle.answer_model.specs.declared.Status.TheVariants.{Done, Memory, Usage, SystemFault, SourceFault, ScriptFault, ReadFault, WriteFault}
 use Rattle.answer_model.specs.Forms.{most_slots}
@@ -19,6 +19,7 @@ HasFewSlots (Make number) = Unit {0}
 HasFewSlots Check = Unit {0}
 HasFewSlots (Save slots) = slots ≤ most_slots
 HasFewSlots (Resume slots) = slots ≤ most_slots
+HasFewSlots Routes = Unit {0}
 
 -- Memory was there, the input was read and the text was written: a status of the definition's answers.
 abbrev pub IsWhole : Status → Type 0

@@ -3,3 +3,4 @@ pub mod Calls
 pub mod Input
 pub mod OnSystem
 pub mod Reads
+pub mod Routes

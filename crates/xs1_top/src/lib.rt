@@ -13,6 +13,7 @@ mod play;
 mod refusals;
 mod respond;
 mod resume;
+mod routes;
 mod run;
 mod save;
 mod words;

@@ -1,10 +1,12 @@
-//! The lines that refuse a system text, and those that refuse a snapshot.
+//! The lines that refuse a system text, those that refuse a snapshot, and those that refuse ranks.
 ghost use Rattle.std.specs.Prelude.{◌≡◌, ◌++◌, IfOk, OnOk};
 ghost use Rattle.answer_model.specs.Refusals.{frame_text, pins_text, source_text, text_of_asm_kind, text_of_pin_kind, text_of_sys_kind};
 ghost use Rattle.answer_model.specs.ResumeForm.{snap_fault_line, text_of_snap_kind};
+ghost use Rattle.answer_model.specs.RoutesForm.{ranks_text, text_of_rank_kind};
 
 use decimal_text::append_decimal;
 use pin_scripts::PinKind;
+use rank_model::RankKind;
 use snap_codec::SnapKind;
 use source_model::AsmKind;
 use std::alloc::{AllocError, Global};
@@ -66,6 +68,19 @@ pub fn snap_fault_line(alloc: Global, byte: u32, wrong: &[u8]) -> Result<Text, A
     Ok(text)
 }
 
+/// The line of refused ranks: `ranks line L: KIND TEXT`. The error is want of memory. See docs/OUTPUT.md.
+pub fn ranks_line(alloc: Global, line: u32, kind: RankKind) -> Result<Text, AllocError>
+    ensures { IfOk result (λ text. text ≡ ranks_text line kind) }
+{
+    let mut text = Text::new(alloc);
+    text.append(b"ranks line ")?;
+    append_decimal(&mut text, u64::from(line))?;
+    text.append(b": ")?;
+    text.append(text_of_rank_kind(kind))?;
+    text.append(b"\n")?;
+    Ok(text)
+}
+
 fn text_of_sys_kind(kind: SysKind) -> &'static [u8]
     ensures { result.now ≡ text_of_sys_kind kind }
 {
@@ -116,6 +131,17 @@ fn text_of_pin_kind(kind: PinKind) -> &'static [u8]
         PinKind::ValueTooWide => b"P4 value too wide",
         PinKind::NoSuchNode => b"P5 no such node",
         PinKind::PinGivenTwice => b"P6 pin given twice",
+    }
+}
+
+fn text_of_rank_kind(kind: RankKind) -> &'static [u8]
+    ensures { result.now ≡ text_of_rank_kind kind }
+{
+    match kind {
+        RankKind::BadLine => b"K1 bad line",
+        RankKind::NoSuchLinkEnd => b"K2 no such link end",
+        RankKind::GivenTwice => b"K3 given twice",
+        RankKind::RankMissing => b"K4 rank missing",
     }
 }
 

@@ -1,7 +1,7 @@
 //! The forms of the program's words: the table, the usage line beside it, which forms read the input, and how much of it.
 ghost use Rattle.std.specs.Prelude.{◌≡◌, ◌+◌, map, string_bytes, IfSome};
 ghost use Rattle.xs_instructions.specs.Image.{same_name};
-ghost use Rattle.answer_model.specs.Forms.{form_of_mode, form_of_words, free_of, make_of, play_of, reads_input, resume_of, rounds_of, save_of, serial_of, usage_text};
+ghost use Rattle.answer_model.specs.Forms.{form_of_mode, form_of_one, form_of_words, free_of, make_of, play_of, reads_input, resume_of, rounds_of, save_of, serial_of, usage_text};
 ghost use Rattle.answer_model.specs.Top.{longest_of};
 ghost use Rattle.xs1_top.specs.Call.{HasFewSlots};
 
@@ -21,15 +21,15 @@ const MOST_OF_TEXT: usize = 4_194_305;
 const MOST_OF_SNAPSHOT: usize = 8_388_609;
 
 /// The form of the program's words, without the program's name: `run SLOTS`, `run SLOTS free`, `run SLOTS serial`, `run SLOTS rounds`,
-/// `play SLOTS`, `make NUMBER`, `check`, `save SLOTS` or `resume SLOTS`. SLOTS is one to ten decimal digits with a value of at most 16,000,000,
-/// NUMBER the same of at most 4,294,967,295. None comes exactly where the words are of no form. See docs/OUTPUT.md.
+/// `play SLOTS`, `make NUMBER`, `check`, `save SLOTS`, `resume SLOTS` or `routes`. SLOTS is one to ten decimal digits with a value of at most
+/// 16,000,000, NUMBER the same of at most 4,294,967,295. None comes exactly where the words are of no form. See docs/OUTPUT.md.
 #[tactic(auto, unfolding(answer_model::specs::Forms::form_of_words))]
 pub fn form_of_words(words: &[String]) -> Option<Form>
     ensures value { result ≡ form_of_words (map string_bytes words.now) }
     ensures few { IfSome result HasFewSlots }
 {
     match words {
-        [command] if is(command, b"check") => Some(Form::Check),
+        [command] => form_of_one(command),
         [command, slots] if is(command, b"run") => free_of(slots),
         [command, slots] if is(command, b"play") => play_of(slots),
         [command, number] if is(command, b"make") => make_of(number),
@@ -44,7 +44,7 @@ pub fn form_of_words(words: &[String]) -> Option<Form>
 pub fn usage_line() -> &'static [u8]
     ensures { result.now ≡ usage_text }
 {
-    b"usage: xs1 run SLOTS [serial|free|rounds] | play SLOTS | make NUMBER | check | save SLOTS | resume SLOTS\n"
+    b"usage: xs1 run SLOTS [serial|free|rounds] | play SLOTS | make NUMBER | check | save SLOTS | resume SLOTS | routes\n"
 }
 
 /// Whether a form asks for the input.
@@ -53,7 +53,7 @@ pub fn reads_input(form: Form) -> bool
 {
     match form {
         Form::Free(_) | Form::Serial(_) | Form::Rounds(_) | Form::Play(_) | Form::Check => true,
-        Form::Save(_) | Form::Resume(_) => true,
+        Form::Save(_) | Form::Resume(_) | Form::Routes => true,
         Form::Make(_) => false,
     }
 }
@@ -65,7 +65,7 @@ pub fn most_bytes(form: Form) -> usize
     match form {
         Form::Resume(_) => MOST_OF_SNAPSHOT,
         Form::Free(_) | Form::Serial(_) | Form::Rounds(_) => MOST_OF_TEXT,
-        Form::Play(_) | Form::Make(_) | Form::Check | Form::Save(_) => MOST_OF_TEXT,
+        Form::Play(_) | Form::Make(_) | Form::Check | Form::Save(_) | Form::Routes => MOST_OF_TEXT,
     }
 }
 
@@ -74,6 +74,20 @@ fn is(word: &str, wanted: &[u8]) -> bool
     ensures { result ≡ same_name wanted.now word.now }
 {
     same_name(wanted, word.as_bytes())
+}
+
+// The form of one word.
+fn form_of_one(command: &str) -> Option<Form>
+    ensures value { result ≡ form_of_one command.now }
+    ensures few { IfSome result HasFewSlots }
+{
+    if is(command, b"check") {
+        return Some(Form::Check);
+    }
+    if is(command, b"routes") {
+        return Some(Form::Routes);
+    }
+    None
 }
 
 // The form of a run with a mode.

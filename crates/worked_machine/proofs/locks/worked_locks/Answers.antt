@@ -9,6 +9,10 @@ returns c = record {
     got = refl;
     last_got = refl;
     none_free = refl;
+    stays = refl;
+    waits = refl;
+    own = refl;
+    still_owned = refl;
   };
   claim = record {
     claimed = refl;

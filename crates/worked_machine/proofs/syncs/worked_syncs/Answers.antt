@@ -12,6 +12,7 @@ returns c = record {
     got = refl;
     last_got = refl;
     none_free = refl;
+    none_stays = refl;
     by_thread_1 = refl;
   };
   msync = record {

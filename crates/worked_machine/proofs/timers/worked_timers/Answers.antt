@@ -9,6 +9,8 @@ returns c = record {
     lowest = refl;
     last = refl;
     all_used = refl;
+    stays = refl;
+    last_stays = refl;
   };
   input = record {
     without_condition = refl;

@@ -134,6 +134,13 @@ returns c = record {
     none_used = refl;
     lowest = refl;
   };
+  getr_of_set = record {
+    got = refl;
+    stays = refl;
+    goes_out = refl;
+    takes = refl;
+    rest = refl;
+  };
   both = record {
     claims = refl;
     takes_its_name = refl;
