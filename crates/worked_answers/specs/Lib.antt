@@ -5,5 +5,6 @@ pub mod Modes
 pub mod Pairs
 pub mod Plays
 pub mod Programs
+pub mod Routes
 pub mod Snapshots
 pub mod Statuses

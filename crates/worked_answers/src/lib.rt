@@ -8,6 +8,7 @@ mod pairs;
 mod pins;
 mod plays;
 mod programs;
+mod routes;
 mod snapshots;
 mod statuses;
 
@@ -18,5 +19,6 @@ pub use pairs::worked_pairs;
 pub use pins::worked_pins;
 pub use plays::worked_plays;
 pub use programs::worked_programs;
+pub use routes::worked_routes;
 pub use snapshots::worked_snapshots;
 pub use statuses::worked_statuses;

@@ -21,8 +21,10 @@ use Rattle.play_model.specs.Play.{played_from}
 use Rattle.play_model.specs.PlayText.{play_text}
 use Rattle.load_model.specs.Load.{load_text}
 use Rattle.busy_slots.specs.Busy.{busy_count}
+use Rattle.rank_model.specs.Next.{first_from}
+use Rattle.rank_model.specs.Checks.{lines_checked}
 
 -- names them all on its own line, so that they unfold where it does
 unfoldable pub computes : Type 0
-unfolding digits port_among bits_of value_of words_of best_from edges_from lowest_free first_difference links_after_arrivals moves_from free_end node_step serial alone clock_after after_steps round_clocks rounds_from hex_word by_slot halted_lines memory_lines by_position end_text trace_text played_from play_text load_text busy_count
+unfolding digits port_among bits_of value_of words_of best_from edges_from lowest_free first_difference links_after_arrivals moves_from free_end node_step serial alone clock_after after_steps round_clocks rounds_from hex_word by_slot halted_lines memory_lines by_position end_text trace_text played_from play_text load_text busy_count first_from lines_checked
 computes = Unit {0}

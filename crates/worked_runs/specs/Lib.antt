@@ -4,6 +4,7 @@ pub mod Systems
 pub mod Receiver
 pub mod Schedules
 pub mod Rounds
+pub mod RouteRanks
 pub mod EventLines
 pub mod Traces
 pub mod LinkLines

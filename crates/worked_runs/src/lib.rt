@@ -1,5 +1,5 @@
 //! Facts of whole systems that were worked out by hand, which the definitions give: directed links and wires, runs of two and three nodes,
-//! a node that is stepped alone, schedules, rounds, and the texts that are written of runs. Nothing stands on this crate.
+//! a node that is stepped alone, schedules, rounds, route ranks, and the texts that are written of runs. Nothing stands on this crate.
 #![tactic(auto)]
 
 mod busy;
@@ -10,6 +10,7 @@ mod loads;
 mod plays;
 mod receiver;
 mod rounds;
+mod route_ranks;
 mod schedules;
 mod systems;
 mod traces;
@@ -24,6 +25,7 @@ pub use loads::worked_loads;
 pub use plays::worked_plays;
 pub use receiver::worked_receiver;
 pub use rounds::worked_rounds;
+pub use route_ranks::worked_route_ranks;
 pub use schedules::worked_schedules;
 pub use systems::worked_systems;
 pub use traces::worked_traces;

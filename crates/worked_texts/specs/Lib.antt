@@ -7,4 +7,5 @@ pub mod SystemsRead
 pub mod WiresRead
 pub mod PinsRead
 pub mod PlayRead
+pub mod RankLines
 pub mod CutTexts

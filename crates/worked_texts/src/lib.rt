@@ -1,5 +1,5 @@
 //! Facts of texts that were worked out by hand, which the definitions give: lines and tokens, the printed form of each row of the
-//! instruction table, sources, canonical texts, pin scripts and systems. Nothing stands on this crate.
+//! instruction table, sources, canonical texts, pin scripts, systems and ranks. Nothing stands on this crate.
 #![tactic(auto)]
 
 mod canonical_texts;
@@ -8,6 +8,7 @@ mod forms;
 mod line_tokens;
 mod pins_read;
 mod play_read;
+mod rank_lines;
 mod scripts;
 mod source_lines;
 mod systems_read;
@@ -19,6 +20,7 @@ pub use forms::worked_forms;
 pub use line_tokens::worked_line_tokens;
 pub use pins_read::worked_pins_read;
 pub use play_read::worked_play_read;
+pub use rank_lines::worked_rank_lines;
 pub use scripts::worked_scripts;
 pub use source_lines::worked_source_lines;
 pub use systems_read::worked_systems_read;
