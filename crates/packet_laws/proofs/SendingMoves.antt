@@ -1,5 +1,6 @@
 -- The switch and one link end: in a slot at most one token leaves by it, and it is the next one of the packet of the input that holds it.
-use Rattle.std.proofs.Common.{◌≡◌, ◌⊎◌, inl, inr, ℕ, zero, suc, ◌+◌, ◌<◌, ◌≤◌, ◌==◌, Bool, true, false, not, ◌||◌, nat_lt, is_some, IfSome, if◌then◌else◌, Option, Some, None, List, [], ◌∷◌, ◌++◌, length, get_or, slice_index, slice_set, refl, ap, sym, subst, ◌∙◌, append-nil, length-set, get_or-set_same, get_or-set_other, arith}
+use Rattle.std.proofs.Common.{◌≡◌, ◌⊎◌, inl, inr, ℕ, zero, suc, ◌+◌, ◌<◌, ◌≤◌, ◌==◌, Bool, true, false, not, ◌||◌, nat_lt, is_some, IfSome, if◌then◌else◌, Option, Some, None, List}
+use Rattle.std.proofs.Common.{[], ◌∷◌, ◌++◌, length, get_or, slice_index, slice_set, refl, ap, sym, subst, ◌∙◌, append-nil, length-set, get_or-set_same, get_or-set_other, arith}
 use Rattle.std.proofs.lemmas.Bool.{both_ways, cases_eq, cond_both, eq-eqb, ne_eqb, ltb-true, ltb-false, false_from_ne_true}
 use Rattle.std.specs.Prelude.{option_to_list}
 use Rattle.std.specs.Int.{bit_at}
@@ -14,7 +15,9 @@ use Rattle.xs_model.specs.Record.{LinkRec, InputRec, Idle, Head1, Head2, Want, L
 use Rattle.xs_model.specs.Waits.{has_room}
 use Rattle.xs_model.specs.AtWork.{AtWork, it_happens}
 use Rattle.net_model.specs.Ways.{Way, Here, Behind, way_to}
-use Rattle.net_model.specs.Switch.{Routes, net_of_end, is_link_input, is_out_by, chan_of_input, sent_in, to_state, waiting_at, state_at, chan_is_held, end_is_held, link_at, free_end, take_first, end_may_send, ends_packet, after_token, put_into, send, start_packet, packet_step, after_header, header_byte, head_step, hold_end, is_pause, local_step, out_token, out_step, lost_step, want_way, want_step, step_at, moves_from}
+use Rattle.net_model.specs.Switch.{Routes, net_of_end, is_link_input, is_out_by, chan_of_input, sent_in, to_state, waiting_at, state_at, chan_is_held, end_is_held, link_at}
+use Rattle.net_model.specs.Switch.{free_end, take_first, end_may_send, ends_packet, after_token, put_into, send, start_packet, packet_step, after_header, header_byte, head_step}
+use Rattle.net_model.specs.Switch.{hold_end, is_pause, local_step, out_token, out_step, lost_step, want_way, want_step, step_at, moves_from}
 use Rattle.link_laws.proofs.SlotAtEndLists.{may_after_take}
 use Rattle.packet_laws.specs.Packets.{Place, Between, place_after, place_of, place_sent}
 use Rattle.packet_laws.specs.Whole.{Sends}
