@@ -35,7 +35,7 @@ send_buffer slot (link ∷ links) (suc i) zero = refl
 send_buffer slot (link ∷ links) (suc i) (suc j) = send_buffer slot links i j
 
 -- what is true of each of two is true whichever it is
-pub either : (P : AtWork → Type 0) (holds : Bool) (x y : AtWork) → P x → P y → P (if holds then x else y)
+pub either : {A : Type 0} (P : A → Type 0) (holds : Bool) (x y : A) → P x → P y → P (if holds then x else y)
 either P true x y this that = this
 either P false x y this that = that
 

@@ -21,8 +21,7 @@ use Rattle.xs_model.specs.AtWork.{AtWork, slot_begins, it_happens}
 use Rattle.net_model.specs.Ways.{Way, Here, Behind, way_to}
 use Rattle.net_model.specs.Links.{link_after_arrivals, links_after_arrivals, arrive}
 use Rattle.net_model.specs.Switch.{Routes, is_link_input, to_state, waiting_at, state_at, chan_is_held, buffer_of_link, link_at, free_end, take_first, end_may_send, ends_packet}
-use Rattle.net_model.specs.Switch.{after_token, put_into, send, after_header, header_byte, head_step, hold_end, is_pause, local_step, out_token, out_step, lost_step, want_way}
-use Rattle.net_model.specs.Switch.{step_at, moves_from}
+use Rattle.net_model.specs.Switch.{after_token, put_into, send, after_header, header_byte, head_step, hold_end, is_pause, local_step, out_token, out_step, lost_step, want_way, step_at, moves_from}
 use Rattle.step_model.specs.Fixed.{Fixed}
 use Rattle.step_model.specs.Step.{node_step, ports_step}
 use Rattle.link_laws.specs.LinkSlot.{arrived_at}

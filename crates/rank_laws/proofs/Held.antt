@@ -98,7 +98,9 @@ module _ (plan : PlanRec) (is : IsPlan plan) where
     held_rises : (l k : LinkNumber) → Holds plan (serial plan slot) l k → get_or by_link l 0 < get_or by_link k 0
     held_rises l k holds =
         let on = goes_where slot l k holds in
-        rises plan ranks.lines (verdict_is Yes plan ranks judged) (net_of plan l) on.dest (arc_at plan l).from l k (record { there = holds.there; next = on.first }) (record { there = holds.next; next = on.second })
+        let one : IsHop plan (net_of plan l) on.dest (arc_at plan l).from l = record { there = holds.there; next = on.first } in
+        let next : IsHop plan (net_of plan l) on.dest (arc_at plan l).to k = record { there = holds.next; next = on.second } in
+        rises plan ranks.lines (verdict_is Yes plan ranks judged) (net_of plan l) on.dest (arc_at plan l).from l k one next
 
     row_rises : (l k : LinkNumber) (ks : List LinkNumber) → IsHeldRow plan (serial plan slot) l (k ∷ ks) → get_or by_link l 0 < get_or by_link (last_of l (k ∷ ks)) 0
     row_rises l k [] row = held_rises l k row.0
