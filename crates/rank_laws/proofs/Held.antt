@@ -17,6 +17,7 @@ use Rattle.rank_model.specs.Checks.{Judged, checked, ranks_by_link}
 use Rattle.packet_laws.specs.Packets.{Place, Between, AfterOne, AfterTwo, Within, place_after, place_from, place_of}
 use Rattle.packet_laws.specs.Whole.{leads, IsAt, IsOnWay}
 use Rattle.packet_laws.proofs.Runs.{whole_packets}
+use Rattle.rank_laws.specs.Walks.{IsHop}
 use Rattle.rank_laws.specs.Held.{Holds, IsHeldRow, last_of, HeldRise, HeldRiseWhereYes}
 use Rattle.rank_laws.proofs.Rises.{two_each, rises}
 use Rattle.rank_laws.proofs.Verdicts.{verdict_is}
