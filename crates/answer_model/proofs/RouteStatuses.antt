@@ -1,5 +1,5 @@
 -- The statuses of the answers to ranks and a system.
-use Rattle.std.proofs.Common.{◌≡◌, ℕ, ◌↔◌, refl, sym, ap, ◌∙◌}
+use Rattle.std.proofs.Common.{◌≡◌, ◌↔◌, sym, ap, ◌∙◌}
 use Rattle.answer_model.specs.declared.Status.{Status}
 use Rattle.answer_model.specs.declared.Status.TheVariants as status
 use Rattle.answer_model.specs.RoutesForm.{Routes, Judged, BadRanks, Frame, Source, Pins, routes_of, answer_to_routes, routes_answer}

@@ -7,3 +7,6 @@ pub mod SendingMoves
 pub mod Sending
 pub mod Nets
 pub mod Runs
+pub mod FlowBuffers
+pub mod FlowSteps
+pub mod FlowSlots

@@ -14,7 +14,7 @@ use Rattle.xs_model.specs.declared.outside.PinView.{PinView}
 use Rattle.xs_model.specs.Record.{NodeRec, InputRec, Idle, Out, first_node}
 use Rattle.net_model.specs.Ways.{Behind, first_difference, way_to}
 use Rattle.net_model.specs.Links.{link_after_arrivals}
-use Rattle.net_model.specs.Switch.{state_at, is_out_by, buffer_of_link}
+use Rattle.net_model.specs.Switch.{state_at, is_out_by, buffer_of_link, link_at}
 use Rattle.sys_plan.specs.declared.NodePlan.{NodePlan}
 use Rattle.sys_plan.specs.Plan.{PlanRec, Arc, IsPlan, link_arcs, arcs, gaps_of}
 use Rattle.sys_plan.proofs.Routes.{IsDirected, directed, link-arc, gap-at}
@@ -32,9 +32,9 @@ use Rattle.link_laws.proofs.TravelEnds.{arrived}
 use Rattle.link_laws.proofs.TravelKept.{arrive-keeps}
 use Rattle.link_laws.proofs.TravelLists.{one_if, tokens-append, credits-append, sent-tokens, sent-credits}
 use Rattle.link_laws.proofs.TravelSerial.{Joined, joined}
-use Rattle.rank_model.specs.Next.{arc_at, no_arc, id_at, ways_at, nets_at, net_of, is_behind, is_next}
+use Rattle.rank_model.specs.Next.{arc_at, no_arc, id_at, ways_at, nets_at, net_of, is_behind, leads_by}
 use Rattle.packet_laws.specs.Packets.{Place, Between, place_of}
-use Rattle.packet_laws.specs.Whole.{leads, carried, taken, Sends, IsOnWay, IsAt, WholePackets}
+use Rattle.packet_laws.specs.Whole.{leads, carried, taken, Sends, SenderEnd, ReceiverEnd, IsOnWay, IsAt, WholePackets}
 use Rattle.packet_laws.proofs.Places.{GoesOn, goes_on_past, place_of_none}
 use Rattle.packet_laws.proofs.Nets.{way_of_net, nets_are_same}
 use Rattle.packet_laws.proofs.Taking.{Took, node_takes}
@@ -93,12 +93,10 @@ module _ (plan : PlanRec) (is : IsPlan plan) (l : ℕ) (d : Arc) (here : slice_g
     ways_to : (by : ℕ) (dest : NodeId) → way_to (id_at plan v) (ways_at plan v) (nets_at plan v) by dest ≡ way_to node.id node.ways node.nets by dest
     ways_to by dest i = way_to (known (λ x. x.id) 0 i) (known (λ x. x.ways) [] i) (known (λ x. x.nets) [] i) by dest
 
-    -- a directed link that leaves it by a link end of a mask is on the way that the mask is of
-    way_is : (by : ℕ) (dest : NodeId) (mask end k : ℕ) (e : Arc) → way_to node.id node.ways node.nets by dest ≡ Behind mask → bit_at mask end ≡ 1 →
-        arc_at plan k ≡ e → e.from ≡ v → e.from_end ≡ end → is_next plan v by dest k ≡ true
-    way_is by dest mask end k e way bit arc leaves by_end =
-        and_from _ _ (eq-eqb (arc_at plan k).from v (ap (λ (x : Arc). x.from) arc ∙ leaves))
-        ((λ i. is_behind ((ap (λ (x : Arc). x.from_end) arc ∙ by_end) i) ((ways_to by dest ∙ way) i)) ∙ eq-eqb (bit_at mask end) 1 bit)
+    -- a link end of a mask is on the way that the mask is of
+    way_is : (by : ℕ) (dest : NodeId) (mask end : ℕ) → way_to node.id node.ways node.nets by dest ≡ Behind mask → bit_at mask end ≡ 1 →
+        leads_by plan v by dest end ≡ true
+    way_is by dest mask end way bit = ap (is_behind end) (ways_to by dest ∙ way) ∙ eq-eqb (bit_at mask end) 1 bit
 
   its_net : net ≡ slice_index from.0.nets d.from_end
   its_net =
@@ -115,14 +113,15 @@ module _ (plan : PlanRec) (is : IsPlan plan) (l : ℕ) (d : Arc) (here : slice_g
       let behind : is_behind d.from_end (way_to from.0.id from.0.ways from.0.nets by dest) ≡ true =
       ap (is_behind d.from_end) way ∙ eq-eqb (bit_at mask d.from_end) 1 bit in
       let same : by ≡ net = sym (way_of_net from.0.ways from.0.nets by d.from_end (first_difference 16 from.0.id dest) behind) ∙ sym its_net in
-      ap (λ (x : Arc). is_next plan x.from net dest l) its_arc
-      ∙ subst (λ n. is_next plan d.from n dest l ≡ true) same (way_is d.from from.0 from.1 by dest mask d.from_end l d way bit its_arc refl refl)
+      let leaves : leads_by plan d.from net dest d.from_end ≡ true =
+      subst (λ n. leads_by plan d.from n dest d.from_end ≡ true) same (way_is d.from from.0 from.1 by dest mask d.from_end way bit) in
+      and_from _ _ (eq-eqb (arc_at plan l).from (arc_at plan l).from refl)
+      (ap (λ (x : Arc). leads_by plan x.from net dest x.from_end) its_arc ∙ leaves)
 
   receiver_ways : (dest : NodeId) (mask : ℕ) (e : EndNumber) → e < LINK_ENDS →
       way_to to.0.id to.0.ways to.0.nets (slice_index to.0.nets d.to_end) dest ≡ Behind mask → bit_at mask e ≡ 1 → IsOnWay plan d.to net dest e
-  receiver_ways dest mask e low way bit k other other_is leaves by_end =
-      let by_net : way_to to.0.id to.0.ways to.0.nets net dest ≡ Behind mask = ap (λ n. way_to to.0.id to.0.ways to.0.nets n dest) (sym net_there) ∙ way in
-      way_is d.to to.0 to.1 net dest mask e k other by_net bit (get_or_from_slice_get (link_arcs plan.links) k other no_arc other_is) leaves by_end
+  receiver_ways dest mask e low way bit =
+      way_is d.to to.0 to.1 net dest mask e (ap (λ n. way_to to.0.id to.0.ways to.0.nets n dest) (sym net_there) ∙ way) bit
 
   -- ---- Before a slot
 
@@ -132,7 +131,8 @@ module _ (plan : PlanRec) (is : IsPlan plan) (l : ℕ) (d : Arc) (here : slice_g
   record Holds (system : SystemRec) : Type 0 where
     from_all : many (node_by system.nodes d.from) ≡ INPUTS
     to_all : many (node_by system.nodes d.to) ≡ INPUTS
-    whole : WholePackets plan system l d
+    sent : SenderEnd plan system l d
+    taken : ReceiverEnd plan system l d
 
   -- ---- Before the first one
 
@@ -152,13 +152,11 @@ module _ (plan : PlanRec) (is : IsPlan plan) (l : ℕ) (d : Arc) (here : slice_g
       record {
         from_all = ap many from_node;
         to_all = ap many to_node;
-        whole = record {
-          sent = subst₂ (Sends passes d.from_end) (sym (ap inputs from_node)) (sym nothing) first_sends;
-          taken = record {
-            place = Between;
-            packets = ap (λ tokens. place_of passes (take credits tokens)) nothing ∙ none_taken credits;
-            at = subst (At Between) (sym (ap (λ (rec : NodeRec). state_at rec d.to_end) to_node ∙ idle_at INPUTS d.to_end)) tt;
-          };
+        sent = subst₂ (Sends passes d.from_end) (sym (ap inputs from_node)) (sym nothing) first_sends;
+        taken = record {
+          place = Between;
+          packets = ap (λ tokens. place_of passes (take credits tokens)) nothing ∙ none_taken credits;
+          at = subst (At Between) (sym (ap (λ (rec : NodeRec). state_at rec d.to_end) to_node ∙ idle_at INPUTS d.to_end)) tt;
         };
       }
     where
@@ -265,12 +263,12 @@ module _ (plan : PlanRec) (is : IsPlan plan) (l : ℕ) (d : Arc) (here : slice_g
     sends_now =
         node_sends (fixed d.from from.0) j.from_node slot (arrivals d.from) (pins d.from) d.from_end passes (tokens_of j.forth)
         within.from_end (omega (arith, gap-at plan is l d here, within.gap)) sender_ways (sym (ap many from_was) ∙ h.from_all)
-        (subst₂ (Sends passes d.from_end) (ap inputs from_was) carried_was h.whole.sent)
+        (subst₂ (Sends passes d.from_end) (ap inputs from_was) carried_was h.sent)
 
     -- ---- The receiver
 
     abbrev place : Place
-    place = h.whole.taken.place
+    place = h.taken.place
 
     taken_was : taken system l ≡ j.taken
     taken_was = ap₂ take credits_were (carried_was ∙ j.kept.order) ∙ take_part j.taken _ (length j.taken) refl
@@ -303,7 +301,7 @@ module _ (plan : PlanRec) (is : IsPlan plan) (l : ℕ) (d : Arc) (here : slice_g
         subst₂ (λ n tokens. Took passes (IsOnWay plan d.to net) n place tokens credit (state_at to_step.rec d.to_end)) net_there arrived_is
         (node_takes (fixed d.to to.0) j.to_node slot (arrivals d.to) (pins d.to) d.to_end passes (IsOnWay plan d.to net) place
         within.to_end (sym (ap many to_was) ∙ h.to_all) receiver_ways
-        (subst₂ (λ n rec. IsAt (IsOnWay plan d.to net) n place (state_at rec d.to_end)) (sym net_there) to_was h.whole.taken.at))
+        (subst₂ (λ n rec. IsAt (IsOnWay plan d.to net) n place (state_at rec d.to_end)) (sym net_there) to_was h.taken.at))
 
     -- the place where all that was taken ends
     record Ends (tokens : List Token) (state : InputRec) : Type 0 where
@@ -312,7 +310,7 @@ module _ (plan : PlanRec) (is : IsPlan plan) (l : ℕ) (d : Arc) (here : slice_g
       at : At place state
 
     was_taken : place_of passes j.taken ≡ Some place
-    was_taken = ap (place_of passes) (sym taken_was) ∙ h.whole.taken.packets
+    was_taken = ap (place_of passes) (sym taken_was) ∙ h.taken.packets
 
     -- what has been carried after the slot
     abbrev all_now : List Token
@@ -332,9 +330,9 @@ module _ (plan : PlanRec) (is : IsPlan plan) (l : ℕ) (d : Arc) (here : slice_g
             ap (take (length j.taken + 0)) parts ∙ take_part j.taken _ (length j.taken + 0) (omega arith)
     takes_now [] true state all its = absurd its
     takes_now (t ∷ rest) true state all its =
-        let whole : place_of passes (j.taken ++ (t ∷ (rest ++ flight))) ≡ Some h.whole.sent.place =
-        ap (place_of passes) (sym all ∙ sym carried_was) ∙ h.whole.sent.packets in
-        let more : GoesOn passes j.taken place t = goes_on_past passes j.taken t (rest ++ flight) place h.whole.sent.place was_taken whole in
+        let whole : place_of passes (j.taken ++ (t ∷ (rest ++ flight))) ≡ Some h.sent.place =
+        ap (place_of passes) (sym all ∙ sym carried_was) ∙ h.sent.packets in
+        let more : GoesOn passes j.taken place t = goes_on_past passes j.taken t (rest ++ flight) place h.sent.place was_taken whole in
         record {
           place = more.next;
           packets = ap (place_of passes) one_more ∙ more.whole;
@@ -355,13 +353,11 @@ module _ (plan : PlanRec) (is : IsPlan plan) (l : ℕ) (d : Arc) (here : slice_g
         record {
           from_all = all_still d.from from.0 j.from_node from.1 j.from_is h.from_all;
           to_all = all_still d.to to.0 j.to_node to.1 j.to_is h.to_all;
-          whole = record {
-            sent = subst₂ (Sends passes d.from_end) (sym (ap inputs from_now)) (sym carried_now) sends_now;
-            taken = record {
-              place = ends.place;
-              packets = ap (place_of passes) (ap₂ take credits_now carried_now) ∙ ends.packets;
-              at = subst (At ends.place) (sym (ap (λ (rec : NodeRec). state_at rec d.to_end) to_now)) ends.at;
-            };
+          sent = subst₂ (Sends passes d.from_end) (sym (ap inputs from_now)) (sym carried_now) sends_now;
+          taken = record {
+            place = ends.place;
+            packets = ap (place_of passes) (ap₂ take credits_now carried_now) ∙ ends.packets;
+            at = subst (At ends.place) (sym (ap (λ (rec : NodeRec). state_at rec d.to_end) to_now)) ends.at;
           };
         }
 
@@ -371,4 +367,16 @@ module _ (plan : PlanRec) (is : IsPlan plan) (l : ℕ) (d : Arc) (here : slice_g
   holds (suc slot) = next_slot (serial plan slot) slot (joined plan is l d here slot_at_link_end slot) (holds slot)
 
   pub whole_packets : (slot : ℕ) → WholePackets plan (serial plan slot) l d
-  whole_packets slot = (holds slot).whole
+  whole_packets slot =
+      let system = serial plan slot in
+      let j : Joined system slot l d = joined plan is l d here slot_at_link_end slot in
+      let h = holds slot in
+      let waiting : buffer_of_link (link_at (node_by system.nodes d.to) d.to_end) ≡ j.receiver.buffer =
+      ap (λ (rec : NodeRec). buffer_of_link (link_at rec d.to_end)) (to_was system slot j h) ∙ ap buffer_of_link j.receiver_is in
+      let on_their_way : List Token = tokens_of (in_flight slot d.delay j.forth) in
+      record {
+        sender = h.sent;
+        receiver = h.taken;
+        on_their_way = on_their_way;
+        order = carried_was system slot j h ∙ j.kept.order ∙ (λ i. sym (taken_was system slot j h) i ++ (sym waiting i ++ on_their_way));
+      }

@@ -143,7 +143,7 @@ module _ (passes : NodeId → Bool) (OnWay : NodeId → EndNumber → Type 0) wh
 
   module _ (routes : Routes) (slot : Slot) (e : EndNumber) (link : is_link_input e ≡ true)
       (ways : (dest : NodeId) (mask : ℕ) (end : EndNumber) → end < LINK_ENDS →
-          way_to routes.id routes.ways routes.nets (slice_index routes.nets e) dest ≡ Behind mask → bit_at mask end ≡ 1 → OnWay dest end)
+      way_to routes.id routes.ways routes.nets (slice_index routes.nets e) dest ≡ Behind mask → bit_at mask end ≡ 1 → OnWay dest end)
       (place : Place) (waits : List Token) where
     abbrev net : ℕ
     net = slice_index routes.nets e
@@ -320,9 +320,9 @@ module _ (passes : NodeId → Bool) (OnWay : NodeId → EndNumber → Type 0) wh
     before_own i (suc count) state m low past at h = elim (cases_eq e i) [
       | inl same ↦ mine i same
       | inr other ↦
-            let next = step_at routes slot i (state_at m.rec i) m in
-            let alike = step_alike e m i other routes slot (state_at m.rec i) m (alike_itself e m) in
-            before_own (i + 1) count state next (omega (arith, low, other)) (omega (arith, past)) at (still_own state m next alike h)
+          let next = step_at routes slot i (state_at m.rec i) m in
+          let alike = step_alike e m i other routes slot (state_at m.rec i) m (alike_itself e m) in
+          before_own (i + 1) count state next (omega (arith, low, other)) (omega (arith, past)) at (still_own state m next alike h)
     ]
       where
         mine : (n : ℕ) → e ≡ n → IsRight (moves_from routes slot (n + 1) count (step_at routes slot n (state_at m.rec n) m))
@@ -361,12 +361,12 @@ pub node_takes : (fixed : Fixed) (rec : NodeRec) (slot : Slot) (arrivals : Arriv
     end < LINK_ENDS →
     length rec.inputs ≡ INPUTS →
     ((dest : NodeId) (mask : ℕ) (e : EndNumber) → e < LINK_ENDS →
-        way_to fixed.routes.id fixed.routes.ways fixed.routes.nets (slice_index fixed.routes.nets end) dest ≡ Behind mask →
-        bit_at mask e ≡ 1 → OnWay dest e) →
+    way_to fixed.routes.id fixed.routes.ways fixed.routes.nets (slice_index fixed.routes.nets end) dest ≡ Behind mask →
+    bit_at mask e ≡ 1 → OnWay dest e) →
     IsAt OnWay (slice_index fixed.routes.nets end) place (state_at rec end) →
     let step = node_step fixed rec slot arrivals pins in
     Took passes OnWay (slice_index fixed.routes.nets end) place
-        (buffer_of_link (arrived_at rec slot arrivals end)) (get_or step.emitted.credits end false) (state_at step.rec end)
+    (buffer_of_link (arrived_at rec slot arrivals end)) (get_or step.emitted.credits end false) (state_at step.rec end)
 unfolding node_step
 node_takes fixed rec slot arrivals pins end passes OnWay place low all ways at =
     let edged = ports_step slot pins (arrive slot arrivals (slot_begins rec)) in

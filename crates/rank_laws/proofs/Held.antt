@@ -1,24 +1,24 @@
--- A route that is held is one on which a packet may go on, so ranks rise along it.
-use Rattle.std.proofs.Common.{◌≡◌, ℕ, ◌+◌, ◌*◌, ◌<◌, Bool, true, false, if◌then◌else◌, Option, Some, None, List, [], ◌∷◌, get_or, slice_get, refl, subst, arith}
+-- A link that is held, or waited for, is one by which a packet may go on, so ranks rise along them.
+use Rattle.std.proofs.Common.{◌≡◌, ℕ, ◌+◌, ◌*◌, ◌<◌, ◌==◌, Bool, true, false, if◌then◌else◌, Option, Some, None, List, [], ◌∷◌, get_or, slice_get, refl, subst, subst₂, inl, inr, ◌⊎◌, arith}
+use Rattle.std.proofs.lemmas.Bool.{and_from, eq-eqb}
 use Rattle.std.specs.Prelude.{option_and_then, IfSome}
 use Rattle.std.proofs.lemmas.Option.{slice_get-get_or}
 use Rattle.xs_base.specs.Numbers.{NodeId, Slot, LinkNumber}
 use Rattle.xs_base.specs.declared.token.Token.{Token}
 use Rattle.xs_base.specs.declared.token.Token.TheVariants.{Byte, Ctrl}
 use Rattle.xs_model.specs.declared.dest.Dest.{Dest}
-use Rattle.xs_model.specs.Record.{Out}
+use Rattle.xs_model.specs.Record.{Want, Out}
 use Rattle.net_model.specs.Switch.{ends_packet}
 use Rattle.sys_plan.specs.Plan.{PlanRec, IsPlan, link_arcs}
 use Rattle.serial_model.specs.Serial.{serial}
 use Rattle.rank_model.specs.declared.verdict.Verdict.TheVariants.{Yes}
-use Rattle.rank_model.specs.Next.{link_count, arc_at, no_arc, net_of, is_next}
+use Rattle.rank_model.specs.Next.{link_count, arc_at, no_arc, net_of, leads_by, is_next}
 use Rattle.rank_model.specs.Lines.{RanksRec}
 use Rattle.rank_model.specs.Checks.{Judged, checked, ranks_by_link}
 use Rattle.packet_laws.specs.Packets.{Place, Between, AfterOne, AfterTwo, Within, place_after, place_from, place_of}
 use Rattle.packet_laws.specs.Whole.{leads, IsAt, IsOnWay}
 use Rattle.packet_laws.proofs.Runs.{whole_packets}
-use Rattle.rank_laws.specs.Walks.{IsHop}
-use Rattle.rank_laws.specs.Held.{Holds, IsHeldRow, last_of, HeldRise, HeldRiseWhereYes}
+use Rattle.rank_laws.specs.Held.{Holds, WaitsFor, IsHeldRow, last_of, HeldRise, HeldRiseWhereYes}
 use Rattle.rank_laws.proofs.Rises.{two_each, rises}
 use Rattle.rank_laws.proofs.Verdicts.{verdict_is}
 
@@ -84,32 +84,61 @@ module _ (plan : PlanRec) (is : IsPlan plan) where
     its_place (Within dest) tokens packets at = record {
       dest = dest.node;
       first = within_passes (leads plan l) tokens dest packets;
-      second = at.1 k (arc_at plan k) (there k holds.next) holds.same_node refl;
+      second =
+          and_from ((arc_at plan k).from == (arc_at plan l).to) (leads_by plan (arc_at plan l).to (net_of plan l) dest.node (arc_at plan k).from_end)
+          (eq-eqb (arc_at plan k).from (arc_at plan l).to holds.same_node) at.1;
     }
 
     goes_where : Leads l k
     goes_where =
-        let taken = (whole_packets plan is l (arc_at plan l) (there l holds.there) slot).taken in
+        let taken = (whole_packets plan is l (arc_at plan l) (there l holds.l_there) slot).receiver in
         its_place taken.place _ taken.packets (subst (IsAt (IsOnWay plan (arc_at plan l).to (net_of plan l)) (net_of plan l) taken.place) holds.out taken.at)
+
+  module _ (slot : Slot) (l k : LinkNumber) (waits : WaitsFor plan (serial plan slot) l k) where
+    wanted_place : (place : Place) (tokens : List Token) → place_of (leads plan l) tokens ≡ Some place
+        → IsAt (IsOnWay plan (arc_at plan l).to (net_of plan l)) (net_of plan l) place (Want waits.dest waits.net) → Leads l k
+    wanted_place Between tokens packets at = absurd at
+    wanted_place (AfterOne high) tokens packets at = absurd at
+    wanted_place (AfterTwo high low) tokens packets at = absurd at
+    wanted_place (Within dest) tokens packets at = record {
+      dest = dest.node;
+      first = within_passes (leads plan l) tokens dest packets;
+      second = subst₂ (λ (to : Dest) net. is_next plan (arc_at plan l).to net to.node k ≡ true) at.0 at.1 waits.next;
+    }
+
+    wants_where : Leads l k
+    wants_where =
+        let taken = (whole_packets plan is l (arc_at plan l) (there l waits.l_there) slot).receiver in
+        wanted_place taken.place _ taken.packets (subst (IsAt (IsOnWay plan (arc_at plan l).to (net_of plan l)) (net_of plan l) taken.place) waits.want taken.at)
 
   module _ (ranks : RanksRec) (judged : checked plan ranks ≡ Judged Yes) (slot : Slot) where
     abbrev by_link : List ℕ
     by_link = ranks_by_link plan ranks.lines
 
+    -- where a packet may go on from l to k
+    on_rises : (l k : LinkNumber) → l < link_count plan → k < link_count plan → Leads l k → get_or by_link l 0 < get_or by_link k 0
+    on_rises l k l_there k_there on =
+        rises plan ranks.lines (verdict_is Yes plan ranks judged) (net_of plan l) on.dest (arc_at plan l).from l k
+        (record { there = l_there; next = on.first }) (record { there = k_there; next = on.second })
+
     held_rises : (l k : LinkNumber) → Holds plan (serial plan slot) l k → get_or by_link l 0 < get_or by_link k 0
-    held_rises l k holds =
-        let on = goes_where slot l k holds in
-        let one : IsHop plan (net_of plan l) on.dest (arc_at plan l).from l = record { there = holds.there; next = on.first } in
-        let next : IsHop plan (net_of plan l) on.dest (arc_at plan l).to k = record { there = holds.next; next = on.second } in
-        rises plan ranks.lines (verdict_is Yes plan ranks judged) (net_of plan l) on.dest (arc_at plan l).from l k one next
+    held_rises l k holds = on_rises l k holds.l_there holds.k_there (goes_where slot l k holds)
+
+    wait_rises : (l k : LinkNumber) → WaitsFor plan (serial plan slot) l k → get_or by_link l 0 < get_or by_link k 0
+    wait_rises l k waits = on_rises l k waits.l_there waits.k_there (wants_where slot l k waits)
+
+    step_rises : (l k : LinkNumber) → Holds plan (serial plan slot) l k ⊎ WaitsFor plan (serial plan slot) l k → get_or by_link l 0 < get_or by_link k 0
+    step_rises l k (inl holds) = held_rises l k holds
+    step_rises l k (inr waits) = wait_rises l k waits
 
     row_rises : (l k : LinkNumber) (ks : List LinkNumber) → IsHeldRow plan (serial plan slot) l (k ∷ ks) → get_or by_link l 0 < get_or by_link (last_of l (k ∷ ks)) 0
-    row_rises l k [] row = held_rises l k row.0
-    row_rises l k (m ∷ ks) row = omega (arith, held_rises l k row.0, row_rises k m ks row.1)
+    row_rises l k [] row = step_rises l k row.0
+    row_rises l k (m ∷ ks) row = omega (arith, step_rises l k row.0, row_rises k m ks row.1)
 
     held : HeldRise plan by_link (serial plan slot)
     held = record {
       rises = held_rises;
+      waits = wait_rises;
       no_circle = λ l k ks row back. absurd (omega (arith, subst (λ n. get_or by_link l 0 < get_or by_link n 0) back (row_rises l k ks row)));
     }
 

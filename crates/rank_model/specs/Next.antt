@@ -41,11 +41,13 @@ abbrev pub is_behind : EndNumber → Way → Bool
 is_behind end Here = false
 is_behind end (Behind ends) = bit_at ends end == 1
 
--- whether a directed link is one by which the node at a position sends on, in a network, what is for an id: it leaves the node by a link end
--- of its way there
+-- whether a link end is one by which the node at a position sends on, in a network, what is for an id
+abbrev pub leads_by : PlanRec → Position → ℕ → NodeId → EndNumber → Bool
+leads_by plan v net dest end = is_behind end (way_to (id_at plan v) (ways_at plan v) (nets_at plan v) net dest)
+
+-- whether a directed link is: it leaves the node by such a link end
 abbrev pub is_next : PlanRec → Position → ℕ → NodeId → LinkNumber → Bool
-is_next plan v net dest l =
-    ((arc_at plan l).from == v) && is_behind (arc_at plan l).from_end (way_to (id_at plan v) (ways_at plan v) (nets_at plan v) net dest)
+is_next plan v net dest l = ((arc_at plan l).from == v) && leads_by plan v net dest (arc_at plan l).from_end
 
 -- whether there is one
 abbrev pub has_next : PlanRec → Position → ℕ → NodeId → Bool

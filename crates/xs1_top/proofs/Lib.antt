@@ -5,6 +5,6 @@ mod Links
 mod Pieces
 mod Ranks
 mod Rests
-mod Routes
+mod Routed
 mod RowsOfReads
 mod Systems
