@@ -1,9 +1,9 @@
 -- What a hop says: from where it is, in which network, and of an id only its low 16 bits.
-use Rattle.std.proofs.Common.{◌≡◌, ℕ, zero, suc, ◌+◌, ◌*◌, ◌/◌, ◌%◌, ◌^◌, ◌<◌, Bool, true, false, cond, eqb, ◌&&◌, Option, Some, None, List, get_or, bit_and, refl, sym, ap, ◌∙◌, arith, div-add-mod'}
+use Rattle.std.proofs.Common.{◌≡◌, ℕ, zero, suc, ◌+◌, ◌*◌, ◌/◌, ◌%◌, ◌^◌, ◌<◌, Bool, true, false, cond, eqb, ◌&&◌, Option, Some, None, get_or, refl, sym, ap, ◌∙◌, arith, div-add-mod'}
 use Rattle.std.specs.Int.{bit_at}
 use Rattle.std.proofs.lemmas.Bool.{and_parts, eqb-true, eq-eqb, false≢true}
-use Rattle.std.proofs.lemmas.Nat.Bits.{bit_at_and, bit_at-lt, bit_at_cat_low}
-use Rattle.xs_base.specs.Numbers.{NodeId, Position, EndNumber, LinkNumber}
+use Rattle.std.proofs.lemmas.Nat.Bits.{bit_at_cat_low}
+use Rattle.xs_base.specs.Numbers.{NodeId, Position, LinkNumber}
 use Rattle.net_model.specs.Ways.{first_difference, ends_of_net, way_at, way_to}
 use Rattle.sys_plan.specs.Plan.{PlanRec}
 use Rattle.packet_laws.proofs.Nets.{way_of_net}
