@@ -1,5 +1,6 @@
 -- The step of an input of the switch leaves another input as it is, with what waits there.
-use Rattle.std.proofs.Common.{◌≡◌, ◌≢◌, ℕ, zero, suc, ◌+◌, ◌≤◌, ◌==◌, Bool, true, false, not, ◌||◌, nat_lt, if◌then◌else◌, Option, Some, None, List, [], ◌∷◌, length, get_or, slice_set, refl, ap, ◌∙◌, arith, length-set, get_or-set_other}
+use Rattle.std.proofs.Common.{◌≡◌, ◌≢◌, ℕ, zero, suc, ◌+◌, ◌≤◌, ◌==◌, Bool, true, false, not, ◌||◌, nat_lt, if◌then◌else◌, Option, Some, None, List, [], ◌∷◌, length, get_or}
+use Rattle.std.proofs.Common.{slice_set, refl, ap, ◌∙◌, arith, length-set, get_or-set_other}
 use Rattle.xs_base.specs.Numbers.{Slot, ChanNumber, EndNumber, InputNumber, Identifier}
 use Rattle.xs_base.specs.declared.numbers.TheConstants.{LINK_ENDS, CHAN_ENDS, INPUTS, HEADER_BYTES}
 use Rattle.xs_base.specs.declared.token.Token.{Token}
@@ -14,7 +15,9 @@ use Rattle.xs_model.specs.Waits.{has_room}
 use Rattle.xs_model.specs.AtWork.{AtWork, slot_begins, it_happens}
 use Rattle.net_model.specs.Ways.{Way, Here, Behind, way_to}
 use Rattle.net_model.specs.Links.{arrive}
-use Rattle.net_model.specs.Switch.{Routes, is_link_input, chan_of_input, link_without_first, sent_in, to_state, waiting_at, state_at, chan_is_held, buffer_of_link, link_at, free_end, take_first, end_may_send, ends_packet, after_token, loses, put_into, send, start_packet, packet_step, header_byte, head_step, hold_end, is_pause, local_step, out_token, out_step, lost_step, want_way, want_step, step_at, moves_from}
+use Rattle.net_model.specs.Switch.{Routes, is_link_input, chan_of_input, link_without_first, sent_in, to_state, waiting_at, state_at, chan_is_held, buffer_of_link, link_at}
+use Rattle.net_model.specs.Switch.{free_end, take_first, end_may_send, ends_packet, after_token, loses, put_into, send, start_packet, packet_step, header_byte, head_step, hold_end}
+use Rattle.net_model.specs.Switch.{is_pause, local_step, out_token, out_step, lost_step, want_way, want_step, step_at, moves_from}
 use Rattle.step_model.specs.Fixed.{Fixed}
 use Rattle.step_model.specs.Step.{node_step, ports_step}
 
@@ -23,7 +26,8 @@ sent_buffer : (slot : Slot) (link : Option LinkRec) → buffer_of_link (sent_in 
 sent_buffer slot None = refl
 sent_buffer slot (Some link) = refl
 
-pub send_buffer : (slot : Slot) (links : List (Option LinkRec)) (i j : ℕ) → buffer_of_link (get_or (slice_set links i (sent_in slot (get_or links i None))) j None) ≡ buffer_of_link (get_or links j None)
+pub send_buffer : (slot : Slot) (links : List (Option LinkRec)) (i j : ℕ) →
+    buffer_of_link (get_or (slice_set links i (sent_in slot (get_or links i None))) j None) ≡ buffer_of_link (get_or links j None)
 send_buffer slot [] i j = refl
 send_buffer slot (link ∷ links) zero zero = sent_buffer slot link
 send_buffer slot (link ∷ links) zero (suc j) = refl
@@ -31,7 +35,7 @@ send_buffer slot (link ∷ links) (suc i) zero = refl
 send_buffer slot (link ∷ links) (suc i) (suc j) = send_buffer slot links i j
 
 -- what is true of each of two is true whichever it is
-pub either : (P : AtWork → Type 0) (holds : Bool) (x y : AtWork) → P x → P y → P (if holds then x else y)
+pub either : {A : Type 0} (P : A → Type 0) (holds : Bool) (x y : A) → P x → P y → P (if holds then x else y)
 either P true x y this that = this
 either P false x y this that = that
 

@@ -1,17 +1,17 @@
 -- What the parts of an input's step do to the buffers of a node, and to what has left by its link ends.
-use Rattle.std.proofs.Common.{◌≡◌, ◌≢◌, ◌⊎◌, inl, inr, ℕ, zero, suc, ◌+◌, ◌<◌, ◌≤◌, ◌==◌, Bool, true, false, is_some, if◌then◌else◌, Option, Some, None, List, [], ◌∷◌, ◌++◌, length, get_or, slice_index, slice_set, drop, refl, sym, ap, subst, ◌∙◌, arith, append-nil, length-set, get_or-set_same, get_or-set_other}
-use Rattle.std.proofs.lemmas.Bool.{both_ways, cases_eq, cond_both, and_right, eq-eqb, ne_eqb, lt-leb, ltb-false}
+use Rattle.std.proofs.Common.{◌≡◌, ◌≢◌, ◌⊎◌, inl, inr, ℕ, zero, suc, ◌<◌, ◌≤◌, ◌==◌, Bool, true, false, is_some, if◌then◌else◌, Option, Some, None, List, [], ◌∷◌, ◌++◌}
+use Rattle.std.proofs.Common.{length, get_or, slice_index, slice_set, drop, refl, sym, ap, subst, ◌∙◌, arith, append-nil, length-set, get_or-set_same, get_or-set_other}
+use Rattle.std.proofs.lemmas.Bool.{both_ways, cases_eq, cond_both, eq-eqb, ne_eqb, ltb-false}
 use Rattle.std.specs.Prelude.{option_to_list}
 use Rattle.xs_base.specs.Numbers.{Slot, ChanNumber, EndNumber, InputNumber}
 use Rattle.xs_base.specs.declared.numbers.TheConstants.{LINK_ENDS}
 use Rattle.xs_base.specs.declared.token.Token.{Token}
 use Rattle.xs_model.specs.Record.{CoreRec, ChanRec, LinkRec, unused_chan, chan_of}
 use Rattle.xs_model.specs.AtWork.{AtWork}
-use Rattle.net_model.specs.Links.{gap_is_over}
 use Rattle.net_model.specs.Switch.{Routes, is_link_input, chan_of_input, buffer_of_link, link_at, waiting_at, link_without_first, chan_without_first, sent_in, take_first, put_into, send, end_may_send}
-use Rattle.link_laws.proofs.SlotAtEnd.{latest_is}
 use Rattle.link_laws.proofs.SlotAtEndLists.{may_after_take}
 use Rattle.packet_laws.specs.Flow.{Move, Rests, TakesOff, Forwards, Delivers, SendsHeader, takes, sends, puts, left_by, Works}
+use Rattle.packet_laws.proofs.LinkEnds.{not_again_at}
 use Rattle.packet_laws.proofs.Alike.{send_buffer}
 
 -- ---- Lists of which one is changed
@@ -71,20 +71,6 @@ used_within : (chans : List ChanRec) (n : ℕ) → (get_or chans n unused_chan).
 used_within [] n is = cc
 used_within (chan ∷ chans) zero is = omega arith
 used_within (chan ∷ chans) (suc n) is = let less = used_within chans n is in omega (arith, less)
-
--- ---- A link end that sent in a slot may not send again in it
-
-module _ (routes : Routes) (slot : Slot) (e : EndNumber) (long : 1 ≤ slice_index routes.gaps e) where
-  not_again : (link : Option LinkRec) → end_may_send routes slot e (sent_in slot link) ≡ false
-  not_again None = refl
-  not_again (Some link) =
-      let gap = slice_index routes.gaps e in
-      and_right _ _ (ap (gap_is_over gap slot) (latest_is link.sent slot) ∙ lt-leb (slot + gap) slot (omega arith))
-
-  not_again_at : (links : List (Option LinkRec)) (j : ℕ) → end_may_send routes slot e (get_or (slice_set links j (sent_in slot (get_or links j None))) j None) ≡ false
-  not_again_at [] j = refl
-  not_again_at (link ∷ links) zero = not_again link
-  not_again_at (link ∷ links) (suc j) = not_again_at links j
 
 -- ---- A move, up to some point of the step
 

@@ -1,8 +1,9 @@
 -- One step of an input of the switch, rule by rule: what it does, of tokens and of what inputs hold.
-use Rattle.std.proofs.Common.{◌≡◌, ◌≢◌, ◌⊎◌, inl, inr, ℕ, zero, suc, ◌+◌, ◌<◌, ◌≤◌, ◌==◌, Bool, true, false, not, ◌||◌, ◌&&◌, nat_lt, IfSome, if◌then◌else◌, Option, Some, None, List, [], ◌∷◌, length, get_or, slice_set, refl, sym, ap, subst, ◌∙◌, arith, length-set, get_or-set_same, get_or-set_other}
-use Rattle.std.proofs.lemmas.Bool.{cases_eq, eqb-true, cond_both, and_parts, not-true, not-false, ltb-true, ltb-false, or_parts, false≢true}
+use Rattle.std.proofs.Common.{◌≡◌, ◌≢◌, ◌⊎◌, inl, inr, ℕ, ◌+◌, ◌<◌, ◌≤◌, ◌==◌, Bool, true, false, not, ◌||◌, nat_lt, IfSome, if◌then◌else◌, Option, Some, None}
+use Rattle.std.proofs.Common.{List, [], ◌∷◌, length, get_or, slice_set, refl, sym, ap, subst, ◌∙◌, arith, length-set, get_or-set_same, get_or-set_other}
+use Rattle.std.proofs.lemmas.Bool.{cases_eq, eqb-true, cond_both, not-false, ltb-true, ltb-false, or_parts, false≢true}
+use Rattle.std.proofs.lemmas.Option.{IfSome_then}
 use Rattle.std.specs.Prelude.{option_map}
-use Rattle.std.specs.Int.{bit_at}
 use Rattle.std.specs.List.{list_any}
 use Rattle.xs_base.specs.Numbers.{Slot, ChanNumber, EndNumber, InputNumber, Identifier}
 use Rattle.xs_base.specs.declared.numbers.TheConstants.{LINK_ENDS, CHAN_ENDS, INPUTS, HEADER_BYTES, END, PAUSE}
@@ -11,30 +12,16 @@ use Rattle.xs_base.specs.declared.token.Token.TheVariants.{Byte, Ctrl}
 use Rattle.xs_model.specs.declared.event.Happen.TheVariants as happen
 use Rattle.xs_model.specs.declared.dest.Dest.{Dest}
 use Rattle.xs_model.specs.Dests.{dest_of}
-use Rattle.xs_model.specs.Record.{CoreRec, NodeRec, InputRec, Idle, Head1, Head2, Want, Local, Out, Lost, chan_of}
+use Rattle.xs_model.specs.Record.{CoreRec, InputRec, Idle, Head1, Head2, Want, Local, Out, Lost, chan_of}
 use Rattle.xs_model.specs.Waits.{has_room}
 use Rattle.xs_model.specs.AtWork.{AtWork, it_happens}
 use Rattle.net_model.specs.Ways.{Way, Here, Behind, way_to}
-use Rattle.net_model.specs.Switch.{Routes, net_of_end, is_link_input, is_local_to, is_out_by, chan_of_input, to_state, waiting_at, state_at, chan_is_held, end_is_held, link_at, free_end, loses, take_first, end_may_send, ends_packet, after_token, put_into, send, start_packet, packet_step, after_header, header_byte, head_step, hold_end, is_pause, local_step, out_token, out_step, lost_step, want_way, want_step, step_at}
-use Rattle.link_laws.proofs.SlotAtEndLists.{may_after_take}
+use Rattle.net_model.specs.Switch.{Routes, net_of_end, is_link_input, is_local_to, is_out_by, chan_of_input, to_state, waiting_at, state_at, chan_is_held, end_is_held, link_at}
+use Rattle.net_model.specs.Switch.{free_end, loses, take_first, end_may_send, ends_packet, after_token, put_into, send, start_packet, packet_step, after_header, header_byte}
+use Rattle.net_model.specs.Switch.{head_step, hold_end, is_pause, local_step, out_token, out_step, lost_step, want_way, want_step, step_at}
 use Rattle.packet_laws.specs.Flow.{Move, Rests, TakesOff, Forwards, Delivers, SendsHeader, IsOfHeader, Does, wanted, MayBe, Works, Steps, after_first}
+use Rattle.packet_laws.proofs.LinkEnds.{free_end_is, none_at, may_still}
 use Rattle.packet_laws.proofs.FlowBuffers.{IsFlowed, flowed_itself, takes_flowed, puts_flowed, forwards_flowed, header_flowed}
-
--- ---- What no input holds
-
-none_at : (test : InputRec → Bool) (inputs : List InputRec) → test Idle ≡ false → list_any test inputs ≡ false → (j : InputNumber) → test (get_or inputs j Idle) ≡ false
-none_at test [] idle none j = idle
-none_at test (first ∷ inputs) idle none zero = (or_parts (test first) (list_any test inputs) none).0
-none_at test (first ∷ inputs) idle none (suc j) = none_at test inputs idle (or_parts (test first) (list_any test inputs) none).1 j
-
--- the link end that is found is free
-found_free : (rec : NodeRec) (mask end count : ℕ) → IfSome (free_end rec mask end count) (λ e. end_is_held rec e ≡ false)
-unfolding free_end
-found_free rec mask end zero = tt
-found_free rec mask end (suc count) =
-    cond_both ((bit_at mask end == 1) && not (end_is_held rec end)) (Some end) _ (λ found. IfSome found (λ e. end_is_held rec e ≡ false))
-    (λ is. not-true (end_is_held rec end) (and_parts (bit_at mask end == 1) (not (end_is_held rec end)) is).1)
-    (λ other. found_free rec mask (end + 1) count)
 
 -- ---- States
 
@@ -293,18 +280,13 @@ module _ (routes : Routes) (slot : Slot) (i : InputNumber) (m0 : AtWork) (within
       (λ full. rests (Local n) m h))
 
   -- rule 5
-  may_still : (e : EndNumber) (m : AtWork) → end_may_send routes slot e (link_at m.rec e) ≡ true → end_may_send routes slot e (link_at (take_first i m).rec e) ≡ true
-  may_still e m may =
-      cond_both (is_link_input i) _ _ (λ (taken : AtWork). end_may_send routes slot e (link_at taken.rec e) ≡ true)
-      (λ link. may_after_take routes slot m.rec.links i e ∙ may) (λ chan. may)
-
   token_does : (e : EndNumber) (headers : ℕ) (dest : Dest) (waiting : List Token) (m : AtWork) → HEADER_BYTES ≤ headers → end_may_send routes slot e (link_at m.rec e) ≡ true → Waits m waiting
       → Before (Out e headers dest) m → Done (out_token slot i e headers dest waiting m)
   token_does e headers dest [] m more may waits h = rests (Out e headers dest) m h
   token_does e headers dest (t ∷ rest) m more may waits h =
       let state = Out e headers dest in
       first_does state (Forwards e t) t (send slot e t (take_first i m)) h.finds tt (taken_at state m h.at) (refl, more, refl)
-      (forwards_flowed routes slot i m0 e t (take_first i m) (may_still e m may) (takes_flowed routes slot i m0 t rest m waits h.flows))
+      (forwards_flowed routes slot i m0 e t (take_first i m) (may_still routes slot e i m may) (takes_flowed routes slot i m0 t rest m waits h.flows))
 
   out_does : (e : EndNumber) (headers : ℕ) (dest : Dest) (m : AtWork) → Before (Out e headers dest) m → Done (out_step routes slot i e headers dest m)
   out_does e headers dest m h =
@@ -371,7 +353,9 @@ module _ (routes : Routes) (slot : Slot) (i : InputNumber) (m0 : AtWork) (within
         (λ free. local_does n (waiting_at next.rec i) next refl
         (turns state (Local n) m (found (Local n) (refl, free_first (is_local_to n) state m refl (holds_no_chan n old wants) h free)) (sym (h.flows.used n) ∙ not-false _ (or_parts _ _ there).1) h)))
     way_does state (Behind mask) m h =
-        cond_both (mask == 0) _ _ Done (λ lost. loses_does state m h) (λ some. hold_does state (free_end m.rec mask 0 LINK_ENDS) m (found_free m.rec mask 0 LINK_ENDS) h)
+        let free : IfSome (free_end m.rec mask 0 LINK_ENDS) (λ e. end_is_held m.rec e ≡ false) =
+        IfSome_then (free_end m.rec mask 0 LINK_ENDS) (free_end_is m.rec mask 0 LINK_ENDS LINK_ENDS refl) (λ e of. of.free) in
+        cond_both (mask == 0) _ _ Done (λ lost. loses_does state m h) (λ some. hold_does state (free_end m.rec mask 0 LINK_ENDS) m free h)
 
     want_does : (state : InputRec) (net : ℕ) (m : AtWork) → Before state m → Done (want_step routes slot i dest net m)
     want_does state net m h = way_does state (way_to routes.id routes.ways routes.nets net dest.node) m h

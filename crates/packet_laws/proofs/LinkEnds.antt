@@ -1,6 +1,5 @@
 -- What a step of the switch finds and does at one link end: whether it is free, and whether it may send.
-use Rattle.std.proofs.Common.{◌≡◌, ℕ, zero, suc, ◌+◌, ◌<◌, ◌≤◌, ◌==◌, Bool, true, false, not, ◌&&◌, IfSome, Option, Some, None, List, [], ◌∷◌}
-use Rattle.std.proofs.Common.{get_or, slice_index, slice_set, refl, ap, ◌∙◌, arith}
+use Rattle.std.proofs.Common.{◌≡◌, ℕ, zero, suc, ◌+◌, ◌<◌, ◌≤◌, ◌==◌, Bool, true, false, not, ◌&&◌, IfSome, Option, Some, None, List, [], ◌∷◌, get_or, slice_index, slice_set, refl, ap, ◌∙◌, arith}
 use Rattle.std.proofs.lemmas.Bool.{cond_both, and_parts, and_right, not-true, eqb-true, lt-leb, or_parts}
 use Rattle.std.specs.Int.{bit_at}
 use Rattle.std.specs.List.{list_any}

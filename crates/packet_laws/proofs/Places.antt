@@ -1,6 +1,5 @@
 -- Where rows of tokens end: one row after the other, and token by token.
-use Rattle.std.proofs.Common.{◌≡◌, ℕ, zero, suc, ◌+◌, ◌*◌, ◌/◌, ◌%◌, ◌<◌, ◌≤◌, Bool, true, if◌then◌else◌}
-use Rattle.std.proofs.Common.{Option, Some, None, option_and_then, List, [], ◌∷◌, ◌++◌, refl, sym, ap, ◌∙◌, arith}
+use Rattle.std.proofs.Common.{◌≡◌, ℕ, zero, suc, ◌+◌, ◌*◌, ◌/◌, ◌%◌, ◌<◌, ◌≤◌, Bool, true, if◌then◌else◌, Option, Some, None, option_and_then, List, [], ◌∷◌, ◌++◌, refl, sym, ap, ◌∙◌, arith}
 use Rattle.xs_base.specs.Numbers.{NodeId}
 use Rattle.xs_base.specs.declared.numbers.TheConstants.{HEADER_BYTES}
 use Rattle.xs_base.specs.declared.token.Token.{Token}

@@ -1,6 +1,7 @@
 -- The switch and one link end: in a slot at most one token leaves by it, and it is the next one of the packet of the input that holds it.
-use Rattle.std.proofs.Common.{◌≡◌, ◌⊎◌, inl, inr, ℕ, zero, suc, ◌+◌, ◌<◌, ◌≤◌, ◌==◌, Bool, true, false, not, ◌||◌, nat_lt, is_some, IfSome, if◌then◌else◌, Option, Some, None, List, [], ◌∷◌, ◌++◌, length, get_or, slice_index, slice_set, refl, ap, sym, subst, ◌∙◌, append-nil, length-set, get_or-set_same, get_or-set_other, arith}
-use Rattle.std.proofs.lemmas.Bool.{both_ways, cases_eq, cond_both, eq-eqb, ne_eqb, ltb-true, ltb-false, false_from_ne_true}
+use Rattle.std.proofs.Common.{◌≡◌, ◌⊎◌, inl, inr, ℕ, zero, suc, ◌+◌, ◌<◌, ◌≤◌, ◌==◌, Bool, true, false, not, ◌||◌, nat_lt, is_some, IfSome, if◌then◌else◌, Option, Some, None, List}
+use Rattle.std.proofs.Common.{[], ◌∷◌, ◌++◌, length, get_or, slice_index, slice_set, refl, ap, sym, subst, ◌∙◌, append-nil, length-set, get_or-set_same, get_or-set_other, arith}
+use Rattle.std.proofs.lemmas.Bool.{both_ways, cases_eq, cond_both, ne_eqb, ltb-true, ltb-false, false_from_ne_true}
 use Rattle.std.specs.Prelude.{option_to_list}
 use Rattle.std.specs.Int.{bit_at}
 use Rattle.xs_base.specs.Numbers.{Slot, NodeId, ChanNumber, EndNumber, InputNumber, Identifier}
@@ -14,14 +15,18 @@ use Rattle.xs_model.specs.Record.{LinkRec, InputRec, Idle, Head1, Head2, Want, L
 use Rattle.xs_model.specs.Waits.{has_room}
 use Rattle.xs_model.specs.AtWork.{AtWork, it_happens}
 use Rattle.net_model.specs.Ways.{Way, Here, Behind, way_to}
-use Rattle.net_model.specs.Switch.{Routes, net_of_end, is_link_input, is_out_by, chan_of_input, sent_in, to_state, waiting_at, state_at, chan_is_held, end_is_held, link_at, free_end, take_first, end_may_send, ends_packet, after_token, put_into, send, start_packet, packet_step, after_header, header_byte, head_step, hold_end, is_pause, local_step, out_token, out_step, lost_step, want_way, want_step, step_at, moves_from}
+use Rattle.net_model.specs.Switch.{Routes, net_of_end, is_link_input, is_out_by, chan_of_input, sent_in, to_state, waiting_at, state_at, chan_is_held, end_is_held, link_at}
+use Rattle.net_model.specs.Switch.{free_end, take_first, end_may_send, ends_packet, after_token, put_into, send, start_packet, packet_step, after_header, header_byte, head_step}
+use Rattle.net_model.specs.Switch.{hold_end, is_pause, local_step, out_token, out_step, lost_step, want_way, want_step, step_at, moves_from}
 use Rattle.link_laws.proofs.SlotAtEndLists.{may_after_take}
 use Rattle.packet_laws.specs.Packets.{Place, Between, place_after, place_of, place_sent}
 use Rattle.packet_laws.specs.Whole.{Sends}
 use Rattle.packet_laws.proofs.LinkEnds.{IsFreeEnd, free_end_is, none_at, may_still, not_again_at}
+use Rattle.packet_laws.proofs.Alike.{either}
 use Rattle.packet_laws.proofs.Places.{one_more, one_header, one_token}
 use Rattle.packet_laws.proofs.SendingInputs.{at, is_out, IsCutAt, still_sends, alone_sends}
 
+-- a token that is not there is none
 nothing_there : (token : Option Token) → (is_some token ≡ true → ⊥) → token ≡ None
 nothing_there None never = refl
 nothing_there (Some t) never = absurd (never refl)
@@ -48,6 +53,9 @@ module _ (routes : Routes) (slot : Slot) (passes : NodeId → Bool) (e : EndNumb
   -- what is in this state does not hold the link end
   abbrev IsApart : InputRec → Type 0
   IsApart state = is_out_by e state ≡ false
+
+  not_apart : (headers : ℕ) (dest : Dest) → IsApart (Out e headers dest) → ⊥
+  not_apart headers dest apart = both_ways _ apart (is_out e headers dest (Out e headers dest) refl)
 
   header_apart : (state : InputRec) (net b : ℕ) → IsApart state → IsApart (after_header net state b)
   header_apart Idle net b apart = refl
@@ -93,7 +101,8 @@ module _ (routes : Routes) (slot : Slot) (passes : NodeId → Bool) (e : EndNumb
 
       token_so : (old state : InputRec) (t : Token) (m : AtWork) → IsApart old → IsApart state → In old m → Good (after_token i state t m)
       token_so old state t m was will h =
-          (apart_in old _ m was (cond_both (ends_packet t) Idle state IsApart (λ ends. refl) (λ more. will)) h).0
+          let apart : IsApart (if ends_packet t then Idle else state) = either IsApart (ends_packet t) Idle state refl will in
+          (apart_in old _ m was apart h).0
 
       -- ---- The step of an input that does not hold the link end, rule by rule
 
@@ -109,8 +118,8 @@ module _ (routes : Routes) (slot : Slot) (passes : NodeId → Bool) (e : EndNumb
       local_so n (t ∷ rest) m h =
           let taken = take_in (Local n) m h in
           let put = it_happens (happen.Chan n t) (put_into n t (take_first i m)) in
-          cond_both (is_pause t) _ _ Good (λ pause. token_so (Local n) (Local n) t (take_first i m) refl refl taken)
-          (λ other. cond_both (has_room 1 (chan_of m.rec.core n).input) _ m Good (λ room. token_so (Local n) (Local n) t put refl refl taken) (λ full. h.0))
+          either Good (is_pause t) _ _ (token_so (Local n) (Local n) t (take_first i m) refl refl taken)
+          (either Good (has_room 1 (chan_of m.rec.core n).input) _ m (token_so (Local n) (Local n) t put refl refl taken) h.0)
 
       lost_so : (waiting : List Token) (m : AtWork) → In Lost m → Good (lost_step i waiting m)
       lost_so [] m h = h.0
@@ -136,11 +145,11 @@ module _ (routes : Routes) (slot : Slot) (passes : NodeId → Bool) (e : EndNumb
       other_so end headers dest m other h =
           let state = Out end headers dest in
           let header = Byte (header_byte dest headers) in
-          cond_both (end_may_send routes slot end (link_at m.rec end)) _ m Good
-          (λ may. cond_both (nat_lt headers HEADER_BYTES) _ _ Good
-          (λ less. (apart_in state (Out end (headers + 1) dest) (send slot end header m) apart apart (send_in state end header m other h)).0)
-          (λ more. by (waiting_at m.rec i)))
-          (λ never. h.0)
+          either Good (end_may_send routes slot end (link_at m.rec end)) _ m
+          (either Good (nat_lt headers HEADER_BYTES) _ _
+          (apart_in state (Out end (headers + 1) dest) (send slot end header m) apart apart (send_in state end header m other h)).0
+          (by (waiting_at m.rec i)))
+          h.0
         where
           apart : (end == e) ≡ false
           apart = ne_eqb end e (λ same. other (sym same))
@@ -164,8 +173,7 @@ module _ (routes : Routes) (slot : Slot) (passes : NodeId → Bool) (e : EndNumb
           let none : get_or m.tokens e None ≡ None = nothing_there _ (λ gone. both_ways _ (h.0.once gone) may) in
           let was : row m.tokens ≡ before = ap (λ token. before ++ option_to_list token) none ∙ append-nil before in
           let is : get_or (slice_set m.tokens e (Some t)) e None ≡ Some t = get_or-set_same m.tokens e (Some t) None h.0.has_token in
-          let packets : place_of passes before ≡ Some (place_sent headers dest) =
-          sym (ap (place_of passes) was) ∙ h.0.sends.packets ∙ ap Some its.1 in
+          let packets : place_of passes before ≡ Some (place_sent headers dest) = sym (ap (place_of passes) was) ∙ h.0.sends.packets ∙ ap Some its.1 in
           let after : place_of passes (before ++ t ∷ []) ≡ Some next =
           one_more passes (place_sent headers dest) next before t packets (goes its.0) in
           record {
@@ -196,7 +204,7 @@ module _ (routes : Routes) (slot : Slot) (passes : NodeId → Bool) (e : EndNumb
 
           free : (ends : Bool) → IsApart (if ends then Idle else Out e headers dest) → (if ends then Between else place_sent headers dest) ≡ Between
           free true apart = refl
-          free false apart = absurd (both_ways _ apart (eq-eqb e e refl))
+          free false apart = absurd (not_apart headers dest apart)
 
       own_so : (headers : ℕ) (dest : Dest) (m : AtWork) → In (Out e headers dest) m → Good (out_step routes slot i e headers dest m)
       own_so headers dest m h =
@@ -204,7 +212,7 @@ module _ (routes : Routes) (slot : Slot) (passes : NodeId → Bool) (e : EndNumb
           (λ may. cond_both (nat_lt headers HEADER_BYTES) _ _ Good
           (λ less. leaves headers dest (Byte (header_byte dest headers)) (place_sent (headers + 1) dest) (Out e (headers + 1) dest) m may
           (one_header passes headers dest (ltb-true headers HEADER_BYTES less)) (λ passed. (passed, refl))
-          (λ apart. absurd (both_ways _ apart (eq-eqb e e refl))) h)
+          (λ apart. absurd (not_apart (headers + 1) dest apart)) h)
           (λ more. own_token_so headers dest (waiting_at m.rec i) m (ltb-false headers HEADER_BYTES more) may h))
           (λ never. h.0)
 
@@ -227,7 +235,7 @@ module _ (routes : Routes) (slot : Slot) (passes : NodeId → Bool) (e : EndNumb
               all = length-set m.rec.inputs i (Out e 0 dest) ∙ h.0.all;
               once = h.0.once;
               sends = alone_sends passes e m.rec.inputs i (Out e 0 dest) inside h.0.sends.place (row m.tokens) (λ j other. frees j) h.0.sends.packets
-                  (passed, h.0.sends.free frees) (λ apart. absurd (both_ways _ apart (eq-eqb e e refl)));
+                  (passed, h.0.sends.free frees) (λ apart. absurd (not_apart 0 dest apart));
             },
             get_or-set_same m.rec.inputs i (Out e 0 dest) Idle inside,
           )
@@ -255,12 +263,12 @@ module _ (routes : Routes) (slot : Slot) (passes : NodeId → Bool) (e : EndNumb
       way_so state dest Here m apart leads h =
           let n = dest.chan in
           let next = to_state i (Local n) m in
-          cond_both (not (nat_lt n CHAN_ENDS) || not (chan_of m.rec.core n).used) _ _ Good (λ lost. (apart_in state Lost m apart refl h).0)
-          (λ there. cond_both (chan_is_held m.rec n) m _ Good (λ held. h.0)
-          (λ free. local_so n (waiting_at next.rec i) next (apart_in state (Local n) m apart refl h)))
+          either Good (not (nat_lt n CHAN_ENDS) || not (chan_of m.rec.core n).used) _ _ (apart_in state Lost m apart refl h).0
+          (either Good (chan_is_held m.rec n) m _ h.0 (local_so n (waiting_at next.rec i) next (apart_in state (Local n) m apart refl h)))
       way_so state dest (Behind mask) m apart leads h =
-          cond_both (mask == 0) _ _ Good (λ lost. (apart_in state Lost m apart refl h).0)
-          (λ some. hold_so state mask dest (free_end m.rec mask 0 LINK_ENDS) m apart (leads mask refl) (free_end_is m.rec mask 0 LINK_ENDS LINK_ENDS refl) h)
+          let free = free_end_is m.rec mask 0 LINK_ENDS LINK_ENDS refl in
+          either Good (mask == 0) _ _ (apart_in state Lost m apart refl h).0
+          (hold_so state mask dest (free_end m.rec mask 0 LINK_ENDS) m apart (leads mask refl) free h)
 
       want_so : (state : InputRec) (dest : Dest) (net : ℕ) (m : AtWork) → IsApart state → In state m → Good (want_step routes slot i dest net m)
       want_so state dest net m apart h = way_so state dest (way_to routes.id routes.ways routes.nets net dest.node) m apart (ways net dest.node) h
@@ -278,9 +286,9 @@ module _ (routes : Routes) (slot : Slot) (passes : NodeId → Bool) (e : EndNumb
 
       step_so : (state : InputRec) (m : AtWork) → In state m → Good (step_at routes slot i state m)
       step_so Idle m h =
-          cond_both (is_link_input i) _ _ Good (λ link. head_so Idle (waiting_at m.rec i) m refl h) (λ chan. packet_so (waiting_at m.rec i) m h)
-      step_so (Head1 high) m h = cond_both (is_link_input i) _ m Good (λ link. head_so (Head1 high) (waiting_at m.rec i) m refl h) (λ chan. h.0)
-      step_so (Head2 high low) m h = cond_both (is_link_input i) _ m Good (λ link. head_so (Head2 high low) (waiting_at m.rec i) m refl h) (λ chan. h.0)
+          either Good (is_link_input i) _ _ (head_so Idle (waiting_at m.rec i) m refl h) (packet_so (waiting_at m.rec i) m h)
+      step_so (Head1 high) m h = either Good (is_link_input i) _ m (head_so (Head1 high) (waiting_at m.rec i) m refl h) h.0
+      step_so (Head2 high low) m h = either Good (is_link_input i) _ m (head_so (Head2 high low) (waiting_at m.rec i) m refl h) h.0
       step_so (Want dest net) m h = want_so (Want dest net) dest net m refl h
       step_so (Local n) m h = local_so n (waiting_at m.rec i) m h
       step_so (Out end headers dest) m h = out_so end headers dest m h

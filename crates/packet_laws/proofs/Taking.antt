@@ -1,5 +1,6 @@
 -- One slot of a node at the input of a link end: it takes the first token that waits or none, and is where the tokens that it took end.
-use Rattle.std.proofs.Common.{◌≡◌, ◌≢◌, inl, inr, ℕ, zero, suc, ◌+◌, ◌*◌, ◌<◌, ◌≤◌, ◌==◌, Bool, true, false, not, ◌||◌, nat_lt, if◌then◌else◌, Option, Some, None, List, [], ◌∷◌, length, get_or, slice_index, slice_set, refl, sym, ap, subst, subst₂, ◌∙◌, arith, length-set, get_or-set_same}
+use Rattle.std.proofs.Common.{◌≡◌, ◌≢◌, inl, inr, ℕ, zero, suc, ◌+◌, ◌*◌, ◌<◌, ◌≤◌, ◌==◌, Bool, true, false, not, ◌||◌, nat_lt, if◌then◌else◌, Option, Some, None, List, [], ◌∷◌}
+use Rattle.std.proofs.Common.{length, get_or, slice_index, slice_set, refl, sym, ap, subst, subst₂, ◌∙◌, arith, length-set, get_or-set_same}
 use Rattle.std.proofs.lemmas.Bool.{cases_eq}
 use Rattle.std.proofs.lemmas.List.{get_or-replicate}
 use Rattle.std.proofs.lemmas.Option.{none-some}
@@ -19,7 +20,8 @@ use Rattle.xs_model.specs.Waits.{has_room}
 use Rattle.xs_model.specs.AtWork.{AtWork, slot_begins, it_happens}
 use Rattle.net_model.specs.Ways.{Way, Here, Behind, way_to}
 use Rattle.net_model.specs.Links.{link_after_arrivals, links_after_arrivals, arrive}
-use Rattle.net_model.specs.Switch.{Routes, is_link_input, to_state, waiting_at, state_at, chan_is_held, buffer_of_link, link_at, free_end, take_first, end_may_send, ends_packet, after_token, put_into, send, after_header, header_byte, head_step, hold_end, is_pause, local_step, out_token, out_step, lost_step, want_way, step_at, moves_from}
+use Rattle.net_model.specs.Switch.{Routes, is_link_input, to_state, waiting_at, state_at, chan_is_held, buffer_of_link, link_at, free_end, take_first, end_may_send, ends_packet}
+use Rattle.net_model.specs.Switch.{after_token, put_into, send, after_header, header_byte, head_step, hold_end, is_pause, local_step, out_token, out_step, lost_step, want_way, step_at, moves_from}
 use Rattle.step_model.specs.Fixed.{Fixed}
 use Rattle.step_model.specs.Step.{node_step, ports_step}
 use Rattle.link_laws.specs.LinkSlot.{arrived_at}

@@ -1,25 +1,13 @@
 -- What a hop says: from where it is, in which network, and of an id only its low 16 bits.
-use Rattle.std.proofs.Common.{◌≡◌, ℕ, zero, suc, ◌+◌, ◌*◌, ◌/◌, ◌%◌, ◌^◌, ◌<◌, Bool, true, false}
-use Rattle.std.proofs.Common.{cond, eqb, ◌&&◌, Option, Some, None, List, get_or, bit_and, refl, sym, ap, ◌∙◌, arith, div-add-mod'}
+use Rattle.std.proofs.Common.{◌≡◌, ℕ, zero, suc, ◌+◌, ◌*◌, ◌/◌, ◌%◌, ◌^◌, ◌<◌, Bool, true, false, cond, eqb, ◌&&◌, Option, Some, None, get_or, refl, sym, ap, ◌∙◌, arith, div-add-mod'}
 use Rattle.std.specs.Int.{bit_at}
 use Rattle.std.proofs.lemmas.Bool.{and_parts, eqb-true, eq-eqb, false≢true}
-use Rattle.std.proofs.lemmas.Nat.Bits.{bit_at_and, bit_at-lt, bit_at_cat_low}
-use Rattle.xs_base.specs.Numbers.{NodeId, Position, EndNumber, LinkNumber}
+use Rattle.std.proofs.lemmas.Nat.Bits.{bit_at_cat_low}
+use Rattle.xs_base.specs.Numbers.{NodeId, Position, LinkNumber}
 use Rattle.net_model.specs.Ways.{first_difference, ends_of_net, way_at, way_to}
 use Rattle.sys_plan.specs.Plan.{PlanRec}
-use Rattle.packet_laws.proofs.Nets.{is_of_net}
+use Rattle.packet_laws.proofs.Nets.{way_of_net}
 use Rattle.rank_model.specs.Next.{arc_at, id_at, ways_at, nets_at, net_of, is_behind, is_next}
-
--- ---- The link ends of a network
-
-in_both : (a b end : ℕ) → bit_at (bit_and a b) end ≡ 1 → bit_at b end ≡ 1
-in_both a b end both = omega (arith, bit_at_and a b end, both, bit_at-lt b end)
-
-way_of_net : (ways nets : List ℕ) (net : ℕ) (end : EndNumber) (found : Option ℕ) → is_behind end (way_at ways (ends_of_net nets net) found) ≡ true → get_or nets end 0 ≡ net
-way_of_net ways nets net end None is = absurd (false≢true is)
-way_of_net ways nets net end (Some bit) is =
-    let mask : ℕ = ends_of_net nets net in
-    is_of_net net nets end (in_both (get_or ways bit 0) mask end (eqb-true (bit_at (bit_and (get_or ways bit 0) mask) end) 1 is))
 
 -- ---- Of an id the low 16 bits count
 
