@@ -8,7 +8,8 @@ use Rattle.rank_model.specs.declared.verdict.Verdict.{Verdict}
 use Rattle.rank_model.specs.declared.verdict.Verdict.TheVariants.{NoWay, NoRank}
 use Rattle.rank_model.specs.Lines.{RanksRec}
 use Rattle.rank_model.specs.Next.{link_count, or_first, first_from}
-use Rattle.rank_model.specs.Verdicts.{number_at, is_cut_off, no_way_in, no_way_to, no_way_from, no_way, does_not_rise, first_dest, no_rank_for, no_rank_between, no_rank_after, no_rank, yes_unless, verdict_of}
+use Rattle.rank_model.specs.Verdicts.{number_at, is_cut_off, no_way_in, no_way_to, no_way_from, no_way, does_not_rise, first_dest}
+use Rattle.rank_model.specs.Verdicts.{no_rank_for, no_rank_between, no_rank_after, no_rank, yes_unless, verdict_of}
 use Rattle.rank_model.specs.Checks.{Checked, Refused, Judged, fault_of, unless_faulty, lines_checked, is_missing, ranks_by_link, judged, checked}
 use Rattle.xs1_top.specs.Routes.{NamesLinks}
 
@@ -40,7 +41,7 @@ dest_names : (plan : PlanRec) (l k : ℕ) (dest : Option ℕ) → l < link_count
 dest_names plan l k None first second = tt
 dest_names plan l k (Some dest) first second = (first, second)
 
-rank_names : (plan : PlanRec) (not_above : Bool) (l k : ℕ) (dest : Option ℕ) → l < link_count plan → k < link_count plan → IfSome (if not_above then no_rank_for l k dest else None) (NamesLinks plan)
+rank_names : (plan : PlanRec) (stays : Bool) (l k : ℕ) (dest : Option ℕ) → l < link_count plan → k < link_count plan → IfSome (if stays then no_rank_for l k dest else None) (NamesLinks plan)
 rank_names plan true l k dest first second = dest_names plan l k dest first second
 rank_names plan false l k dest first second = tt
 

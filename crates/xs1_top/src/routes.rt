@@ -27,7 +27,7 @@ const LONGEST_INPUT: usize = 4_194_304;
 
 /// Reads the ranks and the system of the input, runs nothing, and answers with what the ranks come to, or with the line that refuses the
 /// input: the whole of it where it is too long, then the ranks where a line has no form, then the system, and then the ranks as those of the
-/// system. The error is want of memory. See docs/NETWORKS.md.
+/// system. The error is want of memory. See docs/ROUTES.md.
 pub fn answer(alloc: Global, input: &[u8]) -> Result<Answer, AllocError>
     ensures { IfOk result (λ answer. answer ≡ routes_answer input.now) }
 {
