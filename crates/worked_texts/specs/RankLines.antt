@@ -3,7 +3,7 @@ use Rattle.std.specs.Prelude.{ℕ, ◌≡◌, List, [], ◌∷◌, ◌++◌, map
 use Rattle.rank_model.specs.declared.rank_line.RankLine.{RankLine}
 use Rattle.rank_model.specs.declared.rank_line.RankSays.{RankSays}
 use Rattle.rank_model.specs.declared.rank_line.RankSays.TheVariants.{Blank, System, Rank, NoForm}
-use Rattle.rank_model.specs.Lines.{RanksRec, RanksRead, Ranks, BadLine, says, ranks_of, system_after}
+use Rattle.rank_model.specs.Lines.{RanksRead, Ranks, BadLine, says, ranks_of, system_after}
 
 -- ---- One line
 
