@@ -1,7 +1,10 @@
 pub mod Dests
 pub mod Differences
+pub mod FirstDest
 pub mod Heads
+pub mod Least
 pub mod Lines
 pub mod Links
+pub mod Nearest
 pub mod Nets
 pub mod Searches

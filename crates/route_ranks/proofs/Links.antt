@@ -54,6 +54,9 @@ module _ (plan : PlanRec) (nodes : List NodePlan) (are : nodes ≡ plan.nodes) (
   pub id_is : id_at plan v ≡ node.id
   id_is = at_place (λ (n : NodePlan). n.id) plan.nodes v node 0 there read
 
+  pub id_there : (w : ℕ) → v ≡ w → (get_or nodes v node).id ≡ id_at plan w
+  id_there w same = ap (λ (n : NodePlan). n.id) (sym is) ∙ sym id_is ∙ ap (id_at plan) same
+
   pub ways_are : ways_at plan v ≡ node.ways
   ways_are = at_place (λ (n : NodePlan). n.ways) plan.nodes v node [] there read
 

@@ -1,3 +1,4 @@
 pub mod Checks
 pub mod Links
+pub mod Nearest
 pub mod Reads

@@ -2,6 +2,7 @@
 ghost use Rattle.std.specs.Prelude.{◌≡◌, ◌<◌, length};
 ghost use Rattle.rank_model.specs.Next.{link_count};
 ghost use Rattle.rank_model.specs.Verdicts.{goes_on, first_dest, no_rank_between, no_rank_after, no_rank};
+ghost use Rattle.route_ranks.specs.Nearest.{nearest, or_lesser};
 
 use crate::ways::{is_next, link_count, link_route};
 use rank_model::Verdict;
@@ -62,15 +63,42 @@ fn first_dest(plan: &Plan, first: u32, second: u32) -> Option<u16>
     requires second { second < link_count plan.now }
     ensures value { result ≡ first_dest plan.now first second }
 {
-    if link_route(plan, first).to != link_route(plan, second).from {
+    let route = link_route(plan, first);
+    if route.to != link_route(plan, second).from {
         return None;
     }
-    for dest in 0..65536u32 {
-        if goes_on(plan, first, second, dest as u16) {
-            return Some(dest as u16);
-        }
+    let from = plan.nodes()[route.from as usize].id;
+    let to = plan.nodes()[route.to as usize].id;
+    let mut found = None;
+    for bit in 0..16u8 {
+        found = or_lesser(plan, first, second, found, nearest(from, bit));
+        found = or_lesser(plan, first, second, found, nearest(to, bit));
     }
-    None
+    found
+}
+
+// The least id that first differs from an id at a bit: what nodes say of an id depends on where it first differs from theirs, and the
+// bits below that may be 0 in the first for which a packet may go on.
+fn nearest(id: u16, bit: u8) -> u16
+    requires within { bit < 16 }
+    ensures value { result ≡ nearest id bit }
+{
+    ((id >> bit) ^ 1) << bit
+}
+
+// The lesser of the id that is found and a further one, if a packet for that may go on.
+fn or_lesser(plan: &Plan, first: u32, second: u32, found: Option<u16>, dest: u16) -> Option<u16>
+    requires first { first < link_count plan.now }
+    requires second { second < link_count plan.now }
+    ensures value { result ≡ or_lesser (goes_on plan.now first second) found dest }
+{
+    if !goes_on(plan, first, second, dest) {
+        return found;
+    }
+    match found {
+        None => Some(dest),
+        Some(least) => Some(least.min(dest)),
+    }
 }
 
 // Whether a packet for an id may go on from a directed link to another.
