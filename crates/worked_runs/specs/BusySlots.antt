@@ -1,7 +1,7 @@
 -- Busy slots that were worked out by hand.
-use Rattle.std.specs.Prelude.{ℕ, ◌≡◌, true, false, Option, Some, None, List, [], ◌∷◌, ◌++◌, filter, replicate}
-use Rattle.xs_model.specs.declared.clock.Clock.TheVariants.{Reference, Block}
-use Rattle.xs_model.specs.Record.{NodeRec, PortRec, TransferRec, first_node, off_port, off_clock, Want}
+use Rattle.std.specs.Prelude.{ℕ, ◌≡◌, true, false, Option, Some, None, [], ◌∷◌, filter, replicate}
+use Rattle.xs_model.specs.declared.clock.Clock.TheVariants.{Block}
+use Rattle.xs_model.specs.Record.{ClockRec, NodeRec, PortRec, first_node, off_port, off_clock, Want}
 use Rattle.xs_model.specs.PortActions.{on_port}
 use Rattle.xs_instructions.specs.declared.instr.Instr.TheVariants.{Words, Memory, Threads}
 use Rattle.xs_instructions.specs.declared.instr.WordIns.TheVariants as words
@@ -42,7 +42,8 @@ pub record BusySlots : Type 0 where
   pub sends : busy_count talking_pair 0 40 ≡ 20
   pub takes : busy_count talking_pair 1 40 ≡ 8
   pub sending : filter (is_busy talking_pair 0) (11 ∷ 12 ∷ 13 ∷ 14 ∷ 25 ∷ 26 ∷ 27 ∷ 28 ∷ 31 ∷ 35 ∷ 36 ∷ []) ≡ 12 ∷ 13 ∷ 14 ∷ 25 ∷ 27 ∷ 31 ∷ 35 ∷ []
-  pub taking : filter (is_busy talking_pair 1) (0 ∷ 1 ∷ 4 ∷ 8 ∷ 17 ∷ 18 ∷ 19 ∷ 22 ∷ 26 ∷ 27 ∷ 28 ∷ 30 ∷ 31 ∷ 34 ∷ 38 ∷ []) ≡ 0 ∷ 4 ∷ 18 ∷ 22 ∷ 26 ∷ 27 ∷ 30 ∷ 34 ∷ []
+  pub taking : filter (is_busy talking_pair 1) (0 ∷ 1 ∷ 4 ∷ 8 ∷ 17 ∷ 18 ∷ 19 ∷ 22 ∷ 26 ∷ 27 ∷ 28 ∷ 30 ∷ 31 ∷ 34 ∷ 38 ∷ [])
+      ≡ 0 ∷ 4 ∷ 18 ∷ 22 ∷ 26 ∷ 27 ∷ 30 ∷ 34 ∷ []
 
 -- A port that is on samples while its direction is input, and shifts while bits are left; neither counts where it is off. A packet
 -- that wants a way is on its way.
@@ -54,6 +55,10 @@ pub record StillNodes : Type 0 where
   pub off : still (with_port_1a (record off_port { shift = 1 ∷ [] })) ≡ true
   pub wants : still (record (first_node 0 0 []) { inputs = Want (record { node = 1; chan = 2 }) 0 ∷ [] }) ≡ false
 
+-- a clock block that runs and rises in every eighth slot
+abbrev divided_by_8 : ClockRec
+divided_by_8 = record off_clock { on = true; running = true; divider = 1 }
+
 -- The reference clock falls in slots 2, 6 and 10. Without a time a transfer begins at the next falling edge; with a time at the
 -- edge that makes the counter that time, also past 65,535; and by a clock block that does not run at none.
 pub record NextTransfers : Type 0 where
@@ -61,5 +66,5 @@ pub record NextTransfers : Type 0 where
   pub in_time : filter (λ counter. ports_stir [] 2 (about_to_put counter (Some 8) ∷ [])) (6 ∷ 7 ∷ 8 ∷ []) ≡ 7 ∷ []
   pub goes_round : ports_stir [] 2 (about_to_put 65535 (Some 0) ∷ []) ≡ true
   pub stopped : ports_stir (record off_clock { on = true } ∷ []) 2 (record (about_to_put 7 None) { clock = Block 0 } ∷ []) ≡ false
-  pub divided : filter (λ slot. ports_stir (record off_clock { on = true; running = true; divider = 1 } ∷ []) slot (record (about_to_put 7 None) { clock = Block 0 } ∷ [])) (2 ∷ 4 ∷ 6 ∷ 8 ∷ 12 ∷ []) ≡ 4 ∷ 12 ∷ []
+  pub divided : filter (λ slot. ports_stir (divided_by_8 ∷ []) slot (record (about_to_put 7 None) { clock = Block 0 } ∷ [])) (2 ∷ 4 ∷ 6 ∷ 8 ∷ 12 ∷ []) ≡ 4 ∷ 12 ∷ []
   pub empty : ports_stir [] 2 (record (about_to_put 7 None) { transfer = None } ∷ []) ≡ false

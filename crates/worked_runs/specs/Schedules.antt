@@ -1,13 +1,11 @@
 -- Schedules worked out by hand.
 use Rattle.std.specs.Prelude.{ℕ, ◌≡◌, List, [], ◌∷◌, ◌++◌, replicate}
-use Rattle.xs_base.specs.Numbers.{Slot}
 use Rattle.sys_plan.specs.declared.NodePlan.{NodePlan}
 use Rattle.sys_plan.specs.NodePlans.{plain_plan}
-use Rattle.sys_plan.specs.declared.LinkPlan.{LinkPlan}
 use Rattle.sys_plan.specs.declared.Step.{Step}
 use Rattle.sys_plan.specs.declared.Step.TheVariants.{Take, Run, Send}
 use Rattle.sys_plan.specs.Plan.{PlanRec}
-use Rattle.ahead_limits.specs.Schedule.{ScheduleRec, numbers}
+use Rattle.ahead_limits.specs.Schedule.{numbers}
 
 -- a node with no code and no ways, whose number is its id
 abbrev pub idle_node : ℕ → NodePlan
