@@ -152,6 +152,14 @@ impl Core {
         self.units.driven(port)
     }
 
+    /// What all pins showed at the end of the slot before, by port number: what their ports drive, and else what they showed from outside,
+    /// and all 0 before the first slot. It takes no memory. See docs/PORTS.md.
+    pub fn levels(&self) -> [u32; 29]
+        ensures value { (rec : NodeRec) → StandsFor self.now rec → result ≡ rec.levels }
+    {
+        self.levels.of(&self.units)
+    }
+
     /// One slot of the node: what arrives by the link ends, the edges of the ports' clocks, the switch, and at most
     /// one issue. The pins show `pins` where no port drives them, each level below 2^width of its port. `out` is emptied
     /// first, and then holds what the slot gives. See docs/MACHINE.md.

@@ -48,6 +48,17 @@ impl PinLevels {
         }
     }
 
+    /// The levels themselves, of pins whose ports are these.
+    pub(crate) fn of(&self, units: &Processor) -> [u32; 29]
+        ensures { result ≡ levels_kept units.now.ports self.now }
+    {
+        if self.is_outside {
+            driven_over(units, &self.pins.level)
+        } else {
+            self.pins.level
+        }
+    }
+
     /// These levels themselves.
     pub(crate) fn of_state(level: [u32; 29]) -> PinLevels
         ensures { (ports : List PortRec) → levels_kept ports result ≡ level }
@@ -66,6 +77,18 @@ fn shown_with(ports: &[PortState; 29], outside: &[u32; 29]) -> [u32; 29]
     let mut levels = *outside;
     for p in 0..PORTS {
         levels[p as usize] = shown_at(ports[p as usize].driven, levels[p as usize]);
+    }
+    levels
+}
+
+// What all pins show, which show this from outside.
+fn driven_over(units: &Processor, outside: &[u32; 29]) -> [u32; 29]
+    ensures { result ≡ levels_of units.now.ports outside.now }
+{
+    units.keeps();
+    let mut levels = *outside;
+    for p in 0..PORTS {
+        levels[p as usize] = shown_at(units.driven(p), levels[p as usize]);
     }
     levels
 }

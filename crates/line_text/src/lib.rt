@@ -6,6 +6,6 @@ mod lines;
 mod numerals;
 mod traffic;
 
-pub use lines::line_of;
+pub use lines::{append_port_name, line_of};
 pub use numerals::append_hex_word;
 pub use traffic::{append_link_end, append_pin, append_token};

@@ -104,8 +104,8 @@ fn append_halt(line: &mut Text, thread: u8) -> Result<(), AllocError>
     line.append(b" halt")
 }
 
-// The name of a port: its width, and its letter.
-pub(crate) fn append_port_name(line: &mut Text, port: u8) -> Result<(), AllocError>
+/// Puts the name of a port, 0 to 28, at the end of the text: its width, and its letter. The error is want of memory. See docs/PORTS.md.
+pub fn append_port_name(line: &mut Text, port: u8) -> Result<(), AllocError>
     requires { port < 29 }
     ensures { OnOk result (line.new ≡ line.old ++ port_name port) }
 {

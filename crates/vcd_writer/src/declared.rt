@@ -1,0 +1,1 @@
+//! The lines that declare the pins of nodes.

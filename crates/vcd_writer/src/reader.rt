@@ -1,0 +1,1 @@
+//! Reading a wave text line by line.

@@ -1,0 +1,1 @@
+//! A wave text in the making.
