@@ -1,5 +1,5 @@
 -- The lines of a wave text, a value change dump in which one slot is one unit of time.
-use Rattle.std.specs.Prelude.{ℕ, ◌+◌, ◌*◌, ◌/◌, ◌%◌, ◌==◌, if◌then◌else◌, List, [], ◌∷◌, ◌++◌, map, codes, decimal}
+use Rattle.std.specs.Prelude.{ℕ, false, ◌+◌, ◌*◌, ◌/◌, ◌%◌, ◌==◌, if◌then◌else◌, List, [], ◌∷◌, ◌++◌, map, codes, decimal}
 use Rattle.std.specs.Fmt.{digits}
 use Rattle.xs_base.specs.Ids.{port_width}
 use Rattle.xs_base.specs.Numbers.{Slot, Word, Position, PortNumber}
