@@ -1,5 +1,6 @@
 mod Modes
+pub mod Numbers
+mod PinsStatuses
 mod RouteStatuses
 mod SnapStatuses
 mod Statuses
-pub mod Numbers

@@ -5,10 +5,11 @@ use Rattle.std.proofs.lemmas.Bool.Decides.{nat_tests}
 use Rattle.xs_instructions.specs.Image.{same_name}
 use Rattle.std.specs.Char.{is_ascii_digit}
 use Rattle.xs_text.specs.Numbers.{at_most, value_in}
-use Rattle.word_numbers.specs.Decimal.{decimal_up_to}
+use Rattle.word_numbers.specs.Decimal.{decimal_up_to, plain_decimal_up_to}
+use Rattle.wave_model.specs.Reads.{most_wave_slots}
 use Rattle.answer_model.specs.declared.Form.{Form}
-use Rattle.answer_model.specs.declared.Form.TheVariants.{Free, Serial, Rounds, Play, Make, Check, Save, Resume, Routes}
-use Rattle.answer_model.specs.Forms.{most_slots, greatest_number, form_of_one, form_of_two, form_of_mode, form_of_words}
+use Rattle.answer_model.specs.declared.Form.TheVariants.{Free, Serial, Rounds, Play, Make, Check, Save, Resume, Routes, Wave, PinsOf}
+use Rattle.answer_model.specs.Forms.{most_slots, greatest_number, of_slots, form_of_one, form_of_waves, form_of_two, form_of_mode, form_of_words}
 use Rattle.answer_model.specs.Top.{answer, answer_of_form}
 use Rattle.answer_model.specs.MakeForm.{made_answer}
 
@@ -38,29 +39,13 @@ make_few : (short : Bool) (o : Option ℕ) → SaysFew (option_and_then (λ numb
 make_few true o n e = at_most_few o n e
 make_few false o n e = cc
 
-free_few : (o : Option ℕ) → SaysFew (option_and_then (λ slots. Some (Free slots)) o)
-free_few None n e = cc
-free_few (Some slots) n e = cc
+-- of a form that is no load
+slots_few : (form : ℕ → Form) → ((m n : ℕ) → ¬ (Some (form m) ≡ Some (Make n))) → (o : Option ℕ) → SaysFew (option_and_then (λ slots. Some (form slots)) o)
+slots_few form differs None n e = cc
+slots_few form differs (Some slots) n e = absurd (differs slots n e)
 
-serial_few : (o : Option ℕ) → SaysFew (option_and_then (λ slots. Some (Serial slots)) o)
-serial_few None n e = cc
-serial_few (Some slots) n e = cc
-
-rounds_few : (o : Option ℕ) → SaysFew (option_and_then (λ slots. Some (Rounds slots)) o)
-rounds_few None n e = cc
-rounds_few (Some slots) n e = cc
-
-play_few : (o : Option ℕ) → SaysFew (option_and_then (λ slots. Some (Play slots)) o)
-play_few None n e = cc
-play_few (Some slots) n e = cc
-
-save_few : (o : Option ℕ) → SaysFew (option_and_then (λ slots. Some (Save slots)) o)
-save_few None n e = cc
-save_few (Some slots) n e = cc
-
-resume_few : (o : Option ℕ) → SaysFew (option_and_then (λ slots. Some (Resume slots)) o)
-resume_few None n e = cc
-resume_few (Some slots) n e = cc
+of_slots_few : (form : ℕ → Form) → ((m n : ℕ) → ¬ (Some (form m) ≡ Some (Make n))) → (word : List ℕ) → SaysFew (of_slots form word)
+of_slots_few form differs word = slots_few form differs (decimal_up_to most_slots word)
 
 -- a choice between two forms that say few
 choice_few : (t : Bool) (o p : Option Form) → SaysFew o → SaysFew p → SaysFew (if t then o else p)
@@ -79,17 +64,23 @@ routes_few n e = cc
 one_few : (command : List ℕ) → SaysFew (form_of_one command)
 one_few command = choice_few (same_name (codes "check") command) _ _ check_few (choice_few (same_name (codes "routes") command) _ _ routes_few none_few)
 
+waves_few : (command word : List ℕ) → SaysFew (form_of_waves command word)
+waves_few command word =
+    choice_few _ _ _ (slots_few Wave (λ m n e. cc) (decimal_up_to most_wave_slots word))
+    (choice_few _ _ _ (slots_few PinsOf (λ m n e. cc) (plain_decimal_up_to 99 word)) none_few)
+
 two_few : (command word : List ℕ) → SaysFew (form_of_two command word)
 two_few command word =
-    choice_few _ _ _ (free_few (decimal_up_to most_slots word))
-    (choice_few _ _ _ (play_few (decimal_up_to most_slots word))
+    choice_few _ _ _ (of_slots_few Free (λ m n e. cc) word)
+    (choice_few _ _ _ (of_slots_few Play (λ m n e. cc) word)
     (choice_few _ _ _ (make_few (nat_le (length word) 10) (value_in 10 is_ascii_digit word))
-    (choice_few _ _ _ (save_few (decimal_up_to most_slots word)) (choice_few _ _ _ (resume_few (decimal_up_to most_slots word)) none_few))))
+    (choice_few _ _ _ (of_slots_few Save (λ m n e. cc) word)
+    (choice_few _ _ _ (of_slots_few Resume (λ m n e. cc) word) (waves_few command word)))))
 
 mode_few : (slots mode : List ℕ) → SaysFew (form_of_mode slots mode)
 mode_few slots mode =
-    choice_few _ _ _ (free_few (decimal_up_to most_slots slots))
-    (choice_few _ _ _ (serial_few (decimal_up_to most_slots slots)) (choice_few _ _ _ (rounds_few (decimal_up_to most_slots slots)) none_few))
+    choice_few _ _ _ (of_slots_few Free (λ m n e. cc) slots)
+    (choice_few _ _ _ (of_slots_few Serial (λ m n e. cc) slots) (choice_few _ _ _ (of_slots_few Rounds (λ m n e. cc) slots) none_few))
 
 pub number_is_small : (words : List (List ℕ)) (n : ℕ) → form_of_words words ≡ Some (Make n) → n < 4294967296
 unfolding form_of_words

@@ -3,7 +3,7 @@ use Rattle.std.proofs.Common.{◌≡◌, ℕ, ◌↔◌, List, Option, Some, Non
 use Rattle.sys_plan.specs.Plan.{PlanRec}
 use Rattle.system_model.specs.System.{System, Plan, Frame, Source, Pins, system_of}
 use Rattle.answer_model.specs.declared.Form.{Form}
-use Rattle.answer_model.specs.declared.Form.TheVariants.{Free, Serial, Rounds, Play, Make, Check, Save, Resume, Routes}
+use Rattle.answer_model.specs.declared.Form.TheVariants.{Free, Serial, Rounds, Play, Make, Check, Save, Resume, Routes, Wave, PinsOf}
 use Rattle.answer_model.specs.declared.Status.{Status}
 use Rattle.answer_model.specs.declared.Status.TheVariants as status
 use Rattle.answer_model.specs.Forms.{form_of_words}
@@ -12,6 +12,7 @@ use Rattle.answer_model.specs.RunForm.{run_text}
 use Rattle.answer_model.specs.PlayForm.{played_text}
 use Rattle.answer_model.specs.CheckForm.{check_text}
 use Rattle.answer_model.specs.SaveForm.{saved_text}
+use Rattle.answer_model.specs.WaveForm.{waved_text}
 use Rattle.answer_model.specs.Top.{answer, answer_of_form}
 use Rattle.answer_model.specs.SystemStatuses.{IsFrameRefusal, IsSourceRefusal, IsScriptRefusal, RefusesNothing, ReadsSystem, AnswersExactly}
 
@@ -30,6 +31,8 @@ of_form wanted IsOfKind tells (Some Check) input h = tells check_text (system_of
 of_form wanted IsOfKind tells (Some (Save slots)) input h = tells (saved_text input slots) (system_of input)
 of_form wanted IsOfKind tells (Some (Resume slots)) input h = absurd h
 of_form wanted IsOfKind tells (Some Routes) input h = absurd h
+of_form wanted IsOfKind tells (Some (Wave slots)) input h = tells (waved_text slots) (system_of input)
+of_form wanted IsOfKind tells (Some (PinsOf node)) input h = absurd h
 
 exactly : (wanted : Status) (IsOfKind : System → Type 0) → Tells wanted IsOfKind → AnswersExactly wanted IsOfKind
 unfolding answer

@@ -4,6 +4,8 @@ pub mod MakeForm
 pub mod Loads
 pub mod Modes
 pub mod OnSystem
+pub mod PinsForm
+pub mod PinsStatuses
 pub mod PlayForm
 pub mod Refusals
 pub mod ResumeForm
@@ -15,3 +17,4 @@ pub mod SnapStatuses
 pub mod StatusNumber
 pub mod SystemStatuses
 pub mod Top
+pub mod WaveForm

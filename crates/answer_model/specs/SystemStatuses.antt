@@ -2,7 +2,7 @@
 use Rattle.std.specs.Prelude.{ℕ, ◌≡◌, ◌↔◌, Option, Some, None, List}
 use Rattle.system_model.specs.System.{System, Plan, Frame, Source, Pins, system_of}
 use Rattle.answer_model.specs.declared.Form.{Form}
-use Rattle.answer_model.specs.declared.Form.TheVariants.{Free, Serial, Rounds, Play, Make, Check, Save, Resume, Routes}
+use Rattle.answer_model.specs.declared.Form.TheVariants.{Free, Serial, Rounds, Play, Make, Check, Save, Resume, Routes, Wave, PinsOf}
 use Rattle.answer_model.specs.declared.Status.{Status}
 use Rattle.answer_model.specs.declared.Status.TheVariants.{Done, Usage, SystemFault, SourceFault, ScriptFault}
 use Rattle.answer_model.specs.Forms.{form_of_words}
@@ -36,7 +36,7 @@ RefusesNothing (Frame line kind) = ⊥
 RefusesNothing (Source node line kind) = ⊥
 RefusesNothing (Pins line kind) = ⊥
 
--- the form is that of `run SLOTS`, with a mode or without, of `play SLOTS`, of `save SLOTS` or of `check`
+-- the form is that of `run SLOTS`, with a mode or without, of `play SLOTS`, of `save SLOTS`, of `wave SLOTS` or of `check`
 abbrev pub ReadsSystem : Option Form → Type 0
 ReadsSystem None = ⊥
 ReadsSystem (Some (Free slots)) = Unit {0}
@@ -48,6 +48,8 @@ ReadsSystem (Some Check) = Unit {0}
 ReadsSystem (Some (Save slots)) = Unit {0}
 ReadsSystem (Some (Resume slots)) = ⊥
 ReadsSystem (Some Routes) = ⊥
+ReadsSystem (Some (Wave slots)) = Unit {0}
+ReadsSystem (Some (PinsOf node)) = ⊥
 
 -- to words of such a form, this status is answered exactly where the system of the input is of this kind
 abbrev pub AnswersExactly : Status → (System → Type 0) → Type 0

@@ -3,7 +3,7 @@ use Rattle.std.specs.Prelude.{ℕ, ◌+◌, min, if◌then◌else◌, Option, So
 use Rattle.system_model.specs.System.{longest_input}
 use Rattle.snap_codec.specs.Snaps.{longest_snapshot}
 use Rattle.answer_model.specs.declared.Form.{Form}
-use Rattle.answer_model.specs.declared.Form.TheVariants.{Free, Serial, Rounds, Play, Make, Check, Save, Resume, Routes}
+use Rattle.answer_model.specs.declared.Form.TheVariants.{Free, Serial, Rounds, Play, Make, Check, Save, Resume, Routes, Wave, PinsOf}
 use Rattle.answer_model.specs.declared.Answer.{Answer}
 use Rattle.answer_model.specs.declared.Status.TheVariants as status
 use Rattle.answer_model.specs.Forms.{form_of_words, usage_text, reads_input}
@@ -14,6 +14,8 @@ use Rattle.answer_model.specs.CheckForm.{check_answer}
 use Rattle.answer_model.specs.SaveForm.{save_answer}
 use Rattle.answer_model.specs.ResumeForm.{resume_answer}
 use Rattle.answer_model.specs.RoutesForm.{routes_answer}
+use Rattle.answer_model.specs.WaveForm.{wave_answer}
+use Rattle.answer_model.specs.PinsForm.{pins_answer}
 
 -- what a form answers to the bytes of the input
 abbrev pub answer_by : Form → List ℕ → Answer
@@ -26,6 +28,8 @@ answer_by Check input = check_answer input
 answer_by (Save slots) input = save_answer slots input
 answer_by (Resume slots) input = resume_answer slots input
 answer_by Routes input = routes_answer input
+answer_by (Wave slots) input = wave_answer slots input
+answer_by (PinsOf node) input = pins_answer node input
 
 abbrev pub usage_answer : Answer
 usage_answer = record { text = usage_text; status = status.Usage }

@@ -5,6 +5,7 @@
 ghost use Rattle.std.specs.Prelude.{◌≡◌};
 ghost use Rattle.answer_model.specs.Loads.{LoadsAreMade};
 ghost use Rattle.answer_model.specs.Modes.{ModesAreAlike};
+ghost use Rattle.answer_model.specs.PinsStatuses.{PinsStatuses};
 ghost use Rattle.answer_model.specs.RouteStatuses.{RouteStatuses};
 ghost use Rattle.answer_model.specs.SnapStatuses.{SnapStatuses};
 ghost use Rattle.answer_model.specs.StatusNumber.{number_of_status};
@@ -34,6 +35,10 @@ pub enum Form {
     Resume(u32),
     /// `routes`: whether packets arrive in the system, by the ranks that stand before its text.
     Routes,
+    /// `wave SLOTS`: the levels of all pins in a run of so many slots, as a value change dump.
+    Wave(u32),
+    /// `pinsof N`: the pin script that a wave text gives the node with this number.
+    PinsOf(u8),
 }
 
 /// How the program ends.
@@ -45,7 +50,7 @@ pub enum Status {
     Memory,
     /// The words are none of the forms.
     Usage,
-    /// The frame of the system text was refused, or a snapshot.
+    /// The frame of the system text was refused, or a snapshot, ranks, or a wave text.
     SystemFault,
     /// A node's source was refused.
     SourceFault,
@@ -88,6 +93,12 @@ pub fn statuses_of_snapshots()
 /// where the ranks or the frame of the system are refused. See docs/ROUTES.md.
 pub fn statuses_of_routes()
     ensures { RouteStatuses }
+{}
+
+/// By which statuses `pinsof N` answers: `Done` exactly where the input is a wave text of at most 4,194,304 bytes whose wave has the node, and
+/// `SystemFault` exactly where it is not. See docs/WAVES.md.
+pub fn statuses_of_pins()
+    ensures { PinsStatuses }
 {}
 
 /// A run answers alike in all modes, whatever its slots and its input are: the same text, the same status, and as many bytes of the input

@@ -2,14 +2,16 @@
 use Rattle.std.specs.Prelude.{ℕ, ◌≡◌, ◌≤◌, ◌⊎◌, Option, Some, None, IfSome, List, drop}
 use Rattle.std.specs.Io.KnownBytes.{Appends}
 use Rattle.xs_edge.specs.Edge.{HasRisen, AppendsPart}
+use Rattle.wave_model.specs.Reads.{most_wave_slots}
 use Rattle.answer_model.specs.declared.Form.{Form}
-use Rattle.answer_model.specs.declared.Form.TheVariants.{Free, Serial, Rounds, Play, Make, Check, Save, Resume, Routes}
+use Rattle.answer_model.specs.declared.Form.TheVariants.{Free, Serial, Rounds, Play, Make, Check, Save, Resume, Routes, Wave, PinsOf}
 use Rattle.answer_model.specs.declared.Status.{Status}
 use Rattle.answer_model.specs.declared.Status.TheVariants.{Done, Memory, Usage, SystemFault, SourceFault, ScriptFault, ReadFault, WriteFault}
 use Rattle.answer_model.specs.Forms.{most_slots}
 use Rattle.answer_model.specs.Top.{answer, taken}
 
--- a run of the form, that in which it plays, and that which it saves or resumes, has no more slots than a run may have
+-- a run of the form, that in which it plays, and that which it saves or resumes, has no more slots than a run may have, and a wave no more
+-- than a wave may have; and a node's number is within its range
 abbrev pub HasFewSlots : Form → Type 0
 HasFewSlots (Free slots) = slots ≤ most_slots
 HasFewSlots (Serial slots) = slots ≤ most_slots
@@ -20,6 +22,8 @@ HasFewSlots Check = Unit {0}
 HasFewSlots (Save slots) = slots ≤ most_slots
 HasFewSlots (Resume slots) = slots ≤ most_slots
 HasFewSlots Routes = Unit {0}
+HasFewSlots (Wave slots) = slots ≤ most_wave_slots
+HasFewSlots (PinsOf node) = node ≤ 99
 
 -- Memory was there, the input was read and the text was written: a status of the definition's answers.
 abbrev pub IsWhole : Status → Type 0

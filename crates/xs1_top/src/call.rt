@@ -9,7 +9,7 @@ ghost use Rattle.xs1_top.specs.Reads.{ReadsAtMost};
 
 use crate::respond::{finish, respond};
 use crate::words::{form_of_words, usage_line};
-use crate::{check, make, play, resume, routes, run, save};
+use crate::{check, make, pins, play, resume, routes, run, save, wave};
 pub use answer_model::Status;
 use answer_model::{Answer, Form};
 use std::alloc::{AllocError, Global};
@@ -26,7 +26,9 @@ use xs_edge::{Gate, Sink, Source};
 /// source as its image gives it; `save SLOTS` runs the system that the input stands for, all nodes together, and answers with the snapshot
 /// of it before slot SLOTS; `resume SLOTS` goes on from the snapshot that the input is, all nodes together, up to slot SLOTS, and answers
 /// with the rest of the trace; `routes` runs nothing and answers whether packets arrive in the system that the input stands for, by the ranks
-/// before its text. `words` are the program's, without its name. Nothing is written before all is done, and writing takes no memory. See
+/// before its text; `wave SLOTS` runs the system, all nodes together, and answers with the levels of its pins at the end of each slot;
+/// `pinsof N` runs nothing and answers with the pin script that the wave text that the input is gives node N. `words` are the program's,
+/// without its name. Nothing is written before all is done, and writing takes no memory. See
 /// docs/OUTPUT.md.
 ///
 /// With words of no form, or of one that asks for no input, nothing is read. Of a system text no more than 4,194,305 bytes are
@@ -36,16 +38,16 @@ use xs_edge::{Gate, Sink, Source};
 /// `top_plain` does, which returns.
 ///
 /// The statuses, of which `Status::number` gives the number; the definition of each form says which of `Done`,
-/// `SystemFault`, `SourceFault` and `ScriptFault` it answers, and `statuses_of_systems`, `statuses_of_snapshots` and `statuses_of_routes` of
-/// answer_model where:
+/// `SystemFault`, `SourceFault` and `ScriptFault` it answers, and `statuses_of_systems`, `statuses_of_snapshots`, `statuses_of_routes` and
+/// `statuses_of_pins` of answer_model where:
 ///
-/// - `Done`: the text of the answer was written, as the trace or the rest of it, the text of `play`, of `make`, of `check` or of `routes`, or
-///   the bytes of a snapshot.
+/// - `Done`: the text of the answer was written, as the trace or the rest of it, the text of `play`, of `make`, of `check` or of `routes`, a
+///   wave or a pin script, or the bytes of a snapshot.
 /// - `Memory`: memory was wanting. Nothing was written.
 /// - `Usage`: the words are of no form. The usage line was written.
 /// - `SystemFault`, `SourceFault`, `ScriptFault`: the frame, a node's source, or the pin script is refused, each where
-///   those before it are accepted. `SystemFault` too: a snapshot is refused, whatever is wrong in it, or its slot is out of range, or ranks are
-///   refused. The line of the refusal was written.
+///   those before it are accepted. `SystemFault` too: a snapshot is refused, whatever is wrong in it, or its slot is out of range, or ranks or
+///   a wave text are refused. The line of the refusal was written.
 /// - `ReadFault`: a read failed, so the source's count of faults has risen. Nothing was written.
 /// - `WriteFault`: a write failed, so the sink's count of faults has risen. A front of what was to be written, or
 ///   nothing, was written.
@@ -167,5 +169,7 @@ fn answer_plainly<R: Threads + Sync, G: Gate>(
         Form::Save(slots) => save::answer(alloc, slots, input),
         Form::Resume(slots) => resume::answer(alloc, slots, input),
         Form::Routes => routes::answer(alloc, input),
+        Form::Wave(slots) => wave::answer(alloc, slots, input),
+        Form::PinsOf(node) => pins::answer(alloc, node, input),
     }
 }

@@ -9,6 +9,7 @@ mod input;
 mod make;
 mod on_system;
 mod output;
+mod pins;
 mod play;
 mod refusals;
 mod respond;
@@ -16,6 +17,7 @@ mod resume;
 mod routes;
 mod run;
 mod save;
+mod wave;
 mod words;
 
 pub use answer_model::Status;

@@ -1,6 +1,5 @@
 //! The form `routes`.
 ghost use Rattle.std.specs.Prelude.{◌≡◌, ◌≤◌, ◌<◌, ◌++◌, length, IfOk, OnOk};
-ghost use Rattle.system_model.specs.declared.SysKind.TheVariants.{TooLong};
 ghost use Rattle.system_model.specs.System.{system_of};
 ghost use Rattle.rank_model.specs.Checks.{checked};
 ghost use Rattle.rank_model.specs.Lines.{system_after};
@@ -10,7 +9,7 @@ ghost use Rattle.answer_model.specs.RoutesForm.{answer_to_routes, link_end_text,
 ghost use Rattle.xs1_top.specs.Routes.{NamesLinks};
 
 use crate::on_system::{Reading, read};
-use crate::refusals::{frame_line, ranks_line};
+use crate::refusals::{is_too_long, ranks_line, too_long};
 use answer_model::{Answer, Status};
 use decimal_text::append_decimal;
 use line_text::{append_hex_word, append_link_end};
@@ -19,11 +18,7 @@ use rank_model::{RankKind, Verdict};
 use route_ranks::{RankError, Ranks, check_ranks, read_ranks};
 use std::alloc::{AllocError, Global};
 use sys_plan::Plan;
-use system_model::SysKind;
 use xs_base::Text;
-
-// The most bytes that the input may have.
-const LONGEST_INPUT: usize = 4_194_304;
 
 /// Reads the ranks and the system of the input, runs nothing, and answers with what the ranks come to, or with the line that refuses the
 /// input: the whole of it where it is too long, then the ranks where a line has no form, then the system, and then the ranks as those of the
@@ -31,7 +26,7 @@ const LONGEST_INPUT: usize = 4_194_304;
 pub fn answer(alloc: Global, input: &[u8]) -> Result<Answer, AllocError>
     ensures { IfOk result (λ answer. answer ≡ routes_answer input.now) }
 {
-    if LONGEST_INPUT < input.len() {
+    if is_too_long(input) {
         return too_long(alloc);
     }
     match read_ranks(alloc, input) {
@@ -64,16 +59,6 @@ fn answer_to_plan(alloc: Global, plan: &Plan, ranks: &Ranks) -> Result<Answer, A
         Err(RankError::Fault { line, kind }) => refused(alloc, line, kind),
         Err(RankError::Memory) => Err(AllocError),
     }
-}
-
-// The line that refuses an input that is too long. The error is want of memory.
-fn too_long(alloc: Global) -> Result<Answer, AllocError>
-    ensures { IfOk result (λ answer. answer ≡ answer_to_routes (found.Frame 0 TooLong)) }
-{
-    Ok(Answer {
-        text: frame_line(alloc, 0, SysKind::TooLong)?,
-        status: Status::SystemFault,
-    })
 }
 
 // The line that refuses ranks. The error is want of memory.
