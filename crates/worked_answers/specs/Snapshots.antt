@@ -15,8 +15,12 @@ abbrev pub resume_for : List ℕ → List (List ℕ)
 resume_for slots = codes "resume" ∷ slots ∷ []
 
 abbrev pub told_usage : Answer
-told_usage =
-    record { text = codes "usage: xs1 run SLOTS [serial|free|rounds] | play SLOTS | make NUMBER | check | save SLOTS | resume SLOTS | routes\n"; status = Usage }
+told_usage = record {
+  text =
+      codes "usage: xs1 run SLOTS [serial|free|rounds] | play SLOTS | make NUMBER | check | save SLOTS | resume SLOTS | routes"
+      ++ codes " | wave SLOTS | pinsof N\n";
+  status = Usage;
+}
 
 -- which form the words have, whether it waits, and how much it takes
 pub record WorkedSnapForms : Type 0 where
