@@ -8,3 +8,4 @@ pub mod Programs
 pub mod Routes
 pub mod Snapshots
 pub mod Statuses
+pub mod Waves

@@ -11,6 +11,7 @@ mod programs;
 mod routes;
 mod snapshots;
 mod statuses;
+mod waves;
 
 pub use answers::worked_answers;
 pub use edges::worked_edges;
@@ -22,3 +23,4 @@ pub use programs::worked_programs;
 pub use routes::worked_routes;
 pub use snapshots::worked_snapshots;
 pub use statuses::worked_statuses;
+pub use waves::worked_waves;
