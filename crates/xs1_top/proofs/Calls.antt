@@ -6,7 +6,7 @@ use Rattle.std.proofs.Math.Seq.{drop-append_seam}
 use Rattle.std.specs.Io.KnownBytes.{Appends, Consumes}
 use Rattle.xs_edge.specs.Edge.{AppendsPart}
 use Rattle.answer_model.specs.declared.Form.{Form}
-use Rattle.answer_model.specs.declared.Form.TheVariants.{Free, Serial, Rounds, Play, Make, Check, Save, Resume, Routes}
+use Rattle.answer_model.specs.declared.Form.TheVariants.{Free, Serial, Rounds, Play, Make, Check, Save, Resume, Routes, Wave, PinsOf}
 use Rattle.answer_model.specs.declared.Answer.{Answer}
 use Rattle.answer_model.specs.declared.Status.{Status}
 use Rattle.answer_model.specs.declared.Status.TheVariants as status
@@ -22,6 +22,7 @@ use Rattle.answer_model.specs.PlayForm.{played_text}
 use Rattle.answer_model.specs.CheckForm.{check_text}
 use Rattle.answer_model.specs.SaveForm.{saved_text, save_answer}
 use Rattle.answer_model.specs.ResumeForm.{refused, slot_at, is_out_of_range, rest_answer, answer_to_snap}
+use Rattle.answer_model.specs.WaveForm.{waved_text}
 use Rattle.answer_model.specs.RoutesForm as found
 use Rattle.answer_model.specs.RoutesForm.{Routes as Found, routes_of, answer_to_routes}
 use Rattle.answer_model.specs.Refusals.{frame_text}
@@ -31,7 +32,7 @@ use Rattle.answer_model.specs.Top.{answer, answer_by, answer_of_form, usage_answ
 use Rattle.xs1_top.specs.Call.{IsWhole, IsSilent, IsInput, Answers, AnswersInPart, TookInput, IsAnswerStatus, EndsWhere, Ends, Finishes}
 use Rattle.xs1_top.specs.Calls.{Calls}
 use Rattle.xs1_top.specs.Reads.{ReadGives, ReadsAtMost}
-use Rattle.xs1_top.proofs.Systems.{of_taken, system_of-long, system_of-taken, snap_of-taken, routes_of-taken}
+use Rattle.xs1_top.proofs.Systems.{of_taken, system_of-long, system_of-taken, snap_of-taken, routes_of-taken, pins_answer-taken}
 
 -- a text is in the snapshot that is answered to it
 save_answer-taken : (slots : ℕ) (input : List ℕ) → save_answer slots (take (min (length input) (longest_input + 1)) input) ≡ save_answer slots input
@@ -49,6 +50,8 @@ answer_by-taken Check input = ap (answer_to check_text) (system_of-taken input)
 answer_by-taken (Save slots) input = save_answer-taken slots input
 answer_by-taken (Resume slots) input = ap (answer_to_snap slots) (snap_of-taken input)
 answer_by-taken Routes input = ap answer_to_routes (routes_of-taken input)
+answer_by-taken (Wave slots) input = ap (answer_to (waved_text slots)) (system_of-taken input)
+answer_by-taken (PinsOf node) input = pins_answer-taken node input
 
 -- the answer to the words and an input that the source may have
 abbrev pub IsAnswer : Answer → List (List ℕ) → Option (List ℕ) → Type 0

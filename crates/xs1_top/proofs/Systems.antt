@@ -7,6 +7,9 @@ use Rattle.sys_plan.specs.Plan.{PlanRec}
 use Rattle.system_model.specs.declared.SysKind.TheVariants.{TooLong}
 use Rattle.system_model.specs.System.{Plan, Frame, system_of, longest_input}
 use Rattle.rank_model.specs.Lines.{ranks_of}
+use Rattle.pin_scripts.specs.Script.{NodeNumber}
+use Rattle.wave_model.specs.Reads.{pins_of}
+use Rattle.answer_model.specs.PinsForm.{answer_to_pins, pins_answer, too_long}
 use Rattle.answer_model.specs.RoutesForm as found
 use Rattle.answer_model.specs.RoutesForm.{routes_of, routes_after}
 use Rattle.snap_codec.specs.declared.snap_kind.SnapKind.TheVariants as snap_kind
@@ -52,6 +55,14 @@ routes_of-short bytes h =
 
 pub routes_of-taken : (bytes : List ℕ) → routes_of (take (min (length bytes) (longest_input + 1)) bytes) ≡ routes_of bytes
 routes_of-taken bytes = of_taken routes_of longest_input (found.Frame 0 TooLong) routes_of-long bytes
+
+pub pins_answer-long : (node : NodeNumber) (bytes : List ℕ) → longest_input < length bytes → pins_answer node bytes ≡ too_long
+pins_answer-long node bytes h =
+    let long : nat_lt longest_input (length bytes) ≡ true = grind (arith, nat_tests) in
+    ap (λ long. if long then too_long else answer_to_pins (pins_of bytes node)) long
+
+pub pins_answer-taken : (node : NodeNumber) (bytes : List ℕ) → pins_answer node (take (min (length bytes) (longest_input + 1)) bytes) ≡ pins_answer node bytes
+pins_answer-taken node bytes = of_taken (pins_answer node) longest_input too_long (pins_answer-long node) bytes
 
 -- a text that stands for a plan is not too long
 pub planned-short : (bytes : List ℕ) (plan : PlanRec) → system_of bytes ≡ Plan plan → length bytes ≤ longest_input

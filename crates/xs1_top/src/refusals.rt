@@ -1,5 +1,5 @@
 //! The lines that refuse a system text, and those that refuse a snapshot, ranks, or a wave text.
-ghost use Rattle.std.specs.Prelude.{◌≡◌, ◌++◌, length, nat_lt, IfOk, OnOk};
+ghost use Rattle.std.specs.Prelude.{◌≡◌, ◌≤◌, ◌++◌, false, length, nat_lt, IfOk, OnOk};
 ghost use Rattle.system_model.specs.System.{longest_input};
 ghost use Rattle.answer_model.specs.PinsForm.{text_of_wave_kind, too_long, wave_fault_text};
 ghost use Rattle.answer_model.specs.Refusals.{frame_text, pins_text, source_text, text_of_asm_kind, text_of_pin_kind, text_of_sys_kind};
@@ -22,7 +22,8 @@ const LONGEST_INPUT: usize = 4_194_304;
 
 /// Whether an input is too long that is no snapshot: it has more than 4,194,304 bytes. See docs/OUTPUT.md.
 pub fn is_too_long(input: &[u8]) -> bool
-    ensures { result ≡ nat_lt longest_input (length input.now) }
+    ensures value { result ≡ nat_lt longest_input (length input.now) }
+    ensures short { result ≡ false → length input.now ≤ longest_input }
 {
     LONGEST_INPUT < input.len()
 }
