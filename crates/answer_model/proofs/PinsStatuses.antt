@@ -31,7 +31,7 @@ is_short : (input : List ℕ) → false ≡ nat_lt longest_input (length input) 
 is_short input short = grind (arith, nat_tests)
 
 script_told : Tells status.Done GivesScript
-script_told input true long (Pins text) = let many = is_long input long in (λ e. cc, λ few. omega (arith, many, few))
+script_told input true long (Pins text) = let many = is_long input long in (λ e. cc, λ few. absurd (omega (arith, many, few)))
 script_told input true long (Refused line kind) = differ _ _ (λ e. cc)
 script_told input false short (Pins text) = let few = is_short input short in (λ e. few, λ f. refl)
 script_told input false short (Refused line kind) = differ _ _ (λ e. cc)
@@ -39,7 +39,7 @@ script_told input false short (Refused line kind) = differ _ _ (λ e. cc)
 refusal_told : Tells status.SystemFault IsWaveRefusal
 refusal_told input true long (Pins text) = let many = is_long input long in (λ e. many, λ m. refl)
 refusal_told input true long (Refused line kind) = (λ e. tt, λ h. refl)
-refusal_told input false short (Pins text) = let few = is_short input short in (λ e. cc, λ many. omega (arith, many, few))
+refusal_told input false short (Pins text) = let few = is_short input short in (λ e. cc, λ many. absurd (omega (arith, many, few)))
 refusal_told input false short (Refused line kind) = (λ e. tt, λ h. refl)
 
 no_source : Tells status.SourceFault NeverOfPins

@@ -1,5 +1,5 @@
 -- By which statuses `pinsof N` answers: exactly by what its input is.
-use Rattle.std.specs.Prelude.{ℕ, ◌≡◌, ◌↔◌, ◌<◌, ◌≤◌, ◌⊎◌, Some, List, length}
+use Rattle.std.specs.Prelude.{ℕ, ◌≡◌, ◌↔◌, ◌<◌, ◌≤◌, Some, List, length}
 use Rattle.pin_scripts.specs.Script.{NodeNumber}
 use Rattle.system_model.specs.System.{longest_input}
 use Rattle.wave_model.specs.Reads.{NodePins, Pins, Refused, pins_of}
