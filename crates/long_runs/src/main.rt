@@ -1,6 +1,6 @@
 //! Runs and texts that are long: many slots, many events, many steps and large sources, which the program makes by rule, and so what
 //! is to be written. Each is given to the program's call, and the answer compared. What the rules make was worked out by hand,
-//! from docs/MACHINE.md, docs/LINKS.md, docs/LOOKAHEAD.md, docs/ASSEMBLY.md and docs/OUTPUT.md.
+//! from docs/MACHINE.md, docs/LINKS.md, docs/LOOKAHEAD.md, docs/ASSEMBLY.md, docs/WAVES.md and docs/OUTPUT.md.
 #![tactic(auto)]
 
 mod big_source;
@@ -10,6 +10,7 @@ mod schedule;
 mod script;
 mod stream;
 mod trial;
+mod wave;
 
 use anyhow::Result;
 use std::alloc::AllocError;
@@ -36,6 +37,13 @@ fn main(rt: HostRuntime) -> Result<()> {
     )?;
     tell(&rt, "a pin script of 300,000 lines", script::trial(alloc))?;
     tell(&rt, "a source of 430,000 labels", labels::trial(alloc))?;
+    tell(&rt, "a wave of 1,000,000 slots", wave::written(alloc))?;
+    tell(&rt, "a wave that is too long", wave::too_long(alloc))?;
+    tell(
+        &rt,
+        "a script of 90,029 lines from a wave",
+        wave::read(alloc),
+    )?;
     Ok(())
 }
 

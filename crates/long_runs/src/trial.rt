@@ -7,7 +7,7 @@ use xs_edge::{ListSink, ListSource, OpenGate};
 use xs1_top::{Status, top};
 
 /// The text of no trial is longer, in bytes.
-const LONGEST_TEXT: usize = 1_048_576;
+const LONGEST_TEXT: usize = 8_388_608;
 
 /// What the program is given, and what it is to answer.
 #[derive(Drop)]
