@@ -20,7 +20,7 @@ or_first : (n : ℕ) (o p : Option ℕ) → o ≡ Some n → or_else o p ≡ Som
 or_first n o p e = ap (λ x. or_else x p) e
 
 -- a number in decimal is read as this number
-number_back : (n : ℕ) → n < 2 ^ 64 → number_of (decimal n) ≡ Some n
+pub number_back : (n : ℕ) → n < 2 ^ 64 → number_of (decimal n) ≡ Some n
 number_back n h =
     let own : value_in 10 is_ascii_digit (decimal n) ≡ Some n = cond-true _ _ _ (decimal_run n h) ∙ ap (λ v. Some v) (decimal_is_IsNumeral n h).1 in
     or_first n (value_in 10 is_ascii_digit (decimal n)) _ own
@@ -37,7 +37,7 @@ digits_plain (b ∷ ds) h =
     and_from _ _ (digit_plain b p.0) (digits_plain ds p.1)
 
 -- digits are a plain word
-run_plain : (ds : List ℕ) → is_run is_ascii_digit ds ≡ true → is_plain_word ds ≡ true
+pub run_plain : (ds : List ℕ) → is_run is_ascii_digit ds ≡ true → is_plain_word ds ≡ true
 run_plain [] h = absurd (cc)
 run_plain (b ∷ ds) h = digits_plain (b ∷ ds) ((and_parts (not (length (b ∷ ds) == 0)) _ h).1)
 
@@ -64,7 +64,7 @@ number_word n h =
 -- ---- The names of link ends
 
 -- plain bytes and more of them are a plain word
-plain_append : (word more : List ℕ) → is_plain_word word ≡ true → list_all is_plain more ≡ true → is_plain_word (word ++ more) ≡ true
+pub plain_append : (word more : List ℕ) → is_plain_word word ≡ true → list_all is_plain more ≡ true → is_plain_word (word ++ more) ≡ true
 plain_append [] more h k = absurd (cc)
 plain_append (b ∷ word) more h k = list_all-append is_plain (b ∷ word) more ∙ and_from _ _ h k
 
@@ -85,12 +85,12 @@ pub bind : {A B : Type 0} (o : Option A) (x : A) (f : A → Option B) → o ≡ 
 bind o x f e = ap (λ t. t >>= f) e
 
 -- what stands before the colon
-before : (word rest : List ℕ) → list_all is_ascii_digit word ≡ true → take (before_colon (word ++ (58 ∷ rest))) (word ++ (58 ∷ rest)) ≡ word
+pub before : (word rest : List ℕ) → list_all is_ascii_digit word ≡ true → take (before_colon (word ++ (58 ∷ rest))) (word ++ (58 ∷ rest)) ≡ word
 before word rest h =
     ap (λ k. take k (word ++ (58 ∷ rest))) (digits_before_colon word rest h) ∙ take_at word (58 ∷ rest) (length word) refl
 
 -- what stands after the colon
-after : (word rest : List ℕ) → list_all is_ascii_digit word ≡ true → drop (before_colon (word ++ (58 ∷ rest)) + 1) (word ++ (58 ∷ rest)) ≡ rest
+pub after : (word rest : List ℕ) → list_all is_ascii_digit word ≡ true → drop (before_colon (word ++ (58 ∷ rest)) + 1) (word ++ (58 ∷ rest)) ≡ rest
 after word rest h =
     let e = digits_before_colon word rest h in
     let k : length (word ++ (58 ∷ [])) ≡ before_colon (word ++ (58 ∷ rest)) + 1 = omega (arith, e, length-append word (58 ∷ [])) in
