@@ -1,9 +1,9 @@
 -- What a pin shows by the lines of its node it shows by all lines.
-use Rattle.std.proofs.Common.{◌≡◌, ℕ, Bool, ◌&&◌, ◌==◌, List, [], ◌∷◌, map, refl, sym, ap, ◌∙◌, inl, inr}
+use Rattle.std.proofs.Common.{◌≡◌, Bool, ◌&&◌, ◌==◌, List, [], ◌∷◌, map, refl, sym, ap, ◌∙◌, inl, inr}
 use Rattle.std.specs.Prelude.{if◌then◌else◌, filter}
 use Rattle.std.proofs.lemmas.Bool.{cases_Bool, cond-true, cond-false, and_left}
 use Rattle.pin_scripts.specs.declared.line.PinLine.{PinLine}
-use Rattle.pin_scripts.specs.Script.{NodeNumber, change_of, is_at_most, value_after}
+use Rattle.pin_scripts.specs.Script.{change_of, is_at_most, value_after}
 use Rattle.wave_model.specs.Waves.{script_of}
 use Rattle.script_laws.specs.Laws.{ScriptsGiveLevels}
 

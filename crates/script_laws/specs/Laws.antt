@@ -1,5 +1,5 @@
 -- What a wave gives a node as a pin script.
-use Rattle.std.specs.Prelude.{ℕ, ◌≡◌, ◌==◌, true, List}
+use Rattle.std.specs.Prelude.{◌≡◌, ◌==◌, true, List}
 use Rattle.std.specs.List.{list_any}
 use Rattle.xs_base.specs.Numbers.{Slot, PortNumber}
 use Rattle.xs_text.specs.Lines.{lines_of}
