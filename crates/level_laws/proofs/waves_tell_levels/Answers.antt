@@ -1,0 +1,5 @@
+use Rattle.level_laws.proofs.Nodes.{levels_are_shown}
+use Rattle.level_laws.proofs.waves_tell_levels.Goals as goal
+
+pub returns-clause-shown : goal.returns-clause-shown
+returns-clause-shown c = levels_are_shown
