@@ -1,2 +1,6 @@
 mod Lists
 mod Nodes
+mod Numbers
+mod Reading
+mod Changes
+mod Told

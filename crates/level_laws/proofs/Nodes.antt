@@ -122,6 +122,14 @@ module _ (plan : PlanRec) (slot : Slot) (n : Position) (within : n < length plan
   shown : (port : PortNumber) → level_after plan (suc slot) n port ≡ level_of (port_of after.core port).driven (slice_index_or outside port 0)
   shown port = ap (λ levels. get_or levels port 0) noted ∙ level_at after.core.ports outside port as_many
 
+-- before every slot they are 29
+pub levels_many : (plan : PlanRec) (slot : Slot) (n : Position) → n < length plan.nodes → length (node_in (serial plan slot) n).levels ≡ 29
+levels_many plan zero n within = ap length (first_levels plan n)
+levels_many plan (suc slot) n within =
+    ap length (noted plan slot n within)
+    ∙ levels_count (after plan slot n within).core.ports (outside plan slot n within) (as_many plan slot n within)
+    ∙ ports_many plan (suc slot) n
+
 pub levels_are_shown : LevelsAreShown
 levels_are_shown plan slot n port is within _ =
     subst (λ next. level_after plan next n port ≡ level_of (port_of (node_in (serial plan next) n).core port).driven (slice_index_or (shown_in_serial plan n slot).level port 0))
