@@ -62,7 +62,7 @@ module _ (slot : Slot) where
       (λ change is. record { slot = is.slot; from = omega (arith, is.from); to = omega (arith, is.to) })
       (node_changes slot (node + 1) before after) (in_nodes (node + 1) before after))
 
-  ports_fit : (node : Position) (port : PortNumber) (before after : List Word) → port + length after ≤ 29 → LevelsFitFrom port after
+  pub ports_fit : (node : Position) (port : PortNumber) (before after : List Word) → port + length after ≤ 29 → LevelsFitFrom port after
       → AllByRecursion FitsPin (port_changes slot node port before after)
   ports_fit node port [] after few fit = tt
   ports_fit node port (level ∷ before) [] few fit = tt

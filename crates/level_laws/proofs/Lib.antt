@@ -4,3 +4,7 @@ mod Numbers
 mod Reading
 mod Changes
 mod Told
+mod Fit
+mod Order
+mod First
+mod Waves

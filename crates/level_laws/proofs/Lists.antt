@@ -22,6 +22,11 @@ module _ {X : Type 0} (P : X → Type 0) where
   all_from_each default [] each = tt
   all_from_each default (x ∷ xs) each = (each 0 (omega arith), all_from_each default xs (λ n within. each (suc n) (omega (arith, within))))
 
+module _ {X : Type 0} (P Q : X → Type 0) where
+  pub both_hold : (xs : List X) → AllByRecursion P xs → AllByRecursion Q xs → AllByRecursion (λ x. P x × Q x) xs
+  both_hold [] h k = tt
+  both_hold (x ∷ xs) h k = ((h.0, k.0), both_hold xs h.1 k.1)
+
 module _ {X : Type 0} (P Q : X → Type 0) (weaker : (x : X) → P x → Q x) where
   pub all_weaker : (xs : List X) → AllByRecursion P xs → AllByRecursion Q xs
   all_weaker [] h = tt
