@@ -1,5 +1,5 @@
 -- The changes in a slot: of which slot, node and port each of them is, and that its value fits the pin.
-use Rattle.std.proofs.Common.{◌≡◌, ℕ, zero, suc, ◌+◌, ◌<◌, ◌≤◌, ◌^◌, not, ◌||◌, eqb, List, [], ◌∷◌, ◌++◌, length, refl, arith}
+use Rattle.std.proofs.Common.{◌≡◌, ◌+◌, ◌<◌, ◌≤◌, ◌^◌, not, ◌||◌, eqb, List, [], ◌∷◌, length, refl, arith}
 use Rattle.std.specs.List.{AllByRecursion}
 use Rattle.xs_base.specs.Numbers.{Slot, Word, Position, PortNumber}
 use Rattle.xs_base.specs.Ids.{port_width}

@@ -1,9 +1,9 @@
 -- After a slot each node notes 29 levels, which fit the pins.
-use Rattle.std.proofs.Common.{◌≡◌, ℕ, zero, suc, ◌+◌, ◌<◌, ◌^◌, Option, Some, None, List, [], ◌∷◌, length, get_or, sym, subst, arith}
+use Rattle.std.proofs.Common.{◌≡◌, ℕ, suc, ◌+◌, ◌<◌, ◌^◌, Option, Some, None, List, [], ◌∷◌, length, get_or, sym, subst, arith}
 use Rattle.std.specs.List.{AllByRecursion}
 use Rattle.xs_base.specs.Numbers.{Slot, Word, Position, PortNumber}
 use Rattle.xs_base.specs.Ids.{port_width}
-use Rattle.xs_model.specs.Record.{PortRec, off_port, first_node}
+use Rattle.xs_model.specs.Record.{PortRec, off_port}
 use Rattle.xs_model.specs.Ports.{level_of, levels_of}
 use Rattle.xs_model.specs.Outside.{LevelsFitFrom, LevelsFit}
 use Rattle.sys_plan.specs.Plan.{PlanRec, IsPlan}
@@ -12,7 +12,8 @@ use Rattle.locality_laws.specs.Locality.{node_in}
 use Rattle.locality_laws.proofs.Levels.{driven_levels_fit}
 use Rattle.locality_laws.proofs.Shown.{shown_levels_fit}
 use Rattle.level_laws.proofs.Lists.{all_from_each}
-use Rattle.level_laws.proofs.Nodes.{nodes_count, levels_many, after, outside, noted}
+use Rattle.level_laws.proofs.Nodes.{nodes_count, no_node}
+use Rattle.level_laws.proofs.Shown.{levels_many, after, outside, noted}
 use Rattle.level_laws.proofs.Changes.{HasLevels}
 
 -- what is driven, or else comes from outside, fits where both do
@@ -46,4 +47,4 @@ module _ (plan : PlanRec) (is : IsPlan plan) (slot : Slot) where
 
   pub all_have_levels : AllByRecursion HasLevels (serial plan (suc slot)).nodes
   all_have_levels =
-      all_from_each HasLevels (first_node 0 0 []) (serial plan (suc slot)).nodes (λ n within. has_levels n (omega (arith, within, nodes_count plan (suc slot))))
+      all_from_each HasLevels no_node (serial plan (suc slot)).nodes (λ n within. has_levels n (omega (arith, within, nodes_count plan (suc slot))))

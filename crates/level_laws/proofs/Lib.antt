@@ -1,8 +1,10 @@
 mod Lists
 mod Nodes
+mod Shown
 mod Numbers
 mod Reading
 mod Changes
+mod OneSlot
 mod Told
 mod Fit
 mod Order

@@ -1,5 +1,5 @@
 -- Reading a pin back from changes: what they leave it at, where it was at a value before them.
-use Rattle.std.proofs.Common.{◌≡◌, ℕ, zero, suc, ◌<◌, ◌≤◌, Bool, true, false, ◌&&◌, cond, eqb, leb, List, [], ◌∷◌, ◌++◌, length, get_or, map, filter, refl, sym, ap, ◌∙◌, arith, inl, inr}
+use Rattle.std.proofs.Common.{◌≡◌, ◌<◌, ◌≤◌, Bool, true, false, List, [], ◌∷◌, ◌++◌, length, get_or, map, filter, refl, ap, ◌∙◌, inl, inr}
 use mathlib.Core.Logic.{◌⊎◌}
 use Rattle.std.specs.List.{AllByRecursion}
 use Rattle.std.proofs.lemmas.Bool.{cases_Bool, and_from, and_left, and_right, eq-eqb, ne_eqb, le-leb, lt-leb}
@@ -7,7 +7,6 @@ use Rattle.std.proofs.lemmas.List.{map-append}
 use Rattle.std.proofs.lemmas.List.Elements.{filter-append}
 use Rattle.xs_base.specs.Numbers.{Slot, Word, Position, PortNumber}
 use Rattle.pin_scripts.specs.declared.line.Change.{Change}
-use Rattle.pin_scripts.specs.declared.line.PinLine.{PinLine}
 use Rattle.pin_scripts.specs.Script.{NodeNumber, is_of_pin, change_of, changes_of, is_at_most, value_after}
 use Rattle.sys_plan.specs.Plan.{AreAscending}
 use Rattle.wave_model.specs.declared.change.WaveChange.{WaveChange}

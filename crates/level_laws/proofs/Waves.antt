@@ -1,9 +1,7 @@
 -- The wave of a run is a wave.
-use Rattle.std.proofs.Common.{◌≡◌, ◌≢◌, ℕ, zero, suc, ◌+◌, ◌*◌, ◌<◌, ◌≤◌, List, [], ◌∷◌, length, map, refl, sym, ap, ◌∙◌, subst, arith, inl, add-one}
+use Rattle.std.proofs.Common.{◌≡◌, ◌≢◌, zero, suc, ◌+◌, ◌*◌, ◌<◌, List, [], ◌∷◌, length, map, refl, sym, ap, ◌∙◌, subst, arith, inl, add-one}
 use Rattle.std.specs.List.{AllByRecursion}
-use Rattle.std.proofs.lemmas.List.{length-map}
 use Rattle.xs_base.specs.Numbers.{Slot}
-use Rattle.xs_model.specs.Record.{first_node}
 use Rattle.sys_plan.specs.declared.NodePlan.{NodePlan}
 use Rattle.sys_plan.specs.Plan.{PlanRec, IsPlan, node_numbers, numbers_from}
 use Rattle.serial_model.specs.Serial.{serial}
@@ -13,7 +11,8 @@ use Rattle.wave_model.specs.Runs.{wave_of_run, changes_in, changes_before}
 use Rattle.wave_model.specs.Form.{IsChange, AreInOrder, first_pins, pin_of_change}
 use Rattle.level_laws.specs.Laws.{RunsAreWaves}
 use Rattle.level_laws.proofs.Lists.{both_all, both_hold, all_weaker, all_from_each}
-use Rattle.level_laws.proofs.Nodes.{nodes_count, levels_many}
+use Rattle.level_laws.proofs.Nodes.{nodes_count, numbers_count, no_node}
+use Rattle.level_laws.proofs.Shown.{levels_many}
 use Rattle.level_laws.proofs.Changes.{IsIn, FitsPin, HasLevels, in_nodes, nodes_fit}
 use Rattle.level_laws.proofs.Fit.{all_have_levels}
 use Rattle.level_laws.proofs.Order.{joined, nodes_in_order}
@@ -25,18 +24,15 @@ numbers_below [] h = tt
 numbers_below (node ∷ nodes) h = (h.0, numbers_below nodes h.1)
 
 module _ (plan : PlanRec) where
-  numbers_count : length (node_numbers plan) ≡ length plan.nodes
-  numbers_count = length-map plan.nodes (λ (node : NodePlan). node.number)
-
   -- before every slot each node has 29 levels
   many : (slot : Slot) → AreMany (serial plan slot).nodes
   many slot =
-      all_from_each (λ rec. length rec.levels ≡ 29) (first_node 0 0 []) (serial plan slot).nodes (λ n within. levels_many plan slot n (omega (arith, within, nodes_count plan slot)))
+      all_from_each (λ rec. length rec.levels ≡ 29) no_node (serial plan slot).nodes (λ n within. levels_many plan slot n (omega (arith, within, nodes_count plan slot)))
 
   first_are_all : (slots : Slot) → first_pins (wave_of_run plan (suc slots)) ≡ numbers_from 0 (count_of_pins (wave_of_run plan (suc slots)))
   first_are_all slots =
       let after = serial plan (0 + 1) in
-      let count : 29 * length after.nodes ≡ 29 * length (node_numbers plan) = ap (λ k. 29 * k) (nodes_count plan (0 + 1) ∙ sym numbers_count) in
+      let count : 29 * length after.nodes ≡ 29 * length (node_numbers plan) = ap (λ k. 29 * k) (nodes_count plan (0 + 1) ∙ sym (numbers_count plan)) in
       ap (map pin_of_change) (first_changes plan slots)
       ∙ pins_of_nodes 0 (serial plan 0).nodes after.nodes (nodes_count plan 0 ∙ sym (nodes_count plan (0 + 1))) (many 0) (many (0 + 1))
       ∙ ap (numbers_from 0) count
@@ -55,7 +51,7 @@ module _ (plan : PlanRec) where
         let both = both_hold (IsIn slot 0 (0 + length after)) FitsPin (changes_in plan slot) (in_nodes slot 0 before after) (nodes_fit slot 0 before after (have_levels slot)) in
         all_weaker (λ change. IsIn slot 0 (0 + length after) change × FitsPin change) (Change (suc slot))
         (λ change h. record {
-          node = omega (arith, h.0.to, nodes_count plan (slot + 1), numbers_count);
+          node = omega (arith, h.0.to, nodes_count plan (slot + 1), numbers_count plan);
           port = h.1.port;
           slot = omega (arith, h.0.slot);
           value = h.1.value;

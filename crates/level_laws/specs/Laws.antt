@@ -1,5 +1,5 @@
 -- What the wave of a run tells.
-use Rattle.std.specs.Prelude.{ℕ, ◌≡◌, ◌+◌, ◌<◌, ◌≤◌, length, slice_index, slice_index_or}
+use Rattle.std.specs.Prelude.{◌≡◌, ◌+◌, ◌<◌, ◌≤◌, length, slice_index, slice_index_or}
 use Rattle.xs_base.specs.Numbers.{Slot, Position, PortNumber}
 use Rattle.xs_model.specs.Record.{port_of}
 use Rattle.xs_model.specs.Ports.{level_of}

@@ -6,4 +6,4 @@ pub returns-clause-waves : goal.returns-clause-waves
 returns-clause-waves c = runs_are_waves
 
 pub returns-clause-read : goal.returns-clause-read
-returns-clause-read c plan slots is few = c.written_waves_are_read.ensures (wave_of_run plan slots) (runs_are_waves plan slots is few)
+returns-clause-read c plan slots is few = c.written_waves_are_read.ensures.read (wave_of_run plan slots) (runs_are_waves plan slots is few)

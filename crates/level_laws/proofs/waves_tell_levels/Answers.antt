@@ -1,4 +1,4 @@
-use Rattle.level_laws.proofs.Nodes.{levels_are_shown}
+use Rattle.level_laws.proofs.Shown.{levels_are_shown}
 use Rattle.level_laws.proofs.Told.{waves_tell_levels}
 use Rattle.level_laws.proofs.waves_tell_levels.Goals as goal
 
