@@ -142,6 +142,14 @@ impl Pins {
         self.next <= slot
     }
 
+    /// The slot up to which they show what they showed when it last looked, unless more comes by a wire.
+    #[inline]
+    pub fn next_change(&self) -> u32
+        ensures { result ≡ self.now.next }
+    {
+        self.next
+    }
+
     /// What they showed when it last looked.
     pub fn view(&self) -> &PinView
         ensures { result.now ≡ self.now.view }

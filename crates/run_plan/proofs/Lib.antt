@@ -16,3 +16,4 @@ pub mod Rested
 pub mod Waiting
 pub mod Wires
 pub mod Skipped
+pub mod Steady

@@ -153,8 +153,8 @@ tracks_here slot count [] all = tt
 tracks_here slot count (t ∷ tracks) all = (all.0.here, tracks_here slot count tracks all.1)
 
 module _ (first : StillNodeStirsFirst) (counts : QuietSlotOnlyCounts) (tells : SlotTellsDriven) (keeps : SlotKeepsShape) (plan : PlanRec) (shown : List Word) (from to : Slot) (some : from < to) (system : SystemRec)
-    (stations after : List Station) (tracks : List Track) (wires : List Wire) (ready : AreReady plan shown from system stations tracks wires)
-    (quiet : IsQuietSystem from to stations tracks wires) (skips : AllZip (StationSkips from to) stations after) where
+    (stations : List Station) (tracks : List Track) (wires : List Wire) (ready : AreReady plan shown from system stations tracks wires)
+    (quiet : IsQuietSystem from to stations tracks wires) where
   abbrev is : IsSystem plan shown from stations tracks wires system
   is = ready.system
 
@@ -176,53 +176,55 @@ module _ (first : StillNodeStirsFirst) (counts : QuietSlotOnlyCounts) (tells : S
   nothing slot on before n =
       nothing_anywhere from to (omega (arith, some)) plan tracks is.link_histories is.wire_histories system.histories is.histories long is.carry here quiet.arcs slot on (omega (arith, before)) n
 
-  still : AllQuietUntil shown plan from system.histories to 0 plan.nodes system.nodes system.events
+  pub still : AllQuietUntil shown plan from system.histories to 0 plan.nodes system.nodes system.events
   still = all_quiet shown plan from to system.histories first 0 plan.nodes stations system.nodes system.events is.serve quiet.nodes ready.shapes
 
   on : from ≤ to
   on = omega (arith, some)
 
   -- what the system has become
-  abbrev now : List NodeRec
+  abbrev pub now : List NodeRec
   now = all_rested shown plan from system.histories to 0 plan.nodes system.nodes
 
-  since_is : since plan (record { slot = from; system = system; shown = shown }) (to - from) ≡ record system { nodes = now }
+  pub since_is : since plan (record { slot = from; system = system; shown = shown }) (to - from) ≡ record system { nodes = now }
   since_is = all_after shown plan from system counts tells keeps ready.shapes to all_long nothing still on
 
-  tracks_later : AllByRecursion (IsReadyTrack to (length after)) tracks
-  tracks_later =
-      let same = zip-length (StationSkips from to) stations after skips in
-      all-both (IsReadyTrack from (length stations)) (ArrivesAfter to) (IsReadyTrack to (length after))
-      (λ t is late. record { from = omega (arith, same, is.from); to = omega (arith, same, is.to); here = track_later from to (omega (arith, some)) t is.here late }) tracks ready.tracks quiet.arcs
-
-  heeded_later : AllByRecursion (IsHeeded after) tracks
-  heeded_later =
-      all-both (IsTrack from) (ArrivesAfter to) (IsHeeded after) (λ t is late _. none_arrived from to (omega (arith, some)) t is late) tracks here quiet.arcs
-
-  came_last : AllCame shown plan system.histories (to - 1) 0 stations
+  pub came_last : AllCame shown plan system.histories (to - 1) 0 stations
   came_last =
       all-came shown plan system.nodes (to - 1) (levels_of stations) wires is.link_histories is.wire_histories system.histories is.histories long is.tell
       (show_last from to some wires quiet.wires (wires_in from (levels_of stations) wires ready.wires)) ready.wires.come stations refl
 
-  pub ready_later : AreReady plan shown to (since plan (record { slot = from; system = system; shown = shown }) (to - from)) after tracks wires
-  ready_later =
-      subst (λ (whole : SystemRec). AreReady plan shown to whole after tracks wires) (sym since_is)
-      (record {
-        system = record {
-          serve = all_serve shown plan from to system.histories 0 plan.nodes stations system.nodes system.events after is.serve came_last skips;
-          link_histories = is.link_histories;
-          wire_histories = is.wire_histories;
-          histories = is.histories;
-          carry = is.carry;
-          tell =
-              tell_later shown system.nodes now (drive_after shown plan from system counts tells keeps ready.shapes to all_long nothing still on)
-              (length (link_arcs plan.links)) (wire_arcs [] plan.wires) wires is.wire_histories is.tell;
-        };
-        shapes = shapes_after shown plan from system counts tells keeps ready.shapes to all_long nothing still on;
-        stations = stations_later from to (length tracks) stations after skips ready.stations;
-        tracks = tracks_later;
-        heeded = heeded_later;
-        wires =
-            subst (λ (levels : List (List Word)). AreReadyWires to levels wires) (sym (levels_skipped from to stations after skips))
-            (wires_later from to some wires quiet.wires (levels_of stations) ready.wires);
-      })
+  -- the nodes that went over the slots
+  module _ (after : List Station) (skips : AllZip (StationSkips from to) stations after) where
+    tracks_later : AllByRecursion (IsReadyTrack to (length after)) tracks
+    tracks_later =
+        let same = zip-length (StationSkips from to) stations after skips in
+        all-both (IsReadyTrack from (length stations)) (ArrivesAfter to) (IsReadyTrack to (length after))
+        (λ t is late. record { from = omega (arith, same, is.from); to = omega (arith, same, is.to); here = track_later from to (omega (arith, some)) t is.here late }) tracks ready.tracks quiet.arcs
+
+    heeded_later : AllByRecursion (IsHeeded after) tracks
+    heeded_later =
+        all-both (IsTrack from) (ArrivesAfter to) (IsHeeded after) (λ t is late _. none_arrived from to (omega (arith, some)) t is late) tracks here quiet.arcs
+
+    pub ready_later : AreReady plan shown to (since plan (record { slot = from; system = system; shown = shown }) (to - from)) after tracks wires
+    ready_later =
+        subst (λ (whole : SystemRec). AreReady plan shown to whole after tracks wires) (sym since_is)
+        (record {
+          system = record {
+            serve = all_serve shown plan from to system.histories 0 plan.nodes stations system.nodes system.events after is.serve came_last skips;
+            link_histories = is.link_histories;
+            wire_histories = is.wire_histories;
+            histories = is.histories;
+            carry = is.carry;
+            tell =
+                tell_later shown system.nodes now (drive_after shown plan from system counts tells keeps ready.shapes to all_long nothing still on)
+                (length (link_arcs plan.links)) (wire_arcs [] plan.wires) wires is.wire_histories is.tell;
+          };
+          shapes = shapes_after shown plan from system counts tells keeps ready.shapes to all_long nothing still on;
+          stations = stations_later from to (length tracks) stations after skips ready.stations;
+          tracks = tracks_later;
+          heeded = heeded_later;
+          wires =
+              subst (λ (levels : List (List Word)). AreReadyWires to levels wires) (sym (levels_skipped from to stations after skips))
+              (wires_later from to some wires quiet.wires (levels_of stations) ready.wires);
+        })

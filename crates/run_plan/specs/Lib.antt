@@ -8,4 +8,5 @@ pub mod Run
 pub mod Starts
 pub mod Begins
 pub mod Machine
+pub mod Steady
 pub mod Inside

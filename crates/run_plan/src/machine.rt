@@ -6,14 +6,14 @@ ghost use Rattle.sys_plan.specs.Plan.{arc_count};
 ghost use Rattle.serial_model.specs.Serial.{begun_at_start};
 ghost use Rattle.snap_parts.specs.Parts.{body_of};
 ghost use Rattle.snap_parts.specs.Snaps.{IsSnapSystem, begun_of};
-ghost use Rattle.run_plan.specs.Machine.{system_of};
+ghost use Rattle.run_plan.specs.Machine.{system_of, LevelsStay};
 ghost use Rattle.trace_lines.specs.Kept.{Keeps};
 ghost use Rattle.core_step.specs.Core.{StandsAt};
 ghost use Rattle.xs_model.specs.Record.{first_node};
 
 use crate::begun::{show_all, stations_by, tracks_by, wires_by};
 use crate::passes::pass_slot;
-use crate::quiet::{first_rests, pass_quiet};
+use crate::quiet::{first_rests, pass_quiet, steady_to};
 use crate::station::Station;
 use crate::track::Track;
 use crate::wire::Wire;
@@ -172,6 +172,26 @@ impl SerialMachine {
             &self.wires,
             self.clock,
             limit,
+        );
+    }
+
+    /// Goes over slots before a limit in which nothing happens anywhere and no pin changes its level, as far as that is known: there may be none.
+    /// It takes no memory. See docs/QUIET_SLOTS.md.
+    pub fn pass_steady(&mut self, limit: u32)
+        requires before { self.old.now ≤ limit }
+        ensures plan { self.new.plan ≡ self.old.plan }
+        ensures begun { self.new.begun ≡ self.old.begun }
+        ensures on { self.old.now ≤ self.new.now }
+        ensures within { self.new.now ≤ limit }
+        ensures steady { LevelsStay self.old self.new }
+    {
+        let to = steady_to(&self.stations, limit);
+        self.clock = pass_quiet(
+            &mut self.stations,
+            &self.tracks,
+            &self.wires,
+            self.clock,
+            to,
         );
     }
 

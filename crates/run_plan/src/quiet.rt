@@ -1,15 +1,16 @@
 //! The slots in which nothing happens anywhere, gone over at once. See docs/QUIET_SLOTS.md.
 ghost use Rattle.std.specs.Prelude.{◌≡◌, ◌+◌, ◌-◌, ◌^◌, ◌<◌, ◌≤◌, List, length};
 ghost use Rattle.std.specs.List.{AllByRecursion, AllZip};
-ghost use Rattle.xs_base.specs.Numbers.{Word};
+ghost use Rattle.xs_base.specs.Numbers.{Slot, Word};
 ghost use Rattle.sys_plan.specs.Plan.{PlanRec};
 ghost use Rattle.serial_model.specs.Serial.{SystemRec, since};
 ghost use Rattle.run_plan.specs.Stations.{IsStation};
 ghost use Rattle.run_plan.specs.Tracks.{IsTrack};
-ghost use Rattle.run_plan.specs.Passes.{IsReadyTrack, levels_of};
+ghost use Rattle.run_plan.specs.Passes.{IsReadyTrack, IsShownAt, levels_of};
 ghost use Rattle.run_plan.specs.Wires.{IsWire, AreReadyWires};
 ghost use Rattle.run_plan.specs.Quiet.{RestsTo, ArrivesAfter, ComesAfter, IsQuietSystem, MaySkip, StationSkips};
 ghost use Rattle.run_plan.specs.Run.{AreReady};
+ghost use Rattle.run_plan.specs.Steady.{IsSteadyTo, LevelsStayTo};
 
 use crate::station::Station;
 use crate::track::Track;
@@ -25,6 +26,19 @@ pub(crate) fn first_rests(stations: &[Station], from: u32) -> bool {
         None => true,
         Some(first) => from < first.seat.rests_to(from),
     }
+}
+
+/// The slot up to which the pins of all nodes show the same from outside, unless more comes by a wire, and up to a limit.
+pub(crate) fn steady_to(stations: &[Station], limit: u32) -> u32
+    ensures within { result ≤ limit }
+    ensures steady { AllByRecursion (IsSteadyTo result) stations.now }
+    ensures on { (slot : Slot) → slot ≤ limit → AllByRecursion (IsShownAt slot) stations.now → slot ≤ result }
+{
+    let mut to = limit;
+    for station in stations {
+        to = to.min(station.pins.next_change());
+    }
+    to
 }
 
 /// Goes over the slots from one on and before a limit in which nothing happens anywhere, as far as that is known. The answer is the
@@ -46,6 +60,8 @@ pub(crate) fn pass_quiet(
     ensures within { result ≤ limit }
     ensures ready { (plan : PlanRec) (shown : List Word) (whole : SystemRec) → AreReady plan shown from whole stations.old tracks.now wires.now →
         AreReady plan shown result (since plan (record { slot = from; system = whole; shown = shown }) (result - from)) stations.new tracks.now wires.now }
+    ensures steady { AllByRecursion (IsSteadyTo result) stations.old → (plan : PlanRec) (shown : List Word) (whole : SystemRec) →
+        AreReady plan shown from whole stations.old tracks.now wires.now → LevelsStayTo result plan (record { slot = from; system = whole; shown = shown }) }
 {
     let to = quiet_to(stations, tracks, wires, from, limit);
     if to <= from {
