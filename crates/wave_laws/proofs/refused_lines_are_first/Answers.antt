@@ -1,0 +1,4 @@
+use Rattle.wave_laws.proofs.refused_lines_are_first.Goals as goal
+
+pub returns : goal.returns
+returns c = record { refused = ?r }

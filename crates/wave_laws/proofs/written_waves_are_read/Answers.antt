@@ -1,0 +1,4 @@
+use Rattle.wave_laws.proofs.written_waves_are_read.Goals as goal
+
+pub returns : goal.returns
+returns c = record { read = ?w }
