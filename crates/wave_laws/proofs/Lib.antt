@@ -5,3 +5,6 @@ pub mod Binary
 pub mod Slots
 pub mod Values
 pub mod ChangeLines
+pub mod Over
+pub mod Refused
+pub mod Ascending
