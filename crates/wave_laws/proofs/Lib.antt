@@ -8,3 +8,4 @@ pub mod ChangeLines
 pub mod Over
 pub mod Refused
 pub mod Ascending
+pub mod Declarations
