@@ -30,7 +30,7 @@ code_split text pin =
     (drop_at text (code_of pin) (length (text ++ code_of pin) - 2) e, take_at text (code_of pin) (length (text ++ code_of pin) - 2) e)
 
 -- what is done with the pin and the value of a line
-abbrev with_value : WaveRec → PinNumber → PinNumber → Word → Option Reading
+abbrev pub with_value : WaveRec → PinNumber → PinNumber → Word → Option Reading
 with_value wave next pin value = when (may_change wave next pin) (Changes (changed wave pin value) (pin + 1))
 
 abbrev with_pin : WaveRec → PinNumber → List ℕ → PinNumber → Option Reading

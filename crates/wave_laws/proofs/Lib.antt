@@ -9,3 +9,6 @@ pub mod Over
 pub mod Refused
 pub mod Ascending
 pub mod Declarations
+pub mod Steps
+pub mod ChangesRead
+pub mod WaveRead
