@@ -12,3 +12,5 @@ pub mod Declarations
 pub mod Steps
 pub mod ChangesRead
 pub mod WaveRead
+pub mod AllowedLines
+pub mod Written

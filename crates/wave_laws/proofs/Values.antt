@@ -30,7 +30,7 @@ plain_binary v h = by (v == 0) refl
     by true e = let one : v < 2 = grind (arith, nat_tests) in ap has_leading_zero (binary_one v one)
     by false e = no_zero_first (binary v) (first_binary v (grind (arith, nat_tests)) h)
 
-below_width : (width v : ℕ) → IsWidth width → v < 2 ^ width → v < 2 ^ 64
+pub below_width : (width v : ℕ) → IsWidth width → v < 2 ^ width → v < 2 ^ 64
 below_width width v w h = let e : 2 ^ width ≤ 2 ^ 64 = pow_mono w in omega (arith, h, e)
 
 pub binary_back : (width v : ℕ) → IsWidth width → v < 2 ^ width → binary_in width (binary v) ≡ Some v

@@ -1,4 +1,5 @@
+use Rattle.wave_laws.proofs.Written.{written_read}
 use Rattle.wave_laws.proofs.written_waves_are_read.Goals as goal
 
 pub returns : goal.returns
-returns c = record { read = ?w }
+returns c = record { read = written_read }
