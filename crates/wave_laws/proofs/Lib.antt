@@ -14,3 +14,4 @@ pub mod ChangesRead
 pub mod WaveRead
 pub mod AllowedLines
 pub mod Written
+pub mod DeclaredAs
