@@ -15,3 +15,7 @@ pub mod WaveRead
 pub mod AllowedLines
 pub mod Written
 pub mod DeclaredAs
+pub mod Fronts
+pub mod FrontLines
+pub mod ReadAs
+pub mod Read
