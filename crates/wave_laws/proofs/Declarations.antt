@@ -47,7 +47,7 @@ slot_0_read numbers = ap (λ t. when t (Changes (record { nodes = numbers; chang
 
 -- ---- All of a node
 
-ports_read : (numbers : List NodeNumber) (port count : ℕ) (rest : List (List ℕ)) → port + count ≡ 29
+pub ports_read : (numbers : List NodeNumber) (port count : ℕ) (rest : List (List ℕ)) → port + count ≡ 29
     → read_over (Ports numbers port) (map (var_line (length numbers - 1)) (numbers_from port count) ++ rest) ≡ read_over (Ports numbers 29) rest
 ports_read numbers port zero rest e = ap (λ p. read_over (Ports numbers p) rest) (omega (arith, e))
 ports_read numbers port (suc count) rest e =

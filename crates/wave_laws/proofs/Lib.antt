@@ -19,3 +19,5 @@ pub mod Fronts
 pub mod FrontLines
 pub mod ReadAs
 pub mod Read
+pub mod Completed
+pub mod FirstBad

@@ -1,11 +1,11 @@
 -- The line that is refused: the lines before it are read, and nothing after it is looked at.
-use Rattle.std.proofs.Common.{◌≡◌, ℕ, zero, suc, ◌+◌, ◌-◌, ◌≤◌, Bool, true, false, ◌==◌, List, [], ◌∷◌, take, Option, Some, None, refl, sym, ap, subst, ◌∙◌, arith}
+use Rattle.std.proofs.Common.{◌≡◌, ℕ, zero, suc, ◌+◌, ◌-◌, ◌≤◌, Bool, true, false, ◌==◌, List, [], ◌∷◌, length, take, Option, Some, None, refl, sym, ap, subst, ◌∙◌, arith}
 use Rattle.std.specs.Prelude.{if◌then◌else◌}
 use Rattle.wave_model.specs.Waves.{WaveRec}
 use Rattle.wave_model.specs.Reads.{Reading, Begin, Nodes, Ports, Declared, Changes, after_line, WaveRead, Wave, BadLine, at_end, unless_bad, wave_from}
 use Rattle.wave_laws.proofs.Over.{read_over, over_none, over_next}
 
-line_no_wave : {P : Type 0} (wave : WaveRec) (n : ℕ) → Wave wave ≡ BadLine n → P
+pub line_no_wave : {P : Type 0} (wave : WaveRec) (n : ℕ) → Wave wave ≡ BadLine n → P
 line_no_wave wave n h = absurd (cc)
 
 same_line : (m n : ℕ) → BadLine m ≡ BadLine n → m ≡ n
@@ -14,6 +14,7 @@ same_line m n h = cc
 -- line m is refused, of those from line n on
 pub record IsRefused (n : ℕ) (reading : Reading) (lines : List (List ℕ)) (m : ℕ) : Type 0 where
   pub least : n ≤ m
+  pub enough : m - n ≤ length lines
   pub before : Reading
   pub read : read_over reading (take (m - n) lines) ≡ Some before
   pub alike : (others : List (List ℕ)) → take (suc (m - n)) others ≡ take (suc (m - n)) lines → wave_from n reading others ≡ BadLine m
@@ -42,6 +43,7 @@ at_the_end n m reading e h =
     let none : m - n ≡ 0 = omega (arith, e) in
     record {
       least = omega (arith, e);
+      enough = omega (arith, e);
       before = reading;
       read = ap (read_over reading) (take_none (m - n) [] none) ∙ over_none reading;
       alike = λ others f. ap (wave_from n reading) (nothing_left others (m - n) f) ∙ h;
@@ -63,6 +65,7 @@ at_first n m reading line lines none e =
     let zero_left : m - n ≡ 0 = omega (arith, e) in
     record {
       least = omega (arith, e);
+      enough = omega (arith, e);
       before = reading;
       read = ap (read_over reading) (take_none (m - n) (line ∷ lines) zero_left) ∙ over_none reading;
       alike = λ others f. first_alike n m reading line lines others (m - n) none e f;
@@ -87,6 +90,7 @@ at_later n m reading after line lines some h =
     let one_more : m - n ≡ suc (m - (n + 1)) = omega (arith, h.least) in
     record {
       least = omega (arith, h.least);
+      enough = omega (arith, h.least, h.enough);
       before = h.before;
       read = ap (λ k. read_over reading (take k (line ∷ lines))) one_more ∙ (over_next reading after line (take (m - (n + 1)) lines) some ∙ h.read);
       alike = λ others f. later_alike n m reading after line lines others (m - n) (m - (n + 1)) some one_more h.alike f;
