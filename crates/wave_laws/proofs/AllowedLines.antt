@@ -1,5 +1,5 @@
 -- The lines of a wave have allowed bytes alone.
-use Rattle.std.proofs.Common.{◌≡◌, ℕ, zero, suc, ◌+◌, ◌*◌, ◌/◌, ◌%◌, ◌<◌, ◌≤◌, ◌^◌, Bool, true, false, ◌&&◌, ◌==◌, List, [], ◌∷◌, ◌++◌, length, map, refl, ap, ◌∙◌, arith}
+use Rattle.std.proofs.Common.{◌≡◌, ℕ, zero, suc, ◌+◌, ◌/◌, ◌%◌, ◌<◌, ◌≤◌, ◌^◌, Bool, true, false, ◌==◌, List, [], ◌∷◌, ◌++◌, length, map, refl, ◌∙◌, arith}
 use Rattle.std.specs.Prelude.{if◌then◌else◌, codes, decimal}
 use Rattle.std.specs.List.{AllByRecursion, list_all}
 use Rattle.std.specs.Char.{is_ascii_digit}
@@ -14,9 +14,10 @@ use Rattle.pin_scripts.specs.Script.{NodeNumber, port_numbers}
 use Rattle.sys_plan.specs.Plan.{numbers_from}
 use Rattle.trace_model.specs.EventLines.{port_name}
 use Rattle.wave_model.specs.declared.change.WaveChange.{WaveChange}
-use Rattle.wave_model.specs.Lines.{PinNumber, code_of, pin_number, first_line, scope_line, var_line, end_of_scope, end_of_definitions, node_lines, nodes_lines, slot_line, binary, value_text, change_line}
+use Rattle.wave_model.specs.Lines.{PinNumber, code_of, pin_number, scope_line, var_line, end_of_scope, end_of_definitions, node_lines, nodes_lines}
+use Rattle.wave_model.specs.Lines.{slot_line, binary, value_text, change_line}
 use Rattle.wave_model.specs.Waves.{WaveRec, slot_lines, change_lines, all_change_lines, wave_lines}
-use Rattle.wave_model.specs.Reads.{most_nodes, most_wave_slots}
+use Rattle.wave_model.specs.Reads.{most_wave_slots}
 use Rattle.wave_model.specs.Form.{pin_of_change, IsWave, IsChange}
 use Rattle.wave_laws.proofs.TextBack.{IsAllowedLine}
 use Rattle.wave_laws.proofs.Slots.{all_digits}
@@ -79,7 +80,7 @@ var_allowed : (node : Position) (port : PortNumber) → node < 16 → port < 29 
 var_allowed node port h k =
     let after_code : all_allowed (codes " " ++ (port_name port ++ codes " $end")) ≡ true = allowed_append (port_name port) (codes " $end") (name_allowed port k) refl in
     let after_width : all_allowed (codes " " ++ (code_of (pin_number node port) ++ (codes " " ++ (port_name port ++ codes " $end")))) ≡ true =
-        allowed_append (code_of (pin_number node port)) (codes " " ++ (port_name port ++ codes " $end")) (code_allowed (pin_number node port) (omega arith)) after_code
+    allowed_append (code_of (pin_number node port)) (codes " " ++ (port_name port ++ codes " $end")) (code_allowed (pin_number node port) (omega arith)) after_code
     in
     let width : port_width port < 2 ^ 64 = omega (arith, is_width port) in
     allowed_append (codes "$var wire ") (decimal (port_width port) ++ (codes " " ++ (code_of (pin_number node port) ++ (codes " " ++ (port_name port ++ codes " $end"))))) refl
@@ -129,7 +130,9 @@ all_changes_allowed wave h = by (wave.last == 0)
     by false = (slot_allowed 0 (omega arith), changes_allowed wave 0 wave.changes h h.changes)
 
 pub wave_allowed : (wave : WaveRec) → IsWave wave → AllByRecursion IsAllowedLine (wave_lines wave)
-wave_allowed wave h =
-    (refl, lines_append (nodes_lines 0 wave.nodes) (end_of_definitions ∷ (all_change_lines wave ++ slot_line wave.last ∷ []))
-    (nodes_allowed 0 wave.nodes (omega (arith, h.few_nodes)) h.numbers)
-    (refl, lines_append (all_change_lines wave) (slot_line wave.last ∷ []) (all_changes_allowed wave h) (slot_allowed wave.last h.last, tt)))
+wave_allowed wave h = (
+  refl,
+  lines_append (nodes_lines 0 wave.nodes) (end_of_definitions ∷ (all_change_lines wave ++ slot_line wave.last ∷ []))
+      (nodes_allowed 0 wave.nodes (omega (arith, h.few_nodes)) h.numbers)
+      (refl, lines_append (all_change_lines wave) (slot_line wave.last ∷ []) (all_changes_allowed wave h) (slot_allowed wave.last h.last, tt)),
+)

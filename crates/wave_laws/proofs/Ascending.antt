@@ -1,8 +1,8 @@
 -- Nodes by ascending number, and which may come after them.
-use Rattle.std.proofs.Common.{◌≡◌, ℕ, zero, suc, ◌+◌, ◌-◌, ◌<◌, ◌≤◌, Bool, true, false, ◌==◌, List, [], ◌∷◌, ◌++◌, length, Option, Some, None, refl, sym, ap, ◌∙◌, append_assoc, length-append, arith}
+use Rattle.std.proofs.Common.{◌≡◌, ℕ, zero, suc, ◌+◌, ◌-◌, ◌<◌, ◌≤◌, Bool, true, false, ◌==◌, List, [], ◌∷◌, ◌++◌, length, Some, refl, sym, ap, ◌∙◌, length-append, arith}
 use Rattle.std.specs.Prelude.{if◌then◌else◌, bytes_eq, codes, decimal, find}
 use Rattle.std.specs.List.{AllByRecursion}
-use Rattle.std.proofs.lemmas.Bool.{cond-true, cond-false, cases_Bool, false_from_ne_true}
+use Rattle.std.proofs.lemmas.Bool.{cond-true, cond-false, false_from_ne_true}
 use Rattle.std.proofs.lemmas.Bool.Decides.{nat_tests}
 use Rattle.std.proofs.lemmas.Slice.Eq.{bytes_eq-Decides}
 use Rattle.std.proofs.lemmas.Fmt.{decimal_injective}
@@ -10,7 +10,7 @@ use Rattle.std.proofs.lemmas.List.{append_cancel_left, append_cancel_right}
 use Rattle.pin_scripts.specs.Script.{NodeNumber}
 use Rattle.sys_plan.specs.Plan.{AreAscending, numbers_from}
 use Rattle.wave_model.specs.Lines.{scope_line}
-use Rattle.wave_model.specs.Reads.{most_nodes, least_number, further_numbers, scope_in}
+use Rattle.wave_model.specs.Reads.{most_nodes, least_number, scope_in}
 use Rattle.wave_laws.proofs.Options.{same_some, no_some}
 
 abbrev pub AreSmall : List NodeNumber → Type 0

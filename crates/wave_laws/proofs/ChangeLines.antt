@@ -1,5 +1,6 @@
 -- The line of a change is read as this change, and no other line is.
-use Rattle.std.proofs.Common.{◌≡◌, ℕ, ◌+◌, ◌-◌, ◌*◌, ◌/◌, ◌%◌, ◌<◌, ◌^◌, true, List, [], ◌∷◌, ◌++◌, length, take, drop, Option, Some, None, sym, ap, ◌∙◌, length-append, take-append-drop, take_at, drop_at, arith}
+use Rattle.std.proofs.Common.{◌≡◌, ℕ, ◌+◌, ◌-◌, ◌*◌, ◌/◌, ◌%◌, ◌<◌, ◌^◌, true, List, ◌++◌, length, take, drop, Option, Some, None, sym, ap, ◌∙◌}
+use Rattle.std.proofs.Common.{length-append, take-append-drop, take_at, drop_at, arith}
 use Rattle.xs_base.specs.Ids.{port_width}
 use Rattle.xs_base.specs.Numbers.{Word}
 use Rattle.pin_scripts.specs.Pins.{◌>>=◌}
@@ -44,7 +45,7 @@ change_back wave next change p v =
     let text = value_text (port_width change.port) change.value in
     let split = code_split text pin in
     let read : value_in_text (port_width (pin % 29)) (take (length line - 2) line) ≡ Some change.value =
-        (λ i. value_in_text (port_width ((port_back change p).0 i)) (split.1 i)) ∙ value_back (port_width change.port) change.value (is_width change.port) v
+    (λ i. value_in_text (port_width ((port_back change p).0 i)) (split.1 i)) ∙ value_back (port_width change.port) change.value (is_width change.port) v
     in
     bind (pin_of_code (drop (length line - 2) line)) pin (with_pin wave next line) (ap pin_of_code split.0 ∙ code_back pin)
     ∙ bind (value_in_text (port_width (pin % 29)) (take (length line - 2) line)) change.value (with_value wave next pin) read

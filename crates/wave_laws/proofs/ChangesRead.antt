@@ -1,5 +1,6 @@
 -- The lines of changes in their order are read as these changes.
-use Rattle.std.proofs.Common.{◌≡◌, ◌≢◌, ◌⊎◌, ℕ, zero, suc, ◌+◌, ◌-◌, ◌*◌, ◌<◌, ◌≤◌, Bool, true, false, ◌==◌, List, [], ◌∷◌, ◌++◌, length, map, filter, Option, Some, refl, sym, ap, subst, ◌∙◌, ⊎_elim, inl, inr, append_assoc, append-nil, arith}
+use Rattle.std.proofs.Common.{◌≡◌, ◌≢◌, ◌⊎◌, ℕ, zero, suc, ◌+◌, ◌-◌, ◌<◌, ◌≤◌, Bool, true, false, ◌==◌, List, [], ◌∷◌, ◌++◌, map, filter, Some, refl}
+use Rattle.std.proofs.Common.{sym, ap, ◌∙◌, ⊎_elim, inl, inr, append_assoc, append-nil, arith}
 use Rattle.std.specs.Prelude.{if◌then◌else◌}
 use Rattle.std.specs.List.{AllByRecursion}
 use Rattle.std.proofs.lemmas.Bool.{cond-true, cond-false}
@@ -9,7 +10,7 @@ use Rattle.sys_plan.specs.Plan.{numbers_from}
 use Rattle.wave_model.specs.declared.change.WaveChange.{WaveChange}
 use Rattle.wave_model.specs.Lines.{PinNumber, slot_line, change_line}
 use Rattle.wave_model.specs.Waves.{WaveRec, slot_lines, change_lines}
-use Rattle.wave_model.specs.Reads.{Reading, Changes, count_of_pins, most_wave_slots}
+use Rattle.wave_model.specs.Reads.{Changes, count_of_pins, most_wave_slots}
 use Rattle.wave_model.specs.Form.{pin_of_change, IsChange, AreInOrder}
 use Rattle.wave_laws.proofs.Over.{read_over, over_none, over_next}
 use Rattle.wave_laws.proofs.Steps.{IsFull, MayChange, slot_read, change_read}

@@ -1,6 +1,6 @@
 -- The code of a pin is read as this pin, and no other bytes are.
-use Rattle.std.proofs.Common.{◌≡◌, ℕ, ◌+◌, ◌-◌, ◌*◌, ◌/◌, ◌%◌, ◌<◌, ◌≤◌, true, nat_le, nat_lt, ◌&&◌, List, [], ◌∷◌, Some, refl, ap, ap₂, ◌∙◌, arith}
-use Rattle.std.proofs.lemmas.Bool.{and_from, cond-true}
+use Rattle.std.proofs.Common.{◌≡◌, ℕ, ◌+◌, ◌-◌, ◌*◌, ◌/◌, ◌%◌, ◌<◌, ◌≤◌, true, nat_le, nat_lt, ◌&&◌, List, [], ◌∷◌, Some, ap, ◌∙◌, arith}
+use Rattle.std.proofs.lemmas.Bool.{cond-true}
 use Rattle.std.proofs.lemmas.Bool.Decides.{nat_tests}
 use Rattle.wave_model.specs.Lines.{PinNumber, code_of}
 use Rattle.wave_model.specs.Reads.{pin_of_code}

@@ -1,14 +1,15 @@
 -- The lines that declare the pins of nodes are read as these nodes.
-use Rattle.std.proofs.Common.{◌≡◌, ℕ, zero, suc, ◌+◌, ◌-◌, ◌<◌, ◌≤◌, Bool, true, false, ◌==◌, List, [], ◌∷◌, ◌++◌, length, map, Option, Some, None, refl, sym, ap, subst, ◌∙◌, append_assoc, append-nil, length-append, arith}
+use Rattle.std.proofs.Common.{◌≡◌, ℕ, zero, suc, ◌+◌, ◌-◌, ◌<◌, true, false, ◌==◌, List, [], ◌∷◌, ◌++◌, length, map, Some, refl, sym, ap, subst, ◌∙◌}
+use Rattle.std.proofs.Common.{append_assoc, append-nil, length-append, arith}
 use Rattle.std.specs.Prelude.{bytes_eq}
-use Rattle.std.proofs.lemmas.Bool.{cond-true, cond-false}
+use Rattle.std.proofs.lemmas.Bool.{cond-false}
 use Rattle.std.proofs.lemmas.Bool.Decides.{nat_tests}
 use Rattle.std.proofs.lemmas.Slice.Eq.{bytes_eq-Decides}
 use Rattle.xs_base.specs.Numbers.{PortNumber, Position}
 use Rattle.pin_scripts.specs.Script.{NodeNumber, port_numbers}
 use Rattle.sys_plan.specs.Plan.{numbers_from}
 use Rattle.wave_model.specs.Lines.{first_line, scope_line, var_line, end_of_scope, end_of_definitions, node_lines, nodes_lines, slot_line}
-use Rattle.wave_model.specs.Reads.{Reading, Begin, Nodes, Ports, Declared, Changes, when, after_scope, after_line}
+use Rattle.wave_model.specs.Reads.{Begin, Nodes, Ports, Declared, Changes, when, after_scope, after_line}
 use Rattle.wave_laws.proofs.Over.{read_over, over_next}
 use Rattle.wave_laws.proofs.Ascending.{AreNodes, IsNext, next_within, scope_back}
 

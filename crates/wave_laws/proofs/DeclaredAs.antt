@@ -1,5 +1,6 @@
 -- What the lines are from which nodes have been read.
-use Rattle.std.proofs.Common.{◌≡◌, ℕ, zero, suc, ◌+◌, ◌-◌, ◌<◌, ◌≤◌, Bool, true, false, ◌==◌, List, [], ◌∷◌, ◌++◌, length, map, Option, Some, None, refl, sym, ap, subst, ◌∙◌, append_assoc, append-nil, length-append, arith}
+use Rattle.std.proofs.Common.{◌≡◌, ℕ, zero, suc, ◌+◌, ◌-◌, ◌<◌, ◌≤◌, Bool, true, false, ◌==◌, List, [], ◌∷◌, ◌++◌, length, map, Option, Some, None}
+use Rattle.std.proofs.Common.{refl, sym, ap, subst, ◌∙◌, append_assoc, append-nil, length-append, arith}
 use Rattle.std.specs.Prelude.{if◌then◌else◌, bytes_eq}
 use Rattle.std.proofs.lemmas.Bool.Decides.{nat_tests}
 use Rattle.std.proofs.lemmas.List.{map_push}
@@ -77,8 +78,8 @@ port_text numbers port lines l h =
           (λ i. h.lines_are i ++ var_line (place i) port ∷ [])
           ∙ ap (λ ls. first_line ∷ ls) (append_assoc (nodes_lines 0 h.earlier) before (var_line (length h.earlier) port ∷ []))
           ∙ ap (λ ls. first_line ∷ (nodes_lines 0 h.earlier ++ (scope_line h.number ∷ ls)))
-            (sym (map_push (var_line (length h.earlier)) (numbers_from 0 port) port)
-            ∙ ap (map (var_line (length h.earlier))) (ap (λ k. numbers_from 0 port ++ k ∷ []) (sym one) ∙ sym (numbers_push 0 port)));
+          (sym (map_push (var_line (length h.earlier)) (numbers_from 0 port) port)
+          ∙ ap (map (var_line (length h.earlier))) (ap (λ k. numbers_from 0 port ++ k ∷ []) (sym one) ∙ sym (numbers_push 0 port)));
     }
 
 end_of_scope_text : (numbers : List NodeNumber) (lines : List (List ℕ)) → IsPortsText numbers 29 lines → IsNodesText numbers (lines ++ end_of_scope ∷ [])

@@ -1,5 +1,5 @@
 -- The lines from which a wave has been read, as far as it has been.
-use Rattle.std.proofs.Common.{◌≡◌, ◌≢◌, ℕ, ◌+◌, ◌<◌, ◌≤◌, Bool, true, false, ◌==◌, List, [], ◌∷◌, ◌++◌, length, refl, sym, ap, ◌∙◌, ⊎_elim, append_assoc, append-nil, arith}
+use Rattle.std.proofs.Common.{◌≡◌, ℕ, ◌+◌, ◌<◌, ◌≤◌, Bool, true, false, ◌==◌, List, [], ◌∷◌, ◌++◌, length, refl, sym, ap, ◌∙◌, ⊎_elim, append_assoc, append-nil, arith}
 use Rattle.std.specs.Prelude.{if◌then◌else◌}
 use Rattle.std.proofs.lemmas.Bool.{cond-true, cond-false}
 use Rattle.std.proofs.lemmas.Bool.Decides.{nat_tests}
@@ -74,9 +74,9 @@ slot_text wave next slot lines l most full h = record {
       ap (λ ls. ls ++ slot_line slot ∷ []) h.lines_are
       ∙ declared_append wave.nodes (front_lines wave next) (slot_line slot ∷ [])
       ∙ ap (λ ls. declared_lines wave.nodes (slot_line 0 ∷ ls))
-        (ap (λ ls. (change_lines 0 wave.changes ++ ls) ++ slot_line slot ∷ []) (open_none wave next full)
-        ∙ ap (λ ls. ls ++ slot_line slot ∷ []) (append-nil (change_lines 0 wave.changes))
-        ∙ ap (λ ls. change_lines 0 wave.changes ++ ls) (sym (open_new slot (omega (arith, l)))));
+      (ap (λ ls. (change_lines 0 wave.changes ++ ls) ++ slot_line slot ∷ []) (open_none wave next full)
+      ∙ ap (λ ls. ls ++ slot_line slot ∷ []) (append-nil (change_lines 0 wave.changes))
+      ∙ ap (λ ls. change_lines 0 wave.changes ++ ls) (sym (open_new slot (omega (arith, l)))));
 }
 
 -- ---- A change more
@@ -91,21 +91,21 @@ change_lines_push before [] change = refl
 change_lines_push before (first ∷ changes) change =
     ap (λ ls. slot_lines before first.slot ++ (change_line first ∷ ls)) (change_lines_push first.slot changes change)
     ∙ sym (append_assoc (slot_lines before first.slot) (change_line first ∷ change_lines first.slot changes)
-      (slot_lines (last_slot first.slot changes) change.slot ++ change_line change ∷ []))
+    (slot_lines (last_slot first.slot changes) change.slot ++ change_line change ∷ []))
 
 -- the line of the slot stands there already, or is not needed
 open_last : (slot : Slot) (next : PinNumber) (change : WaveChange) → IsLast slot next change → slot_lines change.slot slot ≡ open_slot slot next
 open_last slot next change h = ⊎_elim
     (λ a.
-      let l : change.slot < slot = a.0 in
-      let no : (slot == change.slot) ≡ false = grind (arith, nat_tests) in
-      cond-false _ _ _ no ∙ sym (ap (open_slot slot) a.1 ∙ open_new slot (omega (arith, l))))
+    let l : change.slot < slot = a.0 in
+    let no : (slot == change.slot) ≡ false = grind (arith, nat_tests) in
+    cond-false _ _ _ no ∙ sym (ap (open_slot slot) a.1 ∙ open_new slot (omega (arith, l))))
     (λ a.
-      let same : change.slot ≡ slot = a.0 in
-      let yes : (slot == change.slot) ≡ true = grind (arith, nat_tests) in
-      let some : next ≡ pin_of_change change + 1 = a.1 in
-      let no : (next == 0) ≡ false = grind (arith, nat_tests) in
-      cond-true _ _ _ yes ∙ sym (cond-false _ _ _ no))
+    let same : change.slot ≡ slot = a.0 in
+    let yes : (slot == change.slot) ≡ true = grind (arith, nat_tests) in
+    let some : next ≡ pin_of_change change + 1 = a.1 in
+    let no : (next == 0) ≡ false = grind (arith, nat_tests) in
+    cond-true _ _ _ yes ∙ sym (cond-false _ _ _ no))
     h
 
 open_some : (before slot : Slot) (next : PinNumber) (change : WaveChange) (changes : List WaveChange) → EndAt slot next (change ∷ changes)
@@ -131,12 +131,12 @@ change_text wave next change lines c e may h =
           ap (λ ls. ls ++ own) h.lines_are
           ∙ declared_append wave.nodes (front_lines wave next) own
           ∙ ap (λ ls. declared_lines wave.nodes (slot_line 0 ∷ ls))
-            (append_assoc (change_lines 0 wave.changes) (open_slot wave.last next) own
-            ∙ ap (λ ls. change_lines 0 wave.changes ++ (ls ++ own)) (sym (open_is wave.last next wave.changes h.front.end))
-            ∙ ap (λ slot. change_lines 0 wave.changes ++ (slot_lines (last_slot 0 wave.changes) slot ++ own)) (sym e)
-            ∙ sym (change_lines_push 0 wave.changes change)
-            ∙ sym (append-nil (change_lines 0 (wave.changes ++ change ∷ [])))
-            ∙ ap (λ ls. change_lines 0 (wave.changes ++ change ∷ []) ++ ls) (sym (none_open wave.last (pin_of_change change))));
+          (append_assoc (change_lines 0 wave.changes) (open_slot wave.last next) own
+          ∙ ap (λ ls. change_lines 0 wave.changes ++ (ls ++ own)) (sym (open_is wave.last next wave.changes h.front.end))
+          ∙ ap (λ slot. change_lines 0 wave.changes ++ (slot_lines (last_slot 0 wave.changes) slot ++ own)) (sym e)
+          ∙ sym (change_lines_push 0 wave.changes change)
+          ∙ sym (append-nil (change_lines 0 (wave.changes ++ change ∷ [])))
+          ∙ ap (λ ls. change_lines 0 (wave.changes ++ change ∷ []) ++ ls) (sym (none_open wave.last (pin_of_change change))));
     }
 
 -- ---- The whole wave

@@ -1,5 +1,5 @@
 -- What is kept of a wave of which the changes are being read, and the lines from which they have been read.
-use Rattle.std.proofs.Common.{◌≡◌, ◌≢◌, ◌⊎◌, ℕ, zero, suc, ◌+◌, ◌-◌, ◌*◌, ◌/◌, ◌%◌, ◌<◌, ◌≤◌, ◌^◌, Bool, true, false, ◌==◌, List, [], ◌∷◌, ◌++◌, length, map, filter, refl, sym, ap, subst, ◌∙◌, ⊎_elim, inl, inr, append_assoc, append-nil, arith}
+use Rattle.std.proofs.Common.{◌≡◌, ◌≢◌, ◌⊎◌, ℕ, ◌+◌, ◌<◌, ◌≤◌, ◌^◌, Bool, true, false, ◌==◌, List, [], ◌∷◌, ◌++◌, length, map, filter, refl, sym, ap, ◌∙◌, ⊎_elim, inl, inr, arith}
 use Rattle.std.specs.Prelude.{if◌then◌else◌}
 use Rattle.std.specs.List.{AllByRecursion}
 use Rattle.std.proofs.lemmas.Bool.{cond-true, cond-false}
@@ -8,12 +8,12 @@ use Rattle.xs_base.specs.Ids.{port_width}
 use Rattle.xs_base.specs.Numbers.{Slot}
 use Rattle.sys_plan.specs.Plan.{numbers_from}
 use Rattle.wave_model.specs.declared.change.WaveChange.{WaveChange}
-use Rattle.wave_model.specs.Lines.{PinNumber, first_line, nodes_lines, end_of_definitions, slot_line, change_line}
-use Rattle.wave_model.specs.Waves.{WaveRec, slot_lines, change_lines, all_change_lines, wave_lines}
+use Rattle.wave_model.specs.Lines.{PinNumber}
+use Rattle.wave_model.specs.Waves.{WaveRec}
 use Rattle.wave_model.specs.Reads.{count_of_pins, most_wave_slots}
 use Rattle.wave_model.specs.Form.{pin_of_change, IsWave, IsChange, ComesAfter, AreInOrder}
 use Rattle.wave_laws.proofs.Ascending.{AreNodes}
-use Rattle.wave_laws.proofs.DeclaredAs.{IsDeclaredText, numbers_push}
+use Rattle.wave_laws.proofs.DeclaredAs.{numbers_push}
 use Rattle.wave_laws.proofs.Steps.{IsFull, MayChange, with_change}
 use Rattle.wave_laws.proofs.ChangesRead.{is_first, pins_at_0}
 

@@ -4,8 +4,8 @@ use Rattle.std.specs.Prelude.{if◌then◌else◌}
 use Rattle.std.proofs.lemmas.Bool.Decides.{nat_tests}
 use Rattle.pin_scripts.specs.Pins.{◌>>=◌}
 use Rattle.wave_model.specs.Waves.{WaveRec}
-use Rattle.wave_model.specs.Reads.{Reading, Begin, Nodes, Ports, Declared, Changes, after_line, WaveRead, Wave, BadLine, at_end, unless_bad, wave_from}
-use Rattle.wave_laws.proofs.Options.{some_after, same_some, no_some}
+use Rattle.wave_model.specs.Reads.{Reading, Begin, Nodes, Ports, Declared, Changes, after_line, Wave, BadLine, at_end, unless_bad, wave_from}
+use Rattle.wave_laws.proofs.Options.{some_after, same_some}
 
 -- what has been read with some lines more
 unfoldable pub read_over : Reading → List (List ℕ) → Option Reading

@@ -1,16 +1,14 @@
 -- What has been read of lines, and from which lines.
-use Rattle.std.proofs.Common.{◌≡◌, ℕ, ◌+◌, ◌*◌, ◌/◌, ◌%◌, ◌<◌, ◌^◌, Bool, true, false, nat_lt, ◌&&◌, ◌==◌, List, [], ◌∷◌, ◌++◌, length, Option, Some, None, refl, sym, ap, subst, ◌∙◌, append_assoc, append-nil, arith}
+use Rattle.std.proofs.Common.{◌≡◌, ℕ, ◌+◌, ◌<◌, nat_lt, ◌&&◌, List, [], ◌∷◌, ◌++◌, length, Option, Some, None, refl, sym, subst, append_assoc, append-nil, arith}
 use Rattle.std.specs.Prelude.{bytes_eq}
 use Rattle.std.proofs.lemmas.Bool.{and_parts}
 use Rattle.std.proofs.lemmas.Bool.Decides.{nat_tests}
 use Rattle.std.proofs.lemmas.Slice.Eq.{bytes_eq-Decides}
-use Rattle.xs_base.specs.Ids.{port_width}
 use Rattle.xs_base.specs.Numbers.{Slot}
 use Rattle.pin_scripts.specs.Script.{NodeNumber}
-use Rattle.wave_model.specs.declared.change.WaveChange.{WaveChange}
 use Rattle.wave_model.specs.Lines.{PinNumber, first_line, slot_line, change_line}
 use Rattle.wave_model.specs.Waves.{WaveRec}
-use Rattle.wave_model.specs.Reads.{Reading, Begin, Nodes, Ports, Declared, Changes, when, slot_in, is_full, after_slot, after_change, after_slot_or_change, after_line, changed}
+use Rattle.wave_model.specs.Reads.{Reading, Begin, Nodes, Ports, Declared, Changes, slot_in, is_full, after_slot, after_slot_or_change, after_line, changed}
 use Rattle.wave_model.specs.Form.{pin_of_change}
 use Rattle.wave_laws.proofs.Options.{some_when}
 use Rattle.wave_laws.proofs.Slots.{slot_from}
@@ -19,7 +17,7 @@ use Rattle.wave_laws.proofs.Ascending.{no_nodes}
 use Rattle.wave_laws.proofs.Over.{read_over, over_first, over_end}
 use Rattle.wave_laws.proofs.Steps.{MayChange, full_parts, may_parts}
 use Rattle.wave_laws.proofs.DeclaredAs.{IsNodesText, IsPortsText, IsDeclaredText, AfterNodes, AfterPorts, after_nodes, after_ports}
-use Rattle.wave_laws.proofs.Fronts.{IsPinChange, IsFront}
+use Rattle.wave_laws.proofs.Fronts.{IsPinChange}
 use Rattle.wave_laws.proofs.FrontLines.{IsFrontText, start_text, slot_text, change_text}
 
 -- so much has been read of these lines

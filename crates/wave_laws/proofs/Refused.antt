@@ -1,8 +1,8 @@
 -- The line that is refused: the lines before it are read, and nothing after it is looked at.
-use Rattle.std.proofs.Common.{◌≡◌, ℕ, zero, suc, ◌+◌, ◌-◌, ◌≤◌, Bool, true, false, ◌==◌, List, [], ◌∷◌, length, take, Option, Some, None, refl, sym, ap, subst, ◌∙◌, arith}
+use Rattle.std.proofs.Common.{◌≡◌, ℕ, suc, ◌+◌, ◌-◌, ◌≤◌, Bool, true, false, ◌==◌, List, [], ◌∷◌, length, take, Option, Some, None, refl, ap, subst, ◌∙◌, arith}
 use Rattle.std.specs.Prelude.{if◌then◌else◌}
 use Rattle.wave_model.specs.Waves.{WaveRec}
-use Rattle.wave_model.specs.Reads.{Reading, Begin, Nodes, Ports, Declared, Changes, after_line, WaveRead, Wave, BadLine, at_end, unless_bad, wave_from}
+use Rattle.wave_model.specs.Reads.{Reading, Begin, Nodes, Ports, Declared, Changes, after_line, Wave, BadLine, at_end, unless_bad, wave_from}
 use Rattle.wave_laws.proofs.Over.{read_over, over_none, over_next}
 
 pub line_no_wave : {P : Type 0} (wave : WaveRec) (n : ℕ) → Wave wave ≡ BadLine n → P

@@ -1,6 +1,6 @@
 -- The line of a slot is read as this slot, and no other line is.
-use Rattle.std.proofs.Common.{◌≡◌, ℕ, ◌+◌, ◌%◌, ◌<◌, ◌≤◌, ◌^◌, Bool, true, false, not, ◌&&◌, nat_le, ◌==◌, List, [], ◌∷◌, length, get_or, Option, Some, None, refl, sym, ap, ◌∙◌, arith}
-use Rattle.std.specs.Prelude.{decimal, if◌then◌else◌}
+use Rattle.std.proofs.Common.{◌≡◌, ℕ, ◌+◌, ◌%◌, ◌<◌, ◌≤◌, ◌^◌, Bool, true, false, not, nat_le, ◌==◌, List, [], ◌∷◌, length, get_or, Some, refl, sym, ap, ◌∙◌, arith}
+use Rattle.std.specs.Prelude.{decimal}
 use Rattle.std.specs.List.{list_all}
 use Rattle.std.specs.Char.{is_ascii_digit, digit_value}
 use Rattle.std.specs.Str.Parse.{AllDigits, digits_value}
@@ -11,7 +11,7 @@ use Rattle.std.proofs.lemmas.Fmt.{decimal_by_steps, decimal_is_IsNumeral, decima
 use Rattle.std.proofs.lemmas.List.Folds.{list_all-append}
 use Rattle.xs_text.specs.Tokens.{is_run}
 use Rattle.xs_text.specs.Numbers.{at_most, value_in}
-use Rattle.word_numbers.specs.Decimal.{has_leading_zero, decimal_up_to, plain_decimal_up_to}
+use Rattle.word_numbers.specs.Decimal.{has_leading_zero, plain_decimal_up_to}
 use Rattle.xs_base.specs.Numbers.{Slot}
 use Rattle.wave_model.specs.Lines.{slot_line}
 use Rattle.wave_model.specs.Reads.{most_wave_slots, slot_in}

@@ -1,17 +1,17 @@
 -- What the line of a slot and the line of a change do with what has been read.
-use Rattle.std.proofs.Common.{◌≡◌, ◌≢◌, ℕ, ◌+◌, ◌-◌, ◌*◌, ◌/◌, ◌%◌, ◌<◌, ◌≤◌, ◌^◌, Bool, true, false, ◌&&◌, nat_lt, nat_le, ◌==◌, List, [], ◌∷◌, ◌++◌, length, Option, Some, None, refl, sym, ap, ◌∙◌, arith}
+use Rattle.std.proofs.Common.{◌≡◌, ◌≢◌, ℕ, ◌+◌, ◌<◌, ◌≤◌, ◌^◌, Bool, true, false, nat_lt, nat_le, ◌==◌, [], ◌∷◌, ◌++◌, Some, refl, sym, ap, ◌∙◌, arith}
 use Rattle.std.specs.Prelude.{if◌then◌else◌}
-use Rattle.std.proofs.lemmas.Bool.{and_parts, and_from, cond-true, cond-false}
+use Rattle.std.proofs.lemmas.Bool.{and_parts, and_from}
 use Rattle.std.proofs.lemmas.Bool.Decides.{nat_tests}
 use Rattle.xs_base.specs.Ids.{port_width}
 use Rattle.xs_base.specs.Numbers.{Slot}
 use Rattle.wave_model.specs.declared.change.WaveChange.{WaveChange}
 use Rattle.wave_model.specs.Lines.{PinNumber, slot_line, change_line}
 use Rattle.wave_model.specs.Waves.{WaveRec}
-use Rattle.wave_model.specs.Reads.{Reading, Changes, most_wave_slots, count_of_pins, when, is_full, after_slot, may_change, changed, after_slot_or_change, after_line}
+use Rattle.wave_model.specs.Reads.{Changes, most_wave_slots, count_of_pins, when, is_full, may_change, changed, after_slot_or_change, after_line}
 use Rattle.wave_model.specs.Form.{pin_of_change}
 use Rattle.wave_laws.proofs.Slots.{slot_back}
-use Rattle.wave_laws.proofs.ChangeLines.{port_back, change_no_slot, change_at, with_value, change_back}
+use Rattle.wave_laws.proofs.ChangeLines.{port_back, change_no_slot, change_at, change_back}
 
 -- ---- The tests
 

@@ -1,5 +1,5 @@
 -- The lines of a wave are read as this wave.
-use Rattle.std.proofs.Common.{◌≡◌, ◌≢◌, ℕ, ◌+◌, ◌-◌, ◌<◌, Bool, true, false, ◌==◌, List, [], ◌∷◌, ◌++◌, length, Some, refl, sym, ap, ◌∙◌, append_assoc, arith}
+use Rattle.std.proofs.Common.{◌≡◌, ℕ, ◌-◌, ◌<◌, Bool, true, false, ◌==◌, List, [], ◌∷◌, ◌++◌, Some, refl, sym, ap, ◌∙◌, arith}
 use Rattle.std.specs.Prelude.{if◌then◌else◌}
 use Rattle.std.specs.List.{AllByRecursion}
 use Rattle.std.proofs.lemmas.Bool.Decides.{nat_tests}
@@ -7,12 +7,12 @@ use Rattle.sys_plan.specs.Plan.{numbers_from}
 use Rattle.wave_model.specs.declared.change.WaveChange.{WaveChange}
 use Rattle.wave_model.specs.Lines.{first_line, nodes_lines, end_of_definitions, slot_line}
 use Rattle.wave_model.specs.Waves.{WaveRec, change_lines, all_change_lines, wave_lines}
-use Rattle.wave_model.specs.Reads.{Reading, Begin, Nodes, Declared, Changes, count_of_pins}
+use Rattle.wave_model.specs.Reads.{Begin, Nodes, Declared, Changes, count_of_pins}
 use Rattle.wave_model.specs.Form.{IsWave, IsChange}
 use Rattle.wave_laws.proofs.Over.{read_over, over_none, over_next}
 use Rattle.wave_laws.proofs.Ascending.{AreNodes}
 use Rattle.wave_laws.proofs.Declarations.{begin_read, nodes_read, end_read, slot_0_read}
-use Rattle.wave_laws.proofs.ChangesRead.{IsAt, so_far, pins_at_0, follow_start, changes_read}
+use Rattle.wave_laws.proofs.ChangesRead.{IsAt, so_far, follow_start, changes_read}
 
 pub nodes_of_wave : (wave : WaveRec) → IsWave wave → AreNodes wave.nodes
 nodes_of_wave wave h = record { few = h.few_nodes; small = h.numbers; ascending = h.ascending }
