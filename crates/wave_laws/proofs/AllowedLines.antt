@@ -23,7 +23,7 @@ use Rattle.wave_laws.proofs.TextBack.{IsAllowedLine}
 use Rattle.wave_laws.proofs.Slots.{all_digits}
 use Rattle.wave_laws.proofs.Binary.{binary_digits}
 use Rattle.wave_laws.proofs.Values.{below_width, is_width}
-use Rattle.wave_laws.proofs.Ascending.{AreSmall}
+use Rattle.wave_laws.proofs.NodeNumbers.{AreSmall}
 
 allowed_append : (a b : List ℕ) → all_allowed a ≡ true → all_allowed b ≡ true → all_allowed (a ++ b) ≡ true
 allowed_append a b h k = list_all-append is_allowed a b ∙ and_from _ _ h k

@@ -12,7 +12,7 @@ use Rattle.wave_model.specs.Lines.{PinNumber, slot_line, change_line}
 use Rattle.wave_model.specs.Waves.{WaveRec, slot_lines, change_lines}
 use Rattle.wave_model.specs.Reads.{Changes, count_of_pins, most_wave_slots}
 use Rattle.wave_model.specs.Form.{pin_of_change, IsChange, AreInOrder}
-use Rattle.wave_laws.proofs.Over.{read_over, over_none, over_next}
+use Rattle.wave_laws.proofs.ReadOver.{read_over, over_none, over_next}
 use Rattle.wave_laws.proofs.Steps.{IsFull, MayChange, slot_read, change_read}
 
 -- ---- Their order

@@ -10,7 +10,7 @@ use Rattle.wave_model.specs.Lines.{PinNumber, first_line, var_line, end_of_scope
 use Rattle.wave_model.specs.Waves.{WaveRec}
 use Rattle.wave_model.specs.Reads.{Reading, Begin, Nodes, Ports, Declared, Changes, count_of_pins, most_wave_slots}
 use Rattle.wave_model.specs.Form.{pin_of_change}
-use Rattle.wave_laws.proofs.Over.{read_over, over_none, over_next}
+use Rattle.wave_laws.proofs.ReadOver.{read_over, over_none, over_next}
 use Rattle.wave_laws.proofs.Declarations.{begin_read, ports_read, end_of_scope_read, end_read, slot_0_read}
 use Rattle.wave_laws.proofs.Steps.{IsFull, MayChange, with_change, slot_read, change_read}
 use Rattle.wave_laws.proofs.Fronts.{IsFront}

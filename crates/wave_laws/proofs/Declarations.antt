@@ -10,8 +10,8 @@ use Rattle.pin_scripts.specs.Script.{NodeNumber, port_numbers}
 use Rattle.sys_plan.specs.Plan.{numbers_from}
 use Rattle.wave_model.specs.Lines.{first_line, scope_line, var_line, end_of_scope, end_of_definitions, node_lines, nodes_lines, slot_line}
 use Rattle.wave_model.specs.Reads.{Begin, Nodes, Ports, Declared, Changes, when, after_scope, after_line}
-use Rattle.wave_laws.proofs.Over.{read_over, over_next}
-use Rattle.wave_laws.proofs.Ascending.{AreNodes, IsNext, next_within, scope_back}
+use Rattle.wave_laws.proofs.ReadOver.{read_over, over_next}
+use Rattle.wave_laws.proofs.NodeNumbers.{AreNodes, IsNext, next_within, scope_back}
 
 pub begin_read : after_line Begin first_line ≡ Some (Nodes [])
 unfolding after_line

@@ -11,7 +11,7 @@ use Rattle.sys_plan.specs.Plan.{numbers_from}
 use Rattle.wave_model.specs.Lines.{first_line, scope_line, var_line, end_of_scope, end_of_definitions, node_lines, nodes_lines}
 use Rattle.wave_model.specs.Reads.{Reading, Nodes, Ports, Declared, when, scope_in, after_scope, after_line}
 use Rattle.wave_laws.proofs.Options.{some_when, same_some, no_some}
-use Rattle.wave_laws.proofs.Ascending.{AreNodes, IsNext, nodes_push, scope_from}
+use Rattle.wave_laws.proofs.NodeNumbers.{AreNodes, IsNext, nodes_push, scope_from}
 
 -- ---- The lines
 

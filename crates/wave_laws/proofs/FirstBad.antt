@@ -5,7 +5,7 @@ use Rattle.wave_model.specs.Waves.{WaveRec, wave_lines}
 use Rattle.wave_model.specs.Reads.{Begin, Changes, BadLine, wave_of}
 use Rattle.wave_model.specs.Form.{IsWave}
 use Rattle.wave_laws.specs.Laws.{IsFirstBadLine}
-use Rattle.wave_laws.proofs.Over.{over_append, wave_where}
+use Rattle.wave_laws.proofs.ReadOver.{over_append, wave_where}
 use Rattle.wave_laws.proofs.Refused.{IsRefused, line_no_wave, refused_where}
 use Rattle.wave_laws.proofs.WaveRead.{wave_read}
 use Rattle.wave_laws.proofs.Fronts.{front_wave}

@@ -12,7 +12,7 @@ use Rattle.wave_model.specs.Lines.{PinNumber}
 use Rattle.wave_model.specs.Waves.{WaveRec}
 use Rattle.wave_model.specs.Reads.{count_of_pins, most_wave_slots}
 use Rattle.wave_model.specs.Form.{pin_of_change, IsWave, IsChange, ComesAfter, AreInOrder}
-use Rattle.wave_laws.proofs.Ascending.{AreNodes}
+use Rattle.wave_laws.proofs.NodeNumbers.{AreNodes}
 use Rattle.wave_laws.proofs.DeclaredAs.{numbers_push}
 use Rattle.wave_laws.proofs.Steps.{IsFull, MayChange, with_change}
 use Rattle.wave_laws.proofs.ChangesRead.{is_first, pins_at_0}

@@ -5,9 +5,9 @@ pub mod Binary
 pub mod Slots
 pub mod Values
 pub mod ChangeLines
-pub mod Over
+pub mod ReadOver
 pub mod Refused
-pub mod Ascending
+pub mod NodeNumbers
 pub mod Declarations
 pub mod Steps
 pub mod ChangesRead

@@ -4,7 +4,7 @@ use Rattle.xs_text.specs.Lines.{lines_of}
 use Rattle.wave_model.specs.Waves.{WaveRec, wave_lines}
 use Rattle.wave_model.specs.Reads.{Begin, Changes, Wave, wave_of}
 use Rattle.wave_model.specs.Form.{IsWave}
-use Rattle.wave_laws.proofs.Over.{where_wave}
+use Rattle.wave_laws.proofs.ReadOver.{where_wave}
 use Rattle.wave_laws.proofs.Fronts.{front_wave}
 use Rattle.wave_laws.proofs.FrontLines.{IsFrontText, whole_text}
 use Rattle.wave_laws.proofs.ReadAs.{read_all}

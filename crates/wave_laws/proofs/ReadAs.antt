@@ -13,8 +13,8 @@ use Rattle.wave_model.specs.Form.{pin_of_change}
 use Rattle.wave_laws.proofs.Options.{some_when}
 use Rattle.wave_laws.proofs.Slots.{slot_from}
 use Rattle.wave_laws.proofs.ChangeLines.{change_at, IsChangeLine, change_from}
-use Rattle.wave_laws.proofs.Ascending.{no_nodes}
-use Rattle.wave_laws.proofs.Over.{read_over, over_first, over_end}
+use Rattle.wave_laws.proofs.NodeNumbers.{no_nodes}
+use Rattle.wave_laws.proofs.ReadOver.{read_over, over_first, over_end}
 use Rattle.wave_laws.proofs.Steps.{MayChange, full_parts, may_parts}
 use Rattle.wave_laws.proofs.DeclaredAs.{IsNodesText, IsPortsText, IsDeclaredText, AfterNodes, AfterPorts, after_nodes, after_ports}
 use Rattle.wave_laws.proofs.Fronts.{IsPinChange}

@@ -3,7 +3,7 @@ use Rattle.std.proofs.Common.{◌≡◌, ℕ, suc, ◌+◌, ◌-◌, ◌≤◌, 
 use Rattle.std.specs.Prelude.{if◌then◌else◌}
 use Rattle.wave_model.specs.Waves.{WaveRec}
 use Rattle.wave_model.specs.Reads.{Reading, Begin, Nodes, Ports, Declared, Changes, after_line, Wave, BadLine, at_end, unless_bad, wave_from}
-use Rattle.wave_laws.proofs.Over.{read_over, over_none, over_next}
+use Rattle.wave_laws.proofs.ReadOver.{read_over, over_none, over_next}
 
 pub line_no_wave : {P : Type 0} (wave : WaveRec) (n : ℕ) → Wave wave ≡ BadLine n → P
 line_no_wave wave n h = absurd (cc)

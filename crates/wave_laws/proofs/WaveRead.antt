@@ -9,8 +9,8 @@ use Rattle.wave_model.specs.Lines.{first_line, nodes_lines, end_of_definitions, 
 use Rattle.wave_model.specs.Waves.{WaveRec, change_lines, all_change_lines, wave_lines}
 use Rattle.wave_model.specs.Reads.{Begin, Nodes, Declared, Changes, count_of_pins}
 use Rattle.wave_model.specs.Form.{IsWave, IsChange}
-use Rattle.wave_laws.proofs.Over.{read_over, over_none, over_next}
-use Rattle.wave_laws.proofs.Ascending.{AreNodes}
+use Rattle.wave_laws.proofs.ReadOver.{read_over, over_none, over_next}
+use Rattle.wave_laws.proofs.NodeNumbers.{AreNodes}
 use Rattle.wave_laws.proofs.Declarations.{begin_read, nodes_read, end_read, slot_0_read}
 use Rattle.wave_laws.proofs.ChangesRead.{IsAt, so_far, follow_start, changes_read}
 

@@ -4,7 +4,7 @@ use Rattle.wave_model.specs.Waves.{WaveRec, wave_lines, text_of_wave}
 use Rattle.wave_model.specs.Reads.{Begin, Wave, wave_from, wave_of}
 use Rattle.wave_model.specs.Form.{IsWave}
 use Rattle.wave_laws.proofs.TextBack.{lines_back}
-use Rattle.wave_laws.proofs.Over.{wave_where}
+use Rattle.wave_laws.proofs.ReadOver.{wave_where}
 use Rattle.wave_laws.proofs.AllowedLines.{wave_allowed}
 use Rattle.wave_laws.proofs.WaveRead.{wave_read}
 
