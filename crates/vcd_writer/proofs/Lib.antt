@@ -1,0 +1,3 @@
+pub mod Binary
+pub mod Changes
+pub mod Scopes

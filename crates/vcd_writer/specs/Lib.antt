@@ -1,2 +1,4 @@
 pub mod Answers
+pub mod ReadWaves
+pub mod Takes
 pub mod Tells

@@ -3,7 +3,11 @@
 
 mod changes;
 mod declared;
+mod line_forms;
+mod named_lines;
 mod pins;
+mod place;
+mod read_wave;
 mod reader;
 mod wave;
 mod wave_error;
