@@ -9,14 +9,19 @@ use Rattle.wave_model.specs.Form.{IsWave}
 abbrev pub WrittenWavesAreRead : Type 0
 WrittenWavesAreRead = (wave : WaveRec) → IsWave wave → wave_of (text_of_wave wave) ≡ Wave wave
 
--- what is read is a wave, and written by it but for how lines end
+-- and so is every text that has the lines of a wave, however they end
+abbrev pub LinesOfWavesAreRead : Type 0
+LinesOfWavesAreRead = (text : List ℕ) (wave : WaveRec) → IsWave wave → lines_of text ≡ wave_lines wave → wave_of text ≡ Wave wave
+
+-- what is read is a wave, and has its lines
 abbrev pub ReadWavesAreWaves : Type 0
 ReadWavesAreWaves = (text : List ℕ) (wave : WaveRec) → wave_of text ≡ Wave wave → IsWave wave
 
 abbrev pub ReadTextsAreWritten : Type 0
 ReadTextsAreWritten = (text : List ℕ) (wave : WaveRec) → wave_of text ≡ Wave wave → lines_of text ≡ wave_lines wave
 
--- a wave text begins with the lines before the one that is refused, and none does with that one too, or with no line after the last
+-- a wave text begins with the lines before the one that is refused, and none with that one too; where that is the one after the last, none
+-- ends with the last
 pub record IsFirstBadLine (text : List ℕ) (n : ℕ) : Type 0 where
   pub some : (wave : WaveRec) × IsWave wave × (take (n - 1) (wave_lines wave) ≡ take (n - 1) (lines_of text))
   pub none : (wave : WaveRec) → IsWave wave → take n (wave_lines wave) ≢ take n (lines_of text)

@@ -1,11 +1,12 @@
 //! That a wave is read back from its text, and that nothing else is a wave text. See docs/WAVES.md.
 #![tactic(auto)]
 
-ghost use Rattle.wave_laws.specs.Laws.{WrittenWavesAreRead, ReadTextsAreWritten, ReadWavesAreWaves, RefusedLinesAreFirst};
+ghost use Rattle.wave_laws.specs.Laws.{WrittenWavesAreRead, LinesOfWavesAreRead, ReadTextsAreWritten, ReadWavesAreWaves, RefusedLinesAreFirst};
 
-/// The text of every wave is read as that wave. It does nothing.
+/// The text of every wave is read as that wave, and so is each text that has its lines, however they end. It does nothing.
 pub fn written_waves_are_read()
     ensures read { WrittenWavesAreRead }
+    ensures lines { LinesOfWavesAreRead }
 {}
 
 /// What is read of a text is a wave, and the lines of the text are those of that wave. So a text is a wave text exactly where its lines are
