@@ -1,20 +1,20 @@
 -- What the two forms answer.
-use Rattle.std.proofs.Common.{◌≡◌, ℕ, ◌+◌, ◌<◌, ◌≤◌, Bool, true, false, if◌then◌else◌, Option, Some, None, List, [], ◌∷◌, length, get_or, refl, sym, ap, ◌∙◌, arith, inl, inr}
-use Rattle.std.specs.Prelude.{nat_le, nat_lt, option_and_then, slice_index, ◌==◌, codes, map}
+use Rattle.std.proofs.Common.{◌≡◌, ℕ, ◌<◌, ◌≤◌, Bool, true, false, if◌then◌else◌, Option, Some, None, List, [], ◌∷◌, length, refl, ap, ◌∙◌, arith}
+use Rattle.std.specs.Prelude.{nat_le, nat_lt, option_and_then, slice_index, ◌==◌, codes}
 use Rattle.std.specs.List.{list_any}
 use Rattle.std.proofs.lemmas.Bool.Decides.{nat_tests}
 use Rattle.std.proofs.lemmas.List.Folds.{list_any_at}
 use Rattle.pin_scripts.specs.Script.{NodeNumber}
-use Rattle.system_model.specs.System.{System, Plan, system_of, longest_input}
-use Rattle.sys_plan.specs.Plan.{PlanRec, node_numbers}
+use Rattle.system_model.specs.System.{Plan, system_of, longest_input}
+use Rattle.sys_plan.specs.Plan.{PlanRec}
 use Rattle.word_numbers.specs.Decimal.{decimal_up_to, plain_decimal_up_to}
 use Rattle.xs_text.specs.Numbers.{at_most, value_in}
 use Rattle.xs_instructions.specs.Image.{same_name}
 use Rattle.std.specs.Char.{is_ascii_digit}
 use Rattle.wave_model.specs.Waves.{WaveRec, script_text}
-use Rattle.wave_model.specs.Reads.{WaveRead, Wave, Pins, has_node, most_wave_slots, wave_of, pins_of, pins_in}
-use Rattle.wave_model.specs.Runs.{wave_of_run, wave_text}
-use Rattle.answer_model.specs.declared.Answer.{Answer}
+use Rattle.wave_model.specs.Reads.{Wave, Pins, Refused, has_node, most_wave_slots, wave_of, pins_of, pins_in}
+use Rattle.wave_model.specs.declared.wave_kind.WaveKind.TheVariants.{NoSuchNode}
+use Rattle.wave_model.specs.Runs.{wave_text}
 use Rattle.answer_model.specs.declared.Form.{Form}
 use Rattle.answer_model.specs.declared.Form.TheVariants as form
 use Rattle.answer_model.specs.declared.Status.TheVariants.{Done}
@@ -44,7 +44,7 @@ scripted node text wave short reads has =
     let few : nat_lt longest_input (length text) ≡ false = grind (arith, nat_tests) in
     ap (λ long. if long then too_long else answer_to_pins (pins_of text node)) few
     ∙ ap (λ read. answer_to_pins (pins_in node read)) reads
-    ∙ ap (λ there. answer_to_pins (if there then Pins (script_text wave node) else pins_in node (Wave wave))) has
+    ∙ ap (λ there. answer_to_pins (if there then Pins (script_text wave node) else Refused 0 NoSuchNode)) has
 
 pub read_again : (words : List (List ℕ)) (text : List ℕ) (node : NodeNumber) (wave : WaveRec) → form_of_words words ≡ Some (form.PinsOf node) → length text ≤ longest_input
     → wave_of text ≡ Wave wave → has_node wave node ≡ true → answer words text ≡ record { text = script_text wave node; status = Done }

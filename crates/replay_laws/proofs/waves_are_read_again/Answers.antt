@@ -1,13 +1,13 @@
-use Rattle.std.proofs.Common.{◌≡◌, ◌≤◌, length, refl, sym, ap, ◌∙◌, subst, arith}
+use Rattle.std.proofs.Common.{◌≡◌, ap, ◌∙◌, arith}
 use Rattle.std.specs.Prelude.{slice_index}
 use Rattle.std.proofs.lemmas.List.{length-map}
 use Rattle.xs_text.specs.Lines.{lines_of}
+use Rattle.sys_plan.specs.declared.NodePlan.{NodePlan}
 use Rattle.sys_plan.specs.Plan.{node_numbers}
-use Rattle.pin_scripts.specs.Pins.{Script, pins_of}
-use Rattle.system_model.specs.System.{longest_input}
+use Rattle.pin_scripts.specs.Pins.{pins_of}
 use Rattle.wave_model.specs.Waves.{node_script}
 use Rattle.wave_model.specs.Reads.{Wave, wave_of}
-use Rattle.wave_model.specs.Runs.{wave_of_run, wave_text}
+use Rattle.wave_model.specs.Runs.{wave_of_run}
 use Rattle.answer_model.specs.declared.Answer.{Answer}
 use Rattle.answer_model.specs.Top.{answer}
 use Rattle.replay_laws.proofs.Replays.{waved, has_number, read_again, slots_are_few}
@@ -22,7 +22,7 @@ returns c = record {
       let wave = wave_of_run plan slots in
       let text = waved wave_words input slots plan is stands in
       let reads : wave_of (answer wave_words input).text ≡ Wave wave = ap wave_of text ∙ c.runs_are_waves.ensures.read plan slots is_plan few in
-      let has = has_number numbers n (omega (arith, within, length-map plan.nodes _)) in
+      let has = has_number numbers n (omega (arith, within, length-map plan.nodes (λ (node : NodePlan). node.number))) in
       let told = read_again pins_words (answer wave_words input).text node wave asks short reads has in
       record {
         done = ap (λ (a : Answer). a.status) told;
