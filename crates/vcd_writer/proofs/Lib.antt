@@ -1,3 +1,3 @@
-pub mod Binary
 pub mod Changes
-pub mod Scopes
+pub mod NodeNumbers
+pub mod ValuesRead

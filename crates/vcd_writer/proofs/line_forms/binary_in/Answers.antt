@@ -1,5 +1,5 @@
 use Rattle.std.proofs.Common.{sym, ◌∙◌}
-use Rattle.vcd_writer.proofs.Binary.{leading, not-digits, too-long}
+use Rattle.vcd_writer.proofs.ValuesRead.{leading, not-digits, too-long}
 use Rattle.vcd_writer.proofs.line_forms.binary_in.Goals as goal
 use Rattle.vcd_writer.proofs.line_forms.binary_in.Goals.{then-has_leading_zero-via-then-has_leading_zero}
 use Rattle.vcd_writer.proofs.line_forms.binary_in.Goals.{then-has_leading_zero-via-else-has_leading_zero+then-digits-gt-MOST_BINARY_DIGITS}

@@ -1,6 +1,6 @@
 use Rattle.std.proofs.Common.{◌+◌, ◌*◌, ap, ◌∙◌, arith}
 use Rattle.std.proofs.lemmas.Grind.{pow_more}
-use Rattle.vcd_writer.proofs.Binary.{digit-at, value-more}
+use Rattle.vcd_writer.proofs.ValuesRead.{digit-at, value-more}
 use Rattle.vcd_writer.proofs.line_forms.binary_value.Goals as goal
 
 pub loop-digit-preserved : goal.loop-digit-preserved

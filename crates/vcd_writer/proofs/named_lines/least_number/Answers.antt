@@ -1,6 +1,6 @@
 use Rattle.std.proofs.Common.{◌<◌, ◌+◌, length, ap, ◌∙◌, arith}
 use Rattle.std.proofs.lemmas.Grind.{common_steps}
-use Rattle.vcd_writer.proofs.Scopes.{least-last}
+use Rattle.vcd_writer.proofs.NodeNumbers.{least-last}
 use Rattle.vcd_writer.proofs.named_lines.least_number.Goals as goal
 
 pub returns-else-is_empty : goal.returns-else-is_empty

@@ -1,5 +1,5 @@
 use Rattle.std.proofs.Common.{sym, ◌∙◌}
-use Rattle.vcd_writer.proofs.Scopes.{first-is, first-not}
+use Rattle.vcd_writer.proofs.NodeNumbers.{first-is, first-not}
 use Rattle.vcd_writer.proofs.named_lines.scope_in.Goals as goal
 
 pub returns-then-branch : goal.returns-then-branch

@@ -1,6 +1,6 @@
 use Rattle.std.proofs.Common.{◌≡◌}
 use Rattle.wave_model.specs.Reads.{scope_in}
-use Rattle.vcd_writer.proofs.Scopes.{scope_from}
+use Rattle.vcd_writer.proofs.NodeNumbers.{scope_from}
 use Rattle.vcd_writer.proofs.named_lines.scope_in.Given as goal
 
 -- none of the numbers so far is that of the line
