@@ -1,3 +1,9 @@
+pub mod Binary
 pub mod Changes
+pub mod Levels
 pub mod NodeNumbers
+pub mod Scopes
+pub mod Texts
+pub mod Told
 pub mod ValuesRead
+pub mod Whole

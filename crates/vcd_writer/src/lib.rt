@@ -9,11 +9,11 @@ mod pins;
 mod place;
 mod read_wave;
 mod reader;
-mod wave;
+mod run_wave;
 mod wave_error;
 mod wave_text;
 
 pub use pins::pins_of;
-pub use wave::wave;
+pub use run_wave::wave;
 pub use wave_error::WaveError;
 pub use wave_model::{WaveChange, WaveKind};

@@ -2,6 +2,9 @@
 ghost use Rattle.std.specs.Prelude.{◌≡◌, IfOk};
 ghost use Rattle.wave_model.specs.Runs.{wave_text};
 
+use crate::changes::with_changes;
+use crate::declared::append_declarations;
+use crate::wave_text::append_slot_line;
 use std::alloc::{AllocError, Global};
 use sys_plan::Plan;
 use xs_base::Text;
