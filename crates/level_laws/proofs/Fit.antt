@@ -29,8 +29,7 @@ levels_fit first [] shown driven_fit shown_fit = tt
 levels_fit first (port ∷ ports) [] driven_fit shown_fit = tt
 levels_fit first (port ∷ ports) (level ∷ shown) driven_fit shown_fit =
     let here : first + 0 ≡ first = omega arith in
-    let later : (p : PortNumber) → first + suc p ≡ first + 1 + p = λ p. omega arith in
-    (
+    let later : (p : PortNumber) → first + suc p ≡ first + 1 + p = λ p. omega arith in (
       level_fits (port_width first) port.driven level (subst (λ q. level_of port.driven 0 < 2 ^ port_width q) here (driven_fit 0)) shown_fit.0,
       levels_fit (first + 1) ports shown (λ p. subst (λ q. level_of (get_or ports p off_port).driven 0 < 2 ^ port_width q) (later p) (driven_fit (suc p))) shown_fit.1,
     )
@@ -41,8 +40,8 @@ module _ (plan : PlanRec) (is : IsPlan plan) (slot : Slot) where
       let here : (p : PortNumber) → p ≡ 0 + p = λ p. omega arith in
       let ports = (after plan slot n within).core.ports in
       let fit = levels_fit 0 ports (outside plan slot n within)
-          (λ p. subst (λ q. level_of (get_or ports p off_port).driven 0 < 2 ^ port_width q) (here p) (driven_levels_fit plan (suc slot) n p))
-          (shown_levels_fit plan n slot is) in
+      (λ p. subst (λ q. level_of (get_or ports p off_port).driven 0 < 2 ^ port_width q) (here p) (driven_levels_fit plan (suc slot) n p))
+      (shown_levels_fit plan n slot is) in
       record { many = levels_many plan (suc slot) n within; fit = subst LevelsFit (sym (noted plan slot n within)) fit }
 
   pub all_have_levels : AllByRecursion HasLevels (serial plan (suc slot)).nodes

@@ -51,7 +51,7 @@ module _ (numbers : List NodeNumber) (ascending : AreAscending numbers) (n : Pos
     by_ports p zero (level ∷ before) (now ∷ after) is e k_in =
         let rest = port_changes t n (p + 1) before after in
         let others = all_weaker (IsOf t n (p + 1)) Else
-            (λ change of. (omega (arith, of.node, within), inr (inl (λ same. omega (arith, same, of.port, is))))) rest (of_ports t n (p + 1) before after) in
+        (λ change of. (omega (arith, of.node, within), inr (inl (λ same. omega (arith, same, of.port, is))))) rest (of_ports t n (p + 1) before after) in
         on level (change_in t n p level now) rest
         ∙ as_is (left level (change_in t n p level now)) rest others
         ∙ own_change p level now (omega (arith, is))
@@ -74,7 +74,7 @@ module _ (numbers : List NodeNumber) (ascending : AreAscending numbers) (n : Pos
         let own = port_changes t m 0 rec.levels now.levels in
         let rest = node_changes t (m + 1) before after in
         let others = all_weaker (IsIn t (m + 1) (m + 1 + length after)) Else
-            (λ change of. (omega (arith, of.to, all_in), inl (λ same. omega (arith, same, of.from, is)))) rest (in_nodes t (m + 1) before after) in
+        (λ change of. (omega (arith, of.to, all_in), inl (λ same. omega (arith, same, of.from, is)))) rest (in_nodes t (m + 1) before after) in
         let here : n ≡ m = omega (arith, is) in
         on value own rest
         ∙ as_is (left value own) rest others
@@ -85,7 +85,7 @@ module _ (numbers : List NodeNumber) (ascending : AreAscending numbers) (n : Pos
         let own = port_changes t m 0 rec.levels now.levels in
         let rest = node_changes t (m + 1) before after in
         let others = all_weaker (IsOf t m 0) Else
-            (λ change of. (omega (arith, of.node, all_in), inl (λ same. omega (arith, same, of.node, is)))) own (of_ports t m 0 rec.levels now.levels) in
+        (λ change of. (omega (arith, of.node, all_in), inl (λ same. omega (arith, same, of.node, is)))) own (of_ports t m 0 rec.levels now.levels) in
         on value own rest
         ∙ ap (λ v. left v rest) (as_is value own others)
         ∙ by_nodes (m + 1) k before after (omega (arith, is)) (omega (arith, e)) (omega (arith, k_in)) (omega (arith, all_in)) many_before many port_in

@@ -12,9 +12,9 @@ filter_twice : {X : Type 0} (p q : X → Bool) (xs : List X) → filter (λ x. p
 filter_twice p q [] = refl
 filter_twice p q (x ∷ xs) = elim (cases_Bool (p x)) [
   | inl passes ↦ (ap (λ l. filter (λ y. p y && q y) l) (cond-true _ (x ∷ filter p xs) (filter p xs) passes)
-  ∙ ap (λ l. if p x && q x then x ∷ l else l) (filter_twice p q xs))
+      ∙ ap (λ l. if p x && q x then x ∷ l else l) (filter_twice p q xs))
   | inr fails ↦ (ap (λ l. filter (λ y. p y && q y) l) (cond-false _ (x ∷ filter p xs) (filter p xs) fails)
-  ∙ (filter_twice p q xs ∙ sym (cond-false _ (x ∷ filter (λ y. p y && q y) xs) _ (and_left (p x) (q x) fails))))
+      ∙ (filter_twice p q xs ∙ sym (cond-false _ (x ∷ filter (λ y. p y && q y) xs) _ (and_left (p x) (q x) fails))))
 ]
 
 pub levels : ScriptsGiveLevels
