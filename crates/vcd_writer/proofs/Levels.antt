@@ -105,7 +105,7 @@ pub told_no_slot : (plan : PlanRec) (text out : TextRec) → out ≡ text → Te
 unfolding changes_before
 told_no_slot plan text out is = subst (λ (t : TextRec). Tells text t []) (sym is) (tells_none text)
 
-slot_more : (plan : PlanRec) (slot : Slot) → changes_before plan (slot + 1) ≡ changes_before plan slot ++ changes_in plan slot
+pub slot_more : (plan : PlanRec) (slot : Slot) → changes_before plan (slot + 1) ≡ changes_before plan slot ++ changes_in plan slot
 unfolding changes_before
 slot_more plan slot = ap (changes_before plan) {x = slot + 1} {y = suc slot} (omega arith)
 

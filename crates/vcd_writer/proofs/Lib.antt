@@ -1,8 +1,9 @@
 pub mod Binary
-pub mod Changes
+pub mod ChangeRead
 pub mod Levels
 pub mod NodeNumbers
 pub mod Scopes
+pub mod Steady
 pub mod Texts
 pub mod Told
 pub mod ValuesRead

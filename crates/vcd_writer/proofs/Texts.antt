@@ -9,6 +9,6 @@ lines-append lines others = flat_map-append ended lines others
 pub begun_more : (text begun more out after : List ℕ) → out ≡ text ++ begun → after ≡ out ++ more → after ≡ text ++ (begun ++ more)
 begun_more text begun more out after p q = rw (q, p) (append_assoc text begun more)
 
--- the last of three ends what the first two began, and something else
-pub three : (text a b c more : List ℕ) (x y z : List ℕ) → x ≡ text ++ a → y ≡ x ++ b → z ≡ y ++ (c ++ more) → z ≡ text ++ ((a ++ (b ++ c)) ++ more)
-three text a b c more x y z p q r = rw (r, q, p) (simp append_assoc)
+-- three of them
+pub three : (text a b c x y z : List ℕ) → x ≡ text ++ a → y ≡ x ++ b → z ≡ y ++ c → z ≡ text ++ (a ++ (b ++ c))
+three text a b c x y z p q r = rw (r, q, p) (simp append_assoc)

@@ -64,7 +64,7 @@ module _ (slot : Slot) (node : Position) where
   no_change : 0 < slot → (port : PortNumber) (level : Word) → change_in slot node port level level ≡ []
   no_change late port level = grind arith
 
-  no_changes : 0 < slot → (port : PortNumber) (levels : List Word) → port_changes slot node port levels levels ≡ []
+  pub no_changes : 0 < slot → (port : PortNumber) (levels : List Word) → port_changes slot node port levels levels ≡ []
   no_changes late port [] = refl
   no_changes late port (level ∷ levels) = λ i. no_change late port level i ++ no_changes late (port + 1) levels i
 

@@ -1,4 +1,5 @@
-//! The changes of a run, slot by slot: the levels of all pins at the end of each, beside those at the end of the slot before.
+//! The changes of a run, slot by slot: the levels of all pins at the end of each, beside those at the end of the slot before. Slots in which
+//! no pin changes its level, as far as the machine knows, are gone over at once.
 ghost use Rattle.std.specs.Prelude.{◌≡◌, ◌<◌, ◌+◌, ◌++◌, length, IfOk, OnOk};
 ghost use Rattle.serial_model.specs.Serial.{serial, begun_at_start, node_by};
 ghost use Rattle.wave_model.specs.Runs.{change_in, changes_before, changes_in, port_changes};
@@ -23,12 +24,16 @@ pub(crate) fn with_changes(
 ) -> Result<Text, AllocError>
     ensures { IfOk result (λ after. after ≡ text ++ text_of_lines (change_lines 0 (changes_before plan.now limit))) }
 {
+    machines_are_serial();
     let mut machine = SerialMachine::new(alloc, plan)?;
     let mut seen = all_levels(plan, &machine);
     let mut out = WaveText::begun(text);
-    for slot in 0..limit {
-        machine.run(slot + 1)?;
+    let mut slot = 0;
+    while slot < limit {
+        machine.slot()?;
         put_slot(&mut out, plan, &machine, slot, seen.as_mut_slice())?;
+        machine.pass_steady(limit);
+        slot = machine.now();
     }
     Ok(out.into_text())
 }

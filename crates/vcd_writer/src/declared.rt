@@ -1,15 +1,14 @@
 //! The lines that declare the pins of nodes.
 ghost use Rattle.std.specs.Prelude.{◌≡◌, ◌<◌, ◌++◌, ◌∷◌, [], OnOk};
 ghost use Rattle.sys_plan.specs.Plan.{node_numbers};
-ghost use Rattle.wave_model.specs.Lines.{code_of, pin_number, first_line, end_of_definitions, node_lines, nodes_lines, scope_line, var_line};
+ghost use Rattle.wave_model.specs.Lines.{first_line, end_of_definitions, node_lines, nodes_lines, scope_line, var_line};
 ghost use Rattle.wave_model.specs.Waves.{ended, text_of_lines};
 
-use decimal_text::append_decimal;
-use line_text::append_port_name;
+use crate::named_lines::{append_scope_line, append_var_line};
 use std::alloc::AllocError;
 use sys_plan::Plan;
+use xs_base::Text;
 use xs_base::numbers::PORTS;
-use xs_base::{Text, port_width};
 
 /// Puts what declares all pins of a plan at the end of the text: the first line, a scope for each node, and the end of the definitions. The
 /// error is want of memory. See docs/WAVES.md.
@@ -39,7 +38,7 @@ fn append_node(out: &mut Text, node: u8, number: u8) -> Result<(), AllocError>
 {
     append_scope(out, number)?;
     for port in 0..PORTS {
-        append_var_line(out, node, port)?;
+        append_var(out, node, port)?;
     }
     out.append(b"$upscope $end\n")
 }
@@ -47,33 +46,15 @@ fn append_node(out: &mut Text, node: u8, number: u8) -> Result<(), AllocError>
 fn append_scope(out: &mut Text, number: u8) -> Result<(), AllocError>
     ensures { OnOk result (out.new ≡ out.old ++ ended (scope_line number)) }
 {
-    out.append(b"$scope module n")?;
-    append_decimal(out, u64::from(number))?;
-    out.append(b" $end\n")
+    append_scope_line(out, number)?;
+    out.append(b"\n")
 }
 
-fn append_var_line(out: &mut Text, node: u8, port: u8) -> Result<(), AllocError>
+fn append_var(out: &mut Text, node: u8, port: u8) -> Result<(), AllocError>
     requires node { node < 16 }
     requires port { port < 29 }
     ensures { OnOk result (out.new ≡ out.old ++ ended (var_line node port)) }
 {
-    out.append(b"$var wire ")?;
-    append_decimal(out, u64::from(port_width(port)))?;
-    out.append(b" ")?;
-    append_code(out, node, port)?;
-    out.append(b" ")?;
-    append_port_name(out, port)?;
-    out.append(b" $end\n")
-}
-
-/// Puts the code of the pin of a port, 0 to 28, of the node at a position, at most 15, at the end of the text. The error is want of memory. See
-/// docs/WAVES.md.
-#[inline]
-pub(crate) fn append_code(out: &mut Text, node: u8, port: u8) -> Result<(), AllocError>
-    requires node { node < 16 }
-    requires port { port < 29 }
-    ensures { OnOk result (out.new ≡ out.old ++ code_of (pin_number node port)) }
-{
-    let pin = 29 * u16::from(node) + u16::from(port);
-    out.append(&[33 + (pin / 90) as u8, 33 + (pin % 90) as u8])
+    append_var_line(out, node, port)?;
+    out.append(b"\n")
 }

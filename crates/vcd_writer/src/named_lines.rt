@@ -1,7 +1,7 @@
-//! The lines of a wave text that name its nodes and their pins.
+//! The lines of a wave text that name its nodes and their pins, as they are written and as they are looked for.
 ghost use Rattle.std.specs.Prelude.{◌≡◌, ◌<◌, ◌++◌, bytes_eq, OnOk, IfOk};
 ghost use Rattle.xs_base.specs.Ids.{port_width};
-ghost use Rattle.wave_model.specs.Lines.{code_of, scope_line, var_line};
+ghost use Rattle.wave_model.specs.Lines.{code_of, pin_number, scope_line, var_line};
 ghost use Rattle.wave_model.specs.Reads.{least_number, scope_in};
 
 use decimal_text::append_decimal;
@@ -54,7 +54,9 @@ fn is_scope_line(alloc: Global, number: u8, line: &[u8]) -> Result<bool, AllocEr
     Ok(is_same(expected.bytes(), line))
 }
 
-fn append_scope_line(out: &mut Text, number: u8) -> Result<(), AllocError>
+/// Puts the line that begins the scope of the node with a number at the end of the text, without its end. The error is want of memory. See
+/// docs/WAVES.md.
+pub(crate) fn append_scope_line(out: &mut Text, number: u8) -> Result<(), AllocError>
     ensures { OnOk result (out.new ≡ out.old ++ scope_line number) }
 {
     out.append(b"$scope module n")?;
@@ -78,7 +80,9 @@ pub(crate) fn is_var_line(
     Ok(is_same(expected.bytes(), line))
 }
 
-fn append_var_line(out: &mut Text, node: u8, port: u8) -> Result<(), AllocError>
+/// Puts the line that declares the pin of a port of the node at a position at the end of the text, without its end. The error is want of
+/// memory. See docs/WAVES.md.
+pub(crate) fn append_var_line(out: &mut Text, node: u8, port: u8) -> Result<(), AllocError>
     requires node { node < 16 }
     requires port { port < 29 }
     ensures { OnOk result (out.new ≡ out.old ++ var_line node port) }
@@ -86,16 +90,20 @@ fn append_var_line(out: &mut Text, node: u8, port: u8) -> Result<(), AllocError>
     out.append(b"$var wire ")?;
     append_decimal(out, u64::from(port_width(port)))?;
     out.append(b" ")?;
-    append_code(out, 29 * u16::from(node) + u16::from(port))?;
+    append_code(out, node, port)?;
     out.append(b" ")?;
     append_port_name(out, port)?;
     out.append(b" $end")
 }
 
-// The code of a pin.
-fn append_code(out: &mut Text, pin: u16) -> Result<(), AllocError>
-    requires { pin < 464 }
-    ensures { OnOk result (out.new ≡ out.old ++ code_of pin) }
+/// Puts the code of the pin of a port, 0 to 28, of the node at a position, at most 15, at the end of the text. The error is want of memory. See
+/// docs/WAVES.md.
+#[inline]
+pub(crate) fn append_code(out: &mut Text, node: u8, port: u8) -> Result<(), AllocError>
+    requires node { node < 16 }
+    requires port { port < 29 }
+    ensures { OnOk result (out.new ≡ out.old ++ code_of (pin_number node port)) }
 {
+    let pin = 29 * u16::from(node) + u16::from(port);
     out.append(&[33 + (pin / 90) as u8, 33 + (pin % 90) as u8])
 }

@@ -4,7 +4,7 @@ ghost use Rattle.wave_model.specs.Lines.{binary, change_line, slot_line, value_t
 ghost use Rattle.wave_model.specs.Waves.{ended, slot_lines, text_of_lines};
 ghost use Rattle.vcd_writer.specs.Tells.{Tells};
 
-use crate::declared::append_code;
+use crate::named_lines::append_code;
 use decimal_text::append_decimal;
 use std::alloc::AllocError;
 use std::marker::Model;

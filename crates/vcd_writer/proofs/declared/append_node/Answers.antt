@@ -9,7 +9,7 @@ loop-port-init c = c.in_ok-append_scope.ensures ∙ ap (λ t. c.args.out.now ++ 
 
 pub loop-port-preserved : goal.loop-port-preserved
 loop-port-preserved c =
-    begun_more c.args.out.now _ _ _ _ c.loop-port.invariant c.in_ok-append_var_line.ensures
+    begun_more c.args.out.now _ _ _ _ c.loop-port.invariant c.in_ok-append_var.ensures
     ∙ ap (λ t. c.args.out.now ++ t) (one_port_more c.args.node c.args.number c.loop-port.port c.loop-port-test.true)
 
 pub returns : goal.returns

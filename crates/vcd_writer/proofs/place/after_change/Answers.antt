@@ -2,7 +2,7 @@ use Rattle.std.proofs.Common.{◌≡◌, ℕ, true, ◌+◌, ◌-◌, ◌/◌, �
 use Rattle.xs_base.specs.Ids.{port_width}
 use Rattle.wave_model.specs.Waves.{WaveRec}
 use Rattle.wave_model.specs.Reads.{Changes, changed, may_change, pin_of_code, value_in_text}
-use Rattle.vcd_writer.proofs.Changes.{change-read}
+use Rattle.vcd_writer.proofs.ChangeRead.{change-read}
 use Rattle.vcd_writer.proofs.place.after_change.Goals as goal
 
 pub returns-clause-ok : goal.returns-clause-ok
