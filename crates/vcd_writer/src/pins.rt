@@ -1,5 +1,5 @@
 //! `pins_of`, the pin script that a wave text gives a node.
-ghost use Rattle.std.specs.Prelude.{◌≡◌, ◌<◌, ◌^◌, length};
+ghost use Rattle.std.specs.Prelude.{◌<◌, ◌^◌, length};
 ghost use Rattle.wave_model.specs.Reads.{pins_of};
 ghost use Rattle.vcd_writer.specs.Answers.{GivesPins};
 
