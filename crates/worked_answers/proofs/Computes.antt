@@ -18,6 +18,9 @@ use Rattle.source_model.specs.Values.{values_from}
 use Rattle.source_model.specs.Statement.{labels_first, after_labels}
 use Rattle.source_model.specs.Layout.{place_of, define_all, after_lines}
 use Rattle.source_model.specs.Source.{defines_twice, first_fault, code_of_lines, bytes_of_lines}
+use Rattle.xs_base.specs.Ids.{port_among}
+use Rattle.xs_model.specs.Bits as bits
+use Rattle.xs_model.specs.Choices.{first_ready}
 use Rattle.xs_model.specs.Picks.{best_from}
 use Rattle.xs_model.specs.Ports.{edges_from}
 use Rattle.xs_model.specs.Memory.{words_of}
@@ -46,5 +49,5 @@ use Rattle.rank_model.specs.Checks.{lines_checked}
 
 -- names them all on its own line, so that they unfold where it does
 unfoldable pub computes : Type 0
-unfolding digits without_comment parted lines_of line_length tokens_after node_line end_name link_line pin_name wire_line numbers_of bit_line section_line frame_line play_line frame_from framed mask_where node_plans system_of port_of pin_form pins_from pins_of form_of_words answer register_number fixed find known behind_labels first_name_at all_some operands_after values_from labels_first after_labels place_of define_all after_lines defines_twice first_fault code_of_lines bytes_of_lines best_from edges_from words_of first_difference links_after_arrivals lowest_free free_end moves_from node_step serial since hex_word by_slot halted_lines memory_lines by_position end_text trace_text read_bytes read_number read_chain write_chain body line text_field head snap_of snap_bytes rest_text clock_after played_from play_text rank_line head_from after_line wave_from changes_before ranks.bytes_of_lines first_from lines_checked
+unfolding digits without_comment parted lines_of line_length tokens_after node_line end_name link_line pin_name wire_line numbers_of bit_line section_line frame_line play_line frame_from framed mask_where node_plans system_of port_of pin_form pins_from pins_of form_of_words answer register_number fixed find known behind_labels first_name_at all_some operands_after values_from labels_first after_labels place_of define_all after_lines defines_twice first_fault code_of_lines bytes_of_lines port_among bits.bits_of bits.value_of first_ready best_from edges_from words_of first_difference links_after_arrivals lowest_free free_end moves_from node_step serial since hex_word by_slot halted_lines memory_lines by_position end_text trace_text read_bytes read_number read_chain write_chain body line text_field head snap_of snap_bytes rest_text clock_after played_from play_text rank_line head_from after_line wave_from changes_before ranks.bytes_of_lines first_from lines_checked
 computes = Unit {0}

@@ -35,9 +35,9 @@ pub record WorkedWaveForms : Type 0 where
   pub most_bytes : most_taken (form_of_words (pins_for (codes "0"))) ≡ 4194305
   pub reads : most_reads (form_of_words (wave_for (codes "1"))) ≡ 4194305
 
--- a node that drives 10 on port 4A in slot 14
+-- a node that drives the identifier of port 32A on it in slot 10
 abbrev pub driver : List ℕ
-driver = lone (codes "  ldw r0, dp[0]\n  setc res[r0], 8\n  ldc r1, 10\n  out res[r0], r1\n  freet\n  .data\n  .word 0x00040000\n")
+driver = lone (codes "  ldw r0, dp[0]\n  setc res[r0], 8\n  out res[r0], r0\n  freet\n  .data\n  .word 0x00200000\n")
 
 -- what is declared of its pins, and their levels in slot 0
 abbrev pub declared : List ℕ
@@ -70,9 +70,8 @@ pub record WorkedWaves : Type 0 where
   pub nothing : answer (wave_for (codes "0")) driver ≡ done (declared ++ codes "#0\n")
   pub one_slot : answer (wave_for (codes "1")) driver ≡ done (declared ++ at_start ++ codes "#1\n")
   -- the change is one of the slot in which it is driven
-  pub not_yet : answer (wave_for (codes "14")) driver ≡ done (declared ++ at_start ++ codes "#14\n")
-  pub driven : answer (wave_for (codes "15")) driver ≡ done (declared ++ at_start ++ codes "#14\nb1010 !1\n#15\n")
-  pub on : answer (wave_for (codes "20")) driver ≡ done (declared ++ at_start ++ codes "#14\nb1010 !1\n#20\n")
+  pub not_yet : answer (wave_for (codes "10")) driver ≡ done (declared ++ at_start ++ codes "#10\n")
+  pub driven : answer (wave_for (codes "11")) driver ≡ done (declared ++ at_start ++ codes "#10\nb1000000000000000000000 !=\n#11\n")
   -- a line of the script tells a level from its slot on, where it is another one
   pub script :
       answer (wave_for (codes "9")) (with_script (codes "freet\n") (codes "3 0:4A 0\n5 0:1B 1\n5 0:4A 6\n7 0:1B 0\n8 0:4A 6\n"))

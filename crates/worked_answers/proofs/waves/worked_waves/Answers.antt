@@ -32,7 +32,6 @@ returns-clause-waves c = record {
   one_slot = refl;
   not_yet = refl;
   driven = refl;
-  on = refl;
   script = refl;
   no_nodes = refl;
   refused_frame = refl;
