@@ -1,6 +1,6 @@
 //! Gives each case of the files in data/ to the program's call, and says which of them it answers otherwise than the case
 //! says and how many it answers so. A case of `run SLOTS` is tried with `serial` and with `rounds` too. The texts that the cases
-//! expect were written by hand, from docs/ASSEMBLY.md, docs/SYSTEM_TEXT.md, docs/INSTRUCTIONS.md, docs/OUTPUT.md and docs/ROUTES.md. Sources
+//! expect were written by hand, from docs/ASSEMBLY.md, docs/SYSTEM_TEXT.md, docs/INSTRUCTIONS.md, docs/OUTPUT.md, docs/ROUTES.md and docs/WAVES.md. Sources
 //! and systems that reach the limits of a memory or of the whole input are too long for a file: text_tests and call_tests try
 //! those.
 #![tactic(auto)]
