@@ -1,6 +1,6 @@
 -- One call of the program: what its clauses say once the text is written, or not written whole.
 use Rattle.std.proofs.Common.{◌≡◌, ℕ, ◌+◌, ◌<◌, Bool, true, false, min, if◌then◌else◌, List, [], length, take, drop, Option, Some, None, IfSome, refl, sym, ap, ◌∙◌, subst, arith, inl, inr}
-use Rattle.std.specs.Prelude.{codes}
+use Rattle.std.specs.Prelude.{codes, nat_lt}
 use Rattle.std.proofs.lemmas.List.{length-take}
 use Rattle.std.proofs.Math.Seq.{drop-append_seam}
 use Rattle.std.specs.Io.KnownBytes.{Appends, Consumes}
@@ -22,7 +22,11 @@ use Rattle.answer_model.specs.PlayForm.{played_text}
 use Rattle.answer_model.specs.CheckForm.{check_text}
 use Rattle.answer_model.specs.SaveForm.{saved_text, save_answer}
 use Rattle.answer_model.specs.ResumeForm.{refused, slot_at, is_out_of_range, rest_answer, answer_to_snap}
+use Rattle.pin_scripts.specs.Script.{NodeNumber}
+use Rattle.wave_model.specs.Reads as wave
+use Rattle.wave_model.specs.Reads.{NodePins, pins_of}
 use Rattle.answer_model.specs.WaveForm.{waved_text}
+use Rattle.answer_model.specs.PinsForm.{answer_to_pins, pins_answer, too_long}
 use Rattle.answer_model.specs.RoutesForm as found
 use Rattle.answer_model.specs.RoutesForm.{Routes as Found, routes_of, answer_to_routes}
 use Rattle.answer_model.specs.Refusals.{frame_text}
@@ -178,6 +182,17 @@ answer_to_routes-status (found.Frame line kind) = tt
 answer_to_routes-status (found.Source node line kind) = tt
 answer_to_routes-status (found.Pins line kind) = tt
 
+answer_to_pins-status : (pins : NodePins) → IsFormStatus (answer_to_pins pins).status
+answer_to_pins-status (wave.Pins text) = tt
+answer_to_pins-status (wave.Refused line kind) = tt
+
+of_length-status : (long : Bool) (pins : NodePins) → IsFormStatus (if long then too_long else answer_to_pins pins).status
+of_length-status true pins = tt
+of_length-status false pins = answer_to_pins-status pins
+
+pins_answer-status : (node : NodeNumber) (input : List ℕ) → IsFormStatus (pins_answer node input).status
+pins_answer-status node input = of_length-status (nat_lt longest_input (length input)) (pins_of input node)
+
 pub answer_by-status : (form : Form) (input : List ℕ) → IsFormStatus (answer_by form input).status
 answer_by-status (Free slots) input = answer_to-status (run_text slots) (system_of input)
 answer_by-status (Serial slots) input = answer_to-status (run_text slots) (system_of input)
@@ -188,6 +203,8 @@ answer_by-status Check input = answer_to-status check_text (system_of input)
 answer_by-status (Save slots) input = answer_to-status (saved_text input slots) (system_of input)
 answer_by-status (Resume slots) input = answer_to_snap-status slots (snap_of input)
 answer_by-status Routes input = answer_to_routes-status (routes_of input)
+answer_by-status (Wave slots) input = answer_to-status (waved_text slots) (system_of input)
+answer_by-status (PinsOf node) input = pins_answer-status node input
 
 form_whole : (s : Status) → IsFormStatus s → IsWhole s
 form_whole status.Done h = tt

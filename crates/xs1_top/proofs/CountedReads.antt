@@ -6,7 +6,7 @@ use Rattle.xs_edge.specs.Edge.{HasRisen}
 use Rattle.xs_edge.specs.Stores.{Counting}
 use Rattle.snap_codec.specs.Snaps.{longest_snapshot}
 use Rattle.answer_model.specs.declared.Form.{Form}
-use Rattle.answer_model.specs.declared.Form.TheVariants.{Free, Serial, Rounds, Play, Make, Check, Save, Resume, Routes}
+use Rattle.answer_model.specs.declared.Form.TheVariants.{Free, Serial, Rounds, Play, Make, Check, Save, Resume, Routes, Wave, PinsOf}
 use Rattle.answer_model.specs.Top.{most_reads}
 use Rattle.xs1_top.specs.Reads.{TookReads, MaybeOneRead, ReadsAtMost}
 
@@ -45,6 +45,8 @@ few_reads (Some Check) = omega arith
 few_reads (Some (Save slots)) = omega arith
 few_reads (Some (Resume slots)) = omega arith
 few_reads (Some Routes) = omega arith
+few_reads (Some (Wave slots)) = omega arith
+few_reads (Some (PinsOf node)) = omega arith
 
 -- whatever the form
 pub always_few : (form : Option Form) (from to : Counting) → ReadsAtMost Counts (most_reads form) from to → to.reads ≤ from.reads + (longest_snapshot + 1)

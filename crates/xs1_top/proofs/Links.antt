@@ -1,5 +1,5 @@
 -- The link end that a directed link leaves, by where the arc with its number leads.
-use Rattle.std.proofs.Common.{◌≡◌, ℕ, ◌<◌, Some, List, ◌∷◌, ◌++◌, length, get_or, slice_get, Result, Ok, Err, OnOk, sym, ap, ◌∙◌, append_assoc, arith}
+use Rattle.std.proofs.Common.{◌≡◌, ℕ, ◌<◌, Some, List, ◌++◌, length, get_or, slice_get, Result, Ok, Err, OnOk, sym, ap, ◌∙◌, append_assoc, arith}
 use Rattle.std.specs.Prelude.{codes, decimal}
 use Rattle.std.proofs.lemmas.List.{get_or-map}
 use Rattle.std.proofs.lemmas.Option.{same_Some, slice_get-get_or}

@@ -5,7 +5,7 @@ use Rattle.rank_model.specs.declared.rank_kind.RankKind.{RankKind}
 use Rattle.rank_model.specs.declared.rank_kind.RankKind.TheVariants.{RankMissing}
 use Rattle.rank_model.specs.declared.rank_line.RankLine.{RankLine}
 use Rattle.rank_model.specs.declared.verdict.Verdict.{Verdict}
-use Rattle.rank_model.specs.declared.verdict.Verdict.TheVariants.{NoWay, NoRank}
+use Rattle.rank_model.specs.declared.verdict.Verdict.TheVariants.{NoWay}
 use Rattle.rank_model.specs.Lines.{RanksRec}
 use Rattle.rank_model.specs.Next.{link_count, or_first, first_from}
 use Rattle.rank_model.specs.Verdicts.{number_at, is_cut_off, no_way_in, no_way_to, no_way_from, no_way, does_not_rise, first_dest}

@@ -1,11 +1,9 @@
 -- What is answered to ranks before a system that is refused.
 use Rattle.std.proofs.Common.{◌≡◌, ℕ, List, [], ◌∷◌, length, ◌-◌, take, drop, sym, ap, ◌∙◌, subst}
 use Rattle.std.proofs.lemmas.List.{take_rest}
-use Rattle.sys_plan.specs.Plan.{PlanRec}
 use Rattle.system_model.specs.System.{System, Plan, Frame, Source, Pins, system_of}
 use Rattle.rank_model.specs.Lines.{RanksRec, system_after}
 use Rattle.answer_model.specs.declared.Answer.{Answer}
-use Rattle.answer_model.specs.OnSystem.{answer_to}
 use Rattle.answer_model.specs.RoutesForm.{answer_to_routes, routes_with}
 use Rattle.xs1_top.specs.OnSystem.{IsReading}
 use Rattle.xs1_top.specs.declared.on_system.Reading.{Reading}
