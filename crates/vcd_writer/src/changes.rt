@@ -30,7 +30,7 @@ pub(crate) fn with_changes(
     let mut out = WaveText::begun(text);
     let mut slot = 0;
     while slot < limit {
-        machine.slot()?;
+        machine.run(slot + 1)?;
         put_slot(&mut out, plan, &machine, slot, seen.as_mut_slice())?;
         machine.pass_steady(limit);
         slot = machine.now();

@@ -28,13 +28,13 @@ loop-slot-preserved c =
     let put = c.in_ok-put_slot.ensures in
     let count : length c.put_slot.new.seen ≡ array_vec_len c.loop-slot.seen =
     ap length put.seen ∙ levels_count plan (slot + 1) ∙ sym (ap length known.seen ∙ levels_count plan slot) in
-    let passed = c.in_ok-slot.ensures in
-    let before = c.slot.new.self in
+    let passed = c.in_ok-run.ensures in
+    let before = c.run.new.self in
     let after = c.pass_steady.new.self in
     let over = c.pass_steady.ensures in
     let of : before.plan ≡ plan = passed.plan ∙ known.plan in
     let start : before.begun ≡ begun_at_start plan = passed.begun ∙ known.start in
-    let ran : before.now ≡ slot + 1 = omega (arith, passed.passed, known.run) in
+    let ran : before.now ≡ slot + 1 = omega (arith, passed.ran, known.run) in
     let text : TextRec = record { text = c.args.text; slot = 0 } in
     let told = subst (λ (s : Slot). Tells text c.put_slot.new.out (changes_before plan s)) (sym ran) (one_slot plan slot _ _ _ known.tells put.tells) in
     let now = c.now-slot.ensures.value in
