@@ -143,7 +143,11 @@ pub record WorkedDivider : Type 0 where
 abbrev pub all_high : PinView
 all_high = record { level = replicate 29 1 }
 
+-- the levels after an issue of a node whose pins all show 1, where port 16 drives the value
+abbrev pub levels_where_port_drives : ℕ → List ℕ
+levels_where_port_drives value = (node_step (node_of_code []) (record start { core = port_core (record on_port { output = true; driven = Some value }) }) 0 no_arrivals all_high).rec.levels
+
 pub record WorkedLevels : Type 0 where
   -- port 16 drives 10, and port 17 drives nothing
-  pub driven : (node_step (node_of_code []) (record start { core = port_core (record on_port { output = true; driven = Some 10 }) }) 0 no_arrivals all_high).rec.levels ≡ replicate 16 1 ++ 10 ∷ replicate 12 1
-  pub driven_low : (node_step (node_of_code []) (record start { core = port_core (record on_port { output = true; driven = Some 0 }) }) 0 no_arrivals all_high).rec.levels ≡ replicate 16 1 ++ 0 ∷ replicate 12 1
+  pub driven : levels_where_port_drives 10 ≡ replicate 16 1 ++ 10 ∷ replicate 12 1
+  pub driven_low : levels_where_port_drives 0 ≡ replicate 16 1 ++ 0 ∷ replicate 12 1
