@@ -1,5 +1,5 @@
 -- What every wave keeps.
-use Rattle.std.specs.Prelude.{ℕ, ◌≡◌, ◌≢◌, ◌<◌, ◌≤◌, ◌^◌, ◌⊎◌, ◌==◌, List, [], ◌∷◌, length, map, filter}
+use Rattle.std.specs.Prelude.{◌≡◌, ◌≢◌, ◌<◌, ◌≤◌, ◌^◌, ◌⊎◌, ◌==◌, List, [], ◌∷◌, length, map, filter}
 use Rattle.std.specs.List.{AllByRecursion}
 use Rattle.xs_base.specs.Ids.{port_width}
 use Rattle.sys_plan.specs.Plan.{AreAscending, numbers_from}

@@ -11,7 +11,6 @@ use Rattle.word_numbers.specs.Decimal.{has_leading_zero, plain_decimal_up_to}
 use Rattle.pin_scripts.specs.Script.{NodeNumber}
 use Rattle.pin_scripts.specs.Pins.{◌>>=◌}
 use Rattle.sys_plan.specs.Plan.{numbers_from}
-use Rattle.wave_model.specs.declared.change.WaveChange.{WaveChange}
 use Rattle.wave_model.specs.Lines.{PinNumber, first_line, scope_line, var_line, end_of_scope, end_of_definitions, slot_line}
 use Rattle.wave_model.specs.declared.wave_kind.WaveKind.{WaveKind}
 use Rattle.wave_model.specs.declared.wave_kind.WaveKind.TheVariants.{NoSuchNode}
