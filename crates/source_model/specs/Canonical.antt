@@ -1,5 +1,5 @@
 -- The canonical text of an image: one line for each label, instruction, section and byte.
-use Rattle.std.specs.Prelude.{ℕ, ◌+◌, ◌-◌, ◌==◌, nat_lt, if◌then◌else◌, List, [], ◌∷◌, ◌++◌, length, take, drop, map, filter, get_or, codes, decimal}
+use Rattle.std.specs.Prelude.{ℕ, ◌+◌, ◌-◌, ◌==◌, nat_lt, if◌then◌else◌, Option, Some, None, List, [], ◌∷◌, ◌++◌, length, take, drop, map, filter, get_or, codes, decimal}
 use Rattle.std.specs.List.{flat_map}
 use Rattle.xs_instructions.specs.declared.instr.Instr.{Instr}
 use Rattle.xs_instructions.specs.Words.{same_name, register_names}
@@ -79,6 +79,11 @@ operands_text symbols (p ∷ pieces) = codes " " ++ flat_map (piece_text symbols
 abbrev pub statement_text : List Symbol → List Spelled → List ℕ
 statement_text symbols [] = []
 statement_text symbols (name ∷ operands) = piece_text symbols name ++ operands_text symbols operands
+
+-- the text of the instruction that stands somewhere, if one does
+abbrev pub instruction_text : List Symbol → Option Instr → List ℕ
+instruction_text symbols None = []
+instruction_text symbols (Some ins) = statement_text symbols (spelling ins)
 
 -- a label stands at the front of its line, and what is in a section behind two blanks
 abbrev pub item_line : List Symbol → Item → List ℕ

@@ -5,4 +5,5 @@ pub mod Values
 pub mod Statement
 pub mod Layout
 pub mod Source
+pub mod CodeLines
 pub mod Canonical

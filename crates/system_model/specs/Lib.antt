@@ -4,3 +4,4 @@ pub mod Frame
 pub mod FirstFault
 pub mod System
 pub mod CutText
+pub mod CodeLines

@@ -2,6 +2,7 @@
 //! docs/SYSTEM_TEXT.md.
 #![tactic(auto)]
 
+mod code_lines;
 mod end_numbers;
 mod frame;
 mod frame_lines;
@@ -19,6 +20,7 @@ mod wire_plans;
 mod wires;
 mod words;
 
+pub use code_lines::read_code_lines;
 pub use pin_scripts::PinKind;
 pub use source_model::AsmKind;
 pub use system_error::SystemError;

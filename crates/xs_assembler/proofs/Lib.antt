@@ -6,6 +6,7 @@ pub mod Fronts
 pub mod Addresses
 pub mod Sizes
 pub mod Passing
+pub mod CodeLines
 pub mod Judging
 pub mod Labelling
 pub mod Outcome

@@ -110,7 +110,7 @@ line_fits text old new span line long small is h =
 abbrev pub left_in : Reading → List Line
 left_in reading = map line_of (lines_of (bytes_left reading))
 
-left_next : (text : List ℕ) (old new : Reading) (span : Span) (line : Line) → old.text ≡ text → Steps text old new span line → left_in old ≡ line ∷ left_in new
+pub left_next : (text : List ℕ) (old new : Reading) (span : Span) (line : Line) → old.text ≡ text → Steps text old new span line → left_in old ≡ line ∷ left_in new
 left_next text old new span line is h =
     ap (λ ls. map line_of ls) h.lines
     ∙ ap (λ l. l ∷ left_in new) (ap (λ t. line_of (line_bytes t span)) is ∙ sym h.read)
@@ -119,7 +119,7 @@ lines_of-nothing : (text : List ℕ) → text ≡ [] → lines_of text ≡ []
 unfolding lines_of
 lines_of-nothing text e = ap lines_of e
 
-left_none : (reading : Reading) → bytes_left reading ≡ [] → left_in reading ≡ []
+pub left_none : (reading : Reading) → bytes_left reading ≡ [] → left_in reading ≡ []
 left_none reading e = ap (λ ls. map line_of ls) (lines_of-nothing (bytes_left reading) e)
 
 -- the first pass
@@ -195,7 +195,7 @@ unfolding bytes_of_lines
 bytes_of_lines-nil section whole before = refl
 
 -- the list so far, with what a line adds, and what comes after
-grown : {A : Type 0} (old new more rest all whole : List A) → new ≡ old ++ more → all ≡ more ++ rest → old ++ all ≡ whole → new ++ rest ≡ whole
+pub grown : {A : Type 0} (old new more rest all whole : List A) → new ≡ old ++ more → all ≡ more ++ rest → old ++ all ≡ whole → new ++ rest ≡ whole
 grown old new more rest all whole e f h = ap (λ xs. xs ++ rest) e ∙ (append_assoc old more rest ∙ (ap (λ xs. old ++ xs) (sym f) ∙ h))
 
 rest_next : (whole : Sofar) (text : List ℕ) (old new : Reading) (span : Span) (line : Line) (before : Sofar) (output : Output) → OutputSoFar whole text old before output → Steps text old new span line

@@ -62,7 +62,7 @@ fn read_whole(alloc: Global, text: &[u8]) -> Result<Sofar, AllocError>
 }
 
 // Notes a line. Memory may be wanting only where it has labels.
-fn note_line(alloc: Global, sofar: &mut Sofar, bytes: &[u8]) -> Result<(), AllocError>
+pub fn note_line(alloc: Global, sofar: &mut Sofar, bytes: &[u8]) -> Result<(), AllocError>
     requires before { AreWithin (2 ^ 50) sofar.old.layout }
     requires little { length bytes.now < 2 ^ 32 }
     ensures noted { OnOk result (sofar_of sofar.new ≡ after_line (sofar_of sofar.old) (line_of bytes.now)) }

@@ -5,6 +5,7 @@ mod amount;
 mod asm_error;
 mod assembler;
 mod before;
+mod code_lines;
 mod contents;
 mod faults;
 mod layouts;
@@ -18,4 +19,5 @@ mod values;
 
 pub use asm_error::AsmError;
 pub use assembler::assemble;
+pub use code_lines::lines_of_code;
 pub use source_model::AsmKind;

@@ -6,10 +6,12 @@ ghost use Rattle.source_model.specs.Canonical.{canonical};
 ghost use Rattle.source_laws.specs.TextStandsFor.{TextStandsFor};
 
 mod labels;
+mod printer;
 mod sections;
 mod statement;
 
 use labels::first_labels;
+pub use printer::Printer;
 use sections::{append_code, append_constants, append_data};
 use source_laws::canonical_is_read_back;
 use std::alloc::{AllocError, Global};

@@ -3,7 +3,8 @@ ghost use Rattle.std.specs.Prelude.{ℕ, ◌≡◌, ◌+◌, ◌-◌, ◌<◌, �
 ghost use Rattle.xs_instructions.specs.Code.{code_start, place_address};
 ghost use Rattle.xs_instructions.specs.Instr.{InRange, label_of};
 ghost use Rattle.xs_instructions.specs.Image.{IsImage, has_symbol_at, data_start};
-ghost use Rattle.source_model.specs.Canonical.{Instruction, Byte, behind_labels, lines_text, code_items, data_items, constant_items, data_room};
+ghost use Rattle.xs_instructions.specs.Spelling.{spelling};
+ghost use Rattle.source_model.specs.Canonical.{Instruction, Byte, behind_labels, lines_text, code_items, data_items, constant_items, data_room, statement_text};
 ghost use Rattle.xs_printer.specs.Firsts.{AreFirstLabels, IsFirstFrom};
 
 use crate::labels::append_labels;
@@ -14,6 +15,23 @@ use std::alloc::AllocError;
 use xs_base::Text;
 use xs_base::numbers::{CODE_START, MEMORY_START};
 use xs_instructions::{Image, Instr, spelling};
+
+/// Puts the text of an instruction: its name, and its operands behind a blank.
+pub(crate) fn append_text(
+    out: &mut Text,
+    image: &Image,
+    firsts: &[usize],
+    ins: Instr,
+) -> Result<(), AllocError>
+    requires image { IsImage image.now }
+    requires firsts { AreFirstLabels image.now.symbols (length image.now.code + 1) firsts.now }
+    requires in_range { InRange ins }
+    requires target { IfSome (label_of ins) (λ place. IsTrue (has_symbol_at image.now.symbols (place_address place))) }
+    ensures { OnOk result (out.new ≡ out.old ++ statement_text image.now.symbols (spelling ins)) }
+{
+    labels_stand_in_their_parts();
+    append_statement(out, image, firsts, spelling(ins).as_slice())
+}
 
 // Puts the line of an instruction.
 fn append_instruction(
@@ -28,9 +46,8 @@ fn append_instruction(
     requires target { IfSome (label_of ins) (λ place. IsTrue (has_symbol_at image.now.symbols (place_address place))) }
     ensures { OnOk result (out.new ≡ out.old ++ lines_text image.now.symbols (Instruction ins ∷ [])) }
 {
-    labels_stand_in_their_parts();
     out.append(b"  ")?;
-    append_statement(out, image, firsts, spelling(ins).as_slice())?;
+    append_text(out, image, firsts, ins)?;
     out.append(b"\n")
 }
 

@@ -1,7 +1,7 @@
 use Rattle.std.proofs.Common.{map, ap, ◌∙◌}
 use Rattle.xs_instructions.specs.Spelling.{spelled_piece}
 use Rattle.xs_printer.proofs.Writable.{pieces_writable}
-use Rattle.xs_printer.proofs.sections.append_instruction.Goals as goal
+use Rattle.xs_printer.proofs.sections.append_text.Goals as goal
 
 pub append_statement-requires-clause-writable : goal.append_statement-requires-clause-writable
 append_statement-requires-clause-writable c =
