@@ -77,7 +77,7 @@ faultless_lines ls h =
     let lines = map line_of ls in
     lines_image lines (all_fine (whole_of lines) nothing_yet lines (all_sound ls) (absent lines h))
 
-outcome_none : (o : Option (ℕ × AsmKind)) (image taken : ImageRec) → outcome o image ≡ Image taken → (o ≡ None) × (image ≡ taken)
+pub outcome_none : (o : Option (ℕ × AsmKind)) (image taken : ImageRec) → outcome o image ≡ Image taken → (o ≡ None) × (image ≡ taken)
 outcome_none None image taken h = let is : image ≡ taken = cc in (refl, is)
 outcome_none (Some fault) image taken h = cc
 

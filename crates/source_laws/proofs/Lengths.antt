@@ -72,7 +72,7 @@ bytes_added whole long home (Align None) s h r = absurd (false≢true (sym r))
 bytes_added whole long home (Align (Some unit)) s h r = length-replicate _ _
 
 -- the layout after a statement that may stand there
-code_step : (whole : Sofar) (section : Section) (i d c : ℕ) (home : Home) (says : Says) → IsSoundAt home says → may_stand section home ≡ true → is_out_of_range whole says ≡ false
+pub code_step : (whole : Sofar) (section : Section) (i d c : ℕ) (home : Home) (says : Says) → IsSoundAt home says → may_stand section home ≡ true → is_out_of_range whole says ≡ false
     → length (cond (same_section Text section) (code_of whole i says) []) + i ≡ (moved (record { section = section; instructions = i; data_bytes = d; constant_bytes = c }) (record { home = home; says = says })).instructions
 code_step whole Text i d c home says s h r = rw h (omega (arith, code_added whole i home says s h r))
 code_step whole Data i d c home says s h r = rw h (omega arith)

@@ -28,3 +28,4 @@ pub mod LabelPlaces
 pub mod Targets
 pub mod GoodCode
 pub mod IsImage
+pub mod CodeLines

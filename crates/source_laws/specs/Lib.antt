@@ -1,3 +1,4 @@
+pub mod CodeLines
 pub mod Faults
 pub mod LabelOrder
 pub mod LabelPlaces

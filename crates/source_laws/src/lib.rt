@@ -14,8 +14,10 @@ ghost use Rattle.source_laws.specs.Faults.{IsFirstSourceFault, HasNoSourceFault,
 ghost use Rattle.source_laws.specs.LabelPlaces.{has_label, layout_of_lines, label_place};
 ghost use Rattle.source_laws.specs.TextStandsFor.{TextStandsFor};
 
+mod code_lines;
 mod written;
 
+pub use code_lines::lines_give_their_code;
 pub use written::{labels_stand_in_order, labels_stand_in_their_parts};
 use xs_instructions::written_is_read;
 
