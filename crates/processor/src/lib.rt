@@ -12,5 +12,7 @@ mod quiet;
 mod rows;
 
 pub use core_units::{BadAddress, Holders, Ram};
+pub use event_unit::Choice;
+pub use picks::NextIssue;
 pub use processor::Processor;
 pub use program::Program;

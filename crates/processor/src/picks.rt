@@ -7,11 +7,22 @@ ghost use Rattle.xs_model.specs.Choices.{choice};
 ghost use Rattle.quiet_model.specs.Stirs.{some_eligible};
 ghost use Rattle.event_unit.specs.Ready.{choice_of};
 ghost use Rattle.core_waits.specs.Parts.{IsFor, AreAble};
+ghost use Rattle.processor.specs.NextIssue.{next_issue};
 
 use crate::processor::Processor;
 use core_units::Units;
 use core_waits::{Able, taken};
 use event_unit::Choice;
+
+/// Who issues in a slot, and what it takes.
+#[derive(Clone, Copy)]
+pub struct NextIssue {
+    /// The thread, 0 to 7.
+    pub thread: u8,
+    /// The event or the interrupt that it takes: None where it executes the instruction where it is, or traps since none stands
+    /// there.
+    pub takes: Option<Choice>,
+}
 
 impl Processor {
     /// The thread that issues in a slot, 0 to 7: None exactly where nobody may. See docs/MACHINE.md.
@@ -22,6 +33,29 @@ impl Processor {
     {
         let able = self.able(slot);
         pick(&self.units, able, slot)
+    }
+
+    /// Who issues in a slot, if `issue` comes next, and what it takes: None exactly where nobody may issue. It takes no memory. See
+    /// docs/MACHINE.md.
+    pub fn next_issue(&mut self, slot: u32) -> Option<NextIssue>
+        ensures value { result ≡ next_issue self.old slot }
+        ensures within { IfSome result (λ next. next.thread < THREADS) }
+        ensures unchanged { self.new ≡ self.old }
+    {
+        let thread = self.picked(slot)?;
+        Some(NextIssue {
+            thread,
+            takes: self.choice(thread, slot),
+        })
+    }
+
+    /// The threads that may issue in a slot but for the four slots of rest that lie between two issues of one thread: bit k for thread k,
+    /// 0 to 7. It takes no memory. See docs/MACHINE.md.
+    pub fn able_threads(&mut self, slot: u32) -> u8
+        ensures value { (k : ℕ) → k < THREADS → in_mask result k ≡ is_able self.old k slot }
+        ensures unchanged { self.new ≡ self.old }
+    {
+        self.able(slot)
     }
 
     /// Whether some thread may issue in a slot. It costs little where it is known which threads are able. It takes no memory.

@@ -11,7 +11,7 @@ use chan_ends::ChanEnds;
 use core_units::{BadAddress, Ram, Units};
 use core_waits::Able;
 use std::marker::Model;
-use xs_model::Run;
+use xs_model::{Run, Thread};
 
 /// A core's units, and which of its threads are able, where that is known. Contracts see the core record. See
 /// docs/MACHINE.md.
@@ -60,6 +60,20 @@ impl Processor {
         &self.units
     }
 
+    /// The threads, by number.
+    pub fn threads(&self) -> &[Thread; 8]
+        ensures { result.now ≡ self.now.threads }
+    {
+        threads(&self.units)
+    }
+
+    /// The slot in which each thread, by number, issued last: None exactly where it never did.
+    pub fn last_issues(&self) -> [Option<u32>; 8]
+        ensures { result ≡ self.now.slots.last }
+    {
+        last_issues(&self.units)
+    }
+
     /// The channel ends.
     #[inline]
     pub fn chans(&self) -> &ChanEnds
@@ -95,4 +109,19 @@ impl Processor {
     {
         self.units.word(at)
     }
+}
+
+// The threads of units.
+fn threads(units: &Units) -> &[Thread; 8]
+    ensures { result.now ≡ units.now.threads }
+{
+    &units.threads
+}
+
+// The slot in which each thread of units issued last.
+fn last_issues(units: &Units) -> [Option<u32>; 8]
+    ensures { result ≡ units.now.slots.last }
+{
+    let (last, _division) = units.slots.state();
+    last
 }
