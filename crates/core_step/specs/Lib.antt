@@ -5,3 +5,4 @@ pub mod Network
 pub mod ThreadStates
 pub mod States
 pub mod Inside
+pub mod Told

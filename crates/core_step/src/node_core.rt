@@ -7,6 +7,7 @@ ghost use Rattle.xs_base.specs.Ids.{port_width};
 ghost use Rattle.xs_model.specs.Record.{NodeRec, LinkRec, port_of, thread_of};
 ghost use Rattle.xs_model.specs.Memory.{load_word, is_word_address};
 ghost use Rattle.xs_model.specs.Outside.{LevelsFit, emitted_events};
+ghost use Rattle.step_model.specs.Step.{before_issue};
 ghost use Rattle.step_model.specs.Start.{fixed_of, node_of, WaysHaveGaps};
 ghost use Rattle.switch_routes.specs.Rows.{AllCountsOf};
 ghost use Rattle.quiet_model.specs.Still.{network_is_still, ports_are_still, still};
@@ -16,12 +17,14 @@ ghost use Rattle.quiet_laws.specs.Quiet.{StirsFirst};
 ghost use Rattle.core_step.specs.PinLevels.{from_outside};
 ghost use Rattle.core_step.specs.Core.{StandsFor, StandsAt, SlotsBefore, NothingArrives, Passes};
 ghost use Rattle.core_step.specs.Quiet.{IsQuietTo};
+ghost use Rattle.core_step.specs.Told.{IsTold};
 ghost use Rattle.core_step.specs.States.{node_state, node_rec, IsNodeState, IsStateBefore};
 
 use crate::network::{Network, nothing_arrives};
 use crate::node_state::NodeState;
 use crate::pin_levels::{PinLevels, high_before};
 use crate::rest::Rest;
+use crate::told::Told;
 use processor::{BadAddress, Processor, Program, Ram};
 use quiet_laws::{first_stirring_slot, quiet_slots_only_count};
 use quiet_model::first_slots;
@@ -29,7 +32,7 @@ use std::alloc::{AllocError, Global};
 use std::marker::Model;
 use sys_plan::NodePlan;
 use trace_lines::Emissions;
-use xs_model::{Arrivals, PinView, Run};
+use xs_model::{Arrivals, PinView, Run, Thread};
 
 /// A node's core: its program, its units, and its network. Contracts see it as a `CoreValue` of
 /// `Rattle.core_step.specs.Core`. See docs/MACHINE.md.
@@ -129,6 +132,20 @@ impl Core {
         ensures threads { length self.now.core.threads ≡ THREADS }
     {
         self.units.run_of(th)
+    }
+
+    /// The threads, by number.
+    pub fn threads(&self) -> &[Thread; 8]
+        ensures { result.now ≡ self.now.core.threads }
+    {
+        self.units.threads()
+    }
+
+    /// The slot in which each thread, by number, issued last: None exactly where it never did.
+    pub fn last_issues(&self) -> [Option<u32>; 8]
+        ensures { result ≡ self.now.core.slots.last }
+    {
+        self.units.last_issues()
     }
 
     /// The word of the memory at an address. `BadAddress` comes exactly where the address is outside the memory,
@@ -246,6 +263,38 @@ impl Core {
         self.units
             .issue(&self.program, slot, pins, &self.network, out);
         self.levels.note(changed, pins);
+    }
+
+    /// The same as `slot_where`, and which threads were able right before the issue, who issued, and what it took. It goes through all
+    /// phases also where the core is known to be quiet.
+    pub fn slot_told(
+        &mut self,
+        arrives: bool,
+        changed: bool,
+        slot: u32,
+        arrivals: &Arrivals,
+        pins: &PinView,
+        out: &mut Emissions,
+    ) -> Told
+        requires before { SlotsBefore self.old slot }
+        requires levels { LevelsFit pins.now.level }
+        requires arrives { arrives ≡ false → NothingArrives arrivals.now }
+        requires same { changed ≡ false → self.old.levels ≡ from_outside pins.now }
+
+        ensures passes { Passes slot arrivals.now pins.now self.old self.new out.new }
+        ensures told { (rec : NodeRec) → StandsAt self.old rec slot → IsTold (before_issue self.old.fixed rec slot arrivals.now pins.now).rec.core slot result }
+    {
+        out.clear();
+        self.rest = Rest::none();
+        let high = high_before(&self.units, &self.levels);
+        self.units.edges(slot, pins, high, out);
+        self.network
+            .bring(&mut self.units, arrives, slot, arrivals, out);
+        let told = Told::of(&mut self.units, slot);
+        self.units
+            .issue(&self.program, slot, pins, &self.network, out);
+        self.levels.note(changed, pins);
+        told
     }
 
     /// Looks how long the core is quiet from a slot on, before which it stands: `slot_where` is short in these slots then, and `rests_to`
