@@ -19,9 +19,10 @@ ghost use Rattle.core_step.specs.Core.{NothingArrives, StandsAt};
 ghost use Rattle.core_step.specs.Quiet.{IsQuietTo};
 ghost use Rattle.core_step.specs.PinLevels.{from_outside};
 ghost use Rattle.core_step.specs.States.{node_rec, IsNodeState, IsStateBefore};
+ghost use Rattle.node_seats.specs.Told.{IsToldOf};
 ghost use Rattle.node_seats.specs.Seats.{IsSeat, HasEventRoom, SameSeat, StepsOn, SkipsOn, Plays};
 
-use core_step::{Core, NodeState};
+use core_step::{Core, NodeState, Told};
 use std::alloc::{AllocError, Global};
 use sys_plan::{NodePlan, Plan};
 use trace_lines::{Emissions, NodeEvents};
@@ -99,6 +100,31 @@ impl Seat {
         self.core
             .slot_where(arrives, changed, slot, arrivals, pins, &mut self.given);
         keep(&mut self.events, self.given.events());
+    }
+
+    /// The same as `step`, and which threads were able right before the issue, who issued, and what it took.
+    pub fn step_told(
+        &mut self,
+        slot: u32,
+        arrives: bool,
+        arrivals: &Arrivals,
+        changed: bool,
+        pins: &PinView,
+    ) -> Told
+        requires slot { slot < 2 ^ 32 - 1 }
+        requires seat { IsSeat slot self.old }
+        requires room { HasEventRoom self.old }
+        requires arrives { arrives ≡ false → NothingArrives arrivals.now }
+        requires levels { LevelsFit pins.now.level }
+        requires same { changed ≡ false → self.old.core.levels ≡ from_outside pins.now }
+        ensures steps { StepsOn slot arrivals.now pins.now self.old self.new }
+        ensures told { IsToldOf slot arrivals.now pins.now self.old result }
+    {
+        let told = self
+            .core
+            .slot_told(arrives, changed, slot, arrivals, pins, &mut self.given);
+        keep(&mut self.events, self.given.events());
+        told
     }
 
     /// Whether some thread of the node may issue in a slot, where nothing changes until then. See docs/QUIET_SLOTS.md.
