@@ -284,10 +284,10 @@ impl Core {
         ensures passes { Passes slot arrivals.now pins.now self.old self.new out.new }
         ensures told { (rec : NodeRec) → StandsAt self.old rec slot → IsTold (before_issue self.old.fixed rec slot arrivals.now pins.now).rec.core slot result }
     {
-        out.clear();
+        Emissions::clear(out);
         self.rest = Rest::none();
-        let high = high_before(&self.units, &self.levels);
-        self.units.edges(slot, pins, high, out);
+        let strobes = high_before(&self.units, &self.levels);
+        self.units.edges(slot, pins, strobes, out);
         self.network
             .bring(&mut self.units, arrives, slot, arrivals, out);
         let told = Told::of(&mut self.units, slot);

@@ -123,7 +123,8 @@ impl Seat {
         let told = self
             .core
             .slot_told(arrives, changed, slot, arrivals, pins, &mut self.given);
-        keep(&mut self.events, self.given.events());
+        let given = self.given.events();
+        keep(&mut self.events, given);
         told
     }
 

@@ -17,8 +17,8 @@ goes c =
     record {
       node = c.self.invariant.node;
       before = subst (λ (v : CoreValue). SlotsBefore v slot) (sym c.self.view_is) c.requires.before;
-      high = c.high_before-high.result;
-      strobes = c.high_before-high.ensures;
+      high = c.high_before-strobes.result;
+      strobes = c.high_before-strobes.ensures;
       edged_core = c.edges.new.self;
       edged_out = c.edges.new.out;
       ports = c.edges.ensures.ports;

@@ -1,4 +1,4 @@
-use Rattle.std.proofs.Common.{◌+◌, List, ◌++◌, subst, arith}
+use Rattle.std.proofs.Common.{List, ◌++◌, subst, arith}
 use Rattle.xs_model.specs.declared.event.Event.{Event}
 use Rattle.trace_lines.specs.Kept.{Keeps}
 use Rattle.node_seats.proofs.seat.Seat.step_told.Goals as goal
@@ -9,11 +9,11 @@ returns c = record {
     fixed = c.slot_told-told.ensures.passes.fixed;
     stands = c.slot_told-told.ensures.passes.step;
     given = c.slot_told-told.ensures.passes.emissions;
-    keeps = λ all h. subst (λ (es : List Event). Keeps c.keep.new.events (all ++ es)) c.events.ensures.value (c.keep.ensures.keeps all h);
+    keeps = λ all h. subst (λ (es : List Event). Keeps c.keep.new.events (all ++ es)) c.events-given.ensures.value (c.keep.ensures.keeps all h);
     noted = c.slot_told-told.ensures.passes.levels;
     next = record {
       before = c.slot_told-told.ensures.passes.next;
-      more = omega (arith, c.keep.ensures.more, c.events.ensures.bound, c.requires.seat.more);
+      more = omega (arith, c.keep.ensures.more, c.events-given.ensures.bound, c.requires.seat.more);
     };
   };
   told = c.slot_told-told.ensures.told;
