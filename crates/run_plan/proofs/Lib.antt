@@ -5,6 +5,8 @@ pub mod Due
 pub mod Come
 pub mod Told
 pub mod Systems
+pub mod Passed
+pub mod Machines
 pub mod Steps
 pub mod Starts
 pub mod Begins

@@ -12,10 +12,12 @@ use Rattle.xs_model.specs.Outside.{emitted_events}
 use Rattle.pin_wires.specs.Wires.{driven_or_low}
 use Rattle.sys_plan.specs.declared.NodePlan.{NodePlan}
 use Rattle.sys_plan.specs.Plan.{PlanRec, Arc, AreDistinct, arcs, link_arcs, wire_arcs, incoming}
-use Rattle.step_model.specs.Step.{Stepped}
+use Rattle.step_model.specs.Step.{Stepped, before_issue}
 use Rattle.step_laws.specs.Shape.{HasShape, SlotKeepsShape}
 use Rattle.trace_lines.specs.Kept.{Keeps}
 use Rattle.core_step.specs.Core.{StandsAt}
+use Rattle.core_step.specs.Told.{IsTold}
+use Rattle.core_step.specs.declared.told.Told.{Told}
 use Rattle.serial_model.specs.Serial.{arriving, arriving_by, token_among, credit_among, arrivals_at, coming_on, step_by, steps_from_on, steps_on, longer_histories, longer_events, SystemRec, step_on}
 use Rattle.serial_model.specs.Serial.{carried, carried_by, level_entries, driven_level, node_by, emitted_by, shown_of}
 use Rattle.crossings.specs.declared.crossing.Crossing.{Crossing}
@@ -36,6 +38,7 @@ use Rattle.run_plan.specs.Stations.{IsStation, StationSteps, taken_by}
 use Rattle.run_plan.specs.Wires.{IsReadyWire, AreReadyWires, HasCome, target, targets}
 use Rattle.run_plan.specs.Passes.{IsReadyTrack, IsHeeded, Advances, SameNode, SameStation, SameTrack, SameWire, SameButDue, SameButCome, WireAdvances, cores_of, driven_by, levels_of}
 use Rattle.run_plan.specs.Run.{Serves, AllServe, Carries, AllCarry, Tells, AllTell, IsSystem, AreReady}
+use Rattle.run_plan.specs.Told.{IsStationTold, core_before_issue, AreToldFrom, AreTold}
 use Rattle.run_plan.proofs.Through.{all-at, all-zip, zip-first, zip-second, zip-length}
 use Rattle.run_plan.proofs.Due.{IsQuiet, AllQuiet, taken-is, all-quiet, heeded-same}
 use Rattle.run_plan.proofs.Ends.{arriving_of, by-link, map-ends}
@@ -92,6 +95,14 @@ module _ (shown : List Word) (plan : PlanRec) (slot nodes_count : ℕ) where
         let pins = shows-on shown plan histories n slot slot station.pins is.pins came in
         λ i. step_by plan n node slot (record { arrivals = arrivals i; pins = pins i }) rec
 
+    -- and what is told of it is that of the serial machine's node
+    told-same : (n : ℕ) (node : NodePlan) (station : Station) (rec : NodeRec) (events : List Event) (told : Told) → (is : Serves plan slot n node station rec events) → (station.due ≡ false → IsQuiet plan tracks n) → HaveComeOn shown plan histories n slot station.pins.levels
+        → IsStationTold slot tracks station told → IsTold (core_before_issue shown plan histories slot n node rec) slot told
+    told-same n node station rec events told is quiet came its =
+        let arrivals = taken-is plan tracks n station is.incoming quiet ∙ arrivals-same n in
+        let pins = shows-on shown plan histories n slot slot station.pins is.pins came in
+        subst (λ (core : CoreRec). IsTold core slot told) (λ i. (before_issue (is.plays.fixed i) rec slot (arrivals i) (pins i)).rec.core) (its rec is.plays.stands)
+
     serves-next : (n : ℕ) (node : NodePlan) (before after : Station) (rec : NodeRec) (events : List Event) → Serves plan slot n node before rec events → (before.due ≡ false → IsQuiet plan tracks n)
         → HaveComeOn shown plan histories n slot before.pins.levels → StationSteps slot tracks before after
         → Serves plan (slot + 1) n node after (serial_step n node rec).rec (events ++ (serial_step n node rec).emitted.events)
@@ -131,6 +142,15 @@ module _ (shown : List Word) (plan : PlanRec) (slot nodes_count : ℕ) where
         let rest = all-given (n + 1) nodes stations recs all_events afters play.1 quiet.1 came.1 zip.1 in
         λ i. here i ∷ rest i
     all-given n _ _ _ _ _ play quiet came zip = absurd play
+
+    all-told : (n : ℕ) (nodes : List NodePlan) (stations : List Station) (recs : List NodeRec) (events : List (List Event)) (told : List Told) → AllServe plan slot n nodes stations recs events → AllQuiet plan tracks n stations → AllCame shown plan histories slot n stations → AllZip (IsStationTold slot tracks) stations told
+        → AreToldFrom shown plan histories slot n nodes recs told
+    all-told n [] [] [] [] [] play quiet came zip = tt
+    all-told n [] [] [] [] (a ∷ all) play quiet came zip = absurd zip
+    all-told n (node ∷ nodes) (station ∷ stations) (rec ∷ recs) (es ∷ all_events) [] play quiet came zip = absurd zip
+    all-told n (node ∷ nodes) (station ∷ stations) (rec ∷ recs) (es ∷ all_events) (a ∷ all) play quiet came zip =
+        (told-same n node station rec es a play.0 quiet.0 came.0 zip.0, all-told (n + 1) nodes stations recs all_events all play.1 quiet.1 came.1 zip.1)
+    all-told n _ _ _ _ _ play quiet came zip = absurd play
 
   all-carry : (nodes : List NodeRec) (steps : List Stepped) (stations stations_after : List Station) → map (λ (s : Station). s.seat.given) stations ≡ map (λ (s : Stepped). s.emitted) steps
       → (ds : List Arc) (tracks : List Track) (histories : List (List Entry)) (after : List Track) → AllCarry ds tracks histories → AllZip (Advances slot stations stations_after) tracks after
@@ -316,6 +336,17 @@ system-next plan shown slot count system stations stepped marked after tracks tr
           all-tell shown plan slot count system.nodes moved (cores_of marked) (levels_of after) (cores-serve plan (slot + 1) 0 plan.nodes marked next.nodes next.events play)
           (length (link_arcs plan.links)) (wire_arcs [] plan.wires) wires is.wire_histories wires_after is.tell goes;
     }
+
+-- what is told of the nodes at work is that of the system's
+pub system-told : (plan : PlanRec) (shown : List Word) (slot : ℕ) (whole : SystemRec) (stations : List Station) (tracks : List Track) (wires : List Wire) (told : List Told)
+    → AreReady plan shown slot whole stations tracks wires → AllZip (IsStationTold slot tracks) stations told → AreTold shown plan slot whole told
+system-told plan shown slot whole stations tracks wires told ready zip =
+    let is = ready.system in
+    let came =
+    all-came shown plan whole.nodes slot (levels_of stations) wires is.link_histories is.wire_histories whole.histories is.histories (histories-length (link_arcs plan.links) tracks is.link_histories is.carry) is.tell
+    (all-map (IsReadyWire slot (length (levels_of stations))) (ShowsIn slot) (λ w r. r.here.level) wires ready.wires.each) ready.wires.come stations refl in
+    all-told shown plan slot (length stations) tracks is.link_histories is.wire_histories whole.histories is.histories is.carry ready.tracks 0 plan.nodes stations whole.nodes whole.events told is.serve
+    (all-quiet plan tracks stations is.link_histories is.carry ready.heeded) came zip
 
 -- each node and each arc is ready for the next slot
 stations-next : (slot count : ℕ) (tracks : List Track) (stations after : List Station) → AllZip (StationSteps slot tracks) stations after → AllByRecursion (IsStation slot count) stations → AllByRecursion (IsStation (slot + 1) count) after

@@ -23,13 +23,13 @@ module _ {X : Type 0} (R : X → X → Type 0) where
   zip-refl r (x ∷ xs) = (r x, zip-refl r xs)
 
   -- the place that is next is as it was
-  through-here : (i : ℕ) (xs ys : List X) (d : X) → Through R i xs ys → get_or ys i d ≡ get_or xs i d
+  pub through-here : (i : ℕ) (xs ys : List X) (d : X) → Through R i xs ys → get_or ys i d ≡ get_or xs i d
   through-here zero xs ys d h = ap (λ zs. get_or zs 0 d) h
   through-here (suc i) [] ys d h = absurd h
   through-here (suc i) (x ∷ xs) [] d h = absurd h
   through-here (suc i) (x ∷ xs) (y ∷ ys) d h = through-here i xs ys d h.1
 
-  through-length : (i : ℕ) (xs ys : List X) → Through R i xs ys → length ys ≡ length xs
+  pub through-length : (i : ℕ) (xs ys : List X) → Through R i xs ys → length ys ≡ length xs
   through-length zero xs ys h = ap length h
   through-length (suc i) [] ys h = absurd h
   through-length (suc i) (x ∷ xs) [] h = absurd h
@@ -123,3 +123,36 @@ all-first P (suc i) (x ∷ xs) all = (all.0, all-first P i xs all.1)
 pub all-both : {X : Type 0} (P Q R : X → Type 0) → ((x : X) → P x → Q x → R x) → (xs : List X) → AllByRecursion P xs → AllByRecursion Q xs → AllByRecursion R xs
 all-both P Q R f [] p q = tt
 all-both P Q R f (x ∷ xs) p q = (f x p.0 q.0, all-both P Q R f xs p.1 q.1)
+
+-- of the places of two lists as long as each other, the first are related
+abbrev pub Filled : {X Y : Type 0} → (X → Y → Type 0) → ℕ → List X → List Y → Type 0
+Filled R zero xs ys = length ys ≡ length xs
+Filled R (suc i) [] ys = ⊥
+Filled R (suc i) (x ∷ xs) [] = ⊥
+Filled R (suc i) (x ∷ xs) (y ∷ ys) = R x y × Filled R i xs ys
+
+module _ {X Y : Type 0} (R : X → Y → Type 0) where
+  -- the next place is set
+  pub filled-more : (i : ℕ) (xs : List X) (ys : List Y) (d : X) (y : Y) → Filled R i xs ys → i < length xs → R (get_or xs i d) y → Filled R (i + 1) xs (slice_set ys i y)
+  filled-more zero [] ys d y h k r = absurd (omega arith)
+  filled-more zero (x ∷ xs) [] d y h k r = absurd (omega (arith, h))
+  filled-more zero (x ∷ xs) (z ∷ ys) d y h k r = (r, omega (arith, h))
+  filled-more (suc i) [] ys d y h k r = absurd h
+  filled-more (suc i) (x ∷ xs) [] d y h k r = absurd h
+  filled-more (suc i) (x ∷ xs) (z ∷ ys) d y h k r =
+      let p : suc i + 1 ≡ suc (i + 1) = omega arith in
+      rw p (h.0, filled-more i xs ys d y h.1 (omega arith) r)
+
+  pub filled-length : (i : ℕ) (xs : List X) (ys : List Y) → Filled R i xs ys → length ys ≡ length xs
+  filled-length zero xs ys h = h
+  filled-length (suc i) [] ys h = absurd h
+  filled-length (suc i) (x ∷ xs) [] h = absurd h
+  filled-length (suc i) (x ∷ xs) (y ∷ ys) h = omega (arith, filled-length i xs ys h.1)
+
+  pub filled-all : (i : ℕ) (xs : List X) (ys : List Y) → Filled R i xs ys → length xs ≤ i → AllZip R xs ys
+  filled-all zero [] [] h k = tt
+  filled-all zero [] (y ∷ ys) h k = absurd (omega (arith, h))
+  filled-all zero (x ∷ xs) ys h k = absurd (omega arith)
+  filled-all (suc i) [] ys h k = absurd h
+  filled-all (suc i) (x ∷ xs) [] h k = absurd h
+  filled-all (suc i) (x ∷ xs) (y ∷ ys) h k = (h.0, filled-all i xs ys h.1 (omega arith))

@@ -9,4 +9,5 @@ pub mod Starts
 pub mod Begins
 pub mod Machine
 pub mod Steady
+pub mod Told
 pub mod Inside

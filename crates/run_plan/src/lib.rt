@@ -7,6 +7,7 @@ mod machine;
 mod passes;
 mod quiet;
 mod serial;
+mod slot_told;
 mod station;
 mod track;
 mod wire;

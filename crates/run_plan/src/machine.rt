@@ -7,6 +7,7 @@ ghost use Rattle.serial_model.specs.Serial.{begun_at_start};
 ghost use Rattle.snap_parts.specs.Parts.{body_of};
 ghost use Rattle.snap_parts.specs.Snaps.{IsSnapSystem, begun_of};
 ghost use Rattle.run_plan.specs.Machine.{system_of, LevelsStay};
+ghost use Rattle.run_plan.specs.Told.{AreToldNext};
 ghost use Rattle.trace_lines.specs.Kept.{Keeps};
 ghost use Rattle.core_step.specs.Core.{StandsAt};
 ghost use Rattle.xs_model.specs.Record.{first_node};
@@ -14,11 +15,12 @@ ghost use Rattle.xs_model.specs.Record.{first_node};
 use crate::begun::{show_all, stations_by, tracks_by, wires_by};
 use crate::passes::pass_slot;
 use crate::quiet::{first_rests, pass_quiet, steady_to};
+use crate::slot_told::pass_slot_told;
 use crate::station::Station;
 use crate::track::Track;
 use crate::wire::Wire;
 use crate::wiring::{stations_of, tracks_of, wires_of};
-use core_step::Core;
+use core_step::{Core, Told};
 use known_value::Known;
 use snap_parts::SnapSystem;
 use std::alloc::{AllocError, Global};
@@ -113,6 +115,29 @@ impl SerialMachine {
             &mut self.tracks,
             &mut self.wires,
             self.clock,
+        )?;
+        self.clock += 1;
+        Ok(())
+    }
+
+    /// The same, with what is told of each node's threads in this slot, by position. The error is want of memory, and leaves the machine and
+    /// what was told as they were.
+    pub fn slot_told(&mut self, told: &mut [Told]) -> Result<(), AllocError>
+        requires now { self.old.now < 2 ^ 32 - 1 }
+        requires nodes { length told.old ≡ length self.old.plan.nodes }
+        ensures plan { self.new.plan ≡ self.old.plan }
+        ensures begun { self.new.begun ≡ self.old.begun }
+        ensures passed { OnOk result (self.new.now ≡ self.old.now + 1) }
+        ensures told { OnOk result (AreToldNext self.old told.new) }
+        ensures err { OnErr result (self.new ≡ self.old) }
+        ensures kept { OnErr result (told.new ≡ told.old) }
+    {
+        pass_slot_told(
+            &mut self.stations,
+            &mut self.tracks,
+            &mut self.wires,
+            self.clock,
+            told,
         )?;
         self.clock += 1;
         Ok(())

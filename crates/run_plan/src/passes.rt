@@ -51,8 +51,8 @@ pub(crate) fn pass_slot(
     Ok(())
 }
 
-// Makes room for the events of a slot. The error is want of memory, and changes nothing but the room.
-fn make_event_room(stations: &mut [Station]) -> Result<(), AllocError>
+/// Makes room for the events of a slot. The error is want of memory, and changes nothing but the room.
+pub(crate) fn make_event_room(stations: &mut [Station]) -> Result<(), AllocError>
     ensures same { AllZip SameStation stations.old stations.new }
     ensures room { OnOk result (AllByRecursion HasRoomForEvents stations.new) }
 {
@@ -62,8 +62,8 @@ fn make_event_room(stations: &mut [Station]) -> Result<(), AllocError>
     Ok(())
 }
 
-// Makes room for the entries of a slot. The error is want of memory, and changes nothing but the room.
-fn make_entry_room(tracks: &mut [Track]) -> Result<(), AllocError>
+/// Makes room for the entries of a slot. The error is want of memory, and changes nothing but the room.
+pub(crate) fn make_entry_room(tracks: &mut [Track]) -> Result<(), AllocError>
     ensures same { AllZip SameTrack tracks.old tracks.new }
     ensures room { OnOk result (AllByRecursion HasEntryRoom tracks.new) }
 {
@@ -73,8 +73,8 @@ fn make_entry_room(tracks: &mut [Track]) -> Result<(), AllocError>
     Ok(())
 }
 
-// Makes room for the level that each wire may be told of a slot. The error is want of memory, and changes nothing but the room.
-fn make_level_room(wires: &mut [Wire]) -> Result<(), AllocError>
+/// Makes room for the level that each wire may be told of a slot. The error is want of memory, and changes nothing but the room.
+pub(crate) fn make_level_room(wires: &mut [Wire]) -> Result<(), AllocError>
     ensures same { AllZip SameWire wires.old wires.new }
     ensures room { OnOk result (AllByRecursion HasLevelRoom wires.new) }
 {
@@ -96,9 +96,9 @@ fn step_all(stations: &mut [Station], tracks: &[Track], slot: u32)
     }
 }
 
-// Each directed link goes on with what its sender's slot gave. Where something then arrives by it, the node that it leads
-// to becomes due.
-fn advance_all(tracks: &mut [Track], stations: &mut [Station], slot: u32)
+/// Each directed link goes on with what its sender's slot gave. Where something then arrives by it, the node that it leads
+/// to becomes due.
+pub(crate) fn advance_all(tracks: &mut [Track], stations: &mut [Station], slot: u32)
     requires slot { slot < 2 ^ 32 - 1 }
     requires tracks { AllByRecursion (IsReadyTrack slot (length stations.old)) tracks.old }
     requires room { AllByRecursion HasEntryRoom tracks.old }
@@ -113,8 +113,8 @@ fn advance_all(tracks: &mut [Track], stations: &mut [Station], slot: u32)
     }
 }
 
-// Each wire is told of a slot what its first port drives after it, and its second pin of what then comes.
-fn tell_all(wires: &mut [Wire], stations: &mut [Station], slot: u32)
+/// Each wire is told of a slot what its first port drives after it, and its second pin of what then comes.
+pub(crate) fn tell_all(wires: &mut [Wire], stations: &mut [Station], slot: u32)
     requires slot { slot < 2 ^ 32 - 1 }
     requires wires { AreReadyWires slot (levels_of stations.old) wires.old }
     requires room { AllByRecursion HasLevelRoom wires.old }

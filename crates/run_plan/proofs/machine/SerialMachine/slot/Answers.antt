@@ -1,10 +1,8 @@
-use Rattle.std.proofs.Common.{rules, ◌+◌, subst, arith}
+use Rattle.std.proofs.Common.{rules, ◌+◌, arith}
 use Rattle.std.proofs.lemmas.List.{with_items_is, places}
-use Rattle.serial_model.specs.Serial.{SystemRec}
 use Rattle.run_plan.specs.Machine.{system_of}
 use Rattle.run_plan.specs.Inside.{begun_with, seen_of}
-use Rattle.run_plan.specs.Run.{AreReady}
-use Rattle.run_plan.proofs.Steps.{since_next}
+use Rattle.run_plan.proofs.Machines.{lent, stepped}
 use Rattle.run_plan.proofs.Systems.{ready-alike}
 use Rattle.run_plan.proofs.machine.SerialMachine.slot.Goals as goal
 
@@ -15,11 +13,11 @@ invariant_of-self c =
     let shown = (begun_with m).shown in
     let whole = system_of (seen_of m) in
     let made = c.pass_slot.new in
-    let lent = ready-alike plan shown m.clock whole c.deref_mut.ensures.value c.deref_mut-2.ensures.value c.deref_mut-3.ensures.value c.self.invariant.ready in
     let stations = with_items_is m.stations made.stations (search (rules, places)) in
     let tracks = with_items_is m.tracks made.tracks (search (rules, places)) in
     let wires = with_items_is m.wires made.wires (search (rules, places)) in
-    record { on = c.self.invariant.on; ready = ready-alike plan shown m.clock whole stations tracks wires (c.in_err-pass_slot.ensures.err plan shown whole lent) }
+    let still = c.in_err-pass_slot.ensures.err plan shown whole (lent m c.self.invariant c.deref_mut.ensures.value c.deref_mut-2.ensures.value c.deref_mut-3.ensures.value) in
+    record { on = c.self.invariant.on; ready = ready-alike plan shown m.clock whole stations tracks wires still }
 
 pub invariant_of-self-2 : goal.invariant_of-self-2
 invariant_of-self-2 c =
@@ -28,11 +26,11 @@ invariant_of-self-2 c =
     let shown = (begun_with m).shown in
     let whole = system_of (seen_of m) in
     let made = c.pass_slot.new in
-    let lent = ready-alike plan shown m.clock whole c.deref_mut.ensures.value c.deref_mut-2.ensures.value c.deref_mut-3.ensures.value c.self.invariant.ready in
     let stations = with_items_is m.stations made.stations (search (rules, places)) in
     let tracks = with_items_is m.tracks made.tracks (search (rules, places)) in
     let wires = with_items_is m.wires made.wires (search (rules, places)) in
-    let next =
-    subst (λ (after : SystemRec). AreReady plan shown (m.clock + 1) after made.stations made.tracks made.wires) (since_next plan (begun_with m) m.clock c.self.invariant.on)
-    (c.in_ok-pass_slot.ensures.ok plan shown whole lent) in
-    record { on = omega (arith, c.self.invariant.on); ready = ready-alike plan shown (m.clock + 1) _ stations tracks wires next }
+    let next = c.in_ok-pass_slot.ensures.ok plan shown whole (lent m c.self.invariant c.deref_mut.ensures.value c.deref_mut-2.ensures.value c.deref_mut-3.ensures.value) in
+    record {
+      on = omega (arith, c.self.invariant.on);
+      ready = ready-alike plan shown (m.clock + 1) _ stations tracks wires (stepped m c.self.invariant made.stations made.tracks made.wires next);
+    }

@@ -1,0 +1,43 @@
+-- What is told of the threads of each node in a slot.
+use Rattle.std.specs.Prelude.{◌+◌, List, [], ◌∷◌}
+use Rattle.xs_base.specs.Numbers.{Slot, Word, Position}
+use Rattle.xs_base.specs.declared.entry.Entry.{Entry}
+use Rattle.xs_model.specs.Record.{CoreRec, NodeRec}
+use Rattle.sys_plan.specs.declared.NodePlan.{NodePlan}
+use Rattle.sys_plan.specs.Plan.{PlanRec, gaps_of}
+use Rattle.step_model.specs.Start.{fixed_of}
+use Rattle.step_model.specs.Step.{before_issue}
+use Rattle.serial_model.specs.Serial.{SystemRec, coming_on}
+use Rattle.core_step.specs.declared.told.Told.{Told}
+use Rattle.core_step.specs.Told.{IsTold}
+use Rattle.node_seats.specs.Shown.{shown_by}
+use Rattle.node_seats.specs.Told.{IsToldOf}
+use Rattle.run_plan.specs.declared.track.Track.{Track}
+use Rattle.run_plan.specs.declared.station.Station.{Station}
+use Rattle.run_plan.specs.Stations.{taken_by}
+use Rattle.run_plan.specs.Machine.{MachineRec, system_of}
+
+-- of a node at work, to which comes what arrives by its arcs, and what its pins show
+abbrev pub IsStationTold : Slot → List Track → Station → Told → Type 0
+IsStationTold slot tracks station told = IsToldOf slot (taken_by tracks station) (shown_by station.pins slot) station.seat told
+
+-- the core of the node of a plan at a position right before its issue in a slot, when the arcs have these histories and showed this before
+abbrev pub core_before_issue : List Word → PlanRec → List (List Entry) → Slot → Position → NodePlan → NodeRec → CoreRec
+core_before_issue shown plan histories slot n node rec =
+    let coming = coming_on shown plan histories slot n in
+    (before_issue (fixed_of node (gaps_of plan n)) rec slot coming.arrivals coming.pins).rec.core
+
+-- of each node, the first of which stands at position n
+abbrev pub AreToldFrom : List Word → PlanRec → List (List Entry) → Slot → Position → List NodePlan → List NodeRec → List Told → Type 0
+AreToldFrom shown plan histories slot n [] [] [] = Unit {0}
+AreToldFrom shown plan histories slot n (node ∷ nodes) (rec ∷ recs) (told ∷ all) =
+    IsTold (core_before_issue shown plan histories slot n node rec) slot told × AreToldFrom shown plan histories slot (n + 1) nodes recs all
+AreToldFrom shown plan histories slot n _ _ _ = ⊥
+
+-- of the nodes of a system, by position
+abbrev pub AreTold : List Word → PlanRec → Slot → SystemRec → List Told → Type 0
+AreTold shown plan slot system told = AreToldFrom shown plan system.histories slot 0 plan.nodes system.nodes told
+
+-- of the nodes of a machine, in the slot that comes next
+abbrev pub AreToldNext : MachineRec → List Told → Type 0
+AreToldNext m told = AreTold m.begun.shown m.plan m.now (system_of m) told
