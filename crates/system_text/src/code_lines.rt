@@ -1,5 +1,4 @@
 ghost use Rattle.std.specs.Prelude.{◌≡◌, map, IfOk};
-ghost use Rattle.source_model.specs.CodeLines.{code_lines};
 ghost use Rattle.system_model.specs.CodeLines.{IsOfPlan, node_code_lines, code_lines_of_text};
 ghost use Rattle.system_model.specs.System.{system_of};
 
