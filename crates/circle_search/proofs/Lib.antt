@@ -1,0 +1,4 @@
+pub mod Left
+pub mod Stays
+pub mod Walks
+pub mod Steps

@@ -1,0 +1,9 @@
+-- That what is told is a circle, and that one is told wherever there is one.
+use Rattle.std.specs.Prelude.{ℕ, ◌≡◌, Some, List, IsSome}
+use Rattle.circle_search.specs.Circles.{IsCircle, circle_of}
+
+abbrev pub ToldCirclesAreCircles : Type 0
+ToldCirclesAreCircles = (graph : List (List ℕ)) (circle : List ℕ) → circle_of graph ≡ Some circle → IsCircle graph circle
+
+abbrev pub CirclesAreTold : Type 0
+CirclesAreTold = (graph : List (List ℕ)) (circle : List ℕ) → IsCircle graph circle → IsSome (circle_of graph)

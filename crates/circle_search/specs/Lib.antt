@@ -1,0 +1,3 @@
+pub mod Circles
+pub mod Laws
+pub mod Worked
