@@ -7,7 +7,7 @@ use Rattle.std.proofs.lemmas.Bool.{cond-true, cond-false}
 use Rattle.std.proofs.lemmas.Simd.{map-map}
 use Rattle.std.proofs.lemmas.List.{get_or-map}
 use Rattle.std.proofs.lemmas.List.Quantifiers.{position-Some}
-use Rattle.circle_search.specs.Circles.{is_left, awaited, peeled, left_after, next_left, from_vertex, circle_on, circle_from, circle_among, circle_of}
+use Rattle.circle_search.specs.Circles.{is_left, awaited, peeled, left_after, next_left, from_vertex, circle_on, from_least, circle_from, circle_among, circle_of}
 use Rattle.circle_search.proofs.Left.{length-left_after}
 
 -- the vertices that each one waits for, as lists
@@ -71,8 +71,8 @@ pub told_among : (graph : List (Vec ℕ Global)) (left : List Bool) (found : Opt
     → circle_from (lists_of graph) left found ≡ circle_of (lists_of graph)
 told_among graph left found are is = ap (circle_from (lists_of graph) left) is ∙ ap (circle_among (lists_of graph)) (are ∙ all_rounds graph)
 
-pub some_told : (graph : List (Vec ℕ Global)) (left : List Bool) (v : ℕ) → Some (circle_on (lists_of graph) left (length graph) [] v) ≡ circle_from (lists_of graph) left (Some v)
-some_told graph left v = ap (λ n. Some (circle_on (lists_of graph) left n [] v)) (sym (lists.length-map graph (λ (edges : Vec ℕ Global). edges.items)))
+pub some_told : (graph : List (Vec ℕ Global)) (left : List Bool) (v : ℕ) → Some (from_least (circle_on (lists_of graph) left (length graph) [] v)) ≡ circle_from (lists_of graph) left (Some v)
+some_told graph left v = ap (λ n. Some (from_least (circle_on (lists_of graph) left n [] v))) (sym (lists.length-map graph (λ (edges : Vec ℕ Global). edges.items)))
 
 pub start_within : (graph : List (Vec ℕ Global)) (left : List Bool) (v : ℕ) → left ≡ left_after (lists_of graph) (length graph) → Some v ≡ position (λ (l : Bool). l) left → v < length graph
 start_within graph left v are is =

@@ -1,6 +1,6 @@
 -- A walk among the vertices that are left at last comes to a circle, so what is told is one.
 use Rattle.std.proofs.Common.{◌≡◌, ◌≢◌, ℕ, zero, suc, ◌+◌, ◌<◌, ◌≤◌, Bool, true, false, cond, eqb, Option, Some, None, List, [], ◌∷◌, ◌++◌, length, get_or, refl, sym, ◌∙◌, subst, arith, inl, inr, ◌⊎◌, length-append}
-use Rattle.std.specs.Prelude.{unwrap_or, find, position, Contains, AllPairs}
+use Rattle.std.specs.Prelude.{All, unwrap_or, find, position, Contains, AllPairs}
 use Rattle.std.specs.List.{list_any}
 use Rattle.std.proofs.Math.ListN as lists
 use Rattle.std.proofs.lemmas.Bool.{cases_lt, cases_Bool, cond-true, cond-false, or_cases, eqb-true, eq-eqb, false≢true, both_ways}
@@ -11,7 +11,8 @@ use Rattle.std.proofs.lemmas.List.Folds.{list_any_at, Any-from_list_any}
 use Rattle.std.proofs.lemmas.List.Quantifiers.{all_pairs_push, position-Some}
 use Rattle.std.proofs.lemmas.Map.Made.{IsDistinct-from_AllPairs}
 use Rattle.std.proofs.lemmas.Map.Steps.{length-le_from_distinct_below}
-use Rattle.circle_search.specs.Circles.{awaited, IsEdge, Leads, IsCircle, is_left, next_left, from_vertex, circle_on, circle_from, circle_of}
+use Rattle.circle_search.specs.Circles.{awaited, IsEdge, Leads, IsCircle, is_left, next_left, from_vertex, circle_on, from_least, circle_from, circle_of}
+use Rattle.circle_search.proofs.Turns.{least_is_circle, begins_with_least}
 use Rattle.circle_search.proofs.Left.{at_last, waits_at_last, length-left_after}
 
 -- what is found passes, and is among those that were looked at
@@ -148,12 +149,20 @@ module _ (graph : List (List ℕ)) where
     here = left;
   }
 
-  told_from : (found : Option ℕ) (circle : List ℕ) → ((v : ℕ) → found ≡ Some v → IsLast v) → circle_from graph (at_last graph) found ≡ Some circle → IsCircle graph circle
-  told_from None circle left told = absurd (none-some circle told)
-  told_from (Some v) circle left told =
-      subst (IsCircle graph) (same_Some (circle_on graph (at_last graph) (length graph) [] v) circle told)
-      (walk_closes (length graph) [] v (begins v (left v refl)) (omega arith))
+  -- what is told comes of a circle
+  pub comes_of_circle : (found : Option ℕ) (circle : List ℕ) → ((v : ℕ) → found ≡ Some v → IsLast v) → circle_from graph (at_last graph) found ≡ Some circle
+      → (row : List ℕ) × IsCircle graph row × (from_least row ≡ circle)
+  comes_of_circle None circle left told = absurd (none-some circle told)
+  comes_of_circle (Some v) circle left told =
+      let row = circle_on graph (at_last graph) (length graph) [] v in
+      (row, walk_closes (length graph) [] v (begins v (left v refl)) (omega arith), same_Some (from_least row) circle told)
+
+told_row : (graph : List (List ℕ)) (circle : List ℕ) → circle_of graph ≡ Some circle → (row : List ℕ) × IsCircle graph row × (from_least row ≡ circle)
+told_row graph circle told =
+    comes_of_circle graph (position (λ (l : Bool). l) (at_last graph)) circle (λ v is. (position-Some (λ (l : Bool). l) (at_last graph) v false is).1) told
 
 pub told_is_circle : (graph : List (List ℕ)) (circle : List ℕ) → circle_of graph ≡ Some circle → IsCircle graph circle
-told_is_circle graph circle told =
-    told_from graph (position (λ (l : Bool). l) (at_last graph)) circle (λ v is. (position-Some (λ (l : Bool). l) (at_last graph) v false is).1) told
+told_is_circle graph circle told = let of = told_row graph circle told in subst (IsCircle graph) of.2 (least_is_circle graph of.0 of.1)
+
+pub told_begins_with_least : (graph : List (List ℕ)) (a : ℕ) (rest : List ℕ) → circle_of graph ≡ Some (a ∷ rest) → All (λ b. a ≤ b) rest
+told_begins_with_least graph a rest told = let of = told_row graph (a ∷ rest) told in begins_with_least graph of.0 a rest of.1 of.2

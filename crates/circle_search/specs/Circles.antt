@@ -1,7 +1,7 @@
 -- Circles among vertices each of which waits for others: what they are, and the one that is told. A graph has, for each vertex by its number,
 -- the vertices that it waits for. Numbers that are no vertex's wait for none.
-use Rattle.std.specs.Prelude.{ℕ, zero, suc, ◌≢◌, Bool, true, false, ◌==◌, if◌then◌else◌, Option, Some, None, unwrap_or, List, [], ◌∷◌, ◌++◌, length, map, replicate, find, position, slice_index_or, Contains, AllPairs}
-use Rattle.std.specs.List.{list_any}
+use Rattle.std.specs.Prelude.{ℕ, zero, suc, ◌≢◌, Bool, true, false, ◌==◌, nat_le, if◌then◌else◌, Option, Some, None, unwrap_or, List, [], ◌∷◌, ◌++◌, length, map, replicate, drop, take, find, position, slice_index_or, Contains, AllPairs}
+use Rattle.std.specs.List.{list_any, list_all}
 
 -- the vertices that one waits for
 abbrev pub awaited : List (List ℕ) → ℕ → List ℕ
@@ -52,9 +52,21 @@ unfoldable pub circle_on : List (List ℕ) → List Bool → ℕ → List ℕ �
 circle_on graph left zero row v = from_vertex v row
 circle_on graph left (suc steps) row v = if list_any (λ x. x == v) row then from_vertex v row else circle_on graph left steps (row ++ v ∷ []) (next_left graph left v)
 
+-- whether none of a row is less
+abbrev pub is_least : List ℕ → ℕ → Bool
+is_least row v = list_all (λ other. nat_le v other) row
+
+-- where the least of a row stands
+abbrev pub least_place : List ℕ → ℕ
+least_place row = unwrap_or (position (is_least row) row) 0
+
+-- a circle from its least vertex on
+abbrev pub from_least : List ℕ → List ℕ
+from_least row = drop (least_place row) row ++ take (least_place row) row
+
 abbrev pub circle_from : List (List ℕ) → List Bool → Option ℕ → Option (List ℕ)
 circle_from graph left None = None
-circle_from graph left (Some v) = Some (circle_on graph left (length graph) [] v)
+circle_from graph left (Some v) = Some (from_least (circle_on graph left (length graph) [] v))
 
 abbrev pub circle_among : List (List ℕ) → List Bool → Option (List ℕ)
 circle_among graph left = circle_from graph left (position (λ l. l) left)

@@ -16,5 +16,7 @@ pub record WorkedCircles : Type 0 where
   pub closed_diamond : circle_of ((1 ∷ 2 ∷ []) ∷ (3 ∷ []) ∷ (3 ∷ []) ∷ (1 ∷ []) ∷ []) ≡ Some (1 ∷ 3 ∷ [])
   -- 1 is no way on, since it waits for none
   pub dead_end : circle_of ((1 ∷ 2 ∷ []) ∷ [] ∷ (0 ∷ []) ∷ []) ≡ Some (0 ∷ 2 ∷ [])
+  -- the walk from 0 comes to 3 first, and what is told begins with 1
+  pub turned : circle_of ((3 ∷ []) ∷ (2 ∷ []) ∷ (3 ∷ []) ∷ (1 ∷ []) ∷ []) ≡ Some (1 ∷ 2 ∷ 3 ∷ [])
   -- a number that is no vertex's
   pub outside : circle_of ((7 ∷ []) ∷ (0 ∷ []) ∷ []) ≡ None

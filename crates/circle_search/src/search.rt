@@ -2,13 +2,13 @@
 ghost use Rattle.std.specs.Prelude.{◌≡◌, ◌≤◌, ◌==◌, drop, length, map, find, position, IfOk, []};
 ghost use Rattle.std.specs.Option.{option_map};
 ghost use Rattle.std.specs.List.{list_any, position_or_len};
-ghost use Rattle.circle_search.specs.Circles.{is_left, peeled, left_after, next_left, from_vertex, circle_on, circle_of};
+ghost use Rattle.circle_search.specs.Circles.{is_left, peeled, left_after, next_left, from_vertex, circle_on, is_least, least_place, from_least, circle_of};
 
 use std::alloc::{AllocError, Global};
 
 /// The circle that is told of a graph, which has, for each vertex by its number, the vertices that it waits for, of at most 65536 vertices;
-/// `None` exactly where there is none. Its first vertex is the one at which a walk from the least vertex that is on a circle or leads to one
-/// comes to the circle. The only error is want of memory. It takes time as the vertices times the edges. See docs/LOOK.md.
+/// `None` exactly where there is none. It begins with its least vertex. Where there are more, it is the one to which a walk comes from the
+/// least vertex that is on a circle or leads to one. The only error is want of memory. It takes time as the vertices times the edges. See docs/LOOK.md.
 pub fn circle(alloc: Global, graph: &[Vec<u16>]) -> Result<Option<Vec<u16>>, AllocError>
     requires few { length graph.now ≤ 65536 }
     ensures value { IfOk result (λ told. option_map (λ row. row.items) told ≡ circle_of (map (λ edges. edges.items) graph.now)) }
@@ -16,7 +16,10 @@ pub fn circle(alloc: Global, graph: &[Vec<u16>]) -> Result<Option<Vec<u16>>, All
     let left = left_at_last(alloc, graph)?;
     match least_left(left.as_slice()) {
         None => Ok(None),
-        Some(start) => Ok(Some(circle_on(alloc, graph, left.as_slice(), start as u16)?)),
+        Some(start) => {
+            let row = circle_on(alloc, graph, left.as_slice(), start as u16)?;
+            Ok(Some(from_least(row)))
+        }
     }
 }
 
@@ -106,4 +109,34 @@ fn from_vertex(alloc: Global, row: &[u16], vertex: u16) -> Result<Vec<u16>, Allo
         .copied()
         .skip_while(|other| *other != vertex)
         .collect(alloc)
+}
+
+// A circle from its least vertex on.
+fn from_least(mut row: Vec<u16>) -> Vec<u16>
+    ensures value { result.items ≡ from_least row.items }
+{
+    let place = least_place(row.as_slice());
+    row.rotate_left(place);
+    row
+}
+
+// Where the least of a row stands.
+fn least_place(row: &[u16]) -> usize
+    ensures value { result ≡ least_place row.now }
+    ensures within { result ≤ length row.now }
+{
+    place_of_least(row).unwrap_or(0)
+}
+
+fn place_of_least(row: &[u16]) -> Option<usize>
+    ensures value { result ≡ position (is_least row.now) row.now }
+{
+    row.iter().position(|vertex| is_least(row, *vertex))
+}
+
+// Whether none of a row is less.
+fn is_least(row: &[u16], vertex: u16) -> bool
+    ensures value { result ≡ is_least row.now vertex }
+{
+    row.iter().all(|other| vertex <= *other)
 }

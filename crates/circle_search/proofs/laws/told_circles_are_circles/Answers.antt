@@ -1,5 +1,5 @@
-use Rattle.circle_search.proofs.Walks.{told_is_circle}
+use Rattle.circle_search.proofs.Walks.{told_is_circle, told_begins_with_least}
 use Rattle.circle_search.proofs.laws.told_circles_are_circles.Goals as goal
 
 pub returns : goal.returns
-returns c = told_is_circle
+returns c = record { circles = told_is_circle; least = told_begins_with_least }
