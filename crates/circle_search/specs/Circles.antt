@@ -1,5 +1,5 @@
--- Circles among vertices each of which waits for others: what they are, and the one that is told. A graph has, for each vertex by its number,
--- the vertices that it waits for. Numbers that are no vertex's wait for none.
+-- Circles among vertices that wait for one another: what they are, and the one that is told. A graph has, for each vertex by its number, the
+-- vertices that it waits for. A number that is no vertex's waits for none.
 use Rattle.std.specs.Prelude.{ℕ, zero, suc, ◌≢◌, Bool, true, false, ◌==◌, nat_le, if◌then◌else◌, Option, Some, None, unwrap_or, List, [], ◌∷◌, ◌++◌, length, map, replicate, drop, take, find, position, slice_index_or, Contains, AllPairs}
 use Rattle.std.specs.List.{list_any, list_all}
 
@@ -36,7 +36,7 @@ unfoldable pub left_after : List (List ℕ) → ℕ → List Bool
 left_after graph zero = replicate (length graph) true
 left_after graph (suc rounds) = peeled graph (left_after graph rounds)
 
--- ---- The circle that is told: that on which a walk from the least vertex that is left ends
+-- ---- The circle that is told: that to which a walk comes from the least vertex that is left
 
 -- the first that is left of those that a vertex waits for: there is one for each that is left after all rounds
 abbrev pub next_left : List (List ℕ) → List Bool → ℕ → ℕ
@@ -64,10 +64,12 @@ least_place row = unwrap_or (position (is_least row) row) 0
 abbrev pub from_least : List ℕ → List ℕ
 from_least row = drop (least_place row) row ++ take (least_place row) row
 
+-- the circle to which a walk from a vertex comes
 abbrev pub circle_from : List (List ℕ) → List Bool → Option ℕ → Option (List ℕ)
 circle_from graph left None = None
 circle_from graph left (Some v) = Some (from_least (circle_on graph left (length graph) [] v))
 
+-- the same from the least vertex that is left
 abbrev pub circle_among : List (List ℕ) → List Bool → Option (List ℕ)
 circle_among graph left = circle_from graph left (position (λ l. l) left)
 

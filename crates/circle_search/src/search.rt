@@ -6,9 +6,10 @@ ghost use Rattle.circle_search.specs.Circles.{is_left, peeled, left_after, next_
 
 use std::alloc::{AllocError, Global};
 
-/// The circle that is told of a graph, which has, for each vertex by its number, the vertices that it waits for, of at most 65536 vertices;
-/// `None` exactly where there is none. It begins with its least vertex. Where there are more, it is the one to which a walk comes from the
-/// least vertex that is on a circle or leads to one. The only error is want of memory. It takes time as the vertices times the edges. See docs/LOOK.md.
+/// The circle that is told of a graph of at most 65536 vertices, which has, for each vertex by its number, the vertices that it waits for:
+/// `None` exactly where there is no circle. It begins with its least vertex. Of more than one it is that to which a walk comes which begins at
+/// the least vertex that is on a circle or leads to one, and goes on each time to the first such that its vertex waits for. The only error is
+/// want of memory. It takes as many steps as vertices times edges. See docs/LOOK.md.
 pub fn circle(alloc: Global, graph: &[Vec<u16>]) -> Result<Option<Vec<u16>>, AllocError>
     requires few { length graph.now ≤ 65536 }
     ensures value { IfOk result (λ told. option_map (λ row. row.items) told ≡ circle_of (map (λ edges. edges.items) graph.now)) }
