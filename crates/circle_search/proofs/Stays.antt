@@ -1,9 +1,10 @@
 -- The vertices of a circle are left after all rounds, so a circle is told.
 use Rattle.std.proofs.Common.{◌≡◌, ℕ, zero, suc, ◌+◌, ◌<◌, ◌≤◌, Bool, true, false, Option, Some, None, List, [], ◌∷◌, length, refl, sym, ap, ◌∙◌, subst, arith, inl, inr, ◌⊎◌}
-use Rattle.std.specs.Prelude.{IsSome, position}
+use Rattle.std.specs.Prelude.{All, IsSome, position}
 use Rattle.std.specs.List.{AllByRecursion, position_from}
 use Rattle.std.proofs.Math.ListN as lists
 use Rattle.std.proofs.lemmas.Bool.{cases_lt, false≢true}
+use Rattle.std.proofs.lemmas.List.Elements.{All-from_recursion}
 use Rattle.std.proofs.lemmas.List.Folds.{list_any_at}
 use Rattle.std.proofs.lemmas.Iterator.Adapters.{position_from-zero}
 use Rattle.circle_search.specs.Circles.{awaited, IsEdge, Leads, IsCircle, is_left, left_after, circle_from, circle_of}
@@ -31,6 +32,14 @@ module _ (graph : List (List ℕ)) where
       by_case : (a < length graph) ⊎ (length graph ≤ a) → a < length graph
       by_case (inl less) = less
       by_case (inr past) = absurd (omega (arith, edge.1, ap length (lists.get_or-eq_default graph [] past)))
+
+  -- so each of a circle is
+  pub all_within : (circle : List ℕ) → IsCircle graph circle → All (λ v. v < length graph) circle
+  all_within [] is = absurd is
+  all_within (a ∷ rest) is =
+      All-from_recursion (λ v. v < length graph) (a ∷ rest)
+      (each_map (λ x. (y : ℕ) × IsEdge graph x y × Unit {0}) (λ x. x < length graph) (λ x h. waits_within x h.0 h.1) (a ∷ rest)
+      (waits_along (λ x. Unit {0}) (a ∷ rest) a is.0 (all_tt (a ∷ rest)) tt))
 
   begins : (a b : ℕ) → IsEdge graph a b → is_left (left_after graph 0) a ≡ true
   unfolding left_after
