@@ -16,3 +16,4 @@ pub use rank_error::RankError;
 pub use rank_model::{RankKind, RankLine, Verdict};
 pub use ranks::Ranks;
 pub use reader::read_ranks;
+pub use ways::{first_difference, leads};

@@ -48,8 +48,9 @@ pub(crate) fn has_next(plan: &Plan, node: u8, net: u8, dest: u16) -> bool
     false
 }
 
-// Whether a link end is one of those by which a node sends on what is for an id, in a network.
-fn leads(node: &NodePlan, end: u8, net: u8, dest: u16) -> bool
+/// Whether a link end, 0 to 7, is one of those by which a node sends on what is for an id, in a network, 0 to 3. It takes no memory. See
+/// docs/LINKS.md.
+pub fn leads(node: &NodePlan, end: u8, net: u8, dest: u16) -> bool
     requires within { end < 8 }
     ensures value { result ≡ is_behind end (way_to node.now.id node.now.ways node.now.nets net dest) }
 {
@@ -67,8 +68,8 @@ fn is_among(ends: u8, nets: &[u8; 8], end: u8, net: u8) -> bool
     bit_at(u16::from(ends), end) == 1 && nets[end as usize] == net
 }
 
-// The highest bit in which two ids differ.
-fn first_difference(a: u16, b: u16) -> Option<u8>
+/// The highest bit in which two ids differ: None exactly where they are equal. It takes no memory. See docs/LINKS.md.
+pub fn first_difference(a: u16, b: u16) -> Option<u8>
     ensures value { result ≡ first_difference 16 a b }
     ensures within { IfSome result (λ bit. bit < 16) }
 {

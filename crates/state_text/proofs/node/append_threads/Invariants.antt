@@ -1,0 +1,9 @@
+use Rattle.std.proofs.Common.{◌≡◌, ◌++◌, drop}
+use Rattle.trace_model.specs.Trace.{by_position}
+use Rattle.look_model.specs.Waits.{thread_lines}
+use Rattle.state_text.proofs.node.append_threads.Given as goal
+
+abbrev pub invariant-loop-k : goal.invariant-loop-k
+invariant-loop-k l =
+    l.out ++ by_position (thread_lines l.node l.lines l.slot l.state) l.k (drop l.k l.threads)
+    ≡ l.initial.out ++ by_position (thread_lines l.node l.lines l.slot l.state) 0 l.threads

@@ -1,0 +1,235 @@
+//! What the network of a node holds.
+ghost use Rattle.std.specs.Prelude.{◌≡◌, ◌<◌, ◌++◌, Option, OnOk, length, slice_get};
+ghost use Rattle.trace_model.specs.Trace.{by_position, number_at};
+ghost use Rattle.look_model.specs.Network.{other_end, to_text, has_tokens, end_text, end_line, input_name, buffer_count, waiting, waiting_text, input_text, is_idle, input_line};
+
+use crate::phrases::{
+    a_packet_into, a_packet_to, first_header_byte, lost_packet, no_end_yet, second_header_byte, tokens_wait, tokens_wait_and,
+    waits_for_a_way, without_credit,
+};
+use crate::resources::{append_chan_name, output_count};
+use core_step::NodeState;
+use decimal_text::append_decimal;
+use line_text::append_hex_word;
+use link_ends::EndState;
+use std::alloc::AllocError;
+use switch_routes::InputState;
+use sys_plan::{LinkPlan, NodePlan, Plan};
+use xs_base::Text;
+use xs_base::numbers::LINK_ENDS;
+
+// ---- Link ends
+
+/// The node, by position, and the link end at the other end of the link that a link end is in.
+pub(crate) fn other_end(links: &[LinkPlan], node: u8, end: u8) -> Option<(u8, u8)>
+    ensures { result ≡ other_end links.now node end }
+{
+    for link in links {
+        if link.a == node && link.a_end == end {
+            return Some((link.b, link.b_end));
+        }
+        if link.b == node && link.b_end == end {
+            return Some((link.a, link.a_end));
+        }
+    }
+    None
+}
+
+/// The lines of the link ends of the node at a position. The error is want of memory.
+#[tactic(auto, unfolding(trace_model::specs::Trace::by_position))]
+pub(crate) fn append_ends(
+    out: &mut Text,
+    plan: &Plan,
+    n: u8,
+    node: &NodePlan,
+    ends: &[EndState; 8],
+) -> Result<(), AllocError>
+    ensures { OnOk result (out.new ≡ out.old ++ by_position (end_line plan.now n node.now) 0 ends.now) }
+{
+    for e in 0..8u8 {
+        append_end(out, plan, n, node, e, &ends[e as usize])?;
+    }
+    Ok(())
+}
+
+// The line of a link end, where something is there.
+fn append_end(
+    out: &mut Text,
+    plan: &Plan,
+    n: u8,
+    node: &NodePlan,
+    e: u8,
+    end: &EndState,
+) -> Result<(), AllocError>
+    ensures { OnOk result (out.new ≡ out.old ++ end_line plan.now n node.now e end.now) }
+{
+    if !has_tokens(end) {
+        return Ok(());
+    }
+    out.append(b"n")?;
+    append_decimal(out, u64::from(node.number))?;
+    out.append(b" link ")?;
+    append_decimal(out, u64::from(e))?;
+    append_to(out, plan, other_end(plan.links(), n, e))?;
+    out.append(b": ")?;
+    append_counts(out, end)
+}
+
+// Whether something is at a link end.
+fn has_tokens(end: &EndState) -> bool
+    ensures { result ≡ has_tokens end.now }
+{
+    end.buffer.len() > 0 || end.window > 0
+}
+
+// `B tokens wait, W of 8 sent without credit`.
+fn append_counts(out: &mut Text, end: &EndState) -> Result<(), AllocError>
+    ensures { OnOk result (out.new ≡ out.old ++ end_text end.now) }
+{
+    append_decimal(out, end.buffer.len() as u64)?;
+    out.append(tokens_wait_and())?;
+    append_decimal(out, u64::from(end.window))?;
+    out.append(without_credit())
+}
+
+// ` to nN link E`.
+fn append_to(out: &mut Text, plan: &Plan, other: Option<(u8, u8)>) -> Result<(), AllocError>
+    ensures { OnOk result (out.new ≡ out.old ++ to_text plan.now.nodes other) }
+{
+    let Some((node, end)) = other else {
+        return Ok(());
+    };
+    out.append(b" to n")?;
+    append_decimal(out, u64::from(number_at(plan.nodes(), node)))?;
+    out.append(b" link ")?;
+    append_decimal(out, u64::from(end))
+}
+
+// The number of the node at a position.
+fn number_at(nodes: &[NodePlan], n: u8) -> u8
+    ensures { result ≡ number_at nodes.now n }
+{
+    match nodes.get(n as usize) {
+        None => 0,
+        Some(node) => node.number,
+    }
+}
+
+// ---- Inputs of the switch
+
+/// `link E`, or `channel end ID`.
+pub(crate) fn append_input_name(out: &mut Text, id: u16, i: u8) -> Result<(), AllocError>
+    ensures { OnOk result (out.new ≡ out.old ++ input_name id i) }
+{
+    if i < LINK_ENDS {
+        out.append(b"link ")?;
+        append_decimal(out, u64::from(i))
+    } else {
+        append_chan_name(out, id, i - LINK_ENDS)
+    }
+}
+
+/// How many tokens wait in the buffer of a link end.
+pub(crate) fn buffer_count(ends: &[EndState], end: u8) -> u64
+    ensures { result ≡ buffer_count (slice_get ends.now end) }
+{
+    match ends.get(end as usize) {
+        None => 0,
+        Some(end) => end.buffer.len() as u64,
+    }
+}
+
+// How many tokens wait at an input.
+fn waiting(state: &NodeState, i: u8) -> u64
+    ensures { result ≡ waiting state.now i }
+{
+    if i < LINK_ENDS {
+        buffer_count(&state.ends, i)
+    } else {
+        output_count(&state.chans, i - LINK_ENDS)
+    }
+}
+
+/// The lines of the inputs of a node's switch. The error is want of memory.
+#[tactic(auto, unfolding(trace_model::specs::Trace::by_position))]
+pub(crate) fn append_inputs(
+    out: &mut Text,
+    node: &NodePlan,
+    state: &NodeState,
+    inputs: &[InputState; 40],
+) -> Result<(), AllocError>
+    ensures { OnOk result (out.new ≡ out.old ++ by_position (input_line node.now state.now) 0 inputs.now) }
+{
+    for i in 0..40u8 {
+        append_input(out, node, state, i, inputs[i as usize])?;
+    }
+    Ok(())
+}
+
+// The line of an input, where it is not idle.
+fn append_input(
+    out: &mut Text,
+    node: &NodePlan,
+    state: &NodeState,
+    i: u8,
+    now: InputState,
+) -> Result<(), AllocError>
+    ensures { OnOk result (out.new ≡ out.old ++ input_line node.now state.now i now) }
+{
+    if is_idle(now) {
+        return Ok(());
+    }
+    out.append(b"n")?;
+    append_decimal(out, u64::from(node.number))?;
+    out.append(b" ")?;
+    append_input_name(out, node.id, i)?;
+    out.append(b": ")?;
+    append_work(out, node.id, now)?;
+    append_waiting(out, state, i)
+}
+
+// `, W tokens wait`.
+fn append_waiting(out: &mut Text, state: &NodeState, i: u8) -> Result<(), AllocError>
+    ensures { OnOk result (out.new ≡ out.old ++ waiting_text state.now i) }
+{
+    out.append(b", ")?;
+    append_decimal(out, waiting(state, i))?;
+    out.append(tokens_wait())
+}
+
+// Whether an input is at nothing.
+fn is_idle(now: InputState) -> bool
+    ensures { result ≡ is_idle now }
+{
+    matches!(now, InputState::Idle)
+}
+
+// What an input is at.
+fn append_work(out: &mut Text, id: u16, now: InputState) -> Result<(), AllocError>
+    ensures { OnOk result (out.new ≡ out.old ++ input_text id now) }
+{
+    match now {
+        InputState::Idle => Ok(()),
+        InputState::Head1 { .. } => out.append(first_header_byte()),
+        InputState::Head2 { .. } => out.append(second_header_byte()),
+        InputState::Want { dest, net } => {
+            out.append(a_packet_to())?;
+            append_hex_word(out, dest)?;
+            out.append(waits_for_a_way())?;
+            append_decimal(out, u64::from(net))
+        }
+        InputState::Local { chan } => {
+            out.append(a_packet_into())?;
+            append_chan_name(out, id, chan)?;
+            out.append(no_end_yet())
+        }
+        InputState::Out { end, dest, .. } => {
+            out.append(a_packet_to())?;
+            append_hex_word(out, dest)?;
+            out.append(b" by link ")?;
+            append_decimal(out, u64::from(end))?;
+            out.append(no_end_yet())
+        }
+        InputState::Lost => out.append(lost_packet()),
+    }
+}
