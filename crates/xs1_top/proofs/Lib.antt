@@ -1,10 +1,8 @@
-mod Calls
+mod Asked
 mod CountedReads
 mod FormOfWords
 mod Links
-mod Pieces
 mod Ranks
 mod Rests
 mod Routed
-mod RowsOfReads
 mod Systems

@@ -1,11 +1,8 @@
 -- What an input stands for: of one that is too long the first bytes are enough.
-use Rattle.std.proofs.Common.{◌≡◌, ℕ, ◌+◌, ◌<◌, ◌≤◌, true, false, min, if◌then◌else◌, List, length, take, sym, ap, ◌∙◌, refl, arith, inl, inr, nat_lt}
-use Rattle.std.proofs.lemmas.Bool.{cases_lt}
+use Rattle.std.proofs.Common.{◌≡◌, ℕ, ◌+◌, ◌<◌, ◌≤◌, true, false, min, if◌then◌else◌, List, length, take, ap, refl, arith, nat_lt}
 use Rattle.std.proofs.lemmas.Bool.Decides.{nat_tests}
-use Rattle.std.proofs.lemmas.List.{length-take, take_all}
-use Rattle.sys_plan.specs.Plan.{PlanRec}
 use Rattle.system_model.specs.declared.SysKind.TheVariants.{TooLong}
-use Rattle.system_model.specs.System.{Plan, Frame, system_of, longest_input}
+use Rattle.system_model.specs.System.{longest_input}
 use Rattle.rank_model.specs.Lines.{ranks_of}
 use Rattle.pin_scripts.specs.Script.{NodeNumber}
 use Rattle.wave_model.specs.Reads.{pins_of}
@@ -13,26 +10,8 @@ use Rattle.answer_model.specs.PinsForm.{answer_to_pins, pins_answer, too_long}
 use Rattle.answer_model.specs.RoutesForm as found
 use Rattle.answer_model.specs.RoutesForm.{routes_of, routes_after}
 use Rattle.snap_codec.specs.declared.snap_kind.SnapKind.TheVariants as snap_kind
+use Rattle.system_answers.proofs.Taken.{of_taken, planned-short}
 use Rattle.snap_codec.specs.Snaps.{Fault, SnapRec, IsSnapOfSome, snap_of, longest_snapshot}
-
--- what is alike for all inputs that are too long is told by the bytes that are taken, at most one more than an input may have
-pub of_taken : {A : Type 0} (told : List ℕ → A) (longest : ℕ) (refusal : A) → ((bytes : List ℕ) → longest < length bytes → told bytes ≡ refusal)
-    → (bytes : List ℕ) → told (take (min (length bytes) (longest + 1)) bytes) ≡ told bytes
-of_taken told longest refusal long bytes =
-    let most = min (length bytes) (longest + 1) in
-    elim (cases_lt longest (length bytes)) [
-      | inl h ↦ long (take most bytes) (omega (arith, length-take most bytes)) ∙ sym (long bytes h)
-      | inr h ↦ ap told (take_all most bytes (omega arith))
-    ]
-
-pub system_of-long : (bytes : List ℕ) → longest_input < length bytes → system_of bytes ≡ Frame 0 TooLong
-unfolding system_of
-system_of-long bytes h =
-    let long : nat_lt longest_input (length bytes) ≡ true = grind (arith, nat_tests) in
-    rw long refl
-
-pub system_of-taken : (bytes : List ℕ) → system_of (take (min (length bytes) (longest_input + 1)) bytes) ≡ system_of bytes
-system_of-taken bytes = of_taken system_of longest_input (Frame 0 TooLong) system_of-long bytes
 
 pub snap_of-long : (bytes : List ℕ) → longest_snapshot < length bytes → snap_of bytes ≡ Fault 0 snap_kind.TooLong
 unfolding snap_of
@@ -64,14 +43,6 @@ pins_answer-long node bytes h =
 pub pins_answer-taken : (node : NodeNumber) (bytes : List ℕ) → pins_answer node (take (min (length bytes) (longest_input + 1)) bytes) ≡ pins_answer node bytes
 pins_answer-taken node bytes = of_taken (pins_answer node) longest_input too_long (pins_answer-long node) bytes
 
--- a text that stands for a plan is not too long
-pub planned-short : (bytes : List ℕ) (plan : PlanRec) → system_of bytes ≡ Plan plan → length bytes ≤ longest_input
-planned-short bytes plan e =
-    elim (cases_lt longest_input (length bytes)) [
-      | inl h ↦ let apart : Frame 0 TooLong ≡ Plan plan = sym (system_of-long bytes h) ∙ e in absurd cc
-      | inr h ↦ h
-    ]
-
--- so the text of a snapshot is not
+-- the text of a snapshot stands for a plan, so it is not too long
 pub snap-short : (snap : SnapRec) → IsSnapOfSome snap → length snap.text ≤ longest_input
 snap-short snap of_some = planned-short snap.text of_some.plan of_some.is.system

@@ -1,6 +1,3 @@
-pub mod Call
-pub mod Calls
-pub mod Input
-pub mod OnSystem
-pub mod Reads
+pub mod Asked
 pub mod Routes
+pub mod Words

@@ -3,15 +3,17 @@ ghost use Rattle.std.specs.Prelude.{◌≡◌, ◌≢◌, ◌<◌, ◌⊎◌, fa
 ghost use Rattle.xs_edge.specs.Edge.{HasRisen};
 ghost use Rattle.answer_model.specs.Forms.{asks_for_input, form_may_wait, form_of_words, may_wait};
 ghost use Rattle.answer_model.specs.Top.{answer_by, most_reads};
-ghost use Rattle.xs1_top.specs.Call.{IsWhole, IsRead, IsSilent, Answers, AnswersInPart, TookInput, IsAnswerStatus, EndsWhere, IsCalm};
-ghost use Rattle.xs1_top.specs.Calls.{Calls};
-ghost use Rattle.xs1_top.specs.Reads.{ReadsAtMost};
+ghost use Rattle.program_calls.specs.Call.{IsWhole, IsRead, IsSilent, Answers, AnswersInPart, TookInput, IsAnswerStatus, EndsWhere, IsCalm};
+ghost use Rattle.program_calls.specs.Calls.{Calls};
+ghost use Rattle.program_calls.specs.Reads.{ReadsAtMost};
+ghost use Rattle.xs1_top.specs.Asked.{asked_of};
 
-use crate::respond::{finish, respond};
-use crate::words::{form_of_words, usage_line};
+use crate::program::Xs1;
+use crate::words::{asks_of, form_of_words, usage_line};
 use crate::{check, make, pins, play, resume, routes, run, save, wave};
 pub use answer_model::Status;
 use answer_model::{Answer, Form};
+use program_calls::{refuse, respond};
 use std::alloc::{AllocError, Global};
 use std::sync::Wait;
 use std::thread::Threads;
@@ -60,10 +62,10 @@ pub fn top<R: Threads + Wait + Sync, S: Source, K: Sink, G: Gate>(
     gate: &G,
 ) -> Status
     // What is written and what is read.
-    ensures answered { IsWhole result → Answers (map string_bytes words.now) (S.left source.old) (K.written sink.old) (K.written sink.new) result }
-    ensures part { result ≡ Status.WriteFault → AnswersInPart (map string_bytes words.now) (S.left source.old) (K.written sink.old) (K.written sink.new) }
+    ensures answered { IsWhole result → Answers (asked_of (map string_bytes words.now)) (S.left source.old) (K.written sink.old) (K.written sink.new) result }
+    ensures part { result ≡ Status.WriteFault → AnswersInPart (asked_of (map string_bytes words.now)) (S.left source.old) (K.written sink.old) (K.written sink.new) }
     ensures silent { IsSilent result → sink.new ≡ sink.old }
-    ensures left { IsRead result → TookInput (map string_bytes words.now) (S.left source.old) (S.left source.new) }
+    ensures left { IsRead result → TookInput (asked_of (map string_bytes words.now)) (S.left source.old) (S.left source.new) }
     ensures reads { ReadsAtMost S.read_gives (most_reads (form_of_words (map string_bytes words.now))) source.old source.new }
 
     // Where reads and writes fail.
@@ -76,21 +78,21 @@ pub fn top<R: Threads + Wait + Sync, S: Source, K: Sink, G: Gate>(
     ensures usage { result ≡ Status.Usage → form_of_words (map string_bytes words.now) ≡ None }
     ensures usage_given { form_of_words (map string_bytes words.now) ≡ None → (result ≡ Status.Usage) ⊎ (result ≡ Status.WriteFault) }
     ensures reads_nothing { asks_for_input (form_of_words (map string_bytes words.now)) ≡ false → source.new ≡ source.old }
-    ensures system_fault { result ≡ Status.SystemFault → IsAnswerStatus Status.SystemFault (map string_bytes words.now) (S.left source.old) }
-    ensures system_fault_given { IsWhole result → EndsWhere Status.SystemFault (map string_bytes words.now) (S.left source.old) result }
-    ensures source_fault { result ≡ Status.SourceFault → IsAnswerStatus Status.SourceFault (map string_bytes words.now) (S.left source.old) }
-    ensures source_fault_given { IsWhole result → EndsWhere Status.SourceFault (map string_bytes words.now) (S.left source.old) result }
-    ensures script_fault { result ≡ Status.ScriptFault → IsAnswerStatus Status.ScriptFault (map string_bytes words.now) (S.left source.old) }
-    ensures script_fault_given { IsWhole result → EndsWhere Status.ScriptFault (map string_bytes words.now) (S.left source.old) result }
-    ensures done { result ≡ Status.Done → IsAnswerStatus Status.Done (map string_bytes words.now) (S.left source.old) }
+    ensures system_fault { result ≡ Status.SystemFault → IsAnswerStatus Status.SystemFault (asked_of (map string_bytes words.now)) (S.left source.old) }
+    ensures system_fault_given { IsWhole result → EndsWhere Status.SystemFault (asked_of (map string_bytes words.now)) (S.left source.old) result }
+    ensures source_fault { result ≡ Status.SourceFault → IsAnswerStatus Status.SourceFault (asked_of (map string_bytes words.now)) (S.left source.old) }
+    ensures source_fault_given { IsWhole result → EndsWhere Status.SourceFault (asked_of (map string_bytes words.now)) (S.left source.old) result }
+    ensures script_fault { result ≡ Status.ScriptFault → IsAnswerStatus Status.ScriptFault (asked_of (map string_bytes words.now)) (S.left source.old) }
+    ensures script_fault_given { IsWhole result → EndsWhere Status.ScriptFault (asked_of (map string_bytes words.now)) (S.left source.old) result }
+    ensures done { result ≡ Status.Done → IsAnswerStatus Status.Done (asked_of (map string_bytes words.now)) (S.left source.old) }
     ensures done_given { result ≢ Status.Memory → IsCalm (S.faults source.old) (S.faults source.new) → IsCalm (K.faults sink.old) (K.faults sink.new)
-        → EndsWhere Status.Done (map string_bytes words.now) (S.left source.old) result }
+        → EndsWhere Status.Done (asked_of (map string_bytes words.now)) (S.left source.old) result }
 {
     match form_of_words(words) {
-        Some(Form::Free(slots)) => respond(
+        Some(Form::Free(slots)) => respond::<Xs1, _, _, _>(
             alloc,
             words,
-            Form::Free(slots),
+            asks_of(Form::Free(slots)),
             source,
             sink,
             |input| run::answer_freely(rt, alloc, slots, input, gate),
@@ -113,7 +115,7 @@ pub fn top_plain<R: Threads + Sync, S: Source, K: Sink, G: Gate>(
     gate: &G,
 ) -> Status
     requires plain { form_may_wait (form_of_words (map string_bytes words.now)) ≡ false }
-    ensures { Calls S.left S.faults S.read_gives K.written K.faults (map string_bytes words.now) source.old source.new sink.old sink.new result }
+    ensures { Calls S.left S.faults S.read_gives K.written K.faults (asked_of (map string_bytes words.now)) source.old source.new sink.old sink.new result }
 {
     respond_plainly(rt, alloc, words, form_of_words(words), source, sink, gate)
 }
@@ -130,15 +132,15 @@ fn respond_plainly<R: Threads + Sync, S: Source, K: Sink, G: Gate>(
 ) -> Status
     requires of_words { form ≡ form_of_words (map string_bytes words.now) }
     requires plain { form_may_wait form ≡ false }
-    ensures { Calls S.left S.faults S.read_gives K.written K.faults (map string_bytes words.now) source.old source.new sink.old sink.new result }
+    ensures { Calls S.left S.faults S.read_gives K.written K.faults (asked_of (map string_bytes words.now)) source.old source.new sink.old sink.new result }
 {
     let Some(form) = form else {
-        return finish(sink, usage_line(), Status::Usage);
+        return refuse::<Xs1, _, _>(words, source, sink, usage_line());
     };
-    respond(
+    respond::<Xs1, _, _, _>(
         alloc,
         words,
-        form,
+        asks_of(form),
         source,
         sink,
         |input: &[u8]| -> Result<Answer, AllocError>

@@ -3,11 +3,11 @@ ghost use Rattle.std.specs.Prelude.{◌≡◌, ◌++◌, IfOk, OnOk};
 ghost use Rattle.std.specs.List.{flat_map};
 ghost use Rattle.answer_model.specs.CheckForm.{check_answer, check_text, source_section};
 
-use crate::on_system::{Reading, read};
 use answer_model::{Answer, Status};
 use decimal_text::append_decimal;
 use std::alloc::{AllocError, Global};
 use sys_plan::{NodePlan, Plan};
+use system_answers::{Reading, read};
 use xs_base::Text;
 use xs_printer::print_image;
 

@@ -6,6 +6,7 @@ ghost use Rattle.snap_codec.specs.Snaps.{longest_snapshot};
 
 use crate::top;
 use answer_model::Status;
+use program_calls::reads_are_counted;
 use std::alloc::Global;
 use std::sync::Wait;
 use std::thread::Threads;
@@ -24,5 +25,6 @@ pub fn top_counted<R: Threads + Wait + Sync, K: Sink, G: Gate>(
     ensures by_form { source.new.reads ≤ source.old.reads + most_reads (form_of_words (map string_bytes words.now)) }
     ensures always { source.new.reads ≤ source.old.reads + (longest_snapshot + 1) }
 {
+    reads_are_counted();
     top(rt, alloc, words, source, sink, gate)
 }

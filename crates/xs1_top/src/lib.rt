@@ -5,14 +5,11 @@
 mod call;
 mod check;
 mod counted;
-mod input;
 mod make;
-mod on_system;
-mod output;
 mod pins;
 mod play;
+mod program;
 mod refusals;
-mod respond;
 mod resume;
 mod routes;
 mod run;

@@ -3,7 +3,6 @@ ghost use Rattle.std.specs.Prelude.{◌≡◌, IfOk};
 ghost use Rattle.answer_model.specs.MakeForm.{made_answer};
 ghost use Rattle.load_model.specs.Made.{made_text};
 
-use crate::on_system::{Reading, read};
 use answer_model::{Answer, Status};
 use load_maker::make_system;
 use made_text::made;
@@ -11,6 +10,7 @@ use run_drive::{DriveError, drive_serial};
 use std::alloc::{AllocError, Global};
 use std::sync::Arc;
 use sys_plan::Plan;
+use system_answers::{Reading, read};
 use xs_base::Text;
 
 // For so many slots a load runs.

@@ -2,13 +2,13 @@
 ghost use Rattle.std.specs.Prelude.{◌≡◌, IfOk};
 ghost use Rattle.answer_model.specs.PlayForm.{play_answer, played_text};
 
-use crate::on_system::{Reading, read};
 use answer_model::{Answer, Status};
 use play_text::play;
 use run_drive::{DriveError, drive_play};
 use std::alloc::{AllocError, Global};
 use std::sync::Arc;
 use sys_plan::Plan;
+use system_answers::{Reading, read};
 use xs_base::Text;
 
 /// Takes the steps of the schedule of the input's system, in a run of so many slots, and answers with what each of them leaves. The

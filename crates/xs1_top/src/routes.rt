@@ -8,7 +8,6 @@ ghost use Rattle.answer_model.specs.RoutesForm as found;
 ghost use Rattle.answer_model.specs.RoutesForm.{answer_to_routes, link_end_text, routes_answer, routes_by, routes_with, verdict_text};
 ghost use Rattle.xs1_top.specs.Routes.{NamesLinks};
 
-use crate::on_system::{Reading, read};
 use crate::refusals::{is_too_long, ranks_line, too_long};
 use answer_model::{Answer, Status};
 use decimal_text::append_decimal;
@@ -18,6 +17,7 @@ use rank_model::{RankKind, Verdict};
 use route_ranks::{RankError, Ranks, check_ranks, read_ranks};
 use std::alloc::{AllocError, Global};
 use sys_plan::Plan;
+use system_answers::{Reading, read};
 use xs_base::Text;
 
 /// Reads the ranks and the system of the input, runs nothing, and answers with what the ranks come to, or with the line that refuses the

@@ -4,13 +4,13 @@ ghost use Rattle.std.specs.Prelude.{◌≡◌, IfOk};
 ghost use Rattle.answer_model.specs.RunForm.{run_answer};
 ghost use Rattle.trace_model.specs.Trace.{trace_text};
 
-use crate::on_system::{Reading, read};
 use answer_model::{Answer, Status};
 use run_drive::{DriveError, drive_free, drive_rounds, drive_serial};
 use std::alloc::{AllocError, Global};
 use std::sync::{Arc, Wait};
 use std::thread::Threads;
 use sys_plan::Plan;
+use system_answers::{Reading, read};
 use trace_text::trace;
 use xs_base::Text;
 use xs_edge::Gate;

@@ -4,12 +4,12 @@ ghost use Rattle.system_model.specs.System as stands;
 ghost use Rattle.system_model.specs.System.{system_of};
 ghost use Rattle.answer_model.specs.SaveForm.{save_answer, saved_text};
 
-use crate::on_system::{Reading, read};
 use answer_model::{Answer, Status};
 use snap_codec::write_snap;
 use snap_run::save_at;
 use std::alloc::{AllocError, Global};
 use sys_plan::Plan;
+use system_answers::{Reading, read};
 use xs_base::Text;
 
 /// Runs the system of the input for so many slots, all nodes together, and answers with the snapshot of what it has come to. The error is

@@ -2,10 +2,10 @@
 ghost use Rattle.std.specs.Prelude.{◌≡◌, IfOk};
 ghost use Rattle.answer_model.specs.WaveForm.{wave_answer, waved_text};
 
-use crate::on_system::{Reading, read};
 use answer_model::{Answer, Status};
 use std::alloc::{AllocError, Global};
 use sys_plan::Plan;
+use system_answers::{Reading, read};
 use vcd_writer::wave;
 use xs_base::Text;
 

@@ -1,10 +1,10 @@
 //! The forms of the program's words: the table, the usage line beside it, which forms read the input, and how much of it.
-ghost use Rattle.std.specs.Prelude.{◌≡◌, ◌+◌, ◌≤◌, map, string_bytes, IfSome};
+ghost use Rattle.std.specs.Prelude.{◌≡◌, ◌+◌, ◌≤◌, true, false, Some, None, map, string_bytes, IfSome};
 ghost use Rattle.word_numbers.specs.Decimal.{decimal_up_to};
 ghost use Rattle.xs_instructions.specs.Image.{same_name};
 ghost use Rattle.answer_model.specs.Forms.{form_of_mode, form_of_one, form_of_two, form_of_waves, form_of_words, make_of, most_slots, pins_of, reads_input, usage_text, wave_of};
 ghost use Rattle.answer_model.specs.Top.{longest_of};
-ghost use Rattle.xs1_top.specs.Call.{HasFewSlots};
+ghost use Rattle.xs1_top.specs.Words.{HasFewSlots};
 
 use answer_model::Form;
 use word_numbers::{decimal_up_to, plain_decimal_up_to};
@@ -51,8 +51,20 @@ pub fn usage_line() -> &'static [u8]
     b"usage: xs1 run SLOTS [serial|free|rounds] | play SLOTS | make NUMBER | check | save SLOTS | resume SLOTS | routes | wave SLOTS | pinsof N\n"
 }
 
-/// Whether a form asks for the input.
-pub fn reads_input(form: Form) -> bool
+/// How many bytes of the input a form asks for at most, or None where it asks for nothing of it.
+pub fn asks_of(form: Form) -> Option<usize>
+    ensures nothing { reads_input form ≡ false → result ≡ None }
+    ensures most { reads_input form ≡ true → result ≡ Some (longest_of form + 1) }
+{
+    if reads_input(form) {
+        Some(most_bytes(form))
+    } else {
+        None
+    }
+}
+
+// Whether a form asks for the input.
+fn reads_input(form: Form) -> bool
     ensures { result ≡ reads_input form }
 {
     match form {
@@ -62,8 +74,8 @@ pub fn reads_input(form: Form) -> bool
     }
 }
 
-/// How many bytes of the input a form takes at most that asks for it: one past the longest, so that an input that is too long is seen.
-pub fn most_bytes(form: Form) -> usize
+// How many bytes of the input a form takes at most that asks for it: one past the longest, so that an input that is too long is seen.
+fn most_bytes(form: Form) -> usize
     ensures { result ≡ longest_of form + 1 }
 {
     match form {

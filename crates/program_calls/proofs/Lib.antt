@@ -1,0 +1,5 @@
+mod Asks
+mod Calls
+mod CountedReads
+mod Pieces
+mod RowsOfReads

@@ -1,0 +1,6 @@
+pub mod Asked
+pub mod Call
+pub mod Calls
+pub mod Counted
+pub mod Input
+pub mod Reads

@@ -1,0 +1,2 @@
+pub mod OnSystem
+pub mod Taken
