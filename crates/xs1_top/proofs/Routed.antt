@@ -5,9 +5,9 @@ use Rattle.system_model.specs.System.{System, Plan, Frame, Source, Pins, system_
 use Rattle.rank_model.specs.Lines.{RanksRec, system_after}
 use Rattle.answer_model.specs.declared.Answer.{Answer}
 use Rattle.answer_model.specs.RoutesForm.{answer_to_routes, routes_with}
-use Rattle.xs1_top.specs.OnSystem.{IsReading}
-use Rattle.xs1_top.specs.declared.on_system.Reading.{Reading}
-use Rattle.xs1_top.specs.declared.on_system.Reading.TheVariants.{Refused}
+use Rattle.system_answers.specs.OnSystem.{IsReading}
+use Rattle.system_answers.specs.declared.on_system.Reading.{Reading}
+use Rattle.system_answers.specs.declared.on_system.Reading.TheVariants.{Refused}
 
 empty_apart : (n : ℕ) (ns : List ℕ) → [] ≡ n ∷ ns → ⊥
 empty_apart n ns e = cc
