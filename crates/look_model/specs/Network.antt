@@ -1,8 +1,7 @@
 -- What the network of a node holds, in words.
-use Rattle.std.specs.Prelude.{ℕ, ◌+◌, ◌-◌, Bool, true, false, ◌&&◌, ◌||◌, ◌==◌, nat_lt, if◌then◌else◌, Option, Some, None, List, [], ◌∷◌, ◌++◌, length, slice_get, codes, decimal}
+use Rattle.std.specs.Prelude.{ℕ, ◌-◌, Bool, true, false, ◌&&◌, ◌||◌, ◌==◌, nat_lt, if◌then◌else◌, Option, Some, None, List, [], ◌∷◌, ◌++◌, length, slice_get, codes, decimal}
 use Rattle.xs_base.specs.Numbers.{NodeId, Position, EndNumber, InputNumber}
 use Rattle.xs_base.specs.declared.numbers.TheConstants.{LINK_ENDS}
-use Rattle.chan_ends.specs.declared.state.ChanState.{ChanState}
 use Rattle.link_ends.specs.declared.state.EndState.{EndState}
 use Rattle.switch_routes.specs.declared.state.InputState.{InputState}
 use Rattle.switch_routes.specs.declared.state.InputState.TheVariants as input

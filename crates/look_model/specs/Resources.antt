@@ -1,5 +1,5 @@
 -- How resources are told: by kind and identifier, with what matters to who waits for them.
-use Rattle.std.specs.Prelude.{ℕ, ◌+◌, ◌-◌, ◌*◌, ◌/◌, ◌%◌, ◌^◌, Bool, true, false, not, ◌==◌, if◌then◌else◌, Option, Some, None, List, [], ◌∷◌, ◌++◌, length, slice_get, codes, decimal}
+use Rattle.std.specs.Prelude.{ℕ, ◌+◌, ◌-◌, ◌*◌, ◌%◌, ◌^◌, if◌then◌else◌, Option, Some, None, List, [], ◌++◌, length, slice_get, codes, decimal}
 use Rattle.xs_base.specs.Numbers.{Slot, Word, NodeId, ChanNumber, PortNumber}
 use Rattle.xs_base.specs.Ids.{chan_id, res_id}
 use Rattle.xs_base.specs.declared.numbers.TheConstants.{TIMER_KIND, SYNCHRONISER_KIND, LOCK_KIND}

@@ -1,5 +1,5 @@
 -- What `states SLOTS` writes: what a run has come to before a slot, in words.
-use Rattle.std.specs.Prelude.{ℕ, ◌+◌, ◌-◌, ◌/◌, ◌%◌, nat_lt, if◌then◌else◌, Option, Some, None, List, [], ◌∷◌, ◌++◌, slice_get, slice_index_or, codes, decimal}
+use Rattle.std.specs.Prelude.{ℕ, ◌-◌, ◌/◌, ◌%◌, nat_lt, if◌then◌else◌, Option, Some, None, List, [], ◌∷◌, ◌++◌, slice_get, slice_index_or, codes, decimal}
 use Rattle.std.specs.List.{flat_map}
 use Rattle.xs_base.specs.Numbers.{Slot, Position, NodeId}
 use Rattle.xs_base.specs.declared.numbers.TheConstants.{THREADS}

@@ -1,6 +1,6 @@
 -- Who waits for whom: threads and inputs of switches.
-use Rattle.std.specs.Prelude.{ℕ, ◌+◌, ◌-◌, ◌*◌, ◌/◌, ◌%◌, Bool, true, false, ◌&&◌, ◌==◌, nat_lt, if◌then◌else◌, Option, Some, None, option_to_list, List, [], ◌∷◌, ◌++◌, map, slice_get}
-use Rattle.xs_base.specs.Numbers.{Position, ThreadNumber, ChanNumber, EndNumber, InputNumber}
+use Rattle.std.specs.Prelude.{ℕ, ◌+◌, ◌*◌, ◌/◌, ◌%◌, Bool, true, false, ◌&&◌, ◌==◌, nat_lt, if◌then◌else◌, Option, Some, None, option_to_list, List, [], ◌∷◌, ◌++◌, map, slice_get}
+use Rattle.xs_base.specs.Numbers.{Position, ThreadNumber, EndNumber, InputNumber}
 use Rattle.xs_base.specs.declared.numbers.TheConstants.{THREADS, LINK_ENDS, INPUTS, BUFFER_TOKENS}
 use Rattle.xs_model.specs.declared.thread.Run.{Run}
 use Rattle.xs_model.specs.declared.thread.Run.TheVariants.{Unstarted, AtSync, Paused}
@@ -14,7 +14,6 @@ use Rattle.switch_routes.specs.declared.state.InputState.TheVariants as input
 use Rattle.sync_locks.specs.declared.state.SyncState.{SyncState}
 use Rattle.core_step.specs.declared.node_state.NodeState.{NodeState}
 use Rattle.snap_parts.specs.declared.node.SnapNode.{SnapNode}
-use Rattle.sys_plan.specs.declared.LinkPlan.{LinkPlan}
 use Rattle.sys_plan.specs.declared.NodePlan.{NodePlan}
 use Rattle.sys_plan.specs.Plan.{PlanRec}
 use Rattle.look_model.specs.Waits.{missing, sync_of, owner}

@@ -4,8 +4,8 @@ ghost use Rattle.trace_model.specs.Trace.{by_position, number_at};
 ghost use Rattle.look_model.specs.Network.{other_end, to_text, has_tokens, end_text, end_line, input_name, buffer_count, waiting, waiting_text, input_text, is_idle, input_line};
 
 use crate::phrases::{
-    a_packet_into, a_packet_to, first_header_byte, lost_packet, no_end_yet, second_header_byte, tokens_wait, tokens_wait_and,
-    waits_for_a_way, without_credit,
+    a_packet_into, a_packet_to, first_header_byte, lost_packet, no_end_yet, second_header_byte,
+    tokens_wait, tokens_wait_and, waits_for_a_way, without_credit,
 };
 use crate::resources::{append_chan_name, output_count};
 use core_step::NodeState;

@@ -28,7 +28,16 @@ pub(crate) fn append_node(
     requires printer { printer.now ≡ node.now.image }
     ensures { OnOk result (out.new ≡ out.old ++ node_lines plan.now slot n node.now lines.now state.now) }
 {
-    append_threads(alloc, out, node, printer, lines, slot, state, &state.threads)?;
+    append_threads(
+        alloc,
+        out,
+        node,
+        printer,
+        lines,
+        slot,
+        state,
+        &state.threads,
+    )?;
     append_ends(out, plan, n, node, &state.ends)?;
     append_inputs(out, node, state, &state.inputs)
 }

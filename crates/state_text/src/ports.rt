@@ -85,11 +85,7 @@ fn transfer_time(transfer: &Option<Transfer>) -> Option<u16>
 }
 
 // `: counter C`, and the clock.
-fn append_counter(
-    out: &mut Text,
-    clocks: &[ClockState],
-    port: &PortState,
-) -> Result<(), AllocError>
+fn append_counter(out: &mut Text, clocks: &[ClockState], port: &PortState) -> Result<(), AllocError>
     ensures { OnOk result (out.new ≡ out.old ++ counter_text clocks.now port.now) }
 {
     out.append(b": counter ")?;

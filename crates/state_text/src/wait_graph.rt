@@ -64,11 +64,7 @@ fn waits_of_thread(
 }
 
 // The master of the synchroniser of which it is a slave.
-fn master_of(
-    alloc: Global,
-    n: u8,
-    sync: Option<(u8, SyncState)>,
-) -> Result<Vec<u16>, AllocError>
+fn master_of(alloc: Global, n: u8, sync: Option<(u8, SyncState)>) -> Result<Vec<u16>, AllocError>
     ensures { IfOk result (λ v. v.items ≡ master_of n sync) }
 {
     match sync {
@@ -212,7 +208,15 @@ pub(crate) fn wait_graph(
     let mut graph = Vec::new(alloc);
     for n in 0..nodes.len() {
         let place = n as u8;
-        add_kept(&mut graph, alloc, plan, snaps, place, &nodes[n], kept(snaps, place))?;
+        add_kept(
+            &mut graph,
+            alloc,
+            plan,
+            snaps,
+            place,
+            &nodes[n],
+            kept(snaps, place),
+        )?;
     }
     Ok(graph)
 }

@@ -2,9 +2,7 @@
 ghost use Rattle.std.specs.Prelude.{◌≡◌, ◌++◌, ◌∷◌, [], Some, codes, decimal, OnOk};
 ghost use Rattle.look_model.specs.Waits.{thread_name, thread_names, owner_text, missing_text, master_text, divider_slots, of_text, taken_text, wait_text};
 
-use crate::phrases::{
-    another_thread, end_of_output, master_of, not_in, the_divider,
-};
+use crate::phrases::{another_thread, end_of_output, master_of, not_in, the_divider};
 use crate::ports::{append_input_port, append_output_port};
 use crate::resources::{
     append_chan_name, append_lock_name, append_moment, append_sync_name, append_timer_name,
@@ -166,10 +164,7 @@ fn append_spaced_name(out: &mut Text, k: u8) -> Result<(), AllocError>
 }
 
 /// The master that a slave waits for.
-pub(crate) fn append_master(
-    out: &mut Text,
-    sync: Option<(u8, SyncState)>,
-) -> Result<(), AllocError>
+pub(crate) fn append_master(out: &mut Text, sync: Option<(u8, SyncState)>) -> Result<(), AllocError>
     ensures { OnOk result (out.new ≡ out.old ++ master_text sync) }
 {
     match sync {

@@ -53,7 +53,16 @@ fn append_nodes(
     for n in 0..nodes.len() {
         let place = n as u8;
         let kept = kept(snaps, place);
-        append_kept(alloc, out, plan, slot, place, &nodes[n], lines_of(lines, place), kept)?;
+        append_kept(
+            alloc,
+            out,
+            plan,
+            slot,
+            place,
+            &nodes[n],
+            lines_of(lines, place),
+            kept,
+        )?;
     }
     Ok(())
 }
@@ -85,7 +94,17 @@ fn append_kept(
         return Ok(());
     };
     let printer = Printer::new(alloc, &node.image)?;
-    append_node(alloc, out, plan, slot, n, node, &printer, lines, &snap.state)
+    append_node(
+        alloc,
+        out,
+        plan,
+        slot,
+        n,
+        node,
+        &printer,
+        lines,
+        &snap.state,
+    )
 }
 
 // `end SLOT`.
