@@ -1,5 +1,5 @@
 -- A slot of all nodes and arcs, pass by pass: what a pass needs, of what those before it left.
-use Rattle.std.proofs.Common.{◌≡◌, ℕ, ◌+◌, List, length, sym, ◌∙◌, subst, Ok, Err}
+use Rattle.std.proofs.Common.{ℕ, ◌+◌, List, length, sym, ◌∙◌, subst, Ok, Err}
 use Rattle.std.specs.Prelude.{OnErr, Result}
 use Rattle.std.specs.List.{AllByRecursion, AllZip}
 use Rattle.node_seats.specs.Shown.{IsShown}

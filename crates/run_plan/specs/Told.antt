@@ -1,5 +1,5 @@
 -- What is told of the threads of each node in a slot.
-use Rattle.std.specs.Prelude.{◌+◌, List, [], ◌∷◌}
+use Rattle.std.specs.Prelude.{◌≡◌, ◌+◌, Some, List, [], ◌∷◌, slice_get}
 use Rattle.xs_base.specs.Numbers.{Slot, Word, Position}
 use Rattle.xs_base.specs.declared.entry.Entry.{Entry}
 use Rattle.xs_model.specs.Record.{CoreRec, NodeRec}
@@ -7,7 +7,7 @@ use Rattle.sys_plan.specs.declared.NodePlan.{NodePlan}
 use Rattle.sys_plan.specs.Plan.{PlanRec, gaps_of}
 use Rattle.step_model.specs.Start.{fixed_of}
 use Rattle.step_model.specs.Step.{before_issue}
-use Rattle.serial_model.specs.Serial.{SystemRec, coming_on}
+use Rattle.serial_model.specs.Serial.{SystemRec, coming_on, node_by}
 use Rattle.core_step.specs.declared.told.Told.{Told}
 use Rattle.core_step.specs.Told.{IsTold}
 use Rattle.node_seats.specs.Shown.{shown_by}
@@ -41,3 +41,9 @@ AreTold shown plan slot system told = AreToldFrom shown plan system.histories sl
 -- of the nodes of a machine, in the slot that comes next
 abbrev pub AreToldNext : MachineRec → List Told → Type 0
 AreToldNext m told = AreTold m.begun.shown m.plan m.now (system_of m) told
+
+-- of the node of a machine at each position by itself
+abbrev pub EachIsToldNext : MachineRec → List Told → Type 0
+EachIsToldNext m all =
+    (n : Position) (node : NodePlan) (told : Told) → slice_get m.plan.nodes n ≡ Some node → slice_get all n ≡ Some told →
+    IsTold (core_before_issue m.begun.shown m.plan (system_of m).histories m.now n node (node_by (system_of m).nodes n)) m.now told

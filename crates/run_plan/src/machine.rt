@@ -7,7 +7,7 @@ ghost use Rattle.serial_model.specs.Serial.{begun_at_start};
 ghost use Rattle.snap_parts.specs.Parts.{body_of};
 ghost use Rattle.snap_parts.specs.Snaps.{IsSnapSystem, begun_of};
 ghost use Rattle.run_plan.specs.Machine.{system_of, LevelsStay};
-ghost use Rattle.run_plan.specs.Told.{AreToldNext};
+ghost use Rattle.run_plan.specs.Told.{AreToldNext, EachIsToldNext};
 ghost use Rattle.trace_lines.specs.Kept.{Keeps};
 ghost use Rattle.core_step.specs.Core.{StandsAt};
 ghost use Rattle.xs_model.specs.Record.{first_node};
@@ -129,6 +129,7 @@ impl SerialMachine {
         ensures begun { self.new.begun ≡ self.old.begun }
         ensures passed { OnOk result (self.new.now ≡ self.old.now + 1) }
         ensures told { OnOk result (AreToldNext self.old told.new) }
+        ensures each { OnOk result (EachIsToldNext self.old told.new) }
         ensures err { OnErr result (self.new ≡ self.old) }
         ensures kept { OnErr result (told.new ≡ told.old) }
     {

@@ -1,9 +1,9 @@
-use Rattle.std.proofs.Common.{rules, ◌+◌, length, ◌≡◌, ap, subst, arith}
+use Rattle.std.proofs.Common.{rules, ◌+◌, length, ap, subst, arith}
 use Rattle.std.proofs.lemmas.List.{with_items_is, places}
 use Rattle.run_plan.specs.Machine.{MachineRec, system_of}
 use Rattle.run_plan.specs.Inside.{begun_with, seen_of}
 use Rattle.run_plan.specs.Told.{AreToldNext}
-use Rattle.run_plan.proofs.Machines.{lent, stepped}
+use Rattle.run_plan.proofs.Machines.{lent, stepped, each-is-told}
 use Rattle.run_plan.proofs.Systems.{ready-alike, play-length}
 use Rattle.run_plan.proofs.machine.SerialMachine.slot_told.Goals as goal
 
@@ -47,3 +47,6 @@ returns-clause-told c =
     let m = c.self.inside in
     subst (λ (r : MachineRec). AreToldNext r c.pass_slot_told.new.told) c.self.view_is
     (c.in_ok-pass_slot_told.ensures.told m.plan.value (begun_with m).shown (system_of (seen_of m)) (lent m c.self.invariant c.deref_mut.ensures.value c.deref_mut-2.ensures.value c.deref_mut-3.ensures.value))
+
+pub returns-clause-each : goal.returns-clause-each
+returns-clause-each c = each-is-told c.args.self.now c.pass_slot_told.new.told (returns-clause-told c)

@@ -1,9 +1,8 @@
-use Rattle.std.proofs.Common.{◌≡◌, sym, ap, subst, refl, ◌∙◌}
+use Rattle.std.proofs.Common.{sym, ap, subst, refl, ◌∙◌}
 use Rattle.xs_model.specs.declared.outside.Arrivals.{Arrivals}
 use Rattle.xs_model.specs.declared.outside.PinView.{PinView}
 use Rattle.core_step.specs.PinLevels.{from_outside}
 use Rattle.node_seats.specs.Seats.{StepsOn}
-use Rattle.node_seats.specs.Shown.{shown_by}
 use Rattle.node_seats.specs.Told.{IsToldOf}
 use Rattle.node_seats.proofs.Seats.{noted-still}
 use Rattle.run_plan.specs.Stations.{taken_by}
