@@ -134,14 +134,14 @@ impl Core {
         self.units.run_of(th)
     }
 
-    /// The threads, by number.
+    /// The threads, by number. It takes no memory. See docs/MACHINE.md.
     pub fn threads(&self) -> &[Thread; 8]
         ensures { result.now ≡ self.now.core.threads }
     {
         self.units.threads()
     }
 
-    /// The slot in which each thread, by number, issued last: None exactly where it never did.
+    /// The slot in which each thread, by number, issued last: None exactly where it never did. It takes no memory. See docs/MACHINE.md.
     pub fn last_issues(&self) -> [Option<u32>; 8]
         ensures { result ≡ self.now.core.slots.last }
     {
@@ -266,7 +266,7 @@ impl Core {
     }
 
     /// The same as `slot_where`, and which threads were able right before the issue, who issued, and what it took. It goes through all
-    /// phases also where the core is known to be quiet.
+    /// phases, also where the core is known to be quiet. See docs/MACHINE.md.
     pub fn slot_told(
         &mut self,
         arrives: bool,

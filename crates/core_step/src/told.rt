@@ -4,7 +4,7 @@ ghost use Rattle.core_step.specs.Told.{IsTold};
 
 use processor::{NextIssue, Processor};
 
-/// What of a node's threads is told of a slot, as they are right before its issue.
+/// What of a node's threads is told of a slot, as they are right before its issue. See docs/MACHINE.md.
 #[derive(Clone, Copy)]
 pub struct Told {
     /// The threads that may issue in the slot but for the four slots of rest that lie between two issues of one thread: bit k for

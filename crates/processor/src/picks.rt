@@ -14,7 +14,7 @@ use core_units::Units;
 use core_waits::{Able, taken};
 use event_unit::Choice;
 
-/// Who issues in a slot, and what it takes.
+/// Who issues in a slot, and what it takes. See docs/MACHINE.md.
 #[derive(Clone, Copy)]
 pub struct NextIssue {
     /// The thread, 0 to 7.

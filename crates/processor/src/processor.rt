@@ -60,14 +60,14 @@ impl Processor {
         &self.units
     }
 
-    /// The threads, by number.
+    /// The threads, by number. It takes no memory. See docs/MACHINE.md.
     pub fn threads(&self) -> &[Thread; 8]
         ensures { result.now ≡ self.now.threads }
     {
         threads(&self.units)
     }
 
-    /// The slot in which each thread, by number, issued last: None exactly where it never did.
+    /// The slot in which each thread, by number, issued last: None exactly where it never did. It takes no memory. See docs/MACHINE.md.
     pub fn last_issues(&self) -> [Option<u32>; 8]
         ensures { result ≡ self.now.slots.last }
     {

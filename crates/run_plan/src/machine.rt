@@ -120,8 +120,8 @@ impl SerialMachine {
         Ok(())
     }
 
-    /// The same, with what is told of each node's threads in this slot, by position. The error is want of memory, and leaves the machine and
-    /// what was told as they were.
+    /// The same as `slot`, and what is told of each node's threads in this slot is put into `told`, by position, one place for each node. The
+    /// error is want of memory, and leaves the machine and `told` as they were. See docs/MACHINE.md.
     pub fn slot_told(&mut self, told: &mut [Told]) -> Result<(), AllocError>
         requires now { self.old.now < 2 ^ 32 - 1 }
         requires nodes { length told.old ≡ length self.old.plan.nodes }
