@@ -1,0 +1,50 @@
+-- What is asked of the program and what it answers go together, whatever the words.
+use Rattle.std.proofs.Common.{◌≡◌, ℕ, ◌+◌, ◌<◌, true, false, min, List, length, take, Option, Some, None, Result, Ok, Err, IfOk, refl, ap, ◌∙◌, arith}
+use Rattle.answer_model.specs.declared.Answer.{Answer}
+use Rattle.answer_model.specs.declared.Status.TheVariants as status
+use Rattle.answer_model.specs.OnSystem.{answer_to}
+use Rattle.answer_model.specs.Refusals.{frame_text}
+use Rattle.system_model.specs.declared.SysKind.TheVariants.{TooLong}
+use Rattle.system_model.specs.System.{longest_input, system_of}
+use Rattle.program_calls.specs.Asked.{IsCoherent, IsFormStatus}
+use Rattle.system_answers.proofs.Statuses.{answer_to-status}
+use Rattle.system_answers.proofs.Taken.{of_taken, system_of-long}
+use Rattle.look_model.specs.declared.LookForm.{LookForm}
+use Rattle.look_model.specs.declared.LookForm.TheVariants.{States}
+use Rattle.look_model.specs.States.{states_text}
+use Rattle.look_model.specs.Words.{look_form}
+use Rattle.look_model.specs.Answers.{states_answer, look_by}
+use Rattle.xs1_look_top.specs.Asked.{asked_by, asked_of}
+
+-- what each form answers to the bytes taken is what it answers to the input
+look_by-taken : (form : LookForm) (input : List ℕ) → look_by form (take (min (length input) (longest_input + 1)) input) ≡ look_by form input
+look_by-taken (States slots) input =
+    of_taken (states_answer slots) longest_input (record { text = frame_text 0 TooLong; status = status.SystemFault }) (λ text h. ap (answer_to (states_text text slots)) (system_of-long text h)) input
+
+look_by-status : (form : LookForm) (input : List ℕ) → IsFormStatus (look_by form input).status
+look_by-status (States slots) input = answer_to-status (states_text input slots) (system_of input)
+
+coherent_by : (form : Option LookForm) → IsCoherent (asked_by form)
+coherent_by None = record {
+  enough = λ input. refl;
+  form_status = λ some. absurd (some refl);
+  refused = λ none input. refl;
+  unasked = λ none. refl;
+  nothing = λ _. refl;
+  some = λ asks. let apart : false ≡ true = asks in absurd cc;
+  reads = λ asks. let apart : false ≡ true = asks in absurd cc;
+  some_reads = omega arith;
+}
+coherent_by (Some form) = record {
+  enough = look_by-taken form;
+  form_status = λ some. look_by-status form;
+  refused = λ none. let apart : Some form ≡ None = none in absurd cc;
+  unasked = λ none. let apart : Some form ≡ None = none in absurd cc;
+  nothing = λ asks. let apart : true ≡ false = asks in absurd cc;
+  some = λ asks. omega arith;
+  reads = λ asks. refl;
+  some_reads = omega arith;
+}
+
+pub coherent : (words : List (List ℕ)) → IsCoherent (asked_of words)
+coherent words = coherent_by (look_form words)

@@ -1,0 +1,10 @@
+//! The one call of `xs1_look`: the words choose a form, which answers to the input, and the answer is written. See docs/LOOK.md.
+#![tactic(auto)]
+
+mod call;
+mod program;
+mod states;
+mod words;
+
+pub use answer_model::Status;
+pub use call::look;
