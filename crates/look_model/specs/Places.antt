@@ -38,9 +38,9 @@ label_text pc (Some label) = codes " " ++ (label.0 ++ distance_text (pc - label.
 abbrev pub line_at : List ℕ → Word → ℕ
 line_at lines pc = slice_index_or lines ((pc - code_start) / 4) 0
 
--- ` line L LABEL+D: INSTRUCTION`, or `: no instruction`
+-- ` line L LABEL+D: INSTRUCTION`, or ` LABEL+D: no instruction`
 abbrev pub standing_text : List ℕ → ImageRec → Word → Option Instr → List ℕ
-standing_text lines image pc None = codes ": no instruction"
+standing_text lines image pc None = label_text pc (last_label pc image.symbols) ++ codes ": no instruction"
 standing_text lines image pc (Some ins) =
     codes " line " ++ (decimal (line_at lines pc) ++ (label_text pc (last_label pc image.symbols) ++ (codes ": " ++ statement_text image.symbols (spelling ins))))
 

@@ -67,10 +67,25 @@ abbrev pub clock_text : List ClockState → Clock → List ℕ
 clock_text clocks Reference = []
 clock_text clocks (Block k) = codes ", clock block " ++ (decimal k ++ stopped_text (slice_get clocks k))
 
--- `, time T`
-abbrev pub time_text : Option ℕ → List ℕ
-time_text None = []
-time_text (Some time) = codes ", time " ++ decimal time
+-- In how many edges a port's counter stands at a time. The edge that puts out has counted before, so for an output it is one at least.
+abbrev pub edges_to_sample : ℕ → ℕ → ℕ
+edges_to_sample counter time = (time + (2 ^ 16 - counter)) % 2 ^ 16
+
+abbrev pub edges_to_output : ℕ → ℕ → ℕ
+edges_to_output counter time = (time + (2 ^ 16 - 1 - counter)) % 2 ^ 16 + 1
+
+-- `, time T in E edges`
+abbrev pub timed_text : ℕ → ℕ → List ℕ
+timed_text time edges = codes ", time " ++ (decimal time ++ (codes " in " ++ (decimal edges ++ codes " edges")))
+
+-- for an input, and for an output
+abbrev pub sample_time : ℕ → Option ℕ → List ℕ
+sample_time counter None = []
+sample_time counter (Some time) = timed_text time (edges_to_sample counter time)
+
+abbrev pub output_time : ℕ → Option ℕ → List ℕ
+output_time counter None = []
+output_time counter (Some time) = timed_text time (edges_to_output counter time)
 
 -- `, value V` or `, value not V`
 abbrev pub condition_text : Condition → Word → List ℕ
@@ -87,13 +102,23 @@ transfer_time (Some transfer) = transfer.time
 abbrev pub counter_text : List ClockState → PortState → List ℕ
 counter_text clocks port = codes ": counter " ++ (decimal port.counter ++ clock_text clocks port.clock)
 
--- `port P`, with what it waits for before it takes a sample
+-- `, data there`, where data waits to be taken
+abbrev pub data_text : Option Transfer → List ℕ
+data_text None = []
+data_text (Some transfer) = codes ", data there"
+
+-- what a port waits for before it takes a sample, and whether it has one; or `, output`, where its direction is that
+abbrev pub sample_text : PortState → List ℕ
+sample_text port =
+    if port.output then codes ", output"
+    else sample_time port.counter port.time ++ (condition_text port.condition port.value ++ data_text port.tr)
+
+-- `port P`, with that
 abbrev pub input_port_text : List ClockState → PortNumber → Option PortState → List ℕ
 input_port_text clocks p None = codes "a port"
-input_port_text clocks p (Some port) =
-    codes "port " ++ (port_name p ++ (counter_text clocks port ++ (time_text port.time ++ condition_text port.condition port.value)))
+input_port_text clocks p (Some port) = codes "port " ++ (port_name p ++ (counter_text clocks port ++ sample_text port))
 
 -- `port P`, with the time that its output waits for
 abbrev pub output_port_text : List ClockState → PortNumber → Option PortState → List ℕ
 output_port_text clocks p None = codes "a port"
-output_port_text clocks p (Some port) = codes "port " ++ (port_name p ++ (counter_text clocks port ++ time_text (transfer_time port.tr)))
+output_port_text clocks p (Some port) = codes "port " ++ (port_name p ++ (counter_text clocks port ++ output_time port.counter (transfer_time port.tr)))

@@ -11,17 +11,17 @@ use Rattle.sys_plan.specs.declared.NodePlan.{NodePlan}
 use Rattle.sys_plan.specs.Plan.{PlanRec}
 use Rattle.trace_model.specs.Trace.{by_position, end_line}
 use Rattle.look_model.specs.Waits.{thread_name, threads_lines}
-use Rattle.look_model.specs.Network.{end_lines, input_name, input_lines}
+use Rattle.look_model.specs.Network.{end_lines, input_name, input_lines, chan_lines}
 use Rattle.look_model.specs.WaitGraph.{waiters, wait_graph}
 use Rattle.circle_search.specs.Circles.{circle_of}
 use Rattle.system_model.specs.CodeLines.{code_lines_of_text}
 
 -- ---- A node
 
--- its threads, its link ends and the inputs of its switch; its instructions are of these lines
+-- its threads, its link ends, the inputs of its switch and its channel ends; its instructions are of these lines
 abbrev pub node_lines : PlanRec → Slot → Position → NodePlan → List ℕ → NodeState → List ℕ
 node_lines plan slot n node lines state =
-    threads_lines node lines slot state ++ (end_lines plan n node state ++ input_lines node state)
+    threads_lines node lines slot state ++ (end_lines plan n node state ++ (input_lines node state ++ chan_lines node state))
 
 -- of the node at a position, as it was kept
 abbrev pub kept_lines : PlanRec → Slot → Position → NodePlan → List ℕ → Option SnapNode → List ℕ

@@ -9,13 +9,17 @@ use Rattle.xs_model.specs.declared.thread.TheConstants.{DIVISION_SLOTS}
 use Rattle.xs_model.specs.declared.thread.Thread.{Thread}
 use Rattle.xs_model.specs.declared.thread.Wait.{Wait}
 use Rattle.xs_model.specs.declared.thread.Wait.TheVariants.{Room, Tokens, PortFull, PortEmpty, PortIdle, Timer, Lock, Slaves, Choice, Divider}
+use Rattle.xs_model.specs.declared.status.Status.{Status}
+use Rattle.xs_model.specs.declared.status.TheConstants.{EEBLE, IEBLE}
 use Rattle.xs_model.specs.Masks.{in_mask}
+use Rattle.xs_model.specs.Status.{has_bits}
 use Rattle.xs_model.specs.Waits.{is_in}
 use Rattle.sync_locks.specs.declared.state.LockState.{LockState}
 use Rattle.sync_locks.specs.declared.state.SyncState.{SyncState}
 use Rattle.event_unit.specs.declared.state.EnableState.{EnableState}
 use Rattle.core_step.specs.declared.node_state.NodeState.{NodeState}
 use Rattle.sys_plan.specs.declared.NodePlan.{NodePlan}
+use Rattle.trace_model.specs.EventLines.{hex_word}
 use Rattle.trace_model.specs.Trace.{by_position}
 use Rattle.look_model.specs.Places.{place_text}
 use Rattle.look_model.specs.Resources.{chan_name, output_count, input_count, timer_name, sync_name, lock_name, moment_text, input_port_text, output_port_text}
@@ -71,7 +75,8 @@ owner_text (Some k) = codes ", which " ++ (thread_name k ++ codes " owns")
 
 -- the slaves that a master waits for
 abbrev pub missing_text : List ThreadNumber → List ℕ
-missing_text threads = codes ", whose slaves are not in:" ++ thread_names threads
+missing_text [] = codes ", whose slaves are all in"
+missing_text (k ∷ threads) = codes ", whose slaves are not in:" ++ thread_names (k ∷ threads)
 
 -- the master that a slave waits for
 abbrev pub master_text : Option (ℕ × SyncState) → List ℕ
@@ -115,13 +120,22 @@ is_by k (Some other) = other == k
 abbrev pub gives_text : EnableState → List ℕ
 gives_text enable = if enable.interrupt then codes "  interrupt: " else codes "  event: "
 
--- the line of a resource, where the thread has enabled it, which is told so
-abbrev pub enabled_line : ThreadNumber → EnableState → List ℕ → List ℕ
-enabled_line k enable told = if is_by k enable.by then gives_text enable ++ (told ++ codes "\n") else []
+-- whether a thread with this status takes it
+abbrev pub is_let_in : Status → EnableState → Bool
+is_let_in sr enable = if enable.interrupt then has_bits sr IEBLE else has_bits sr EEBLE
+
+-- the end of its line
+abbrev pub let_in_text : Bool → List ℕ
+let_in_text is_in = if is_in then codes "\n" else codes ", not let in\n"
+
+-- the line of a resource, where the thread with this status has enabled it, which is told so
+abbrev pub enabled_line : ThreadNumber → Status → EnableState → List ℕ → List ℕ
+enabled_line k sr enable told =
+    if is_by k enable.by then gives_text enable ++ (told ++ let_in_text (is_let_in sr enable)) else []
 
 -- the lines of those resources of a kind
-abbrev pub enabled_lines : (ℕ → List ℕ) → ThreadNumber → List EnableState → List ℕ
-enabled_lines tells k enables = by_position (λ n enable. enabled_line k enable (tells n)) 0 enables
+abbrev pub enabled_lines : (ℕ → List ℕ) → ThreadNumber → Status → List EnableState → List ℕ
+enabled_lines tells k sr enables = by_position (λ n enable. enabled_line k sr enable (tells n)) 0 enables
 
 -- a channel end, a timer and a port as what may give an event
 abbrev pub chan_tells : NodeId → NodeState → ℕ → List ℕ
@@ -134,15 +148,10 @@ abbrev pub port_tells : NodeState → ℕ → List ℕ
 port_tells state p = input_port_text state.clocks p (slice_get state.ports p)
 
 -- all that a thread has enabled
-abbrev pub all_enabled : NodeId → Slot → NodeState → ThreadNumber → List ℕ
-all_enabled id slot state k =
-    enabled_lines (chan_tells id state) k state.chan_enables
-    ++ (enabled_lines (timer_tells slot state) k state.timer_enables ++ enabled_lines (port_tells state) k state.port_enables)
-
--- it is told of a thread that waits for an event
-abbrev pub events_text : NodeId → Slot → NodeState → ThreadNumber → Wait → List ℕ
-events_text id slot state k Choice = all_enabled id slot state k
-events_text id slot state k _ = []
+abbrev pub all_enabled : NodeId → Slot → NodeState → ThreadNumber → Status → List ℕ
+all_enabled id slot state k sr =
+    enabled_lines (chan_tells id state) k sr state.chan_enables
+    ++ (enabled_lines (timer_tells slot state) k sr state.timer_enables ++ enabled_lines (port_tells state) k sr state.port_enables)
 
 -- ---- The lines of a thread
 
@@ -154,17 +163,23 @@ run_text Going = codes " going"
 run_text (Paused wait) = codes " paused"
 run_text Halted = codes " halted"
 
--- what a paused thread waits for
-abbrev pub pause_lines : NodeId → Slot → NodeState → ThreadNumber → Wait → List ℕ
-pause_lines id slot state k wait =
-    codes "  waits for " ++ (wait_text id slot state wait ++ (codes "\n" ++ events_text id slot state k wait))
+-- what a paused thread waits for, and the events and interrupts that may end its pause
+abbrev pub pause_lines : NodeId → Slot → NodeState → ThreadNumber → Status → Wait → List ℕ
+pause_lines id slot state k sr wait =
+    codes "  waits for " ++ (wait_text id slot state wait ++ (codes "\n" ++ all_enabled id slot state k sr))
 
--- the lines below that of a thread: what it waits for
-abbrev pub run_lines : NodeId → Slot → NodeState → ThreadNumber → Run → List ℕ
-run_lines id slot state k Unstarted = codes "  waits for the start by" ++ (master_text (sync_of state k) ++ codes "\n")
-run_lines id slot state k AtSync = codes "  waits for" ++ (master_text (sync_of state k) ++ codes "\n")
-run_lines id slot state k (Paused wait) = pause_lines id slot state k wait
-run_lines id slot state k _ = []
+-- the trap by which a thread halted: where it came
+abbrev pub trap_line : NodePlan → List ℕ → Thread → List ℕ
+trap_line node lines th =
+    codes "  by trap " ++ (decimal th.et ++ (codes " data " ++ (hex_word th.ed ++ (place_text lines node.image th.spc ++ codes "\n"))))
+
+-- the lines below that of a thread
+abbrev pub run_lines : NodePlan → List ℕ → Slot → NodeState → ThreadNumber → Thread → Run → List ℕ
+run_lines node lines slot state k th Unstarted = codes "  waits for the start by" ++ (master_text (sync_of state k) ++ codes "\n")
+run_lines node lines slot state k th AtSync = codes "  waits for" ++ (master_text (sync_of state k) ++ codes "\n")
+run_lines node lines slot state k th (Paused wait) = pause_lines node.id slot state k th.sr wait
+run_lines node lines slot state k th Halted = trap_line node lines th
+run_lines node lines slot state k th _ = []
 
 abbrev pub is_free : Run → Bool
 is_free Free = true
@@ -175,7 +190,7 @@ abbrev pub thread_lines : NodePlan → List ℕ → Slot → NodeState → Threa
 thread_lines node lines slot state k th =
     if is_free th.run then []
     else codes "n" ++ (decimal node.number ++ (codes "." ++ (thread_name k ++ (run_text th.run ++ (place_text lines node.image th.pc
-    ++ (codes "\n" ++ run_lines node.id slot state k th.run))))))
+    ++ (codes "\n" ++ run_lines node lines slot state k th th.run))))))
 
 -- of all threads
 abbrev pub threads_lines : NodePlan → List ℕ → Slot → NodeState → List ℕ

@@ -1,13 +1,16 @@
 //! What the network of a node holds.
-ghost use Rattle.std.specs.Prelude.{◌≡◌, ◌<◌, ◌++◌, Option, OnOk, length, slice_get};
+ghost use Rattle.std.specs.Prelude.{◌≡◌, ◌<◌, ◌++◌, Option, OnOk, length, slice_get, codes, decimal};
+ghost use Rattle.std.specs.List.{list_any};
+ghost use Rattle.net_model.specs.Switch.{ends_packet};
 ghost use Rattle.trace_model.specs.Trace.{by_position, number_at};
-ghost use Rattle.look_model.specs.Network.{other_end, to_text, has_tokens, end_text, end_line, input_name, buffer_count, waiting, waiting_text, input_text, is_idle, input_line};
+ghost use Rattle.look_model.specs.Network.{other_end, to_text, has_tokens, end_text, end_line, input_name, buffer_count, buffer_tokens, output_tokens, tokens_at, ending_text, held_text, holds_tokens, waiting_text, chan_line, chan_text, input_text, is_idle, input_line};
 
 use crate::phrases::{
-    a_packet_into, a_packet_to, first_header_byte, lost_packet, no_end_yet, second_header_byte,
-    tokens_wait, tokens_wait_and, waits_for_a_way, without_credit,
+    a_packet_into, a_packet_to, end_waits, first_header_byte, looks_for_a_way, lost_packet,
+    no_end_yet, second_header_byte, to_be_taken, tokens_wait, tokens_wait_and, without_credit,
 };
-use crate::resources::{append_chan_name, output_count};
+use crate::resources::append_chan_name;
+use chan_ends::ChanState;
 use core_step::NodeState;
 use decimal_text::append_decimal;
 use line_text::append_hex_word;
@@ -15,8 +18,8 @@ use link_ends::EndState;
 use std::alloc::AllocError;
 use switch_routes::InputState;
 use sys_plan::{LinkPlan, NodePlan, Plan};
-use xs_base::Text;
-use xs_base::numbers::LINK_ENDS;
+use xs_base::numbers::{END, LINK_ENDS, PAUSE};
+use xs_base::{Text, Token};
 
 // ---- Link ends
 
@@ -115,6 +118,61 @@ fn number_at(nodes: &[NodePlan], n: u8) -> u8
     }
 }
 
+// ---- Channel ends
+
+/// The lines of the channel ends at which tokens wait to be taken. The error is want of memory.
+#[tactic(auto, unfolding(trace_model::specs::Trace::by_position))]
+pub(crate) fn append_chans(
+    out: &mut Text,
+    node: &NodePlan,
+    chans: &[ChanState; 32],
+) -> Result<(), AllocError>
+    ensures { OnOk result (out.new ≡ out.old ++ by_position (chan_line node.now) 0 chans.now) }
+{
+    for c in 0..32u8 {
+        append_chan(out, node, c, &chans[c as usize])?;
+    }
+    Ok(())
+}
+
+// The line of a channel end.
+fn append_chan(out: &mut Text, node: &NodePlan, c: u8, chan: &ChanState) -> Result<(), AllocError>
+    ensures { OnOk result (out.new ≡ out.old ++ chan_line node.now c chan.now) }
+{
+    if !holds_tokens(chan) {
+        return Ok(());
+    }
+    append_held_chan(out, node, c, chan.input.len() as u64)
+}
+
+// `nN channel end ID: H of 8 tokens wait to be taken`.
+fn append_held_chan(out: &mut Text, node: &NodePlan, c: u8, held: u64) -> Result<(), AllocError>
+    ensures { OnOk result (out.new ≡ out.old ++ chan_text node.now c held) }
+{
+    out.append(b"n")?;
+    append_decimal(out, u64::from(node.number))?;
+    out.append(b" ")?;
+    append_chan_name(out, node.id, c)?;
+    out.append(b": ")?;
+    append_held(out, held)?;
+    Ok(())
+}
+
+// Whether tokens wait at a channel end to be taken.
+fn holds_tokens(chan: &ChanState) -> bool
+    ensures { result ≡ holds_tokens chan.now }
+{
+    chan.input.len() > 0
+}
+
+// `H of 8 tokens wait to be taken`.
+fn append_held(out: &mut Text, held: u64) -> Result<(), AllocError>
+    ensures { OnOk result (out.new ≡ out.old ++ held_text held) }
+{
+    append_decimal(out, held)?;
+    out.append(to_be_taken())
+}
+
 // ---- Inputs of the switch
 
 /// `link E`, or `channel end ID`.
@@ -139,14 +197,34 @@ pub(crate) fn buffer_count(ends: &[EndState], end: u8) -> u64
     }
 }
 
-// How many tokens wait at an input.
-fn waiting(state: &NodeState, i: u8) -> u64
-    ensures { result ≡ waiting state.now i }
+// The tokens that wait at an input.
+fn tokens_at(state: &NodeState, i: u8) -> &[Token]
+    ensures { result.now ≡ tokens_at state.now i }
 {
     if i < LINK_ENDS {
-        buffer_count(&state.ends, i)
+        buffer_tokens(&state.ends, i)
     } else {
-        output_count(&state.chans, i - LINK_ENDS)
+        output_tokens(&state.chans, i - LINK_ENDS)
+    }
+}
+
+// Those that wait at a link end.
+fn buffer_tokens(ends: &[EndState], end: u8) -> &[Token]
+    ensures { result.now ≡ buffer_tokens (slice_get ends.now end) }
+{
+    match ends.get(end as usize) {
+        None => &[],
+        Some(end) => end.buffer.as_slice(),
+    }
+}
+
+// Those that wait at a channel end to be sent.
+fn output_tokens(chans: &[ChanState], c: u8) -> &[Token]
+    ensures { result.now ≡ output_tokens (slice_get chans.now c) }
+{
+    match chans.get(c as usize) {
+        None => &[],
+        Some(chan) => chan.output.as_slice(),
     }
 }
 
@@ -185,16 +263,45 @@ fn append_input(
     append_input_name(out, node.id, i)?;
     out.append(b": ")?;
     append_work(out, node.id, now)?;
-    append_waiting(out, state, i)
+    append_waiting(out, tokens_at(state, i))
 }
 
-// `, W tokens wait`.
-fn append_waiting(out: &mut Text, state: &NodeState, i: u8) -> Result<(), AllocError>
-    ensures { OnOk result (out.new ≡ out.old ++ waiting_text state.now i) }
+// `, no END yet, W tokens wait`.
+fn append_waiting(out: &mut Text, tokens: &[Token]) -> Result<(), AllocError>
+    ensures { OnOk result (out.new ≡ out.old ++ (ending_text tokens.now ++ (codes ", " ++ (decimal (length tokens.now) ++ codes " tokens wait\n")))) }
 {
+    append_ending(out, tokens)?;
     out.append(b", ")?;
-    append_decimal(out, waiting(state, i))?;
+    append_decimal(out, tokens.len() as u64)?;
     out.append(tokens_wait())
+}
+
+// `, END waits`, or `, no END yet`.
+fn append_ending(out: &mut Text, tokens: &[Token]) -> Result<(), AllocError>
+    ensures { OnOk result (out.new ≡ out.old ++ ending_text tokens.now) }
+{
+    if has_end(tokens) {
+        out.append(end_waits())
+    } else {
+        out.append(no_end_yet())
+    }
+}
+
+// Whether one of some tokens ends a packet.
+fn has_end(tokens: &[Token]) -> bool
+    ensures { result ≡ list_any ends_packet tokens.now }
+{
+    tokens.iter().any(|token| ends_packet(*token))
+}
+
+// Whether a token ends a packet.
+fn ends_packet(token: Token) -> bool
+    ensures { result ≡ ends_packet token }
+{
+    match token {
+        Token::Byte(_) => false,
+        Token::Ctrl(c) => c == END || c == PAUSE,
+    }
 }
 
 // Whether an input is at nothing.
@@ -215,20 +322,18 @@ fn append_work(out: &mut Text, id: u16, now: InputState) -> Result<(), AllocErro
         InputState::Want { dest, net } => {
             out.append(a_packet_to())?;
             append_hex_word(out, dest)?;
-            out.append(waits_for_a_way())?;
+            out.append(looks_for_a_way())?;
             append_decimal(out, u64::from(net))
         }
         InputState::Local { chan } => {
             out.append(a_packet_into())?;
-            append_chan_name(out, id, chan)?;
-            out.append(no_end_yet())
+            append_chan_name(out, id, chan)
         }
         InputState::Out { end, dest, .. } => {
             out.append(a_packet_to())?;
             append_hex_word(out, dest)?;
             out.append(b" by link ")?;
-            append_decimal(out, u64::from(end))?;
-            out.append(no_end_yet())
+            append_decimal(out, u64::from(end))
         }
         InputState::Lost => out.append(lost_packet()),
     }

@@ -4,7 +4,7 @@ ghost use Rattle.trace_model.specs.Trace.{by_position};
 ghost use Rattle.look_model.specs.Waits.{thread_lines};
 ghost use Rattle.look_model.specs.States.{node_lines};
 
-use crate::network::{append_ends, append_inputs};
+use crate::network::{append_chans, append_ends, append_inputs};
 use crate::runs::append_thread;
 use core_step::NodeState;
 use std::alloc::{AllocError, Global};
@@ -39,7 +39,8 @@ pub(crate) fn append_node(
         &state.threads,
     )?;
     append_ends(out, plan, n, node, &state.ends)?;
-    append_inputs(out, node, state, &state.inputs)
+    append_inputs(out, node, state, &state.inputs)?;
+    append_chans(out, node, &state.chans)
 }
 
 // The lines of its threads.

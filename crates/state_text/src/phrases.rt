@@ -43,10 +43,10 @@ pub(crate) fn a_packet_into() -> &'static [u8]
     b"a packet into "
 }
 
-pub(crate) fn waits_for_a_way() -> &'static [u8]
-    ensures { result.now ≡ codes " waits for a way on network " }
+pub(crate) fn looks_for_a_way() -> &'static [u8]
+    ensures { result.now ≡ codes " looks for a way on network " }
 {
-    b" waits for a way on network "
+    b" looks for a way on network "
 }
 
 pub(crate) fn no_end_yet() -> &'static [u8]
@@ -56,9 +56,9 @@ pub(crate) fn no_end_yet() -> &'static [u8]
 }
 
 pub(crate) fn lost_packet() -> &'static [u8]
-    ensures { result.now ≡ codes "a lost packet, no END yet" }
+    ensures { result.now ≡ codes "a lost packet" }
 {
-    b"a lost packet, no END yet"
+    b"a lost packet"
 }
 
 pub(crate) fn tokens_wait() -> &'static [u8]
@@ -137,4 +137,34 @@ pub(crate) fn waits_for() -> &'static [u8]
     ensures { result.now ≡ codes "  waits for " }
 {
     b"  waits for "
+}
+
+pub(crate) fn data_there() -> &'static [u8]
+    ensures { result.now ≡ codes ", data there" }
+{
+    b", data there"
+}
+
+pub(crate) fn all_in() -> &'static [u8]
+    ensures { result.now ≡ codes ", whose slaves are all in" }
+{
+    b", whose slaves are all in"
+}
+
+pub(crate) fn not_let_in() -> &'static [u8]
+    ensures { result.now ≡ codes ", not let in\n" }
+{
+    b", not let in\n"
+}
+
+pub(crate) fn end_waits() -> &'static [u8]
+    ensures { result.now ≡ codes ", END waits" }
+{
+    b", END waits"
+}
+
+pub(crate) fn to_be_taken() -> &'static [u8]
+    ensures { result.now ≡ codes " of 8 tokens wait to be taken\n" }
+{
+    b" of 8 tokens wait to be taken\n"
 }

@@ -1,5 +1,5 @@
 //! Where a thread is.
-ghost use Rattle.std.specs.Prelude.{◌≡◌, ◌≤◌, ◌<◌, ◌++◌, Some, length, option_map, IfSome, OnOk};
+ghost use Rattle.std.specs.Prelude.{◌≡◌, ◌≤◌, ◌<◌, ◌++◌, Some, codes, length, option_map, IfSome, OnOk};
 ghost use Rattle.xs_instructions.specs.Code.{code_at};
 ghost use Rattle.xs_instructions.specs.Image.{symbol_of_pair, symbol_at};
 ghost use Rattle.look_model.specs.Places.{later_label, last_label, label_text, distance_text, line_at, standing_text, place_text};
@@ -27,9 +27,17 @@ pub(crate) fn append_place(
     out.append(b" at ")?;
     append_hex_word(out, pc)?;
     match image.at(pc) {
-        None => out.append(no_instruction()),
+        None => append_nothing(out, image, pc),
         Some(ins) => append_standing(out, image, printer, lines, pc, ins),
     }
+}
+
+// ` LABEL+D: no instruction`.
+fn append_nothing(out: &mut Text, image: &Image, pc: u32) -> Result<(), AllocError>
+    ensures { OnOk result (out.new ≡ out.old ++ (label_text pc (last_label pc image.now.symbols) ++ codes ": no instruction")) }
+{
+    append_last_label(out, image, pc)?;
+    out.append(no_instruction())
 }
 
 // ` line L LABEL+D: INSTRUCTION`.

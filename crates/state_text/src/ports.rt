@@ -1,8 +1,8 @@
 //! Ports, with what they wait for.
 ghost use Rattle.std.specs.Prelude.{◌≡◌, ◌<◌, ◌++◌, Option, Some, OnOk, slice_get};
-ghost use Rattle.look_model.specs.Resources.{stopped_text, clock_text, time_text, condition_text, counter_text, input_port_text, output_port_text, transfer_time};
+ghost use Rattle.look_model.specs.Resources.{stopped_text, clock_text, condition_text, counter_text, data_text, edges_to_output, edges_to_sample, input_port_text, output_port_text, output_time, sample_text, sample_time, timed_text, transfer_time};
 
-use crate::phrases::{clock_block, value_not};
+use crate::phrases::{clock_block, data_there, value_not};
 use decimal_text::append_decimal;
 use line_text::{append_hex_word, append_port_name};
 use single_port::{Condition, PortState, Transfer};
@@ -39,8 +39,29 @@ fn append_input(
     out.append(b"port ")?;
     append_port_name(out, p)?;
     append_counter(out, clocks, port)?;
-    append_time(out, port.time)?;
-    append_condition(out, port.condition, port.value)
+    append_sample(out, port)
+}
+
+// What it waits for before it takes a sample, and whether it has one.
+fn append_sample(out: &mut Text, port: &PortState) -> Result<(), AllocError>
+    ensures { OnOk result (out.new ≡ out.old ++ sample_text port.now) }
+{
+    if port.output {
+        return out.append(b", output");
+    }
+    append_sample_time(out, port.counter, port.time)?;
+    append_condition(out, port.condition, port.value)?;
+    append_data(out, &port.tr)
+}
+
+// `, data there`, where data waits to be taken.
+fn append_data(out: &mut Text, transfer: &Option<Transfer>) -> Result<(), AllocError>
+    ensures { OnOk result (out.new ≡ out.old ++ data_text transfer.now) }
+{
+    match transfer {
+        None => Ok(()),
+        Some(_) => out.append(data_there()),
+    }
 }
 
 /// A port, with the time that its output waits for.
@@ -71,7 +92,7 @@ fn append_output(
     out.append(b"port ")?;
     append_port_name(out, p)?;
     append_counter(out, clocks, port)?;
-    append_time(out, transfer_time(&port.tr))
+    append_output_time(out, port.counter, transfer_time(&port.tr))
 }
 
 // The time that an output waits for.
@@ -117,17 +138,49 @@ fn append_stopped(out: &mut Text, clocks: &[ClockState], k: u8) -> Result<(), Al
     }
 }
 
-// `, time T`.
-fn append_time(out: &mut Text, time: Option<u16>) -> Result<(), AllocError>
-    ensures { OnOk result (out.new ≡ out.old ++ time_text time) }
+// The time at which an input samples.
+fn append_sample_time(out: &mut Text, counter: u16, time: Option<u16>) -> Result<(), AllocError>
+    ensures { OnOk result (out.new ≡ out.old ++ sample_time counter time) }
 {
     match time {
         None => Ok(()),
-        Some(time) => {
-            out.append(b", time ")?;
-            append_decimal(out, u64::from(time))
-        }
+        Some(time) => append_timed(out, time, edges_to_sample(counter, time)),
     }
+}
+
+// That at which an output goes out.
+fn append_output_time(out: &mut Text, counter: u16, time: Option<u16>) -> Result<(), AllocError>
+    ensures { OnOk result (out.new ≡ out.old ++ output_time counter time) }
+{
+    match time {
+        None => Ok(()),
+        Some(time) => append_timed(out, time, edges_to_output(counter, time)),
+    }
+}
+
+// `, time T in E edges`.
+fn append_timed(out: &mut Text, time: u16, edges: u32) -> Result<(), AllocError>
+    ensures { OnOk result (out.new ≡ out.old ++ timed_text time edges) }
+{
+    out.append(b", time ")?;
+    append_decimal(out, u64::from(time))?;
+    out.append(b" in ")?;
+    append_decimal(out, u64::from(edges))?;
+    out.append(b" edges")
+}
+
+// In how many edges the counter stands at a time.
+fn edges_to_sample(counter: u16, time: u16) -> u32
+    ensures { result ≡ edges_to_sample counter time }
+{
+    (u32::from(time) + (65_536 - u32::from(counter))) % 65_536
+}
+
+// The same where the edge that puts out has counted before.
+fn edges_to_output(counter: u16, time: u16) -> u32
+    ensures { result ≡ edges_to_output counter time }
+{
+    (u32::from(time) + (65_535 - u32::from(counter))) % 65_536 + 1
 }
 
 // `, value V` or `, value not V`.

@@ -1,6 +1,6 @@
 //! The lines of a thread.
 ghost use Rattle.std.specs.Prelude.{◌≡◌, ◌<◌, ◌++◌, OnOk, codes};
-ghost use Rattle.look_model.specs.Waits.{run_text, run_lines, pause_lines, events_text, thread_lines, is_free};
+ghost use Rattle.look_model.specs.Waits.{run_text, run_lines, pause_lines, trap_line, thread_lines, is_free};
 
 use crate::enabled::append_enabled;
 use crate::phrases::{waits_for, waits_for_it, waits_for_the_start};
@@ -9,10 +9,11 @@ use crate::seen::sync_of;
 use crate::waits::{append_master, append_thread_name, append_wait};
 use core_step::NodeState;
 use decimal_text::append_decimal;
+use line_text::append_hex_word;
 use std::alloc::{AllocError, Global};
 use sys_plan::NodePlan;
 use xs_base::Text;
-use xs_model::{Run, Thread, Wait};
+use xs_model::{Run, Status, Thread, Wait};
 use xs_printer::Printer;
 
 /// The line of a thread that is not free, and what it waits for. The error is want of memory.
@@ -41,7 +42,7 @@ pub(crate) fn append_thread(
     append_run(out, thread.run)?;
     append_place(out, &node.image, printer, lines, thread.pc)?;
     out.append(b"\n")?;
-    append_run_lines(alloc, out, node.id, slot, state, k, thread.run)
+    append_run_lines(alloc, out, node, printer, lines, slot, state, k, thread)
 }
 
 // Whether a thread is free.
@@ -69,16 +70,19 @@ fn append_run(out: &mut Text, run: Run) -> Result<(), AllocError>
 fn append_run_lines(
     alloc: Global,
     out: &mut Text,
-    id: u16,
+    node: &NodePlan,
+    printer: &Printer,
+    lines: &[u32],
     slot: u32,
     state: &NodeState,
     k: u8,
-    run: Run,
+    thread: &Thread,
 ) -> Result<(), AllocError>
-    requires { k < 8 }
-    ensures { OnOk result (out.new ≡ out.old ++ run_lines id slot state.now k run) }
+    requires number { k < 8 }
+    requires printer { printer.now ≡ node.now.image }
+    ensures { OnOk result (out.new ≡ out.old ++ run_lines node.now lines.now slot state.now k thread.now thread.now.run) }
 {
-    match run {
+    match thread.run {
         Run::Unstarted => {
             out.append(waits_for_the_start())?;
             append_master(out, sync_of(&state.syncs, k))?;
@@ -89,8 +93,9 @@ fn append_run_lines(
             append_master(out, sync_of(&state.syncs, k))?;
             out.append(b"\n")
         }
-        Run::Paused(wait) => append_pause(alloc, out, id, slot, state, k, wait),
-        Run::Free | Run::Going | Run::Halted => Ok(()),
+        Run::Paused(wait) => append_pause(alloc, out, node.id, slot, state, k, thread.sr, wait),
+        Run::Halted => append_trap(out, node, printer, lines, thread),
+        Run::Free | Run::Going => Ok(()),
     }
 }
 
@@ -102,29 +107,32 @@ fn append_pause(
     slot: u32,
     state: &NodeState,
     k: u8,
+    sr: Status,
     wait: Wait,
 ) -> Result<(), AllocError>
-    ensures { OnOk result (out.new ≡ out.old ++ pause_lines id slot state.now k wait) }
+    ensures { OnOk result (out.new ≡ out.old ++ pause_lines id slot state.now k sr wait) }
 {
     out.append(waits_for())?;
     append_wait(alloc, out, id, slot, state, wait)?;
     out.append(b"\n")?;
-    append_events(out, id, slot, state, k, wait)
+    append_enabled(out, id, slot, state, k, sr)
 }
 
-// What a thread that waits for an event has enabled.
-fn append_events(
+// The trap by which a thread halted.
+fn append_trap(
     out: &mut Text,
-    id: u16,
-    slot: u32,
-    state: &NodeState,
-    k: u8,
-    wait: Wait,
+    node: &NodePlan,
+    printer: &Printer,
+    lines: &[u32],
+    thread: &Thread,
 ) -> Result<(), AllocError>
-    ensures { OnOk result (out.new ≡ out.old ++ events_text id slot state.now k wait) }
+    requires printer { printer.now ≡ node.now.image }
+    ensures { OnOk result (out.new ≡ out.old ++ trap_line node.now lines.now thread.now) }
 {
-    match wait {
-        Wait::Choice => append_enabled(out, id, slot, state, k),
-        _ => Ok(()),
-    }
+    out.append(b"  by trap ")?;
+    append_decimal(out, u64::from(thread.et))?;
+    out.append(b" data ")?;
+    append_hex_word(out, thread.ed)?;
+    append_place(out, &node.image, printer, lines, thread.spc)?;
+    out.append(b"\n")
 }

@@ -2,7 +2,7 @@
 ghost use Rattle.std.specs.Prelude.{◌≡◌, ◌++◌, ◌∷◌, [], Some, codes, decimal, OnOk};
 ghost use Rattle.look_model.specs.Waits.{thread_name, thread_names, owner_text, missing_text, master_text, divider_slots, of_text, taken_text, wait_text};
 
-use crate::phrases::{another_thread, end_of_output, master_of, not_in, the_divider};
+use crate::phrases::{all_in, another_thread, end_of_output, master_of, not_in, the_divider};
 use crate::ports::{append_input_port, append_output_port};
 use crate::resources::{
     append_chan_name, append_lock_name, append_moment, append_sync_name, append_timer_name,
@@ -140,9 +140,19 @@ fn append_slaves(
     ensures { OnOk result (out.new ≡ out.old ++ wait_text 0 0 state.now (Wait.Slaves sync)) }
 {
     append_sync_name(out, sync)?;
-    out.append(not_in())?;
     let threads = missing(alloc, &state.threads, &state.syncs, sync)?;
-    append_thread_names(out, &threads)
+    append_missing(out, &threads)
+}
+
+// Those of them that are not in.
+fn append_missing(out: &mut Text, threads: &[u8]) -> Result<(), AllocError>
+    ensures { OnOk result (out.new ≡ out.old ++ missing_text threads.now) }
+{
+    if threads.is_empty() {
+        return out.append(all_in());
+    }
+    out.append(not_in())?;
+    append_thread_names(out, threads)
 }
 
 // The name of each thread behind a blank.
