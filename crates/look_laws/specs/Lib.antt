@@ -1,1 +1,4 @@
 pub mod Moments
+pub mod Kept
+pub mod Rules
+pub mod Circles

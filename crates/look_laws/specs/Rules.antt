@@ -1,0 +1,63 @@
+-- Who waits for whom, rule by rule.
+use Rattle.std.specs.Prelude.{ℕ, ◌≡◌, ◌+◌, ◌==◌, true, Some, None, List, [], ◌∷◌, slice_get}
+use Rattle.xs_base.specs.Numbers.{Position, ThreadNumber, EndNumber, InputNumber, ChanNumber}
+use Rattle.xs_base.specs.declared.numbers.TheConstants.{LINK_ENDS, BUFFER_TOKENS}
+use Rattle.xs_model.specs.declared.thread.Run.{Run}
+use Rattle.xs_model.specs.declared.thread.Run.TheVariants.{Free, Unstarted, AtSync, Going, Paused, Halted}
+use Rattle.xs_model.specs.declared.thread.Thread.{Thread}
+use Rattle.xs_model.specs.declared.thread.Wait.{Wait}
+use Rattle.xs_model.specs.declared.thread.Wait.TheVariants.{Room, Lock}
+use Rattle.link_ends.specs.declared.state.EndState.{EndState}
+use Rattle.switch_routes.specs.declared.state.InputState.TheVariants as input
+use Rattle.sync_locks.specs.declared.state.SyncState.{SyncState}
+use Rattle.snap_parts.specs.declared.node.SnapNode.{SnapNode}
+use Rattle.sys_plan.specs.declared.NodePlan.{NodePlan}
+use Rattle.sys_plan.specs.Plan.{PlanRec}
+use Rattle.circle_search.specs.Circles.{awaited}
+use Rattle.look_model.specs.Waits.{sync_of, owner}
+use Rattle.look_model.specs.Network.{other_end, buffer_count}
+use Rattle.look_model.specs.WaitGraph.{thread_at, input_at, wait_graph}
+use Rattle.look_laws.specs.Kept.{AreKept, IsThread, IsInput}
+
+-- a thread that is so waits for these alone
+abbrev pub ThreadWaitsFor : PlanRec → List SnapNode → Position → SnapNode → ThreadNumber → Run → List ℕ → Type 0
+ThreadWaitsFor plan snaps n snap k run others =
+    (th : Thread) → AreKept plan snaps → IsThread snaps n snap k th → th.run ≡ run → awaited (wait_graph plan snaps) (thread_at n k) ≡ others
+
+-- one that would own a lock waits for the thread that owns it
+abbrev pub LocksAreWaitedFor : Type 0
+LocksAreWaitedFor = (plan : PlanRec) (snaps : List SnapNode) (n : Position) (snap : SnapNode) (k : ThreadNumber) (lock : ℕ) (other : ThreadNumber) →
+    owner snap.state lock ≡ Some other → ThreadWaitsFor plan snaps n snap k (Paused (Lock lock)) (thread_at n other ∷ [])
+
+-- a slave that is unstarted, or at sync, waits for its master
+abbrev pub MastersAreWaitedFor : Run → Type 0
+MastersAreWaitedFor run = (plan : PlanRec) (snaps : List SnapNode) (n : Position) (snap : SnapNode) (k : ThreadNumber) (number : ℕ) (sync : SyncState) →
+    sync_of snap.state k ≡ Some (number, sync) → ThreadWaitsFor plan snaps n snap k run (thread_at n sync.master ∷ [])
+
+-- one that has no room at a channel end waits for the input that takes what waits there
+abbrev pub RoomIsWaitedFor : Type 0
+RoomIsWaitedFor = (plan : PlanRec) (snaps : List SnapNode) (n : Position) (snap : SnapNode) (k : ThreadNumber) (chan : ChanNumber) (count : ℕ) →
+    ThreadWaitsFor plan snaps n snap k (Paused (Room chan count)) (input_at n (LINK_ENDS + chan) ∷ [])
+
+-- one that is so waits for nobody
+abbrev pub WaitsForNobody : Run → Type 0
+WaitsForNobody run = (plan : PlanRec) (snaps : List SnapNode) (n : Position) (snap : SnapNode) (k : ThreadNumber) → ThreadWaitsFor plan snaps n snap k run []
+
+-- an input that holds a link end waits for the input at the other end of the link, where the buffer there is full
+abbrev pub FullBuffersAreWaitedFor : Type 0
+FullBuffersAreWaitedFor = (plan : PlanRec) (snaps : List SnapNode) (n : Position) (node : NodePlan) (snap : SnapNode) (i : InputNumber) (end : EndNumber) (count dest : ℕ)
+    (other : Position) (far : SnapNode) (far_end : EndNumber) →
+    AreKept plan snaps → IsInput plan snaps n node snap i (input.Out end count dest) → other_end plan.links n end ≡ Some (other, far_end) →
+    slice_get snaps other ≡ Some far → buffer_count (slice_get far.state.ends far_end) ≡ BUFFER_TOKENS →
+    awaited (wait_graph plan snaps) (input_at n i) ≡ input_at other far_end ∷ []
+
+-- for each rule of who waits for whom among threads of a node and at links
+pub record RulesAreKept : Type 0 where
+  pub locks : LocksAreWaitedFor
+  pub unstarted : MastersAreWaitedFor Unstarted
+  pub at_sync : MastersAreWaitedFor AtSync
+  pub room : RoomIsWaitedFor
+  pub free : WaitsForNobody Free
+  pub going : WaitsForNobody Going
+  pub halted : WaitsForNobody Halted
+  pub full : FullBuffersAreWaitedFor
