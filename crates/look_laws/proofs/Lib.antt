@@ -1,1 +1,3 @@
 pub mod Graph
+pub mod Places
+pub mod Members

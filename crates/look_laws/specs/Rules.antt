@@ -1,22 +1,26 @@
 -- Who waits for whom, rule by rule.
-use Rattle.std.specs.Prelude.{ℕ, ◌≡◌, ◌+◌, ◌==◌, true, Some, None, List, [], ◌∷◌, slice_get}
+use Rattle.std.specs.Prelude.{ℕ, ◌≡◌, ◌↔◌, ◌+◌, ◌/◌, true, false, Some, List, [], ◌∷◌, slice_get}
 use Rattle.xs_base.specs.Numbers.{Position, ThreadNumber, EndNumber, InputNumber, ChanNumber}
 use Rattle.xs_base.specs.declared.numbers.TheConstants.{LINK_ENDS, BUFFER_TOKENS}
 use Rattle.xs_model.specs.declared.thread.Run.{Run}
 use Rattle.xs_model.specs.declared.thread.Run.TheVariants.{Free, Unstarted, AtSync, Going, Paused, Halted}
 use Rattle.xs_model.specs.declared.thread.Thread.{Thread}
 use Rattle.xs_model.specs.declared.thread.Wait.{Wait}
-use Rattle.xs_model.specs.declared.thread.Wait.TheVariants.{Room, Lock}
-use Rattle.link_ends.specs.declared.state.EndState.{EndState}
+use Rattle.xs_model.specs.declared.thread.Wait.TheVariants.{Room, Lock, Slaves}
+use Rattle.xs_model.specs.Masks.{in_mask}
+use Rattle.xs_model.specs.Waits.{is_in}
+use Rattle.net_model.specs.Ways.{way_to}
+use Rattle.switch_routes.specs.declared.state.InputState.{InputState}
 use Rattle.switch_routes.specs.declared.state.InputState.TheVariants as input
 use Rattle.sync_locks.specs.declared.state.SyncState.{SyncState}
+use Rattle.core_step.specs.declared.node_state.NodeState.{NodeState}
 use Rattle.snap_parts.specs.declared.node.SnapNode.{SnapNode}
 use Rattle.sys_plan.specs.declared.NodePlan.{NodePlan}
 use Rattle.sys_plan.specs.Plan.{PlanRec}
-use Rattle.circle_search.specs.Circles.{awaited}
-use Rattle.look_model.specs.Waits.{sync_of, owner}
+use Rattle.circle_search.specs.Circles.{awaited, IsEdge}
+use Rattle.look_model.specs.Waits.{sync_of, owner, slaves_of}
 use Rattle.look_model.specs.Network.{other_end, buffer_count}
-use Rattle.look_model.specs.WaitGraph.{thread_at, input_at, wait_graph}
+use Rattle.look_model.specs.WaitGraph.{thread_at, input_at, holds_wanted, wait_graph}
 use Rattle.look_laws.specs.Kept.{AreKept, IsThread, IsInput}
 
 -- a thread that is so waits for these alone
@@ -43,6 +47,35 @@ RoomIsWaitedFor = (plan : PlanRec) (snaps : List SnapNode) (n : Position) (snap 
 abbrev pub WaitsForNobody : Run → Type 0
 WaitsForNobody run = (plan : PlanRec) (snaps : List SnapNode) (n : Position) (snap : SnapNode) (k : ThreadNumber) → ThreadWaitsFor plan snaps n snap k run []
 
+-- a thread that a master waits for, by its number: a slave of the synchroniser that is not in
+pub record IsMissingSlave (n : Position) (state : NodeState) (sync : ℕ) (v : ℕ) : Type 0 where
+  pub number : ThreadNumber
+  pub th : Thread
+  pub there : slice_get state.threads number ≡ Some th
+  pub is : v ≡ thread_at n number
+  pub slave : in_mask (slaves_of (slice_get state.syncs sync)) number ≡ true
+  pub out : is_in th.run ≡ false
+
+-- a master waits for each of them, and for no other
+abbrev pub SlavesAreWaitedFor : Type 0
+SlavesAreWaitedFor = (plan : PlanRec) (snaps : List SnapNode) (n : Position) (snap : SnapNode) (k : ThreadNumber) (th : Thread) (sync v : ℕ) →
+    AreKept plan snaps → IsThread snaps n snap k th → th.run ≡ Paused (Slaves sync) →
+    IsEdge (wait_graph plan snaps) (thread_at n k) v ↔ IsMissingSlave n snap.state sync v
+
+-- an input, by its number, that holds what a packet to a destination needs on the node
+pub record IsHolder (n : Position) (node : NodePlan) (state : NodeState) (dest net : ℕ) (v : ℕ) : Type 0 where
+  pub number : InputNumber
+  pub now : InputState
+  pub there : slice_get state.inputs number ≡ Some now
+  pub is : v ≡ input_at n number
+  pub holds : holds_wanted dest (way_to node.id node.ways node.nets net (dest / 65536)) now ≡ true
+
+-- an input whose packet waits for a way waits for each of them, and for no other
+abbrev pub WaysAreWaitedFor : Type 0
+WaysAreWaitedFor = (plan : PlanRec) (snaps : List SnapNode) (n : Position) (node : NodePlan) (snap : SnapNode) (i : InputNumber) (dest net v : ℕ) →
+    AreKept plan snaps → IsInput plan snaps n node snap i (input.Want dest net) →
+    IsEdge (wait_graph plan snaps) (input_at n i) v ↔ IsHolder n node snap.state dest net v
+
 -- an input that holds a link end waits for the input at the other end of the link, where the buffer there is full
 abbrev pub FullBuffersAreWaitedFor : Type 0
 FullBuffersAreWaitedFor = (plan : PlanRec) (snaps : List SnapNode) (n : Position) (node : NodePlan) (snap : SnapNode) (i : InputNumber) (end : EndNumber) (count dest : ℕ)
@@ -51,13 +84,15 @@ FullBuffersAreWaitedFor = (plan : PlanRec) (snaps : List SnapNode) (n : Position
     slice_get snaps other ≡ Some far → buffer_count (slice_get far.state.ends far_end) ≡ BUFFER_TOKENS →
     awaited (wait_graph plan snaps) (input_at n i) ≡ input_at other far_end ∷ []
 
--- for each rule of who waits for whom among threads of a node and at links
+-- for each rule of who waits for whom
 pub record RulesAreKept : Type 0 where
   pub locks : LocksAreWaitedFor
   pub unstarted : MastersAreWaitedFor Unstarted
   pub at_sync : MastersAreWaitedFor AtSync
+  pub slaves : SlavesAreWaitedFor
   pub room : RoomIsWaitedFor
   pub free : WaitsForNobody Free
   pub going : WaitsForNobody Going
   pub halted : WaitsForNobody Halted
+  pub ways : WaysAreWaitedFor
   pub full : FullBuffersAreWaitedFor

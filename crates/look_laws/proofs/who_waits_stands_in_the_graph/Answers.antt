@@ -1,8 +1,9 @@
-use Rattle.std.proofs.Common.{◌≡◌, ℕ, Bool, Option, [], ◌∷◌, map, eq-eqb, ap, ◌∙◌}
-use Rattle.std.specs.Prelude.{if◌then◌else◌, option_to_list}
+use Rattle.std.proofs.Common.{◌≡◌, ℕ, Bool, Option, [], ◌∷◌, map, eq-eqb, ap, sym, subst, List, ◌∙◌}
+use Rattle.std.specs.Prelude.{if◌then◌else◌, option_to_list, Contains}
 use Rattle.switch_routes.specs.declared.state.InputState.TheVariants as input
 use Rattle.snap_parts.specs.declared.node.SnapNode.{SnapNode}
 use Rattle.look_model.specs.WaitGraph.{thread_at, input_at, master_of, waits_of_thread, is_full, next_input}
+use Rattle.look_laws.proofs.Members.{missing_slave, slave_missing, holder, held}
 use Rattle.look_laws.proofs.Graph.{vertices, thread_there, input_there}
 use Rattle.look_laws.proofs.who_waits_stands_in_the_graph.Goals as goal
 
@@ -24,6 +25,16 @@ returns-clause-rules c = record {
   at_sync = λ plan snaps n snap k number sync slave th kept is runs.
       thread_there plan snaps kept n snap k th is ∙ ap (waits_of_thread n snap.state k) runs ∙ ap (master_of n) slave;
   room = λ plan snaps n snap k chan count th kept is runs. thread_there plan snaps kept n snap k th is ∙ ap (waits_of_thread n snap.state k) runs;
+  slaves = λ plan snaps n snap k th sync v kept is runs.
+      let waits = thread_there plan snaps kept n snap k th is ∙ ap (waits_of_thread n snap.state k) runs in (
+        λ edge. missing_slave n snap.state sync v (subst (λ (row : List ℕ). Contains row v) waits edge),
+        λ slave. subst (λ (row : List ℕ). Contains row v) (sym waits) (slave_missing n snap.state sync v slave),
+      );
+  ways = λ plan snaps n node snap i dest net v kept is.
+      let waits = input_there plan snaps kept n node snap i (input.Want dest net) is in (
+        λ edge. holder n node snap.state dest net v (subst (λ (row : List ℕ). Contains row v) waits edge),
+        λ holds. subst (λ (row : List ℕ). Contains row v) (sym waits) (held n node snap.state dest net v holds),
+      );
   free = λ plan snaps n snap k th kept is runs. thread_there plan snaps kept n snap k th is ∙ ap (waits_of_thread n snap.state k) runs;
   going = λ plan snaps n snap k th kept is runs. thread_there plan snaps kept n snap k th is ∙ ap (waits_of_thread n snap.state k) runs;
   halted = λ plan snaps n snap k th kept is runs. thread_there plan snaps kept n snap k th is ∙ ap (waits_of_thread n snap.state k) runs;
