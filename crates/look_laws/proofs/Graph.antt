@@ -1,5 +1,5 @@
 -- Where the threads and the inputs of each node stand in the graph.
-use Rattle.std.proofs.Common.{ℕ, zero, suc, ◌≡◌, ◌<◌, ◌≤◌, ◌+◌, ◌-◌, ◌*◌, List, [], ◌∷◌, ◌++◌, length, map, get_or, Option, Some, None, refl, sym, ap, subst, ◌∙◌, inl, inr, arith}
+use Rattle.std.proofs.Common.{ℕ, zero, suc, ◌≡◌, ◌<◌, ◌+◌, ◌-◌, ◌*◌, List, [], ◌∷◌, ◌++◌, length, map, get_or, Option, Some, refl, ap, subst, ◌∙◌, inl, inr, arith}
 use Rattle.std.specs.Prelude.{slice_get}
 use Rattle.std.proofs.Math.ListN as lists
 use Rattle.std.proofs.lemmas.List.{get_or_append_left, get_or-append_right, get_or-map}
@@ -15,7 +15,7 @@ use Rattle.sys_plan.specs.declared.NodePlan.{NodePlan}
 use Rattle.sys_plan.specs.Plan.{PlanRec}
 use Rattle.circle_search.specs.Circles.{awaited}
 use Rattle.look_model.specs.WaitGraph.{waiters, thread_at, input_at, waits_of_thread, waits_of_threads, waits_of_input, waits_of_node, waits_of_kept, waits_from, wait_graph}
-use Rattle.look_laws.specs.Kept.{AreKept, IsThread, IsInput, GraphsAreOfThreadsAndInputs, ThreadsStandInTheGraph, InputsStandInTheGraph}
+use Rattle.look_laws.specs.Kept.{AreKept, IsThread, IsInput}
 
 -- ---- The threads of a node
 

@@ -1,5 +1,5 @@
 -- The threads and the inputs of a run that was kept, and where they stand in the graph of who waits for whom.
-use Rattle.std.specs.Prelude.{ℕ, ◌≡◌, ◌*◌, Some, List, length, slice_get, All}
+use Rattle.std.specs.Prelude.{◌≡◌, ◌*◌, Some, List, length, slice_get, All}
 use Rattle.xs_base.specs.Numbers.{Position, ThreadNumber, InputNumber}
 use Rattle.xs_base.specs.declared.numbers.TheConstants.{THREADS, INPUTS}
 use Rattle.xs_model.specs.declared.thread.Thread.{Thread}

@@ -4,7 +4,7 @@
 ghost use Rattle.look_laws.specs.Circles.{CirclesAreOfThreadsAndInputs, CirclesAreTold, ToldAreCircles, ToldBeginWithTheirLeast};
 ghost use Rattle.look_laws.specs.Kept.{GraphsAreOfThreadsAndInputs, InputsStandInTheGraph, ThreadsStandInTheGraph};
 ghost use Rattle.look_laws.specs.Moments.{MomentsAreFirst};
-ghost use Rattle.look_laws.specs.Rules.{RulesAreKept};
+ghost use Rattle.look_laws.specs.Rules.{InputsWaitByTheRules, ThreadsWaitByTheRules};
 
 /// Where a thread waits for a timer, it is told in how many slots the time is after the value: in that slot it is, and in none before it from
 /// the slot on in which that is told. This holds of every value, and of every slot, also where the time begins again at 0. It does nothing.
@@ -14,15 +14,24 @@ pub fn timers_are_waited_for_until_their_moment()
 {}
 
 /// In the graph of who waits for whom stand the 8 threads and the 40 inputs of each node and nothing else, where so many were kept of each node
-/// of the plan. Each waits for those for whom it waits by the rules: a thread for who owns the lock that it would own, a slave for its master, a
-/// thread that has no room for the input that takes what is there, an input for the one at the other end of its link where the buffer there is
-/// full, and a thread that is free, going or halted for nobody. It does nothing. See docs/LOOK.md.
+/// of the plan, and at each number those for whom that thread or that input waits by itself. It does nothing. See docs/LOOK.md.
 pub fn who_waits_stands_in_the_graph()
     ensures vertices { GraphsAreOfThreadsAndInputs }
     ensures threads { ThreadsStandInTheGraph }
     ensures inputs { InputsStandInTheGraph }
-    ensures rules { RulesAreKept }
 {}
+
+/// In that graph a thread that would own a lock waits for the thread that owns it, the master of a synchroniser for each slave that is not in, a
+/// slave that is unstarted or at sync for its master, and a thread that has no room at a channel end for the input of that channel end. An input
+/// whose packet waits for a way waits for each input that holds the channel end, or one of the link ends, that it needs, and one that holds a link
+/// end for the input at the other end of the link, where the buffer there is full. These wait for no other, and all others for nobody. It
+/// does nothing. See docs/LOOK.md.
+pub fn who_waits_for_whom()
+    ensures threads { ThreadsWaitByTheRules }
+    ensures inputs { InputsWaitByTheRules }
+{
+    who_waits_stands_in_the_graph();
+}
 
 /// A circle is told of what was kept of a run exactly where some wait for one another in a circle, and what is told is one: each waits for the
 /// next one, the last for the first, none stands there twice, and the first is the least. Whoever is on a circle is a thread or an input of a node

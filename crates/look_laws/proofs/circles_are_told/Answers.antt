@@ -1,4 +1,4 @@
-use Rattle.std.proofs.Common.{◌≡◌, ◌<◌, ap, subst}
+use Rattle.std.proofs.Common.{◌<◌, subst}
 use Rattle.std.specs.Prelude.{ℕ, All}
 use Rattle.look_model.specs.WaitGraph.{wait_graph}
 use Rattle.look_laws.proofs.circles_are_told.Goals as goal
