@@ -1,4 +1,5 @@
 pub mod Moments
 pub mod Kept
+pub mod Runs
 pub mod Rules
 pub mod Circles

@@ -4,6 +4,7 @@
 ghost use Rattle.look_laws.specs.Circles.{CirclesAreOfThreadsAndInputs, CirclesAreTold, ToldAreCircles, ToldBeginWithTheirLeast};
 ghost use Rattle.look_laws.specs.Kept.{GraphsAreOfThreadsAndInputs, InputsStandInTheGraph, ThreadsStandInTheGraph};
 ghost use Rattle.look_laws.specs.Moments.{MomentsAreFirst};
+ghost use Rattle.look_laws.specs.Runs.{RunsAreKept};
 ghost use Rattle.look_laws.specs.Rules.{InputsWaitByTheRules, ThreadsWaitByTheRules};
 
 /// Where a thread waits for a timer, it is told in how many slots the time is after the value: in that slot it is, and in none before it from
@@ -20,6 +21,15 @@ pub fn who_waits_stands_in_the_graph()
     ensures threads { ThreadsStandInTheGraph }
     ensures inputs { InputsStandInTheGraph }
 {}
+
+/// So it is of what `states` tells: of every plan whose nodes have images, and before every slot of the serial machine, each node is kept with
+/// its 8 threads and 40 inputs. It does nothing. See docs/LOOK.md.
+pub fn runs_are_kept()
+    ensures kept { RunsAreKept }
+{
+    range_laws::numbers_of_runs_fit();
+    saved_laws::saved_parts_are_those_of_the_run();
+}
 
 /// In that graph a thread that would own a lock waits for the thread that owns it, the master of a synchroniser for each slave that is not in, a
 /// slave that is unstarted or at sync for its master, and a thread that has no room at a channel end for the input of that channel end. An input
