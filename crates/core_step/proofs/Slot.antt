@@ -75,7 +75,7 @@ link_before slot counts link of sent credited = record {
   credited = slots_before_next slot link.credited credited;
 }
 
-links_before : (slot : ℕ) (row : List (Option EndCounts)) (links : List (Option LinkRec)) → AllCountsOf row links → SentBefore (slot + 1) row → CreditedBy slot links → AllByRecursion (λ l. IfSome l (IsLinkBefore (slot + 1))) links
+pub links_before : (slot : ℕ) (row : List (Option EndCounts)) (links : List (Option LinkRec)) → AllCountsOf row links → SentBefore (slot + 1) row → CreditedBy slot links → AllByRecursion (λ l. IfSome l (IsLinkBefore (slot + 1))) links
 links_before slot [] [] of sent credited = tt
 links_before slot [] (link ∷ links) of sent credited = absurd of
 links_before slot (end ∷ row) [] of sent credited = absurd of
@@ -108,41 +108,3 @@ begins fixed core levels n rec slot pins chans out at same gives = record {
   };
   emitted = gives;
 }
-
-module _ (fixed : Fixed) (rec : NodeRec) (slot : ℕ) (arrivals : Arrivals) (pins : PinView) where
-  -- the node before the issue, and where that happens
-  abbrev before : AtWork
-  before = before_issue fixed rec slot arrivals pins
-
-  abbrev pub its_setting : Setting
-  its_setting = setting_of fixed slot pins before.rec
-
-  module _ (core : CoreRec) (n : NetworkRec) (out : Emitted) (core_is : core ≡ record (edged rec slot pins).rec.core { chans = core.chans }) (b : Brings slot arrivals fixed.routes n core.chans out (edged rec slot pins)) where
-    -- the switch of the core says which channel ends are at work in the node
-    pub busy_is : (c : ℕ) → c < CHAN_ENDS → its_setting.is_busy c ≡ is_busy_among n.switch.inputs c
-    busy_is c below = ap (λ inputs. is_busy_among inputs c) (sym b.stands.parts.inputs)
-
-    -- the units then make the issue that the definition makes
-    issue_is : issued fixed.code its_setting core ≡ issued fixed.code its_setting before.rec.core
-    issue_is = ap (λ (c : CoreRec). issued fixed.code its_setting c) (core_is ∙ sym (ap (λ (r : NodeRec). r.core) b.rest))
-
-    -- so the core stands for the node after the slot
-    pub stepped : (any : Fixed) (new : CoreRec) → new ≡ (issued fixed.code its_setting core).core → SentBy slot n.links → StandsAt (value_with any new (from_outside pins) n) (node_step fixed rec slot arrivals pins).rec (slot + 1)
-    unfolding node_step
-    stepped any new made sent = record {
-      stands = record {
-        core = made ∙ ap (λ (i : Issued). i.core) issue_is;
-        levels = ap (λ (c : CoreRec). levels_of c.ports pins.level) (made ∙ ap (λ (i : Issued). i.core) issue_is);
-        inputs = b.stands.parts.inputs;
-        links = b.stands.parts.links;
-      };
-      links = links_before slot n.links before.rec.links b.stands.parts.links (sent_before_next slot n.links sent) b.stands.parts.credited;
-    }
-
-    -- and it gave what the slot gives
-    pub gave : (after : Emitted) → after ≡ and_happened out slot (issued fixed.code its_setting core).happened → after ≡ (node_step fixed rec slot arrivals pins).emitted
-    unfolding node_step
-    gave after made =
-        made ∙ ap (λ (i : Issued). and_happened out slot i.happened) issue_is
-        ∙ ap (λ (o : Emitted). and_happened o slot (issued fixed.code its_setting before.rec.core).happened) b.stands.emitted
-        ∙ ap (λ (events : List Event). let e : Emitted = record { events = events; tokens = before.tokens; credits = before.credits } in e) (sym (map-append (in_slot slot) before.happened (issued fixed.code its_setting before.rec.core).happened))

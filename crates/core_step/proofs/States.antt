@@ -2,10 +2,8 @@
 use Rattle.std.proofs.Common.{ℕ, ◌≡◌, List, [], length, replicate, ap, sym, ◌∙◌, subst}
 use Rattle.std.specs.Prelude.{map}
 use Rattle.xs_model.specs.declared.thread.Thread.{Thread}
-use Rattle.xs_model.specs.declared.thread.Run.TheVariants.{Free}
-use Rattle.xs_model.specs.Record.{CoreRec, NodeRec, InputRec, PortRec, unused_chan}
+use Rattle.xs_model.specs.Record.{CoreRec, NodeRec, InputRec, PortRec, unused_chan, free_thread}
 use Rattle.xs_model.specs.Memory.{first_memory}
-use Rattle.xs_model.specs.Threads.{fresh_thread}
 use Rattle.single_port.specs.declared.state.PortState.{PortState}
 use Rattle.buffered_ports.specs.States.{off_state}
 use Rattle.chan_ends.specs.States.{chan_state}
@@ -53,13 +51,13 @@ stands_by value gaps state slot same is core levels inputs links before = record
 
 abbrev made_of : Thread → List ChanState → PortState → List EndState → List ℕ → NodeState
 made_of thread chans port ends memory =
-    record no_state { threads = replicate 8 (record thread { run = Free }); chans = chans; ports = replicate 29 port; ends = ends; memory = memory }
+    record no_state { threads = replicate 8 thread; chans = chans; ports = replicate 29 port; ends = ends; memory = memory }
 
-pub nothing : (thread : Thread) (chans : List ChanState) (port : PortState) (ends : List EndState) (memory : List ℕ) → thread ≡ fresh_thread → chans ≡ replicate 32 (chan_state unused_chan)
+pub nothing : (thread : Thread) (chans : List ChanState) (port : PortState) (ends : List EndState) (memory : List ℕ) → thread ≡ free_thread → chans ≡ replicate 32 (chan_state unused_chan)
     → port ≡ off_state → ends ≡ replicate 8 absent_end → memory ≡ first_memory [] → made_of thread chans port ends memory ≡ no_state
 nothing thread chans port ends memory its_thread its_chans its_port its_ends its_memory =
     ap (λ (t : Thread). made_of t chans port ends memory) its_thread
-    ∙ ap (λ (cs : List ChanState). made_of fresh_thread cs port ends memory) its_chans
-    ∙ ap (λ (p : PortState). made_of fresh_thread (replicate 32 (chan_state unused_chan)) p ends memory) its_port
-    ∙ ap (λ (es : List EndState). made_of fresh_thread (replicate 32 (chan_state unused_chan)) off_state es memory) its_ends
-    ∙ ap (λ (m : List ℕ). made_of fresh_thread (replicate 32 (chan_state unused_chan)) off_state (replicate 8 absent_end) m) its_memory
+    ∙ ap (λ (cs : List ChanState). made_of free_thread cs port ends memory) its_chans
+    ∙ ap (λ (p : PortState). made_of free_thread (replicate 32 (chan_state unused_chan)) p ends memory) its_port
+    ∙ ap (λ (es : List EndState). made_of free_thread (replicate 32 (chan_state unused_chan)) off_state es memory) its_ends
+    ∙ ap (λ (m : List ℕ). made_of free_thread (replicate 32 (chan_state unused_chan)) off_state (replicate 8 absent_end) m) its_memory

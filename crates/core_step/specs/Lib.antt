@@ -5,4 +5,5 @@ pub mod Network
 pub mod ThreadStates
 pub mod States
 pub mod Inside
+pub mod ToIssue
 pub mod Told

@@ -1,15 +1,18 @@
 //! `Core`, one node's core.
-ghost use Rattle.std.specs.Prelude.{◌≡◌, ◌<◌, ◌≤◌, ◌+◌, ◌-◌, ◌^◌, ◌↔◌, true, false, List, [], Option, length, IfOk, IfSome, IsErr};
+ghost use Rattle.std.specs.Prelude.{◌≡◌, ◌<◌, ◌≤◌, ◌+◌, ◌-◌, ◌^◌, ◌↔◌, true, false, List, [], Option, length, map, IfOk, IfSome, IsErr};
 ghost use Rattle.std.specs.Result.{result_ok};
-ghost use Rattle.xs_base.specs.Numbers.{Slot};
-ghost use Rattle.xs_base.specs.declared.numbers.TheConstants.{MEMORY_BYTES, PORTS, THREADS};
+ghost use Rattle.xs_base.specs.Numbers.{Slot, ThreadNumber};
+ghost use Rattle.xs_base.specs.declared.numbers.TheConstants.{EVENT_ROOM, ISSUE_EVENTS, MEMORY_BYTES, PORTS, THREADS};
 ghost use Rattle.xs_base.specs.Ids.{port_width};
 ghost use Rattle.xs_model.specs.Record.{NodeRec, LinkRec, port_of, thread_of};
 ghost use Rattle.xs_model.specs.Memory.{load_word, is_word_address};
 ghost use Rattle.xs_model.specs.Outside.{LevelsFit, emitted_events};
-ghost use Rattle.step_model.specs.Step.{before_issue};
 ghost use Rattle.step_model.specs.Start.{fixed_of, node_of, WaysHaveGaps};
-ghost use Rattle.switch_routes.specs.Rows.{AllCountsOf};
+ghost use Rattle.xs_model.specs.Masks.{in_mask};
+ghost use Rattle.xs_model.specs.Picks.{is_able};
+ghost use Rattle.processor.specs.NextIssue.{next_issue};
+ghost use Rattle.chan_ends.specs.States.{chan_state};
+ghost use Rattle.switch_routes.specs.Rows.{AllCountsOf, SentBy};
 ghost use Rattle.quiet_model.specs.Still.{network_is_still, ports_are_still, still};
 ghost use Rattle.quiet_model.specs.Stirs.{some_eligible};
 ghost use Rattle.quiet_laws.specs.Undisturbed.{undisturbed_until, no_arrivals, ShowsAll};
@@ -17,15 +20,18 @@ ghost use Rattle.quiet_laws.specs.Quiet.{StirsFirst};
 ghost use Rattle.core_step.specs.PinLevels.{from_outside};
 ghost use Rattle.core_step.specs.Core.{StandsFor, StandsAt, SlotsBefore, NothingArrives, Passes};
 ghost use Rattle.core_step.specs.Quiet.{IsQuietTo};
+ghost use Rattle.core_step.specs.ToIssue.{ReachesIssue, EndsSlot};
 ghost use Rattle.core_step.specs.Told.{IsTold};
-ghost use Rattle.core_step.specs.States.{node_state, node_rec, IsNodeState, IsStateBefore};
+ghost use Rattle.core_step.specs.States.{link_state, node_state, node_rec, IsNodeState, IsStateBefore};
 
 use crate::network::{Network, nothing_arrives};
 use crate::node_state::NodeState;
 use crate::pin_levels::{PinLevels, high_before};
 use crate::rest::Rest;
-use crate::told::Told;
-use processor::{BadAddress, Processor, Program, Ram};
+use crate::told::{Told, has_trap};
+use chan_ends::ChanState;
+use link_ends::EndState;
+use processor::{BadAddress, NextIssue, Processor, Program, Ram};
 use quiet_laws::{first_stirring_slot, quiet_slots_only_count};
 use quiet_model::first_slots;
 use std::alloc::{AllocError, Global};
@@ -148,6 +154,21 @@ impl Core {
         self.units.last_issues()
     }
 
+    /// What there is of the channel ends, by number, as a snapshot keeps them. It takes no memory. See docs/SNAPSHOTS.md.
+    pub fn chan_ends(&self) -> [ChanState; 32]
+        ensures { result ≡ map chan_state self.now.core.chans }
+    {
+        self.units.chans().state()
+    }
+
+    /// What there is of the link ends, by number, as a snapshot keeps them: all 0 where there is none. It takes no memory. See
+    /// docs/SNAPSHOTS.md.
+    pub fn link_ends(&self) -> [EndState; 8]
+        ensures { (rec : NodeRec) → StandsFor self.now rec → result ≡ map link_state rec.links }
+    {
+        self.network.ends()
+    }
+
     /// The word of the memory at an address. `BadAddress` comes exactly where the address is outside the memory,
     /// 0x0001_0000 to 0x0001_ffff, or no multiple of 4.
     pub fn word(&self, at: u32) -> Result<u32, BadAddress>
@@ -253,20 +274,12 @@ impl Core {
 
         ensures passes { Passes slot arrivals.now pins.now self.old self.new out.new }
     {
-        out.clear();
-        self.rest = Rest::none();
-        let high = high_before(&self.units, &self.levels);
-        // What arrives changes no port, so it may come after the edges.
-        self.units.edges(slot, pins, high, out);
-        self.network
-            .bring(&mut self.units, arrives, slot, arrivals, out);
-        self.units
-            .issue(&self.program, slot, pins, &self.network, out);
-        self.levels.note(changed, pins);
+        self.to_issue(arrives, slot, arrivals, pins, out);
+        self.finish(changed, slot, pins, out);
     }
 
-    /// The same as `slot_where`, and which threads were able right before the issue, who issued, and what it took. It goes through all
-    /// phases, also where the core is known to be quiet. See docs/MACHINE.md.
+    /// The same as `slot_where`, and which threads were able right before the issue, who issued, what it took, and whether it trapped. It
+    /// goes through all phases, also where the core is known to be quiet. See docs/MACHINE.md.
     pub fn slot_told(
         &mut self,
         arrives: bool,
@@ -282,19 +295,74 @@ impl Core {
         requires same { changed ≡ false → self.old.levels ≡ from_outside pins.now }
 
         ensures passes { Passes slot arrivals.now pins.now self.old self.new out.new }
-        ensures told { (rec : NodeRec) → StandsAt self.old rec slot → IsTold (before_issue self.old.fixed rec slot arrivals.now pins.now).rec.core slot result }
+        ensures told { (rec : NodeRec) → StandsAt self.old rec slot → IsTold self.old.fixed rec slot arrivals.now pins.now result }
     {
-        Emissions::clear(out);
+        self.to_issue(arrives, slot, arrivals, pins, out);
+        let able = self.able_threads(slot);
+        let issue = self.next_issue(slot);
+        self.finish(changed, slot, pins, out);
+        Told {
+            able,
+            issue,
+            traps: has_trap(out.events()),
+        }
+    }
+
+    // The phases of a slot before its issue.
+    #[inline]
+    fn to_issue(
+        &mut self,
+        arrives: bool,
+        slot: u32,
+        arrivals: &Arrivals,
+        pins: &PinView,
+        out: &mut Emissions,
+    )
+        requires before { SlotsBefore self.old slot }
+        requires levels { LevelsFit pins.now.level }
+        requires arrives { arrives ≡ false → NothingArrives arrivals.now }
+        ensures reaches { ReachesIssue slot arrivals.now pins.now self.old self.new out.new }
+        ensures room { length out.new.events + ISSUE_EVENTS ≤ EVENT_ROOM }
+    {
+        out.clear();
         self.rest = Rest::none();
-        let strobes = high_before(&self.units, &self.levels);
-        self.units.edges(slot, pins, strobes, out);
+        let high = high_before(&self.units, &self.levels);
+        // What arrives changes no port, so it may come after the edges.
+        self.units.edges(slot, pins, high, out);
         self.network
             .bring(&mut self.units, arrives, slot, arrivals, out);
-        let told = Told::of(&mut self.units, slot);
+    }
+
+    // The issue of a slot, and what is noted at its end.
+    #[inline]
+    fn finish(&mut self, changed: bool, slot: u32, pins: &PinView, out: &mut Emissions)
+        requires sent { SentBy slot self.old.links }
+        requires levels { LevelsFit pins.now.level }
+        requires same { changed ≡ false → self.old.levels ≡ from_outside pins.now }
+        requires room { length out.old.events + ISSUE_EVENTS ≤ EVENT_ROOM }
+        ensures ends { EndsSlot slot pins.now self.old out.old self.new out.new }
+    {
+        self.rest = Rest::none();
         self.units
             .issue(&self.program, slot, pins, &self.network, out);
         self.levels.note(changed, pins);
-        told
+    }
+
+    // The threads that may issue in a slot but for the four slots of rest: bit k for thread k.
+    fn able_threads(&mut self, slot: u32) -> u8
+        ensures value { (k : ThreadNumber) → k < THREADS → in_mask result k ≡ is_able self.old.core k slot }
+        ensures unchanged { self.new ≡ self.old }
+    {
+        self.units.able_threads(slot)
+    }
+
+    // Who issues in a slot, if the issue comes next, and what it takes.
+    fn next_issue(&mut self, slot: u32) -> Option<NextIssue>
+        ensures value { result ≡ next_issue self.old.core slot }
+        ensures within { IfSome result (λ next. next.thread < THREADS) }
+        ensures unchanged { self.new ≡ self.old }
+    {
+        self.units.next_issue(slot)
     }
 
     /// Looks how long the core is quiet from a slot on, before which it stands: `slot_where` is short in these slots then, and `rests_to`

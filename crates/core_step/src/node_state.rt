@@ -1,5 +1,6 @@
 //! `NodeState`, what a snapshot keeps of a node.
 ghost use Rattle.std.specs.Prelude.{◌≡◌, List, ℕ, IfOk};
+ghost use Rattle.xs_model.specs.Record.{free_thread};
 ghost use Rattle.core_step.specs.States.{core_rec, with_core, no_state, AreUnitStates};
 
 use buffered_ports::{PortState, Ports};
@@ -14,6 +15,37 @@ use sync_locks::{LockState, SyncState, Syncs};
 use thread_slots::Slots;
 use timers_clocks::{ClockState, Clocks, TimerState, Timers};
 use xs_model::{Run, Thread};
+
+// A timer, a clock block, a synchroniser and a lock that are not in use, and what a resource gives that gives nothing.
+const TIMER: TimerState = TimerState {
+    used: false,
+    after: false,
+    value: 0,
+};
+
+const CLOCK: ClockState = ClockState {
+    on: false,
+    running: false,
+    div: 0,
+};
+
+const SYNC: SyncState = SyncState {
+    used: false,
+    master: 0,
+    slaves: 0,
+};
+
+const LOCK: LockState = LockState {
+    used: false,
+    owner: None,
+};
+
+const ENABLE: EnableState = EnableState {
+    vector: 0,
+    env: 0,
+    interrupt: false,
+    by: None,
+};
 
 /// What a snapshot keeps of a node, each part by the numbers of what it is of. Slots that it keeps are below that of the
 /// snapshot. See docs/SNAPSHOTS.md.
@@ -58,48 +90,21 @@ impl NodeState {
     pub fn new(alloc: Global) -> Result<NodeState, AllocError>
         ensures none { IfOk result (λ state. state ≡ no_state) }
     {
-        let mut thread = Thread::fresh();
-        thread.run = Run::Free;
-        let timer = TimerState {
-            used: false,
-            after: false,
-            value: 0,
-        };
-        let clock = ClockState {
-            on: false,
-            running: false,
-            div: 0,
-        };
-        let sync = SyncState {
-            used: false,
-            master: 0,
-            slaves: 0,
-        };
-        let lock = LockState {
-            used: false,
-            owner: None,
-        };
-        let enable = EnableState {
-            vector: 0,
-            env: 0,
-            interrupt: false,
-            by: None,
-        };
         let chans: [ChanState; 32] = Default::default();
         let ends: [EndState; 8] = Default::default();
         let memory = Ram::new(alloc, &[])?;
         Ok(NodeState {
-            threads: [thread; 8],
+            threads: [free_thread(); 8],
             last: [None; 8],
             chans,
-            timers: [timer; 10],
-            clocks: [clock; 6],
-            syncs: [sync; 7],
-            locks: [lock; 4],
+            timers: [TIMER; 10],
+            clocks: [CLOCK; 6],
+            syncs: [SYNC; 7],
+            locks: [LOCK; 4],
             ports: [PortState::off(); 29],
-            chan_enables: [enable; 32],
-            timer_enables: [enable; 10],
-            port_enables: [enable; 29],
+            chan_enables: [ENABLE; 32],
+            timer_enables: [ENABLE; 10],
+            port_enables: [ENABLE; 29],
             inputs: [InputState::Idle; 40],
             ends,
             division: None,
@@ -147,4 +152,13 @@ impl NodeState {
             events: Events::of_state(&self.chan_enables, &self.timer_enables, &self.port_enables),
         }
     }
+}
+
+// A thread that is free.
+fn free_thread() -> Thread
+    ensures { result ≡ free_thread }
+{
+    let mut thread = Thread::fresh();
+    thread.run = Run::Free;
+    thread
 }

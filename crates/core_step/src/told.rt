@@ -1,10 +1,11 @@
 //! `Told`, what a slot tells of a node's threads.
 ghost use Rattle.std.specs.Prelude.{◌≡◌};
-ghost use Rattle.core_step.specs.Told.{IsTold};
+ghost use Rattle.core_step.specs.Told.{has_trap, is_trap};
 
-use processor::{NextIssue, Processor};
+use processor::NextIssue;
+use xs_model::{Event, Happen};
 
-/// What of a node's threads is told of a slot, as they are right before its issue. See docs/MACHINE.md.
+/// What of a node's threads is told of a slot: who is able to issue, right before the issue, and what that is. See docs/MACHINE.md.
 #[derive(Clone, Copy)]
 pub struct Told {
     /// The threads that may issue in the slot but for the four slots of rest that lie between two issues of one thread: bit k for
@@ -12,17 +13,25 @@ pub struct Told {
     pub able: u8,
     /// Who issues in the slot, and what it takes: None exactly where nobody issues.
     pub issue: Option<NextIssue>,
+    /// Whether who issues traps.
+    pub traps: bool,
 }
 
-impl Told {
-    /// Of units right before their issue in a slot.
-    pub(crate) fn of(units: &mut Processor, slot: u32) -> Told
-        ensures told { IsTold units.old slot result }
-        ensures unchanged { units.new ≡ units.old }
-    {
-        Told {
-            able: units.able_threads(slot),
-            issue: units.next_issue(slot),
+// Whether a trap is among the events of a slot.
+pub(crate) fn has_trap(events: &[Event]) -> bool
+    ensures { result ≡ has_trap events.now }
+{
+    for e in events {
+        if is_trap(e.what) {
+            return true;
         }
     }
+    false
+}
+
+// Whether a thread traps by what happens.
+fn is_trap(what: Happen) -> bool
+    ensures { result ≡ is_trap what }
+{
+    matches!(what, Happen::Trap { .. })
 }

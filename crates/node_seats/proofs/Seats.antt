@@ -1,5 +1,6 @@
 -- A node at work from slot to slot.
-use Rattle.std.proofs.Common.{◌≡◌, ℕ, zero, suc, ◌+◌, ◌-◌, ◌<◌, List, [], ◌∷◌, ◌++◌, length, get_or, sym, ap, ◌∙◌, subst, arith}
+use Rattle.std.proofs.Common.{◌≡◌, ℕ, zero, suc, ◌+◌, ◌-◌, ◌<◌, ◌≤◌, List, [], ◌∷◌, ◌++◌, length, get_or, sym, ap, ◌∙◌, subst, arith}
+use Rattle.xs_base.specs.declared.numbers.TheConstants.{EVENT_ROOM}
 use Rattle.xs_model.specs.declared.event.Event.{Event}
 use Rattle.xs_model.specs.declared.outside.Arrivals.{Arrivals}
 use Rattle.xs_model.specs.declared.outside.PinView.{PinView}
@@ -12,7 +13,7 @@ use Rattle.step_model.specs.Start.{fixed_of}
 use Rattle.step_model.specs.Step.{Stepped, node_step}
 use Rattle.trace_lines.specs.Kept.{KeptEvents, Keeps}
 use Rattle.quiet_laws.specs.Undisturbed.{undisturbed_until, ShowsAll}
-use Rattle.core_step.specs.Core.{StandsAt}
+use Rattle.core_step.specs.Core.{StandsAt, Passes}
 use Rattle.core_step.specs.PinLevels.{from_outside}
 use Rattle.node_seats.specs.declared.pins.Pins.{Pins}
 use Rattle.node_seats.specs.declared.seat.Seat.{Seat}
@@ -53,6 +54,20 @@ noted-same slot pins seat after noted same =
 -- where the script was not looked at, the node has noted what its pins show
 pub noted-still : (slot : ℕ) (pins looked : Pins) (seat : Seat) → HasNoted slot pins seat → (slot < pins.next) × (looked.view ≡ pins.view) → seat.core.levels ≡ from_outside looked.view
 noted-still slot pins looked seat noted same = noted same.0 ∙ ap from_outside (sym same.1)
+
+-- a slot of a node's core, whose events are kept then, is one of the node
+pub steps : (slot : ℕ) (arrivals : Arrivals) (pins : PinView) (before after : Seat) (given : List Event)
+    → Passes slot arrivals pins before.core after.core after.given → IsSeat slot before → given ≡ after.given.events → length given ≤ EVENT_ROOM
+    → ((all : List Event) → Keeps before.events all → Keeps after.events (all ++ given)) → after.events.more ≤ before.events.more + length given
+    → StepsOn slot arrivals pins before after
+steps slot arrivals pins before after given passes seat is few keeps more = record {
+  fixed = passes.fixed;
+  stands = passes.step;
+  given = passes.emissions;
+  keeps = λ all h. subst (λ (es : List Event). Keeps after.events (all ++ es)) is (keeps all h);
+  noted = passes.levels;
+  next = record { before = passes.next; more = omega (arith, more, few, seat.more) };
+}
 
 -- a node that plays its part: its step is that of the plan's node
 module _ (plan : PlanRec) (slot n : ℕ) (node : NodePlan) (seat : Seat) (rec : NodeRec) (events : List Event) (plays : Plays plan slot n node seat rec events) (arrivals : Arrivals) (pins : PinView) where

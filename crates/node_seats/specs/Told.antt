@@ -3,13 +3,12 @@ use Rattle.xs_base.specs.Numbers.{Slot}
 use Rattle.xs_model.specs.declared.outside.Arrivals.{Arrivals}
 use Rattle.xs_model.specs.declared.outside.PinView.{PinView}
 use Rattle.xs_model.specs.Record.{NodeRec}
-use Rattle.step_model.specs.Step.{before_issue}
 use Rattle.core_step.specs.Core.{StandsAt}
 use Rattle.core_step.specs.Told.{IsTold}
 use Rattle.core_step.specs.declared.told.Told.{Told}
 use Rattle.node_seats.specs.declared.seat.Seat.{Seat}
 
--- this is told of a slot of a node to which this comes: of the node for which it stands, right before its issue
+-- this is told of a slot of a node to which this comes: of the node for which it stands
 abbrev pub IsToldOf : Slot → Arrivals → PinView → Seat → Told → Type 0
 IsToldOf slot arrivals pins seat told =
-    (rec : NodeRec) → StandsAt seat.core rec slot → IsTold (before_issue seat.core.fixed rec slot arrivals pins).rec.core slot told
+    (rec : NodeRec) → StandsAt seat.core rec slot → IsTold seat.core.fixed rec slot arrivals pins told

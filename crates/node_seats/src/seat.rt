@@ -102,7 +102,7 @@ impl Seat {
         keep(&mut self.events, self.given.events());
     }
 
-    /// The same as `step`, and which threads were able right before the issue, who issued, and what it took. See docs/MACHINE.md.
+    /// The same as `step`, and which threads were able right before the issue, who issued, what it took, and whether it trapped. See docs/MACHINE.md.
     pub fn step_told(
         &mut self,
         slot: u32,

@@ -7,8 +7,7 @@ use Rattle.xs_model.specs.Record.{NodeRec}
 use Rattle.sys_plan.specs.declared.NodePlan.{NodePlan}
 use Rattle.sys_plan.specs.Plan.{PlanRec}
 use Rattle.core_step.specs.declared.told.Told.{Told}
-use Rattle.core_step.specs.Told.{IsTold}
-use Rattle.run_plan.specs.Told.{core_before_issue, AreToldFrom, AreToldNext, EachIsToldNext}
+use Rattle.run_plan.specs.Told.{IsToldAt, AreToldFrom, AreToldNext, EachIsToldNext}
 use Rattle.serial_model.specs.Serial.{SystemRec, node_by}
 use Rattle.run_plan.specs.declared.track.Track.{Track}
 use Rattle.run_plan.specs.declared.wire.Wire.{Wire}
@@ -43,7 +42,7 @@ module _ (m : Inside) (is : IsMachine m) where
 -- what is told of nodes, the first of which stands at a position, is told of each of them
 told-at : (shown : List Word) (plan : PlanRec) (histories : List (List Entry)) (slot first : ℕ) (nodes : List NodePlan) (recs : List NodeRec) (all : List Told) (k n : ℕ) (node : NodePlan) (told : Told)
     → AreToldFrom shown plan histories slot first nodes recs all → slice_get nodes k ≡ Some node → slice_get all k ≡ Some told → first + k ≡ n
-    → IsTold (core_before_issue shown plan histories slot n node (node_by recs k)) slot told
+    → IsToldAt shown plan histories slot n node (node_by recs k) told
 told-at shown plan histories slot first [] recs all k n node told are here its at = cc
 told-at shown plan histories slot first (x ∷ nodes) [] all k n node told are here its at = absurd are
 told-at shown plan histories slot first (x ∷ nodes) (rec ∷ recs) [] k n node told are here its at = absurd are
@@ -51,9 +50,9 @@ told-at shown plan histories slot first (x ∷ nodes) (rec ∷ recs) (t ∷ all)
     let same_place : first ≡ n = omega (arith, at) in
     let same_node : x ≡ node = cc in
     let same : t ≡ told = cc in
-    subst (λ (m : ℕ). IsTold (core_before_issue shown plan histories slot m node rec) slot told) same_place
-    (subst (λ (d : NodePlan). IsTold (core_before_issue shown plan histories slot first d rec) slot told) same_node
-    (subst (IsTold (core_before_issue shown plan histories slot first x rec) slot) same are.0))
+    subst (λ (m : ℕ). IsToldAt shown plan histories slot m node rec told) same_place
+    (subst (λ (d : NodePlan). IsToldAt shown plan histories slot first d rec told) same_node
+    (subst (IsToldAt shown plan histories slot first x rec) same are.0))
 told-at shown plan histories slot first (x ∷ nodes) (rec ∷ recs) (t ∷ all) (suc k) n node told are here its at =
     told-at shown plan histories slot (first + 1) nodes recs all k n node told are.1 here its (omega (arith, at))
 

@@ -2,6 +2,7 @@
 use Rattle.std.proofs.Common.{ℕ, ◌+◌, List, length, sym, ◌∙◌, subst, Ok, Err}
 use Rattle.std.specs.Prelude.{OnErr, Result}
 use Rattle.std.specs.List.{AllByRecursion, AllZip}
+use Rattle.xs_base.specs.Numbers.{Word}
 use Rattle.node_seats.specs.Shown.{IsShown}
 use Rattle.run_plan.specs.declared.track.Track.{Track}
 use Rattle.run_plan.specs.declared.wire.Wire.{Wire}
@@ -30,15 +31,19 @@ module _ (slot : ℕ) (stations roomy : List Station) (tracks roomy_tracks : Lis
         subst (λ n. AllByRecursion (IsReadyTrack slot n) roomy_tracks) (sym (zip-length (StationSteps slot roomy_tracks) roomy stepped steps ∙ zip-length SameStation stations roomy made))
         (tracks-same slot (length stations) tracks roomy_tracks made_tracks are)
 
-    module _ (marked : List Station) (same : AllZip SameButDue stepped marked) where
-      -- and the wires, when it is known which nodes are due
-      pub marked-wires : (wires roomy_wires : List Wire) → AllZip SameWire wires roomy_wires → AreReadyWires slot (levels_of stations) wires → AreReadyWires slot (levels_of marked) roomy_wires
-      marked-wires wires roomy_wires =
-          wires-same slot (levels_of stations) (levels_of marked) wires roomy_wires
-          (levels-due stepped marked same ∙ levels-stepped slot roomy_tracks roomy stepped steps ∙ levels-roomy stations roomy made)
+    -- and the wires
+    pub stepped-wires : (wires roomy_wires : List Wire) → AllZip SameWire wires roomy_wires → AreReadyWires slot (levels_of stations) wires → AreReadyWires slot (levels_of stepped) roomy_wires
+    stepped-wires wires roomy_wires =
+        wires-same slot (levels_of stations) (levels_of stepped) wires roomy_wires (levels-stepped slot roomy_tracks roomy stepped steps ∙ levels-roomy stations roomy made)
 
-      -- the pins are looked at up to the next slot
-      pub marked-shown : AllByRecursion (IsShownAt (slot + 1)) marked
-      marked-shown =
-          all-zip SameButDue (IsShownAt (slot + 1)) (IsShownAt (slot + 1)) (λ x y s h. subst (IsShown (slot + 1)) (sym s.pins) h) stepped marked same
-          (zip-second (StationSteps slot roomy_tracks) (IsShownAt (slot + 1)) (λ x y s. s.shown) roomy stepped steps)
+    -- the pins are looked at up to the next slot
+    pub stepped-shown : AllByRecursion (IsShownAt (slot + 1)) stepped
+    stepped-shown = zip-second (StationSteps slot roomy_tracks) (IsShownAt (slot + 1)) (λ x y s. s.shown) roomy stepped steps
+
+-- that is so of the wires and the pins too when it is known which nodes are due
+module _ (slot : ℕ) (stepped marked : List Station) (same : AllZip SameButDue stepped marked) where
+  pub marked-wires : (wires : List Wire) → AreReadyWires slot (levels_of stepped) wires → AreReadyWires slot (levels_of marked) wires
+  marked-wires wires = subst (λ (levels : List (List Word)). AreReadyWires slot levels wires) (sym (levels-due stepped marked same))
+
+  pub marked-shown : AllByRecursion (IsShownAt (slot + 1)) stepped → AllByRecursion (IsShownAt (slot + 1)) marked
+  marked-shown = all-zip SameButDue (IsShownAt (slot + 1)) (IsShownAt (slot + 1)) (λ x y s h. subst (IsShown (slot + 1)) (sym s.pins) h) stepped marked same

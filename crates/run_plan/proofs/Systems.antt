@@ -7,12 +7,16 @@ use Rattle.xs_base.specs.Batch.{BatchRec}
 use Rattle.xs_base.specs.Numbers.{Word}
 use Rattle.xs_base.specs.declared.entry.Entry.{Entry}
 use Rattle.xs_model.specs.declared.event.Event.{Event}
+use Rattle.xs_model.specs.declared.outside.Arrivals.{Arrivals}
+use Rattle.xs_model.specs.declared.outside.PinView.{PinView}
 use Rattle.xs_model.specs.Record.{CoreRec, NodeRec, first_node, port_of}
 use Rattle.xs_model.specs.Outside.{emitted_events}
 use Rattle.pin_wires.specs.Wires.{driven_or_low}
 use Rattle.sys_plan.specs.declared.NodePlan.{NodePlan}
-use Rattle.sys_plan.specs.Plan.{PlanRec, Arc, AreDistinct, arcs, link_arcs, wire_arcs, incoming}
-use Rattle.step_model.specs.Step.{Stepped, before_issue}
+use Rattle.sys_plan.specs.Plan.{PlanRec, Arc, AreDistinct, arcs, link_arcs, wire_arcs, incoming, gaps_of}
+use Rattle.step_model.specs.Fixed.{Fixed}
+use Rattle.step_model.specs.Start.{fixed_of}
+use Rattle.step_model.specs.Step.{Stepped}
 use Rattle.step_laws.specs.Shape.{HasShape, SlotKeepsShape}
 use Rattle.trace_lines.specs.Kept.{Keeps}
 use Rattle.core_step.specs.Core.{StandsAt}
@@ -38,7 +42,7 @@ use Rattle.run_plan.specs.Stations.{IsStation, StationSteps, taken_by}
 use Rattle.run_plan.specs.Wires.{IsReadyWire, AreReadyWires, HasCome, target, targets}
 use Rattle.run_plan.specs.Passes.{IsReadyTrack, IsHeeded, Advances, SameNode, SameStation, SameTrack, SameWire, SameButDue, SameButCome, WireAdvances, cores_of, driven_by, levels_of}
 use Rattle.run_plan.specs.Run.{Serves, AllServe, Carries, AllCarry, Tells, AllTell, IsSystem, AreReady}
-use Rattle.run_plan.specs.Told.{IsStationTold, core_before_issue, AreToldFrom, AreTold}
+use Rattle.run_plan.specs.Told.{IsStationTold, IsToldAt, AreToldFrom, AreTold}
 use Rattle.run_plan.proofs.Through.{all-at, all-zip, zip-first, zip-second, zip-length}
 use Rattle.run_plan.proofs.Due.{IsQuiet, AllQuiet, taken-is, all-quiet, heeded-same}
 use Rattle.run_plan.proofs.Ends.{arriving_of, by-link, map-ends}
@@ -97,11 +101,14 @@ module _ (shown : List Word) (plan : PlanRec) (slot nodes_count : ℕ) where
 
     -- and what is told of it is that of the serial machine's node
     told-same : (n : ℕ) (node : NodePlan) (station : Station) (rec : NodeRec) (events : List Event) (told : Told) → (is : Serves plan slot n node station rec events) → (station.due ≡ false → IsQuiet plan tracks n) → HaveComeOn shown plan histories n slot station.pins.levels
-        → IsStationTold slot tracks station told → IsTold (core_before_issue shown plan histories slot n node rec) slot told
+        → IsStationTold slot tracks station told → IsToldAt shown plan histories slot n node rec told
     told-same n node station rec events told is quiet came its =
         let arrivals = taken-is plan tracks n station is.incoming quiet ∙ arrivals-same n in
         let pins = shows-on shown plan histories n slot slot station.pins is.pins came in
-        subst (λ (core : CoreRec). IsTold core slot told) (λ i. (before_issue (is.plays.fixed i) rec slot (arrivals i) (pins i)).rec.core) (its rec is.plays.stands)
+        let coming = coming_on shown plan histories slot n in
+        subst (λ (v : PinView). IsTold (fixed_of node (gaps_of plan n)) rec slot coming.arrivals v told) pins
+        (subst (λ (a : Arrivals). IsTold (fixed_of node (gaps_of plan n)) rec slot a (shown_by station.pins slot) told) arrivals
+        (subst (λ (f : Fixed). IsTold f rec slot (taken_by tracks station) (shown_by station.pins slot) told) is.plays.fixed (its rec is.plays.stands)))
 
     serves-next : (n : ℕ) (node : NodePlan) (before after : Station) (rec : NodeRec) (events : List Event) → Serves plan slot n node before rec events → (before.due ≡ false → IsQuiet plan tracks n)
         → HaveComeOn shown plan histories n slot before.pins.levels → StationSteps slot tracks before after

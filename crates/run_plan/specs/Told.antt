@@ -2,11 +2,10 @@
 use Rattle.std.specs.Prelude.{◌≡◌, ◌+◌, Some, List, [], ◌∷◌, slice_get}
 use Rattle.xs_base.specs.Numbers.{Slot, Word, Position}
 use Rattle.xs_base.specs.declared.entry.Entry.{Entry}
-use Rattle.xs_model.specs.Record.{CoreRec, NodeRec}
+use Rattle.xs_model.specs.Record.{NodeRec}
 use Rattle.sys_plan.specs.declared.NodePlan.{NodePlan}
 use Rattle.sys_plan.specs.Plan.{PlanRec, gaps_of}
 use Rattle.step_model.specs.Start.{fixed_of}
-use Rattle.step_model.specs.Step.{before_issue}
 use Rattle.serial_model.specs.Serial.{SystemRec, coming_on, node_by}
 use Rattle.core_step.specs.declared.told.Told.{Told}
 use Rattle.core_step.specs.Told.{IsTold}
@@ -21,17 +20,17 @@ use Rattle.run_plan.specs.Machine.{MachineRec, system_of}
 abbrev pub IsStationTold : Slot → List Track → Station → Told → Type 0
 IsStationTold slot tracks station told = IsToldOf slot (taken_by tracks station) (shown_by station.pins slot) station.seat told
 
--- the core of the node of a plan at a position right before its issue in a slot, when the arcs have these histories and showed this before
-abbrev pub core_before_issue : List Word → PlanRec → List (List Entry) → Slot → Position → NodePlan → NodeRec → CoreRec
-core_before_issue shown plan histories slot n node rec =
+-- of the node of a plan at a position, when the arcs have these histories and showed this before
+abbrev pub IsToldAt : List Word → PlanRec → List (List Entry) → Slot → Position → NodePlan → NodeRec → Told → Type 0
+IsToldAt shown plan histories slot n node rec told =
     let coming = coming_on shown plan histories slot n in
-    (before_issue (fixed_of node (gaps_of plan n)) rec slot coming.arrivals coming.pins).rec.core
+    IsTold (fixed_of node (gaps_of plan n)) rec slot coming.arrivals coming.pins told
 
 -- of each node, the first of which stands at position n
 abbrev pub AreToldFrom : List Word → PlanRec → List (List Entry) → Slot → Position → List NodePlan → List NodeRec → List Told → Type 0
 AreToldFrom shown plan histories slot n [] [] [] = Unit {0}
 AreToldFrom shown plan histories slot n (node ∷ nodes) (rec ∷ recs) (told ∷ all) =
-    IsTold (core_before_issue shown plan histories slot n node rec) slot told × AreToldFrom shown plan histories slot (n + 1) nodes recs all
+    IsToldAt shown plan histories slot n node rec told × AreToldFrom shown plan histories slot (n + 1) nodes recs all
 AreToldFrom shown plan histories slot n _ _ _ = ⊥
 
 -- of the nodes of a system, by position
@@ -46,4 +45,4 @@ AreToldNext m told = AreTold m.begun.shown m.plan m.now (system_of m) told
 abbrev pub EachIsToldNext : MachineRec → List Told → Type 0
 EachIsToldNext m all =
     (n : Position) (node : NodePlan) (told : Told) → slice_get m.plan.nodes n ≡ Some node → slice_get all n ≡ Some told →
-    IsTold (core_before_issue m.begun.shown m.plan (system_of m).histories m.now n node (node_by (system_of m).nodes n)) m.now told
+    IsToldAt m.begun.shown m.plan (system_of m).histories m.now n node (node_by (system_of m).nodes n) told

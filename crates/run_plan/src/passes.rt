@@ -41,18 +41,54 @@ pub(crate) fn pass_slot(
     ensures tracks { length tracks.new ≡ length tracks.old }
     ensures wires { length wires.new ≡ length wires.old }
 {
-    slot_has_few_events();
-    make_event_room(stations)?;
-    make_entry_room(tracks)?;
-    make_level_room(wires)?;
+    make_room(stations, tracks, wires)?;
     step_all(stations, tracks, slot);
-    advance_all(tracks, stations, slot);
-    tell_all(wires, stations, slot);
+    carry(stations, tracks, wires, slot);
     Ok(())
 }
 
-/// Makes room for the events of a slot. The error is want of memory, and changes nothing but the room.
-pub(crate) fn make_event_room(stations: &mut [Station]) -> Result<(), AllocError>
+/// Makes room for all that a slot may add. The error is want of memory, and changes nothing but the room.
+#[inline]
+pub(crate) fn make_room(
+    stations: &mut [Station],
+    tracks: &mut [Track],
+    wires: &mut [Wire],
+) -> Result<(), AllocError>
+    ensures stations { AllZip SameStation stations.old stations.new }
+    ensures tracks { AllZip SameTrack tracks.old tracks.new }
+    ensures wires { AllZip SameWire wires.old wires.new }
+    ensures events { OnOk result (AllByRecursion HasRoomForEvents stations.new) }
+    ensures entries { OnOk result (AllByRecursion HasEntryRoom tracks.new) }
+    ensures levels { OnOk result (AllByRecursion HasLevelRoom wires.new) }
+{
+    make_event_room(stations)?;
+    make_entry_room(tracks)?;
+    make_level_room(wires)?;
+    Ok(())
+}
+
+/// What the steps of all nodes in a slot gave goes on by links and wires.
+#[inline]
+pub(crate) fn carry(stations: &mut [Station], tracks: &mut [Track], wires: &mut [Wire], slot: u32)
+    requires slot { slot < 2 ^ 32 - 1 }
+    requires tracks { AllByRecursion (IsReadyTrack slot (length stations.old)) tracks.old }
+    requires entries { AllByRecursion HasEntryRoom tracks.old }
+    requires wires { AreReadyWires slot (levels_of stations.old) wires.old }
+    requires levels { AllByRecursion HasLevelRoom wires.old }
+    requires shown { AllByRecursion (IsShownAt (slot + 1)) stations.old }
+    ensures next { (plan : PlanRec) (shown : List Word) (whole : SystemRec) (before : List Station) → AreReady plan shown slot whole before tracks.old wires.old →
+        AllZip (StationSteps slot tracks.old) before stations.old → AreReady plan shown (slot + 1) (step_on shown plan slot whole) stations.new tracks.new wires.new }
+    ensures stations { length stations.new ≡ length stations.old }
+    ensures tracks { length tracks.new ≡ length tracks.old }
+    ensures wires { length wires.new ≡ length wires.old }
+{
+    slot_has_few_events();
+    advance_all(tracks, stations, slot);
+    tell_all(wires, stations, slot);
+}
+
+// Makes room for the events of a slot. The error is want of memory, and changes nothing but the room.
+fn make_event_room(stations: &mut [Station]) -> Result<(), AllocError>
     ensures same { AllZip SameStation stations.old stations.new }
     ensures room { OnOk result (AllByRecursion HasRoomForEvents stations.new) }
 {
@@ -62,8 +98,8 @@ pub(crate) fn make_event_room(stations: &mut [Station]) -> Result<(), AllocError
     Ok(())
 }
 
-/// Makes room for the entries of a slot. The error is want of memory, and changes nothing but the room.
-pub(crate) fn make_entry_room(tracks: &mut [Track]) -> Result<(), AllocError>
+// Makes room for the entries of a slot. The error is want of memory, and changes nothing but the room.
+fn make_entry_room(tracks: &mut [Track]) -> Result<(), AllocError>
     ensures same { AllZip SameTrack tracks.old tracks.new }
     ensures room { OnOk result (AllByRecursion HasEntryRoom tracks.new) }
 {
@@ -73,8 +109,8 @@ pub(crate) fn make_entry_room(tracks: &mut [Track]) -> Result<(), AllocError>
     Ok(())
 }
 
-/// Makes room for the level that each wire may be told of a slot. The error is want of memory, and changes nothing but the room.
-pub(crate) fn make_level_room(wires: &mut [Wire]) -> Result<(), AllocError>
+// Makes room for the level that each wire may be told of a slot. The error is want of memory, and changes nothing but the room.
+fn make_level_room(wires: &mut [Wire]) -> Result<(), AllocError>
     ensures same { AllZip SameWire wires.old wires.new }
     ensures room { OnOk result (AllByRecursion HasLevelRoom wires.new) }
 {
@@ -96,9 +132,9 @@ fn step_all(stations: &mut [Station], tracks: &[Track], slot: u32)
     }
 }
 
-/// Each directed link goes on with what its sender's slot gave. Where something then arrives by it, the node that it leads
-/// to becomes due.
-pub(crate) fn advance_all(tracks: &mut [Track], stations: &mut [Station], slot: u32)
+// Each directed link goes on with what its sender's slot gave. Where something then arrives by it, the node that it leads
+// to becomes due.
+fn advance_all(tracks: &mut [Track], stations: &mut [Station], slot: u32)
     requires slot { slot < 2 ^ 32 - 1 }
     requires tracks { AllByRecursion (IsReadyTrack slot (length stations.old)) tracks.old }
     requires room { AllByRecursion HasEntryRoom tracks.old }
@@ -113,8 +149,8 @@ pub(crate) fn advance_all(tracks: &mut [Track], stations: &mut [Station], slot: 
     }
 }
 
-/// Each wire is told of a slot what its first port drives after it, and its second pin of what then comes.
-pub(crate) fn tell_all(wires: &mut [Wire], stations: &mut [Station], slot: u32)
+// Each wire is told of a slot what its first port drives after it, and its second pin of what then comes.
+fn tell_all(wires: &mut [Wire], stations: &mut [Station], slot: u32)
     requires slot { slot < 2 ^ 32 - 1 }
     requires wires { AreReadyWires slot (levels_of stations.old) wires.old }
     requires room { AllByRecursion HasLevelRoom wires.old }

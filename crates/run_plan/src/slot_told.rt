@@ -13,13 +13,12 @@ ghost use Rattle.run_plan.specs.Wires.{AreReadyWires};
 ghost use Rattle.run_plan.specs.Run.{AreReady};
 ghost use Rattle.run_plan.specs.Told.{IsStationTold, AreTold};
 
-use crate::passes::{advance_all, make_entry_room, make_event_room, make_level_room, tell_all};
+use crate::passes::{carry, make_room};
 use crate::station::Station;
 use crate::track::Track;
 use crate::wire::Wire;
 use core_step::Told;
 use std::alloc::AllocError;
-use step_laws::slot_has_few_events;
 use xs_model::Arrivals;
 
 /// The same as `pass_slot`, with what is told of each node's threads, by position. The error is want of memory, and changes nothing but
@@ -47,13 +46,9 @@ pub(crate) fn pass_slot_told(
     ensures tracks { length tracks.new ≡ length tracks.old }
     ensures wires { length wires.new ≡ length wires.old }
 {
-    slot_has_few_events();
-    make_event_room(stations)?;
-    make_entry_room(tracks)?;
-    make_level_room(wires)?;
+    make_room(stations, tracks, wires)?;
     step_all_told(stations, tracks, slot, told);
-    advance_all(tracks, stations, slot);
-    tell_all(wires, stations, slot);
+    carry(stations, tracks, wires, slot);
     Ok(())
 }
 

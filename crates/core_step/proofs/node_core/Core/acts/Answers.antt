@@ -1,51 +1,7 @@
-use Rattle.std.proofs.Common.{sym, refl, ap, subst, ◌∙◌}
-use Rattle.xs_model.specs.Outside.{Emitted}
-use Rattle.xs_model.specs.Ports.{edges_from}
-use Rattle.processor.specs.Issue.{and_happened}
-use Rattle.core_step.specs.Core.{CoreValue, SlotsBefore, Passes}
-use Rattle.core_step.proofs.Acts.{GoesThrough, passes, value_after}
+use Rattle.core_step.proofs.Ends.{passes}
 use Rattle.core_step.proofs.node_core.Core.acts.Goals as goal
-use Rattle.core_step.proofs.node_core.Core.acts.Goals.{After-issue}
-
-abbrev goes : (c : After-issue) → GoesThrough c.self.inside c.args.slot c.args.arrivals.now c.args.pins.now
-goes c =
-    let slot = c.args.slot in
-    let units = c.self.inside.units in
-    record {
-      node = c.self.invariant.node;
-      before = subst (λ (v : CoreValue). SlotsBefore v slot) (sym c.self.view_is) c.requires.before;
-      high = c.high_before-high.result;
-      strobes = c.high_before-high.ensures;
-      edged_core = c.edges.new.self;
-      edged_out = c.edges.new.out;
-      ports = c.edges.ensures.ports;
-      edges =
-          λ levels high.
-          c.edges.ensures.events levels high
-          ∙ ap (λ (out : Emitted). and_happened out slot (edges_from slot units.clocks levels 0 units.ports c.args.pins.now.level).happened) c.clear.ensures;
-      network = c.bring.new.self;
-      brought = c.bring.new.units;
-      brought_out = c.bring.new.out;
-      brings = c.bring.ensures.brings;
-      units = c.bring.ensures.units;
-      routes = c.bring.ensures.routes;
-      sent = c.bring.ensures.sent;
-      issuing = c.bring.new.units;
-      issues = refl;
-      after = c.issue.new.self;
-      out = c.issue.new.out;
-      issue = c.issue.ensures.units;
-      events = c.issue.ensures.events;
-    }
 
 pub returns : goal.returns
-returns c =
-    let d = (goal.at.returns c).After-issue in
-    let a = d.args in
-    let its = goes d in
-    let after = value_after d.self.inside a.slot a.arrivals.now a.pins.now its c.note.new.self in
-    record {
-      passes =
-          subst (λ (v : CoreValue). Passes a.slot a.arrivals.now a.pins.now v after d.issue.new.out) d.self.view_is
-          (passes d.self.inside a.slot a.arrivals.now a.pins.now its c.note.new.self c.note.ensures.levels);
-    }
+returns c = record {
+  passes = passes c.args.slot c.args.arrivals.now c.args.pins.now _ _ _ _ _ c.to_issue.ensures.reaches c.finish.ensures.ends;
+}

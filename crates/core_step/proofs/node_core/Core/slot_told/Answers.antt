@@ -1,59 +1,38 @@
-use Rattle.std.proofs.Common.{sym, ap, subst, ◌∙◌}
+use Rattle.std.proofs.Common.{subst, ap, ◌∙◌}
 use Rattle.xs_model.specs.Record.{CoreRec}
 use Rattle.xs_model.specs.Outside.{Emitted}
-use Rattle.xs_model.specs.Ports.{edges_from}
-use Rattle.step_model.specs.Step.{before_issue}
-use Rattle.processor.specs.Issue.{and_happened}
-use Rattle.core_step.specs.Core.{CoreValue, StandsAt, SlotsBefore, Passes}
-use Rattle.core_step.specs.Told.{IsTold}
-use Rattle.core_step.proofs.Acts.{GoesThrough, passes, value_after, brought_is}
+use Rattle.xs_model.specs.Picks.{is_able}
+use Rattle.processor.specs.NextIssue.{next_issue}
+use Rattle.core_step.specs.Core.{CoreValue, Passes}
+use Rattle.core_step.specs.ToIssue.{EndsSlot}
+use Rattle.core_step.specs.Told.{has_trap}
+use Rattle.core_step.proofs.Ends.{passes}
 use Rattle.core_step.proofs.node_core.Core.slot_told.Goals as goal
-use Rattle.core_step.proofs.node_core.Core.slot_told.Goals.{After-issue}
-
-abbrev goes : (c : After-issue) → GoesThrough c.self.inside c.args.slot c.args.arrivals.now c.args.pins.now
-goes c =
-    let slot = c.args.slot in
-    let units = c.self.inside.units in
-    record {
-      node = c.self.invariant.node;
-      before = subst (λ (v : CoreValue). SlotsBefore v slot) (sym c.self.view_is) c.requires.before;
-      high = c.high_before-strobes.result;
-      strobes = c.high_before-strobes.ensures;
-      edged_core = c.edges.new.self;
-      edged_out = c.edges.new.out;
-      ports = c.edges.ensures.ports;
-      edges =
-          λ levels high.
-          c.edges.ensures.events levels high
-          ∙ ap (λ (out : Emitted). and_happened out slot (edges_from slot units.clocks levels 0 units.ports c.args.pins.now.level).happened) c.clear.ensures;
-      network = c.bring.new.self;
-      brought = c.bring.new.units;
-      brought_out = c.bring.new.out;
-      brings = c.bring.ensures.brings;
-      units = c.bring.ensures.units;
-      routes = c.bring.ensures.routes;
-      sent = c.bring.ensures.sent;
-      issuing = c.of-told.new.units;
-      issues = c.of-told.ensures.unchanged;
-      after = c.issue.new.self;
-      out = c.issue.new.out;
-      issue = c.issue.ensures.units;
-      events = c.issue.ensures.events;
-    }
 
 pub returns : goal.returns
 returns c =
-    let d = (goal.at.returns c).After-issue in
-    let a = d.args in
-    let its = goes d in
-    let after = value_after d.self.inside a.slot a.arrivals.now a.pins.now its c.note.new.self in
+    let slot = c.args.slot in
+    let reached = c.to_issue.ensures.reaches in
+    let same = c.next_issue-issue.ensures.unchanged ∙ c.able_threads-able.ensures.unchanged in
+    let ended = subst (λ (v : CoreValue). EndsSlot slot c.args.pins.now v c.to_issue.new.out c.finish.new.self c.finish.new.out) same c.finish.ensures.ends in
+    let passed : Passes slot c.args.arrivals.now c.args.pins.now c.args.self.now c.finish.new.self c.finish.new.out =
+    passes slot c.args.arrivals.now c.args.pins.now _ _ _ _ _ reached ended
+    in
     record {
-      passes =
-          subst (λ (v : CoreValue). Passes a.slot a.arrivals.now a.pins.now v after d.issue.new.out) d.self.view_is
-          (passes d.self.inside a.slot a.arrivals.now a.pins.now its c.note.new.self c.note.ensures.levels);
+      passes = passed;
       told =
-          λ rec h.
-          let at = subst (λ (v : CoreValue). StandsAt v rec a.slot) (sym d.self.view_is) h in
-          subst (λ (v : CoreValue). IsTold (before_issue v.fixed rec a.slot a.arrivals.now a.pins.now).rec.core a.slot d.of-told.result) d.self.view_is
-          (subst (λ (core : CoreRec). IsTold core a.slot d.of-told.result) (brought_is d.self.inside a.slot a.arrivals.now a.pins.now its rec at) d.of-told.ensures.told);
+          λ rec at.
+          let core = (reached.stands rec at).core in
+          record {
+            able = λ k below. c.able_threads-able.ensures.value k below ∙ ap (λ (units : CoreRec). is_able units k slot) core;
+            issue =
+                c.next_issue-issue.ensures.value
+                ∙ ap (λ (v : CoreValue). next_issue v.core slot) c.able_threads-able.ensures.unchanged
+                ∙ ap (λ (units : CoreRec). next_issue units slot) core;
+            within = c.next_issue-issue.ensures.within;
+            traps =
+                c.has_trap.ensures
+                ∙ ap has_trap c.events.ensures.value
+                ∙ ap (λ (out : Emitted). has_trap out.events) (passed.emissions rec at);
+          };
     }

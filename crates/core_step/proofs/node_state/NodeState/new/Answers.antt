@@ -16,6 +16,6 @@ returns c =
     let ends : c.default-ends.result ≡ replicate 8 absent_end = all_alike EndState _ absent_end c.default-ends.result 8 c.default-ends.ensures (λ a is. search (rules, is)) in
     record {
       none =
-          nothing c.fresh-thread.result c.default-chans.result c.off.result c.default-ends.result c.in_ok-memory.memory
-          c.fresh-thread.ensures.value chans c.off.ensures ends c.in_ok-memory.ensures.image;
+          nothing c.free_thread.result c.default-chans.result c.off.result c.default-ends.result c.in_ok-memory.memory
+          c.free_thread.ensures chans c.off.ensures ends c.in_ok-memory.ensures.image;
     }

@@ -1,19 +1,7 @@
-use Rattle.std.proofs.Common.{◌+◌, List, ◌++◌, subst, arith}
-use Rattle.xs_model.specs.declared.event.Event.{Event}
-use Rattle.trace_lines.specs.Kept.{Keeps}
+use Rattle.node_seats.proofs.Seats.{steps}
 use Rattle.node_seats.proofs.seat.Seat.step.Goals as goal
 
 pub returns : goal.returns
 returns c = record {
-  steps = record {
-    fixed = c.slot_where.ensures.passes.fixed;
-    stands = c.slot_where.ensures.passes.step;
-    given = c.slot_where.ensures.passes.emissions;
-    keeps = λ all h. subst (λ (es : List Event). Keeps c.keep.new.events (all ++ es)) c.events.ensures.value (c.keep.ensures.keeps all h);
-    noted = c.slot_where.ensures.passes.levels;
-    next = record {
-      before = c.slot_where.ensures.passes.next;
-      more = omega (arith, c.keep.ensures.more, c.events.ensures.bound, c.requires.seat.more);
-    };
-  };
+  steps = steps c.args.slot c.args.arrivals.now c.args.pins.now c.args.self.now _ _ c.slot_where.ensures.passes c.requires.seat c.events.ensures.value c.events.ensures.bound c.keep.ensures.keeps c.keep.ensures.more;
 }
