@@ -4,5 +4,3 @@ pub mod Waits
 pub mod Network
 pub mod WaitGraph
 pub mod States
-pub mod Words
-pub mod Answers

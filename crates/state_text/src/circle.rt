@@ -4,8 +4,8 @@ ghost use Rattle.std.specs.List.{flat_map};
 ghost use Rattle.look_model.specs.States.{waiter_text, name_in, waiter_name, link_text, circle_line};
 
 use crate::network::append_input_name;
-use crate::waits::append_thread_name;
 use decimal_text::append_decimal;
+use look_words::append_thread_name;
 use std::alloc::AllocError;
 use sys_plan::NodePlan;
 use xs_base::Text;

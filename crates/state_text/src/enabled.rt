@@ -5,11 +5,12 @@ ghost use Rattle.look_model.specs.Waits.{is_by, is_let_in, let_in_text, gives_te
 
 use crate::phrases::not_let_in;
 use crate::ports::append_input_port;
-use crate::resources::{append_chan_name, append_moment, append_timer_name, input_count};
+use crate::resources::{append_moment, input_count};
 use bitflags::Flags;
 use core_step::NodeState;
 use decimal_text::append_decimal;
 use event_unit::EnableState;
+use look_words::{append_chan_name, append_timer_name};
 use std::alloc::AllocError;
 use xs_base::Text;
 use xs_model::{EEBLE, IEBLE, Status};

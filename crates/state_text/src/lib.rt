@@ -6,7 +6,6 @@ mod enabled;
 mod network;
 mod node;
 mod phrases;
-mod place;
 mod ports;
 mod resources;
 mod runs;

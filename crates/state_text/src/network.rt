@@ -9,12 +9,12 @@ use crate::phrases::{
     a_packet_into, a_packet_to, end_waits, first_header_byte, looks_for_a_way, lost_packet,
     no_end_yet, second_header_byte, to_be_taken, tokens_wait, tokens_wait_and, without_credit,
 };
-use crate::resources::append_chan_name;
 use chan_ends::ChanState;
 use core_step::NodeState;
 use decimal_text::append_decimal;
 use line_text::append_hex_word;
 use link_ends::EndState;
+use look_words::append_chan_name;
 use std::alloc::AllocError;
 use switch_routes::InputState;
 use sys_plan::{LinkPlan, NodePlan, Plan};

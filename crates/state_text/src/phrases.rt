@@ -1,18 +1,6 @@
 //! Longer pieces of the text.
 ghost use Rattle.std.specs.Prelude.{◌≡◌, codes};
 
-pub(crate) fn channel_end() -> &'static [u8]
-    ensures { result.now ≡ codes "channel end " }
-{
-    b"channel end "
-}
-
-pub(crate) fn synchroniser() -> &'static [u8]
-    ensures { result.now ≡ codes "synchroniser " }
-{
-    b"synchroniser "
-}
-
 pub(crate) fn value_not() -> &'static [u8]
     ensures { result.now ≡ codes ", value not " }
 {
@@ -113,12 +101,6 @@ pub(crate) fn the_divider() -> &'static [u8]
     ensures { result.now ≡ codes "the divider, free in " }
 {
     b"the divider, free in "
-}
-
-pub(crate) fn no_instruction() -> &'static [u8]
-    ensures { result.now ≡ codes ": no instruction" }
-{
-    b": no instruction"
 }
 
 pub(crate) fn waits_for_the_start() -> &'static [u8]

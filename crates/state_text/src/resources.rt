@@ -1,47 +1,12 @@
-//! Channel ends, timers, synchronisers and locks by kind and identifier.
+//! What waits at channel ends, and the moments of timers.
 ghost use Rattle.std.specs.Prelude.{◌≡◌, ◌++◌, OnOk, Some, slice_get};
-ghost use Rattle.look_model.specs.Resources.{chan_name, timer_name, sync_name, lock_name, moment_text, output_count, input_count, slots_until_after};
+ghost use Rattle.look_model.specs.Resources.{moment_text, output_count, input_count, slots_until_after};
 
-use crate::phrases::{channel_end, synchroniser};
 use chan_ends::ChanState;
 use decimal_text::append_decimal;
-use line_text::append_hex_word;
 use std::alloc::AllocError;
 use timers_clocks::TimerState;
-use xs_base::numbers::{LOCK_KIND, SYNCHRONISER_KIND, TIMER_KIND};
-use xs_base::{Text, chan_id, res_id};
-
-/// `channel end ID`, of the node with this id.
-pub(crate) fn append_chan_name(out: &mut Text, id: u16, c: u8) -> Result<(), AllocError>
-    ensures { OnOk result (out.new ≡ out.old ++ chan_name id c) }
-{
-    out.append(channel_end())?;
-    append_hex_word(out, chan_id(id, c))
-}
-
-/// `timer ID`.
-pub(crate) fn append_timer_name(out: &mut Text, n: u8) -> Result<(), AllocError>
-    ensures { OnOk result (out.new ≡ out.old ++ timer_name n) }
-{
-    out.append(b"timer ")?;
-    append_hex_word(out, res_id(n, TIMER_KIND))
-}
-
-/// `synchroniser ID`.
-pub(crate) fn append_sync_name(out: &mut Text, n: u8) -> Result<(), AllocError>
-    ensures { OnOk result (out.new ≡ out.old ++ sync_name n) }
-{
-    out.append(synchroniser())?;
-    append_hex_word(out, res_id(n, SYNCHRONISER_KIND))
-}
-
-/// `lock ID`.
-pub(crate) fn append_lock_name(out: &mut Text, n: u8) -> Result<(), AllocError>
-    ensures { OnOk result (out.new ≡ out.old ++ lock_name n) }
-{
-    out.append(b"lock ")?;
-    append_hex_word(out, res_id(n, LOCK_KIND))
-}
+use xs_base::Text;
 
 /// How many tokens wait at a channel end to be sent.
 pub(crate) fn output_count(chans: &[ChanState], c: u8) -> u64

@@ -4,12 +4,12 @@ ghost use Rattle.look_model.specs.Waits.{run_text, run_lines, pause_lines, trap_
 
 use crate::enabled::append_enabled;
 use crate::phrases::{waits_for, waits_for_it, waits_for_the_start};
-use crate::place::append_place;
 use crate::seen::sync_of;
-use crate::waits::{append_master, append_thread_name, append_wait};
+use crate::waits::{append_master, append_wait};
 use core_step::NodeState;
 use decimal_text::append_decimal;
 use line_text::append_hex_word;
+use look_words::{append_place, append_thread_name};
 use std::alloc::{AllocError, Global};
 use sys_plan::NodePlan;
 use xs_base::Text;

@@ -1,29 +1,21 @@
 //! What a paused thread waits for.
 ghost use Rattle.std.specs.Prelude.{◌≡◌, ◌++◌, ◌∷◌, [], Some, codes, decimal, OnOk};
-ghost use Rattle.look_model.specs.Waits.{thread_name, thread_names, owner_text, missing_text, master_text, divider_slots, of_text, taken_text, wait_text};
+ghost use Rattle.look_model.specs.Waits.{thread_names, owner_text, missing_text, master_text, divider_slots, of_text, taken_text, wait_text};
 
 use crate::phrases::{all_in, another_thread, end_of_output, master_of, not_in, the_divider};
 use crate::ports::{append_input_port, append_output_port};
-use crate::resources::{
-    append_chan_name, append_lock_name, append_moment, append_sync_name, append_timer_name,
-    input_count, output_count,
-};
+use crate::resources::{append_moment, input_count, output_count};
 use crate::seen::{missing, owner};
 use core_step::NodeState;
 use decimal_text::append_decimal;
+use look_words::{
+    append_chan_name, append_lock_name, append_sync_name, append_thread_name, append_timer_name,
+};
 use std::alloc::{AllocError, Global};
 use sync_locks::SyncState;
 use xs_base::Text;
 use xs_base::numbers::BUFFER_TOKENS;
 use xs_model::{DIVISION_SLOTS, Wait};
-
-/// `tK`.
-pub(crate) fn append_thread_name(out: &mut Text, k: u8) -> Result<(), AllocError>
-    ensures { OnOk result (out.new ≡ out.old ++ thread_name k) }
-{
-    out.append(b"t")?;
-    append_decimal(out, u64::from(k))
-}
 
 /// What a paused thread of a node waits for, before a slot. The error is want of memory.
 pub(crate) fn append_wait(

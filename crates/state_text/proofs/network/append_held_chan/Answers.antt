@@ -2,7 +2,7 @@ use Rattle.std.proofs.Common.{◌++◌, ◌∙◌, ap}
 use Rattle.std.specs.Prelude.{codes, decimal}
 use Rattle.look_model.specs.Network.{held_text}
 use Rattle.look_model.specs.Resources.{chan_name}
-use Rattle.state_text.proofs.Appended.{behind}
+use Rattle.look_words.proofs.Appended.{behind}
 use Rattle.state_text.proofs.network.append_held_chan.Goals as goal
 
 pub returns : goal.returns

@@ -2,7 +2,7 @@ use Rattle.std.proofs.Common.{◌++◌, ◌∙◌, ap}
 use Rattle.std.specs.Prelude.{codes}
 use Rattle.look_model.specs.Resources.{sync_name}
 use Rattle.look_model.specs.Waits.{thread_name}
-use Rattle.state_text.proofs.Appended.{behind}
+use Rattle.look_words.proofs.Appended.{behind}
 use Rattle.state_text.proofs.waits.append_master_of.Goals as goal
 
 pub returns : goal.returns

@@ -2,7 +2,7 @@ use Rattle.std.proofs.Common.{◌≡◌, ◌++◌, ◌∙◌, ap, slice_get}
 use Rattle.std.specs.Prelude.{codes, decimal}
 use Rattle.look_model.specs.Resources.{chan_name, output_count}
 use Rattle.look_model.specs.Waits.{taken_text}
-use Rattle.state_text.proofs.Appended.{behind}
+use Rattle.look_words.proofs.Appended.{behind}
 use Rattle.state_text.proofs.waits.append_room.Goals as goal
 
 pub returns : goal.returns

@@ -2,7 +2,7 @@ use Rattle.std.proofs.Common.{◌≡◌, ◌≤◌, drop}
 use Rattle.std.specs.Prelude.{option_map, IfSome}
 use Rattle.xs_instructions.specs.Image.{symbol_of_pair}
 use Rattle.look_model.specs.Places.{last_label_from, last_label}
-use Rattle.state_text.proofs.place.last_label.Given as goal
+use Rattle.look_words.proofs.place.last_label.Given as goal
 
 abbrev pub invariant-loop-k : goal.invariant-loop-k
 invariant-loop-k l = record {

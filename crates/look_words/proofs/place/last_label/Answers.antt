@@ -4,7 +4,7 @@ use Rattle.std.proofs.lemmas.List.{drop_more}
 use Rattle.std.proofs.lemmas.Option.{get_or_from_slice_get, slice_get_within}
 use Rattle.xs_instructions.specs.Image.{Symbol, symbol_of_pair}
 use Rattle.look_model.specs.Places.{last_label_from}
-use Rattle.state_text.proofs.place.last_label.Goals as goal
+use Rattle.look_words.proofs.place.last_label.Goals as goal
 
 pub loop-k-preserved : goal.loop-k-preserved
 loop-k-preserved c =

@@ -4,7 +4,6 @@ ghost use Rattle.xs_instructions.specs.Code.{code_at};
 ghost use Rattle.xs_instructions.specs.Image.{symbol_of_pair, symbol_at};
 ghost use Rattle.look_model.specs.Places.{later_label, last_label, label_text, distance_text, line_at, standing_text, place_text};
 
-use crate::phrases::no_instruction;
 use decimal_text::append_decimal;
 use line_text::append_hex_word;
 use std::alloc::AllocError;
@@ -14,7 +13,7 @@ use xs_instructions::{Image, Instr};
 use xs_printer::Printer;
 
 /// ` at PC`, and what stands there, where the instructions of an image are of these lines. The error is want of memory.
-pub(crate) fn append_place(
+pub fn append_place(
     out: &mut Text,
     image: &Image,
     printer: &Printer,
@@ -140,4 +139,10 @@ fn append_distance(out: &mut Text, distance: u32) -> Result<(), AllocError>
     }
     out.append(b"+")?;
     append_decimal(out, u64::from(distance))
+}
+
+fn no_instruction() -> &'static [u8]
+    ensures { result.now ≡ codes ": no instruction" }
+{
+    b": no instruction"
 }
