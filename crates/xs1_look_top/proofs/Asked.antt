@@ -2,27 +2,34 @@
 use Rattle.std.proofs.Common.{◌≡◌, ℕ, ◌+◌, ◌<◌, true, false, min, List, length, take, Option, Some, None, Result, Ok, Err, IfOk, refl, ap, ◌∙◌, arith}
 use Rattle.answer_model.specs.declared.Answer.{Answer}
 use Rattle.answer_model.specs.declared.Status.TheVariants as status
-use Rattle.answer_model.specs.OnSystem.{answer_to}
+use Rattle.sys_plan.specs.Plan.{PlanRec}
+use Rattle.answer_model.specs.OnSystem.{answer_to, on_system}
 use Rattle.answer_model.specs.Refusals.{frame_text}
 use Rattle.system_model.specs.declared.SysKind.TheVariants.{TooLong}
 use Rattle.system_model.specs.System.{longest_input, system_of}
 use Rattle.program_calls.specs.Asked.{IsCoherent, IsFormStatus}
 use Rattle.system_answers.proofs.Statuses.{answer_to-status}
 use Rattle.system_answers.proofs.Taken.{of_taken, system_of-long}
-use Rattle.look_model.specs.declared.LookForm.{LookForm}
-use Rattle.look_model.specs.declared.LookForm.TheVariants.{States}
+use Rattle.look_forms.specs.declared.LookForm.{LookForm}
+use Rattle.look_forms.specs.declared.LookForm.TheVariants.{States, Issues}
 use Rattle.look_model.specs.States.{states_text}
-use Rattle.look_model.specs.Words.{look_form}
-use Rattle.look_model.specs.Answers.{states_answer, look_by}
+use Rattle.look_forms.specs.Words.{look_form}
+use Rattle.look_forms.specs.Answers.{issues_text, look_by}
 use Rattle.xs1_look_top.specs.Asked.{asked_by, asked_of}
 
--- what each form answers to the bytes taken is what it answers to the input
+-- what a form answers to the bytes taken, which reads a system text, is what it answers to the input
+taken : (text_for : List ℕ → PlanRec → List ℕ) (input : List ℕ)
+    → on_system (text_for (take (min (length input) (longest_input + 1)) input)) (take (min (length input) (longest_input + 1)) input) ≡ on_system (text_for input) input
+taken text_for input =
+    of_taken (λ text. on_system (text_for text) text) longest_input (record { text = frame_text 0 TooLong; status = status.SystemFault }) (λ text h. ap (answer_to (text_for text)) (system_of-long text h)) input
+
 look_by-taken : (form : LookForm) (input : List ℕ) → look_by form (take (min (length input) (longest_input + 1)) input) ≡ look_by form input
-look_by-taken (States slots) input =
-    of_taken (states_answer slots) longest_input (record { text = frame_text 0 TooLong; status = status.SystemFault }) (λ text h. ap (answer_to (states_text text slots)) (system_of-long text h)) input
+look_by-taken (States slots) input = taken (λ text. states_text text slots) input
+look_by-taken (Issues slots from) input = taken (λ text. issues_text text slots from) input
 
 look_by-status : (form : LookForm) (input : List ℕ) → IsFormStatus (look_by form input).status
 look_by-status (States slots) input = answer_to-status (states_text input slots) (system_of input)
+look_by-status (Issues slots from) input = answer_to-status (issues_text input slots from) (system_of input)
 
 coherent_by : (form : Option LookForm) → IsCoherent (asked_by form)
 coherent_by None = record {

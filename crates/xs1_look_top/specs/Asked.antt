@@ -2,9 +2,9 @@
 use Rattle.std.specs.Prelude.{ℕ, ◌≡◌, ◌+◌, Bool, true, false, Option, Some, None, List}
 use Rattle.system_model.specs.System.{longest_input}
 use Rattle.program_calls.specs.Asked.{Asked}
-use Rattle.look_model.specs.declared.LookForm.{LookForm}
-use Rattle.look_model.specs.Words.{look_form, look_usage}
-use Rattle.look_model.specs.Answers.{look_of_form}
+use Rattle.look_forms.specs.declared.LookForm.{LookForm}
+use Rattle.look_forms.specs.Words.{look_form, look_usage}
+use Rattle.look_forms.specs.Answers.{look_of_form}
 
 abbrev pub asks : Option LookForm → Bool
 asks None = false

@@ -1,15 +1,15 @@
 //! The program's one call.
 ghost use Rattle.std.specs.Prelude.{◌≡◌, IfOk, Some, map, string_bytes};
 ghost use Rattle.program_calls.specs.Calls.{Calls};
-ghost use Rattle.look_model.specs.Words.{look_form};
-ghost use Rattle.look_model.specs.Answers.{look_by};
+ghost use Rattle.look_forms.specs.Words.{look_form};
+ghost use Rattle.look_forms.specs.Answers.{look_by};
 ghost use Rattle.xs1_look_top.specs.Asked.{asked_of};
 
 use crate::program::Look;
-use crate::states;
 use crate::words::{look_form, usage_line};
+use crate::{issues, states};
 use answer_model::{Answer, Status};
-use look_model::LookForm;
+use look_forms::LookForm;
 use program_calls::{refuse, respond};
 use std::alloc::{AllocError, Global};
 use xs_edge::{Sink, Source};
@@ -19,9 +19,9 @@ const MOST_OF_TEXT: usize = 4_194_305;
 
 /// The whole program: its words choose a form, the input is read to its end, and what the form answers to it is written. `states SLOTS` runs
 /// the system that the input stands for, all nodes together, and answers with what each thread does and waits for, and what the network
-/// holds. `words` are the program's, without its name. With words of no form nothing is read. Of a system text no more than 4,194,305 bytes
-/// are read, and one of more than 4,194,304 bytes is refused. Nothing is written before all is done, and writing takes no memory. It returns.
-/// See docs/LOOK.md.
+/// holds; `issues SLOTS FROM` answers with a line for each issue from slot FROM on. `words` are the program's, without its name. With words of
+/// no form nothing is read. Of a system text no more than 4,194,305 bytes are read, and one of more than 4,194,304 bytes is refused. Nothing is
+/// written before all is done, and writing takes no memory. It returns. See docs/LOOK.md.
 ///
 /// The statuses, of which `Status::number` gives the number; the fields of `Calls` say when each comes:
 ///
@@ -61,5 +61,6 @@ fn answer(alloc: Global, form: LookForm, input: &[u8]) -> Result<Answer, AllocEr
 {
     match form {
         LookForm::States(slots) => states::answer(alloc, slots, input),
+        LookForm::Issues(slots, from) => issues::answer(alloc, slots, from, input),
     }
 }

@@ -2,6 +2,7 @@
 #![tactic(auto)]
 
 mod call;
+mod issues;
 mod program;
 mod states;
 mod words;

@@ -3,7 +3,8 @@ ghost use Rattle.std.specs.Prelude.{◌≡◌, IfOk};
 ghost use Rattle.system_model.specs.System as stands;
 ghost use Rattle.system_model.specs.System.{system_of};
 ghost use Rattle.look_model.specs.States.{states_text};
-ghost use Rattle.look_model.specs.Answers.{states_answer};
+ghost use Rattle.look_forms.specs.Answers.{look_by};
+ghost use Rattle.look_forms.specs.declared.LookForm.TheVariants.{States};
 
 use answer_model::{Answer, Status};
 use snap_run::save_at;
@@ -17,7 +18,7 @@ use xs_base::Text;
 /// Runs the system of the input for so many slots, all nodes together, and answers with what it has come to, in words. The error is want of
 /// memory. See docs/LOOK.md.
 pub fn answer(alloc: Global, slots: u32, input: &[u8]) -> Result<Answer, AllocError>
-    ensures { IfOk result (λ answer. answer ≡ states_answer slots input.now) }
+    ensures { IfOk result (λ answer. answer ≡ look_by (States slots) input.now) }
 {
     match read(alloc, input)? {
         Reading::System(plan) => Ok(Answer {

@@ -1,0 +1,131 @@
+//! `Lines`, the lines of issues: the first of them, and how many there were.
+ghost use Rattle.std.specs.Prelude.{◌≡◌, ◌+◌, ◌-◌, ◌^◌, ◌<◌, ◌≤◌, List, ℕ, [], ◌∷◌, ◌++◌, IfSome, IfOk, OnOk};
+ghost use Rattle.xs_base.specs.declared.numbers.TheConstants.{THREADS};
+ghost use Rattle.trace_model.specs.Trace.{end_line};
+ghost use Rattle.issue_model.specs.Issues.{line_of, lines_by, more_text, lines_text};
+ghost use Rattle.issue_text.specs.Kept.{IsOf};
+
+use crate::endings::ending_of;
+use crate::line::append_line;
+use crate::registers::thread_in;
+use core_step::Told;
+use decimal_text::append_decimal;
+use issue_model::{Ending, MOST_LINES};
+use std::alloc::{AllocError, Global};
+use sys_plan::NodePlan;
+use xs_base::Text;
+use xs_model::Thread;
+use xs_printer::Printer;
+
+/// The lines of issues: the text of the first ones, and how many there were.
+#[derive(Drop)]
+pub(crate) struct Lines {
+    pub(crate) text: Text,
+    pub(crate) count: u64,
+}
+
+impl Lines {
+    /// No lines yet. It takes no memory.
+    pub(crate) fn new(alloc: Global) -> Lines
+        ensures none { IsOf result [] }
+        ensures count { result.count ≡ 0 }
+    {
+        Lines {
+            text: Text::new(alloc),
+            count: 0,
+        }
+    }
+
+    /// Adds the line of a node's issue in a slot, of which this was told, where there was one: its threads were this before the slot and are
+    /// that after it. The error is want of memory.
+    pub(crate) fn add(
+        &mut self,
+        node: &NodePlan,
+        printer: &Printer,
+        lines: &[u32],
+        slot: u32,
+        before: &[Thread; 8],
+        after: &[Thread; 8],
+        told: &Told,
+    ) -> Result<(), AllocError>
+        requires printer { printer.now ≡ node.now.image }
+        requires thread { IfSome told.now.issue (λ next. next.thread < THREADS) }
+        requires count { self.old.count < 2 ^ 64 - 1 }
+        ensures lines { OnOk result ((all : List (List ℕ)) → IsOf self.old all → IsOf self.new (all ++ lines_by node.now lines.now slot before.now after.now told.now.traps told.now.issue)) }
+        ensures count { OnOk result (self.new.count ≤ self.old.count + 1) }
+    {
+        let Some(next) = told.issue else {
+            return Ok(());
+        };
+        let k = next.thread;
+        let ending = ending_of(next.takes, told.traps, thread_in(after, k).run);
+        self.add_line(node, printer, lines, slot, before, after, k, ending)
+    }
+
+    // Adds the line of an issue by thread k, which ended so.
+    fn add_line(
+        &mut self,
+        node: &NodePlan,
+        printer: &Printer,
+        lines: &[u32],
+        slot: u32,
+        before: &[Thread; 8],
+        after: &[Thread; 8],
+        k: u8,
+        ending: Ending,
+    ) -> Result<(), AllocError>
+        requires printer { printer.now ≡ node.now.image }
+        requires thread { k < THREADS }
+        requires count { self.old.count < 2 ^ 64 - 1 }
+        ensures lines { OnOk result ((all : List (List ℕ)) → IsOf self.old all → IsOf self.new (all ++ line_of node.now lines.now slot before.now after.now k ending ∷ [])) }
+        ensures count { OnOk result (self.new.count ≤ self.old.count + 1) }
+    {
+        self.count += 1;
+        if self.count > MOST_LINES {
+            return Ok(());
+        }
+        append_line(
+            &mut self.text,
+            node,
+            printer,
+            lines,
+            slot,
+            before,
+            after,
+            k,
+            ending,
+        )?;
+        Ok(())
+    }
+
+    /// The whole text of a run of so many slots. The error is want of memory.
+    pub(crate) fn into_text(self, slots: u32) -> Result<Text, AllocError>
+        ensures { IfOk result (λ text. (all : List (List ℕ)) → IsOf self all → text ≡ lines_text slots all) }
+    {
+        let mut out = self.text;
+        append_more(&mut out, self.count.saturating_sub(MOST_LINES))?;
+        append_end(&mut out, slots)?;
+        Ok(out)
+    }
+}
+
+// `more C`, where there are more.
+fn append_more(out: &mut Text, count: u64) -> Result<(), AllocError>
+    ensures { OnOk result (out.new ≡ out.old ++ more_text count) }
+{
+    if count == 0 {
+        return Ok(());
+    }
+    out.append(b"more ")?;
+    append_decimal(out, count)?;
+    out.append(b"\n")
+}
+
+// `end SLOTS`.
+fn append_end(out: &mut Text, slots: u32) -> Result<(), AllocError>
+    ensures { OnOk result (out.new ≡ out.old ++ end_line slots) }
+{
+    out.append(b"end ")?;
+    append_decimal(out, u64::from(slots))?;
+    out.append(b"\n")
+}
