@@ -1,11 +1,10 @@
 //! The line of a circle.
 ghost use Rattle.std.specs.Prelude.{◌≡◌, ◌++◌, Some, option_map, OnOk};
 ghost use Rattle.std.specs.List.{flat_map};
-ghost use Rattle.look_model.specs.States.{waiter_text, name_in, waiter_name, link_text, circle_line};
+ghost use Rattle.look_model.specs.States.{name_in, waiter_name, link_text, circle_line};
 
-use crate::network::append_input_name;
-use decimal_text::append_decimal;
-use look_words::append_thread_name;
+use crate::pieces::Piece::{Input, Number, Thread, Words};
+use crate::pieces::append_pieces;
 use std::alloc::AllocError;
 use sys_plan::NodePlan;
 use xs_base::Text;
@@ -67,24 +66,19 @@ fn append_name(out: &mut Text, nodes: &[NodePlan], at: u16) -> Result<(), AllocE
     }
 }
 
-// The same among those of a node.
+// The same among those of a node: `nN.tK`, `nN link E` or `nN channel end ID`.
 fn append_name_in(out: &mut Text, node: &NodePlan, at: u8) -> Result<(), AllocError>
     ensures { OnOk result (out.new ≡ out.old ++ name_in node.now at) }
 {
-    out.append(b"n")?;
-    append_decimal(out, u64::from(node.number))?;
-    append_waiter(out, node.id, at)
-}
-
-// `.tK`, ` link E` or ` channel end ID`.
-fn append_waiter(out: &mut Text, id: u16, at: u8) -> Result<(), AllocError>
-    ensures { OnOk result (out.new ≡ out.old ++ waiter_text id at) }
-{
+    let id = node.id;
+    let number = Number(u64::from(node.number));
     if at < THREADS {
-        out.append(b".")?;
-        append_thread_name(out, at)
+        append_pieces(out, &[Words(b"n"), number, Words(b"."), Thread(at)])
     } else {
-        out.append(b" ")?;
-        append_input_name(out, id, at - THREADS)
+        let input = at - THREADS;
+        append_pieces(
+            out,
+            &[Words(b"n"), number, Words(b" "), Input { id, input }],
+        )
     }
 }

@@ -6,6 +6,7 @@ mod enabled;
 mod network;
 mod node;
 mod phrases;
+mod pieces;
 mod ports;
 mod resources;
 mod runs;

@@ -3,12 +3,16 @@ ghost use Rattle.std.specs.Prelude.{◌≡◌, ◌<◌, ◌++◌, Option, OnOk, 
 ghost use Rattle.std.specs.List.{list_any};
 ghost use Rattle.net_model.specs.Switch.{ends_packet};
 ghost use Rattle.trace_model.specs.Trace.{by_position, number_at};
-ghost use Rattle.look_model.specs.Network.{other_end, to_text, has_tokens, end_text, end_line, input_name, buffer_count, buffer_tokens, output_tokens, tokens_at, ending_text, held_text, holds_tokens, waiting_text, chan_line, chan_text, input_text, is_idle, input_line};
+ghost use Rattle.look_model.specs.Network.{other_end, to_text, has_tokens, end_text, end_line};
+ghost use Rattle.look_model.specs.Network.{holds_tokens, held_text, chan_text, chan_line};
+ghost use Rattle.look_model.specs.Network.{buffer_count, buffer_tokens, output_tokens, tokens_at, ending_text, input_text, is_idle, input_line};
 
 use crate::phrases::{
-    a_packet_into, a_packet_to, end_waits, first_header_byte, looks_for_a_way, lost_packet,
-    no_end_yet, second_header_byte, to_be_taken, tokens_wait, tokens_wait_and, without_credit,
+    a_packet_into, a_packet_to, looks_for_a_way, lost_packet, to_be_taken, tokens_wait,
+    tokens_wait_and, without_credit,
 };
+use crate::pieces::Piece::{Input, Number, Words};
+use crate::pieces::append_pieces;
 use chan_ends::ChanState;
 use core_step::NodeState;
 use decimal_text::append_decimal;
@@ -69,10 +73,15 @@ fn append_end(
     if !has_tokens(end) {
         return Ok(());
     }
-    out.append(b"n")?;
-    append_decimal(out, u64::from(node.number))?;
-    out.append(b" link ")?;
-    append_decimal(out, u64::from(e))?;
+    append_pieces(
+        out,
+        &[
+            Words(b"n"),
+            Number(u64::from(node.number)),
+            Words(b" link "),
+            Number(u64::from(e)),
+        ],
+    )?;
     append_to(out, plan, other_end(plan.links(), n, e))?;
     out.append(b": ")?;
     append_counts(out, end)
@@ -102,10 +111,15 @@ fn append_to(out: &mut Text, plan: &Plan, other: Option<(u8, u8)>) -> Result<(),
     let Some((node, end)) = other else {
         return Ok(());
     };
-    out.append(b" to n")?;
-    append_decimal(out, u64::from(number_at(plan.nodes(), node)))?;
-    out.append(b" link ")?;
-    append_decimal(out, u64::from(end))
+    append_pieces(
+        out,
+        &[
+            Words(b" to n"),
+            Number(u64::from(number_at(plan.nodes(), node))),
+            Words(b" link "),
+            Number(u64::from(end)),
+        ],
+    )
 }
 
 // The number of the node at a position.
@@ -174,18 +188,6 @@ fn append_held(out: &mut Text, held: u64) -> Result<(), AllocError>
 }
 
 // ---- Inputs of the switch
-
-/// `link E`, or `channel end ID`.
-pub(crate) fn append_input_name(out: &mut Text, id: u16, i: u8) -> Result<(), AllocError>
-    ensures { OnOk result (out.new ≡ out.old ++ input_name id i) }
-{
-    if i < LINK_ENDS {
-        out.append(b"link ")?;
-        append_decimal(out, u64::from(i))
-    } else {
-        append_chan_name(out, id, i - LINK_ENDS)
-    }
-}
 
 /// How many tokens wait in the buffer of a link end.
 pub(crate) fn buffer_count(ends: &[EndState], end: u8) -> u64
@@ -257,33 +259,42 @@ fn append_input(
     if is_idle(now) {
         return Ok(());
     }
-    out.append(b"n")?;
-    append_decimal(out, u64::from(node.number))?;
-    out.append(b" ")?;
-    append_input_name(out, node.id, i)?;
-    out.append(b": ")?;
+    append_pieces(
+        out,
+        &[
+            Words(b"n"),
+            Number(u64::from(node.number)),
+            Words(b" "),
+            Input {
+                id: node.id,
+                input: i,
+            },
+            Words(b": "),
+        ],
+    )?;
     append_work(out, node.id, now)?;
     append_waiting(out, tokens_at(state, i))
 }
 
 // `, no END yet, W tokens wait`.
 fn append_waiting(out: &mut Text, tokens: &[Token]) -> Result<(), AllocError>
-    ensures { OnOk result (out.new ≡ out.old ++ (ending_text tokens.now ++ (codes ", " ++ (decimal (length tokens.now) ++ codes " tokens wait\n")))) }
+    ensures { OnOk result (out.new ≡ out.old
+        ++ (ending_text tokens.now ++ (codes ", " ++ (decimal (length tokens.now) ++ codes " tokens wait\n")))) }
 {
-    append_ending(out, tokens)?;
+    out.append(ending(tokens))?;
     out.append(b", ")?;
     append_decimal(out, tokens.len() as u64)?;
     out.append(tokens_wait())
 }
 
 // `, END waits`, or `, no END yet`.
-fn append_ending(out: &mut Text, tokens: &[Token]) -> Result<(), AllocError>
-    ensures { OnOk result (out.new ≡ out.old ++ ending_text tokens.now) }
+fn ending(tokens: &[Token]) -> &'static [u8]
+    ensures { result.now ≡ ending_text tokens.now }
 {
     if has_end(tokens) {
-        out.append(end_waits())
+        b", END waits"
     } else {
-        out.append(no_end_yet())
+        b", no END yet"
     }
 }
 
@@ -317,8 +328,8 @@ fn append_work(out: &mut Text, id: u16, now: InputState) -> Result<(), AllocErro
 {
     match now {
         InputState::Idle => Ok(()),
-        InputState::Head1 { .. } => out.append(first_header_byte()),
-        InputState::Head2 { .. } => out.append(second_header_byte()),
+        InputState::Head1 { .. } => out.append(b"1 of 3 header bytes came"),
+        InputState::Head2 { .. } => out.append(b"2 of 3 header bytes came"),
         InputState::Want { dest, net } => {
             out.append(a_packet_to())?;
             append_hex_word(out, dest)?;

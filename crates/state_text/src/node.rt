@@ -5,42 +5,29 @@ ghost use Rattle.look_model.specs.Waits.{thread_lines};
 ghost use Rattle.look_model.specs.States.{node_lines};
 
 use crate::network::{append_chans, append_ends, append_inputs};
-use crate::runs::append_thread;
-use core_step::NodeState;
+use crate::runs::{Seat, append_thread};
 use std::alloc::{AllocError, Global};
-use sys_plan::{NodePlan, Plan};
+use sys_plan::Plan;
 use xs_base::Text;
 use xs_model::Thread;
-use xs_printer::Printer;
 
-/// The lines of the threads, the link ends and the inputs of the node at a position. The error is want of memory.
+/// The lines of the threads, the link ends, the inputs and the channel ends of the node at a position. The error is want of memory.
 pub(crate) fn append_node(
     alloc: Global,
     out: &mut Text,
     plan: &Plan,
-    slot: u32,
     n: u8,
-    node: &NodePlan,
-    printer: &Printer,
-    lines: &[u32],
-    state: &NodeState,
+    seat: &Seat,
 ) -> Result<(), AllocError>
-    requires printer { printer.now ≡ node.now.image }
-    ensures { OnOk result (out.new ≡ out.old ++ node_lines plan.now slot n node.now lines.now state.now) }
+    requires printer { seat.now.printer.now ≡ seat.now.node.now.image }
+    ensures { OnOk result (out.new ≡ out.old
+        ++ node_lines plan.now seat.now.slot n seat.now.node.now seat.now.lines.now seat.now.state.now) }
 {
-    append_threads(
-        alloc,
-        out,
-        node,
-        printer,
-        lines,
-        slot,
-        state,
-        &state.threads,
-    )?;
-    append_ends(out, plan, n, node, &state.ends)?;
-    append_inputs(out, node, state, &state.inputs)?;
-    append_chans(out, node, &state.chans)
+    let state = seat.state;
+    append_threads(alloc, out, seat, &state.threads)?;
+    append_ends(out, plan, n, seat.node, &state.ends)?;
+    append_inputs(out, seat.node, state, &state.inputs)?;
+    append_chans(out, seat.node, &state.chans)
 }
 
 // The lines of its threads.
@@ -48,28 +35,15 @@ pub(crate) fn append_node(
 fn append_threads(
     alloc: Global,
     out: &mut Text,
-    node: &NodePlan,
-    printer: &Printer,
-    lines: &[u32],
-    slot: u32,
-    state: &NodeState,
+    seat: &Seat,
     threads: &[Thread; 8],
 ) -> Result<(), AllocError>
-    requires printer { printer.now ≡ node.now.image }
-    ensures { OnOk result (out.new ≡ out.old ++ by_position (thread_lines node.now lines.now slot state.now) 0 threads.now) }
+    requires printer { seat.now.printer.now ≡ seat.now.node.now.image }
+    ensures { OnOk result (out.new ≡ out.old
+        ++ by_position (thread_lines seat.now.node.now seat.now.lines.now seat.now.slot seat.now.state.now) 0 threads.now) }
 {
     for k in 0..8u8 {
-        append_thread(
-            alloc,
-            out,
-            node,
-            printer,
-            lines,
-            slot,
-            state,
-            k,
-            &threads[k as usize],
-        )?;
+        append_thread(alloc, out, seat, k, &threads[k as usize])?;
     }
     Ok(())
 }

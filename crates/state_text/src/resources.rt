@@ -1,9 +1,10 @@
 //! What waits at channel ends, and the moments of timers.
-ghost use Rattle.std.specs.Prelude.{◌≡◌, ◌++◌, OnOk, Some, slice_get};
-ghost use Rattle.look_model.specs.Resources.{moment_text, output_count, input_count, slots_until_after};
+ghost use Rattle.std.specs.Prelude.{◌≡◌, ◌++◌, OnOk, slice_get};
+ghost use Rattle.look_model.specs.Resources.{timer_name, moment_text, output_count, input_count, slots_until_after};
 
+use crate::pieces::Piece::{Number, Timer, Words};
+use crate::pieces::append_pieces;
 use chan_ends::ChanState;
-use decimal_text::append_decimal;
 use std::alloc::AllocError;
 use timers_clocks::TimerState;
 use xs_base::Text;
@@ -28,33 +29,29 @@ pub(crate) fn input_count(chans: &[ChanState], c: u8) -> u64
     }
 }
 
-/// ` after V, in S slots`, or nothing where the timer has no condition.
-pub(crate) fn append_moment(
+/// `timer ID after V, in S slots`, or `timer ID` where the timer has no condition.
+pub(crate) fn append_timer(
     out: &mut Text,
     slot: u32,
     timers: &[TimerState],
     n: u8,
 ) -> Result<(), AllocError>
-    ensures { OnOk result (out.new ≡ out.old ++ moment_text slot (slice_get timers.now n)) }
+    ensures { OnOk result (out.new ≡ out.old ++ (timer_name n ++ moment_text slot (slice_get timers.now n))) }
 {
     match timers.get(n as usize) {
-        None => Ok(()),
-        Some(timer) => append_moment_of(out, slot, timer),
+        Some(timer) if timer.after => append_pieces(
+            out,
+            &[
+                Timer(n),
+                Words(b" after "),
+                Number(u64::from(timer.value)),
+                Words(b", in "),
+                Number(slots_until_after(slot, timer.value)),
+                Words(b" slots"),
+            ],
+        ),
+        _ => append_pieces(out, &[Timer(n), Words(b"")]),
     }
-}
-
-// The same of a timer.
-fn append_moment_of(out: &mut Text, slot: u32, timer: &TimerState) -> Result<(), AllocError>
-    ensures { OnOk result (out.new ≡ out.old ++ moment_text slot (Some timer.now)) }
-{
-    if !timer.after {
-        return Ok(());
-    }
-    out.append(b" after ")?;
-    append_decimal(out, u64::from(timer.value))?;
-    out.append(b", in ")?;
-    append_decimal(out, slots_until_after(slot, timer.value))?;
-    out.append(b" slots")
 }
 
 // How many slots it takes until the time is after a value.

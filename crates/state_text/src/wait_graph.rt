@@ -1,7 +1,10 @@
 //! Who waits for whom.
 ghost use Rattle.std.specs.Prelude.{◌≡◌, ◌≤◌, ◌<◌, ◌+◌, ◌*◌, ◌/◌, ◌++◌, ◌∷◌, [], map, option_map, slice_get, length, IfOk, OnOk};
 ghost use Rattle.net_model.specs.Ways.{way_to};
-ghost use Rattle.look_model.specs.WaitGraph.{thread_at, input_at, waiters, master_of, waits_of_thread, waits_of_wait, holds_wanted, inputs_where, is_here, is_full, next_input, waits_of_input, waits_of_threads, waits_of_node, waits_of_kept, waits_from, wait_graph};
+ghost use Rattle.look_model.specs.WaitGraph.{thread_at, input_at, waiters, wait_graph};
+ghost use Rattle.look_model.specs.WaitGraph.{master_of, waits_of_thread, waits_of_wait};
+ghost use Rattle.look_model.specs.WaitGraph.{holds_wanted, inputs_where, is_here, is_full, next_input, waits_of_input};
+ghost use Rattle.look_model.specs.WaitGraph.{waits_of_threads, waits_of_node, waits_of_kept, waits_from};
 
 use crate::network::{buffer_count, other_end};
 use crate::seen::{kept, missing, owner, sync_of};
@@ -132,7 +135,8 @@ fn holders(
     net: u8,
     inputs: &[InputState; 40],
 ) -> Result<Vec<u16>, AllocError>
-    ensures { IfOk result (λ v. v.items ≡ inputs_where (holds_wanted dest (way_to node.now.id node.now.ways node.now.nets net (dest / 65536))) n 0 inputs.now) }
+    ensures { IfOk result (λ v. v.items
+        ≡ inputs_where (holds_wanted dest (way_to node.now.id node.now.ways node.now.nets net (dest / 65536))) n 0 inputs.now) }
 {
     let mut found = Vec::new(alloc);
     for i in 0..40u8 {
@@ -231,7 +235,8 @@ fn add_kept(
     node: &NodePlan,
     snap: Option<&SnapNode>,
 ) -> Result<(), AllocError>
-    ensures graph { OnOk result (map (λ edges. edges.items) graph.new.items ≡ map (λ edges. edges.items) graph.old.items ++ waits_of_kept plan.now snaps.now n node.now (option_map (λ s. s.now) snap.entry)) }
+    ensures graph { OnOk result (map (λ edges. edges.items) graph.new.items
+        ≡ map (λ edges. edges.items) graph.old.items ++ waits_of_kept plan.now snaps.now n node.now (option_map (λ s. s.now) snap.entry)) }
     ensures many { OnOk result (length graph.new.items ≤ length graph.old.items + waiters) }
 {
     match snap {
@@ -250,7 +255,8 @@ fn add_node(
     node: &NodePlan,
     state: &NodeState,
 ) -> Result<(), AllocError>
-    ensures graph { OnOk result (map (λ edges. edges.items) graph.new.items ≡ map (λ edges. edges.items) graph.old.items ++ waits_of_node plan.now snaps.now n node.now state.now) }
+    ensures graph { OnOk result (map (λ edges. edges.items) graph.new.items
+        ≡ map (λ edges. edges.items) graph.old.items ++ waits_of_node plan.now snaps.now n node.now state.now) }
     ensures many { OnOk result (length graph.new.items ≡ length graph.old.items + waiters) }
 {
     add_threads(graph, alloc, n, state, &state.threads)?;
@@ -265,7 +271,8 @@ fn add_threads(
     state: &NodeState,
     threads: &[Thread; 8],
 ) -> Result<(), AllocError>
-    ensures graph { OnOk result (map (λ edges. edges.items) graph.new.items ≡ map (λ edges. edges.items) graph.old.items ++ waits_of_threads n state.now 0 threads.now) }
+    ensures graph { OnOk result (map (λ edges. edges.items) graph.new.items
+        ≡ map (λ edges. edges.items) graph.old.items ++ waits_of_threads n state.now 0 threads.now) }
     ensures many { OnOk result (length graph.new.items ≡ length graph.old.items + 8) }
 {
     for k in 0..8u8 {
@@ -285,7 +292,8 @@ fn add_inputs(
     state: &NodeState,
     inputs: &[InputState; 40],
 ) -> Result<(), AllocError>
-    ensures graph { OnOk result (map (λ edges. edges.items) graph.new.items ≡ map (λ edges. edges.items) graph.old.items ++ map (waits_of_input plan.now snaps.now n node.now state.now) inputs.now) }
+    ensures graph { OnOk result (map (λ edges. edges.items) graph.new.items
+        ≡ map (λ edges. edges.items) graph.old.items ++ map (waits_of_input plan.now snaps.now n node.now state.now) inputs.now) }
     ensures many { OnOk result (length graph.new.items ≡ length graph.old.items + 40) }
 {
     for i in 0..40u8 {

@@ -1,16 +1,18 @@
 //! What a paused thread waits for.
-ghost use Rattle.std.specs.Prelude.{◌≡◌, ◌++◌, ◌∷◌, [], Some, codes, decimal, OnOk};
-ghost use Rattle.look_model.specs.Waits.{thread_names, owner_text, missing_text, master_text, divider_slots, of_text, taken_text, wait_text};
+ghost use Rattle.std.specs.Prelude.{◌≡◌, ◌++◌, ◌∷◌, [], OnOk, slice_get, codes, decimal};
+ghost use Rattle.xs_model.specs.declared.thread.Wait.TheVariants.{Room, Tokens, PortFull, Lock, Slaves};
+ghost use Rattle.look_model.specs.Resources.{output_port_text};
+ghost use Rattle.look_model.specs.Waits.{thread_names, missing_text, master_text, divider_slots, wait_text};
 
-use crate::phrases::{all_in, another_thread, end_of_output, master_of, not_in, the_divider};
+use crate::phrases::{all_in, not_in, the_divider};
+use crate::pieces::Piece::{self, Chan, Number, Sync, Words};
+use crate::pieces::append_pieces;
 use crate::ports::{append_input_port, append_output_port};
-use crate::resources::{append_moment, input_count, output_count};
+use crate::resources::{append_timer, input_count, output_count};
 use crate::seen::{missing, owner};
 use core_step::NodeState;
 use decimal_text::append_decimal;
-use look_words::{
-    append_chan_name, append_lock_name, append_sync_name, append_thread_name, append_timer_name,
-};
+use look_words::append_sync_name;
 use std::alloc::{AllocError, Global};
 use sync_locks::SyncState;
 use xs_base::Text;
@@ -31,33 +33,18 @@ pub(crate) fn append_wait(
     match wait {
         Wait::Room { chan, count } => append_room(out, id, state, chan, count),
         Wait::Tokens { chan, count } => append_tokens(out, id, state, chan, count),
-        Wait::PortFull { port } => {
-            out.append(b"data at ")?;
-            append_input_port(out, &state.clocks, port, &state.ports)
-        }
-        Wait::PortEmpty { port } => {
-            out.append(b"room at ")?;
-            append_output_port(out, &state.clocks, port, &state.ports)
-        }
-        Wait::PortIdle { port } => {
-            out.append(end_of_output())?;
-            append_output_port(out, &state.clocks, port, &state.ports)
-        }
-        Wait::Timer { timer } => {
-            append_timer_name(out, timer)?;
-            append_moment(out, slot, &state.timers, timer)
-        }
-        Wait::Lock { lock } => {
-            append_lock_name(out, lock)?;
-            append_owner(out, owner(&state.locks, lock))
-        }
+        Wait::PortFull { port } => append_input(out, state, port),
+        Wait::PortEmpty { port } => append_output(out, b"room at ", state, port),
+        Wait::PortIdle { port } => append_output(out, b"the end of output at ", state, port),
+        Wait::Timer { timer } => append_timer(out, slot, &state.timers, timer),
+        Wait::Lock { lock } => append_lock(out, state, lock),
         Wait::Slaves { sync } => append_slaves(alloc, out, state, sync),
         Wait::Choice => out.append(b"an event"),
         Wait::Divider => append_divider(out, slot, state.division),
     }
 }
 
-// Room at a channel end.
+// `room for WANTED at channel end ID: taken HELD of 8`.
 fn append_room(
     out: &mut Text,
     id: u16,
@@ -65,25 +52,24 @@ fn append_room(
     chan: u8,
     count: u8,
 ) -> Result<(), AllocError>
-    ensures { OnOk result (out.new ≡ out.old ++ wait_text id 0 state.now (Wait.Room chan count)) }
+    ensures { OnOk result (out.new ≡ out.old ++ wait_text id 0 state.now (Room chan count)) }
 {
-    out.append(b"room for ")?;
-    append_decimal(out, u64::from(count))?;
-    out.append(b" at ")?;
-    append_chan_name(out, id, chan)?;
-    append_taken(out, output_count(&state.chans, chan))?;
-    Ok(())
+    append_pieces(
+        out,
+        &[
+            Words(b"room for "),
+            Number(u64::from(count)),
+            Words(b" at "),
+            Chan { id, chan },
+            Words(b": taken "),
+            Number(output_count(&state.chans, chan)),
+            Words(b" of "),
+            Number(u64::from(BUFFER_TOKENS)),
+        ],
+    )
 }
 
-// How much of an output buffer is taken.
-fn append_taken(out: &mut Text, held: u64) -> Result<(), AllocError>
-    ensures { OnOk result (out.new ≡ out.old ++ taken_text held) }
-{
-    out.append(b": taken ")?;
-    append_of(out, held, BUFFER_TOKENS)
-}
-
-// Tokens at a channel end.
+// `tokens at channel end ID: HELD of WANTED`.
 fn append_tokens(
     out: &mut Text,
     id: u16,
@@ -91,34 +77,53 @@ fn append_tokens(
     chan: u8,
     count: u8,
 ) -> Result<(), AllocError>
-    ensures { OnOk result (out.new ≡ out.old ++ wait_text id 0 state.now (Wait.Tokens chan count)) }
+    ensures { OnOk result (out.new ≡ out.old ++ wait_text id 0 state.now (Tokens chan count)) }
 {
-    out.append(b"tokens at ")?;
-    append_chan_name(out, id, chan)?;
-    out.append(b": ")?;
-    append_of(out, input_count(&state.chans, chan), count)
+    append_pieces(
+        out,
+        &[
+            Words(b"tokens at "),
+            Chan { id, chan },
+            Words(b": "),
+            Number(input_count(&state.chans, chan)),
+            Words(b" of "),
+            Number(u64::from(count)),
+        ],
+    )
 }
 
-// `HELD of WANTED`.
-fn append_of(out: &mut Text, held: u64, wanted: u8) -> Result<(), AllocError>
-    ensures { OnOk result (out.new ≡ out.old ++ of_text held wanted) }
+// Data at a port.
+fn append_input(out: &mut Text, state: &NodeState, port: u8) -> Result<(), AllocError>
+    ensures { OnOk result (out.new ≡ out.old ++ wait_text 0 0 state.now (PortFull port)) }
 {
-    append_decimal(out, held)?;
-    out.append(b" of ")?;
-    append_decimal(out, u64::from(wanted))
+    out.append(b"data at ")?;
+    append_input_port(out, &state.clocks, port, &state.ports)
 }
 
-// Who owns a lock.
-fn append_owner(out: &mut Text, owner: Option<u8>) -> Result<(), AllocError>
-    ensures { OnOk result (out.new ≡ out.old ++ owner_text owner) }
+// A port with its output, behind some words.
+fn append_output(
+    out: &mut Text,
+    words: &[u8],
+    state: &NodeState,
+    port: u8,
+) -> Result<(), AllocError>
+    ensures { OnOk result (out.new ≡ out.old ++ (words.now ++ output_port_text state.now.clocks port (slice_get state.now.ports port))) }
 {
-    match owner {
-        None => out.append(b", which is free"),
-        Some(k) => {
-            out.append(b", which ")?;
-            append_thread_name(out, k)?;
-            out.append(b" owns")
-        }
+    out.append(words)?;
+    append_output_port(out, &state.clocks, port, &state.ports)
+}
+
+// A lock, and who owns it.
+fn append_lock(out: &mut Text, state: &NodeState, lock: u8) -> Result<(), AllocError>
+    ensures { OnOk result (out.new ≡ out.old ++ wait_text 0 0 state.now (Lock lock)) }
+{
+    let name = Piece::Lock(lock);
+    match owner(&state.locks, lock) {
+        None => append_pieces(out, &[name, Words(b", which is free")]),
+        Some(k) => append_pieces(
+            out,
+            &[name, Words(b", which "), Piece::Thread(k), Words(b" owns")],
+        ),
     }
 }
 
@@ -129,7 +134,7 @@ fn append_slaves(
     state: &NodeState,
     sync: u8,
 ) -> Result<(), AllocError>
-    ensures { OnOk result (out.new ≡ out.old ++ wait_text 0 0 state.now (Wait.Slaves sync)) }
+    ensures { OnOk result (out.new ≡ out.old ++ wait_text 0 0 state.now (Slaves sync)) }
 {
     append_sync_name(out, sync)?;
     let threads = missing(alloc, &state.threads, &state.syncs, sync)?;
@@ -161,8 +166,7 @@ fn append_thread_names(out: &mut Text, threads: &[u8]) -> Result<(), AllocError>
 fn append_spaced_name(out: &mut Text, k: u8) -> Result<(), AllocError>
     ensures { OnOk result (out.new ≡ out.old ++ thread_names (k ∷ [])) }
 {
-    out.append(b" ")?;
-    append_thread_name(out, k)
+    append_pieces(out, &[Words(b" "), Piece::Thread(k), Words(b"")])
 }
 
 /// The master that a slave waits for.
@@ -170,20 +174,17 @@ pub(crate) fn append_master(out: &mut Text, sync: Option<(u8, SyncState)>) -> Re
     ensures { OnOk result (out.new ≡ out.old ++ master_text sync) }
 {
     match sync {
-        None => out.append(another_thread()),
-        Some((n, sync)) => append_master_of(out, n, sync),
+        None => out.append(b" another thread"),
+        Some((n, sync)) => append_pieces(
+            out,
+            &[
+                Words(b" "),
+                Piece::Thread(sync.master),
+                Words(b", the master of "),
+                Sync(n),
+            ],
+        ),
     }
-}
-
-// The master of a synchroniser.
-fn append_master_of(out: &mut Text, n: u8, sync: SyncState) -> Result<(), AllocError>
-    ensures { OnOk result (out.new ≡ out.old ++ master_text (Some (n, sync))) }
-{
-    out.append(b" ")?;
-    append_thread_name(out, sync.master)?;
-    out.append(master_of())?;
-    append_sync_name(out, n)?;
-    Ok(())
 }
 
 // In how many slots the divider is free.

@@ -6,10 +6,12 @@ ghost use Rattle.look_model.specs.States.{kept_lines, nodes_lines, states_of};
 
 use crate::circle::append_circle;
 use crate::node::append_node;
+use crate::pieces::Piece::{Number, Words};
+use crate::pieces::append_pieces;
+use crate::runs::Seat;
 use crate::seen::kept;
 use crate::wait_graph::wait_graph;
 use circle_search::circle;
-use decimal_text::append_decimal;
 use snap_parts::{SnapNode, SnapSystem};
 use std::alloc::{AllocError, Global};
 use sys_plan::{NodePlan, Plan};
@@ -94,24 +96,22 @@ fn append_kept(
         return Ok(());
     };
     let printer = Printer::new(alloc, &node.image)?;
-    append_node(
-        alloc,
-        out,
-        plan,
-        slot,
-        n,
+    let seat = Seat {
         node,
-        &printer,
+        printer: &printer,
         lines,
-        &snap.state,
-    )
+        slot,
+        state: &snap.state,
+    };
+    append_node(alloc, out, plan, n, &seat)
 }
 
 // `end SLOT`.
 fn append_end(out: &mut Text, slot: u32) -> Result<(), AllocError>
     ensures { OnOk result (out.new ≡ out.old ++ end_line slot) }
 {
-    out.append(b"end ")?;
-    append_decimal(out, u64::from(slot))?;
-    out.append(b"\n")
+    append_pieces(
+        out,
+        &[Words(b"end "), Number(u64::from(slot)), Words(b"\n")],
+    )
 }

@@ -1,0 +1,2 @@
+pub mod PieceTexts
+pub mod Kinds
