@@ -29,7 +29,8 @@ use Rattle.core_step.specs.Told.{has_trap}
 use Rattle.issue_model.specs.Endings.{ending_of, is_done}
 use Rattle.issue_model.specs.Stores.{stores}
 use Rattle.issue_model.specs.Issues.{thread_in, done_by, stored_by}
-use Rattle.issue_laws.specs.Followed.{with_store, stored_in}
+use Rattle.issue_laws.specs.Followed.{with_store}
+use Rattle.issue_model.specs.Issues.{stored_in}
 use Rattle.issue_laws.proofs.Traps.{IsQuiet, told_later}
 use Rattle.issue_laws.proofs.ThreadRows.{Stays, words_stay, threads_stay}
 use Rattle.issue_laws.proofs.ResourceRows.{resources_stay}

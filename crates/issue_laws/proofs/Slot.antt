@@ -7,7 +7,8 @@ use Rattle.step_model.specs.Step.{setting_of, before_issue, issued, node_step}
 use Rattle.step_laws.proofs.Phases.{before_issue_keeps}
 use Rattle.processor.specs.NextIssue.{next_issue}
 use Rattle.core_step.specs.Told.{has_trap}
-use Rattle.issue_laws.specs.Followed.{with_store, stored_in, MemoryIsFollowed, RegistersAreFollowed}
+use Rattle.issue_model.specs.Issues.{stored_in}
+use Rattle.issue_laws.specs.Followed.{with_store, MemoryIsFollowed, RegistersAreFollowed}
 use Rattle.issue_laws.proofs.Traps.{before_is_quiet}
 use Rattle.issue_laws.proofs.Switch.{before_has}
 use Rattle.issue_laws.proofs.Issue.{issued_told, nobody_changes}

@@ -1,35 +1,20 @@
 -- What the lines of issues say that was written is all that becomes of registers and memory.
-use Rattle.std.specs.Prelude.{ℕ, ◌≡◌, Bool, Option, Some, None, List}
+use Rattle.std.specs.Prelude.{ℕ, ◌≡◌, Option, Some, None, List}
 use Rattle.xs_base.specs.Numbers.{Slot, Word}
 use Rattle.xs_model.specs.declared.outside.Arrivals.{Arrivals}
 use Rattle.xs_model.specs.declared.outside.PinView.{PinView}
-use Rattle.xs_model.specs.declared.thread.Thread.{Thread}
 use Rattle.xs_model.specs.Memory.{with_bytes, bytes_of_word, bytes_of_half, low_byte}
 use Rattle.xs_model.specs.Record.{NodeRec}
-use Rattle.xs_instructions.specs.declared.instr.Instr.{Instr}
-use Rattle.xs_instructions.specs.Code.{code_at}
 use Rattle.step_model.specs.Fixed.{Fixed}
 use Rattle.step_model.specs.Step.{node_step}
-use Rattle.processor.specs.declared.picks.NextIssue.{NextIssue}
 use Rattle.processor.specs.NextIssue.{next_issue}
 use Rattle.core_step.specs.Told.{core_to_issue, has_trap}
 use Rattle.issue_model.specs.declared.Size.{Size}
 use Rattle.issue_model.specs.declared.Size.TheVariants as size
 use Rattle.issue_model.specs.declared.Store.{Store}
-use Rattle.issue_model.specs.Endings.{ending_of, is_done}
-use Rattle.issue_model.specs.Issues.{thread_in, stored_by, done_by}
+use Rattle.issue_model.specs.Issues.{stored_in}
 
--- ---- What a line says that was written
-
--- the instruction that was done by an issue, if one was, where these are the threads before the slot and after it
-abbrev pub done_in : List Instr → List Thread → List Thread → Bool → NextIssue → Option Instr
-done_in code before after traps next =
-    done_by (is_done (ending_of next.takes traps (thread_in after next.thread).run)) (code_at code (thread_in before next.thread).pc)
-
--- what was stored in the slot, by the line, if there is one
-abbrev pub stored_in : List Instr → List Thread → List Thread → Bool → Option NextIssue → Option Store
-stored_in code before after traps None = None
-stored_in code before after traps (Some next) = stored_by (thread_in before next.thread) (done_in code before after traps next)
+-- ---- A store
 
 -- the bytes of a store, and the memory with them
 abbrev pub bytes_of : Size → Word → List ℕ

@@ -6,14 +6,9 @@ use Rattle.xs_model.specs.declared.thread.Thread.{Thread}
 use Rattle.xs_model.specs.Threads.{fresh_thread}
 use Rattle.xs_instructions.specs.declared.instr.Instr.{Instr}
 use Rattle.xs_instructions.specs.Code.{code_at}
-use Rattle.step_model.specs.Start.{fixed_of}
-use Rattle.step_model.specs.Step.{node_step}
 use Rattle.sys_plan.specs.declared.NodePlan.{NodePlan}
-use Rattle.sys_plan.specs.Plan.{PlanRec, gaps_of}
-use Rattle.serial_model.specs.Serial.{SystemRec, coming_at, node_by, serial}
+use Rattle.sys_plan.specs.Plan.{PlanRec}
 use Rattle.processor.specs.declared.picks.NextIssue.{NextIssue}
-use Rattle.processor.specs.NextIssue.{next_issue}
-use Rattle.core_step.specs.Told.{core_to_issue, has_trap}
 use Rattle.trace_model.specs.EventLines.{hex_word}
 use Rattle.trace_model.specs.Trace.{by_position, end_line}
 use Rattle.look_model.specs.Places.{place_text}
@@ -23,6 +18,7 @@ use Rattle.issue_model.specs.declared.Size.{Size}
 use Rattle.issue_model.specs.declared.Size.TheVariants as size
 use Rattle.issue_model.specs.declared.Store.{Store}
 use Rattle.issue_model.specs.declared.Ending.{Ending}
+use Rattle.issue_model.specs.Seen.{seen_at}
 use Rattle.issue_model.specs.Registers.{name_of, value_in}
 use Rattle.issue_model.specs.Sets.{sets}
 use Rattle.issue_model.specs.Stores.{stores}
@@ -92,18 +88,32 @@ abbrev pub done_by : Bool → Option Instr → Option Instr
 done_by true ins = ins
 done_by false ins = None
 
+-- the instruction that was done by an issue, if one was, by the threads of its node before the slot and after it
+abbrev pub done_in : List Instr → List Thread → List Thread → Bool → NextIssue → Option Instr
+done_in code before after traps next =
+    done_by (is_done (ending_of next.takes traps (thread_in after next.thread).run)) (code_at code (thread_in before next.thread).pc)
+
+-- what was stored in a slot, if something was
+abbrev pub stored_in : List Instr → List Thread → List Thread → Bool → Option NextIssue → Option Store
+stored_in code before after traps None = None
+stored_in code before after traps (Some next) = stored_by (thread_in before next.thread) (done_in code before after traps next)
+
 -- what is told behind the instruction, where this was done
 abbrev pub told_text : NodeId → ThreadNumber → List Thread → List Thread → Ending → Option Instr → List ℕ
 told_text id k before after ending done =
     ending_text id (thread_in before k) (thread_in after k) ending
     ++ (threads_text k done before after ++ (store_text (stored_by (thread_in before k) done) ++ codes "\n"))
 
+-- `SLOT nN.tT at PC line L LABEL+D: INSTRUCTION`
+abbrev pub start_text : NodePlan → List ℕ → Slot → ThreadNumber → Word → List ℕ
+start_text node lines slot k pc =
+    decimal slot ++ (codes " n" ++ (decimal node.number ++ (codes "." ++ (thread_name k ++ place_text lines node.image pc))))
+
 -- of the threads of a node before the slot and after it
 abbrev pub line_of : NodePlan → List ℕ → Slot → List Thread → List Thread → ThreadNumber → Ending → List ℕ
 line_of node lines slot before after k ending =
     let pc = (thread_in before k).pc in
-    decimal slot ++ (codes " n" ++ (decimal node.number ++ (codes "." ++ (thread_name k ++ (place_text lines node.image pc
-    ++ told_text node.id k before after ending (done_by (is_done ending) (code_at node.image.code pc)))))))
+    start_text node lines slot k pc ++ told_text node.id k before after ending (done_by (is_done ending) (code_at node.image.code pc))
 
 -- of a slot: one line where somebody issued, and else none
 abbrev pub lines_by : NodePlan → List ℕ → Slot → List Thread → List Thread → Bool → Option NextIssue → List (List ℕ)
@@ -113,30 +123,25 @@ lines_by node lines slot before after traps (Some next) =
 
 -- ---- All lines
 
--- of a node of a plan, at a position, in a slot of the serial machine, which is this before it and that after it
-abbrev pub node_lines : PlanRec → List (List ℕ) → Slot → SystemRec → SystemRec → Position → NodePlan → List (List ℕ)
-node_lines plan lines slot before after n node =
-    let fixed = fixed_of node (gaps_of plan n) in
-    let rec = node_by before.nodes n in
-    let coming = coming_at plan before.histories slot n in
-    lines_by node (slice_index_or lines n []) slot rec.core.threads (node_by after.nodes n).core.threads
-    (has_trap (node_step fixed rec slot coming.arrivals coming.pins).emitted.events)
-    (next_issue (core_to_issue fixed rec slot coming.arrivals coming.pins) slot)
+-- of a node of a plan, at a position, in a slot of the serial machine
+abbrev pub node_lines : PlanRec → List (List ℕ) → Slot → Position → NodePlan → List (List ℕ)
+node_lines plan lines slot n node =
+    let seen = seen_at plan slot n node in
+    lines_by node (slice_index_or lines n []) slot seen.before.core.threads seen.after.core.threads seen.traps seen.issue
 
 -- of these nodes, the first of which stands at position n
-abbrev pub nodes_lines : PlanRec → List (List ℕ) → Slot → SystemRec → SystemRec → Position → List NodePlan → List (List ℕ)
-nodes_lines plan lines slot before after n [] = []
-nodes_lines plan lines slot before after n (node ∷ nodes) =
-    node_lines plan lines slot before after n node ++ nodes_lines plan lines slot before after (n + 1) nodes
+abbrev pub nodes_lines : (Position → NodePlan → List (List ℕ)) → Position → List NodePlan → List (List ℕ)
+nodes_lines told n [] = []
+nodes_lines told n (node ∷ nodes) = told n node ++ nodes_lines told (n + 1) nodes
+
+-- of so many slots from one on
+abbrev pub lines_from : (Slot → List (List ℕ)) → Slot → ℕ → List (List ℕ)
+lines_from told from zero = []
+lines_from told from (suc count) = lines_from told from count ++ told (from + count)
 
 -- of a slot
 abbrev pub slot_lines : PlanRec → List (List ℕ) → Slot → List (List ℕ)
-slot_lines plan lines slot = nodes_lines plan lines slot (serial plan slot) (serial plan (slot + 1)) 0 plan.nodes
-
--- of so many slots from one on
-abbrev pub lines_from : PlanRec → List (List ℕ) → Slot → ℕ → List (List ℕ)
-lines_from plan lines from zero = []
-lines_from plan lines from (suc count) = lines_from plan lines from count ++ slot_lines plan lines (from + count)
+slot_lines plan lines slot = nodes_lines (node_lines plan lines slot) 0 plan.nodes
 
 -- the first lines, one behind the other
 abbrev pub kept_text : List (List ℕ) → List ℕ
@@ -151,4 +156,4 @@ lines_text slots lines = kept_text lines ++ (more_text (length lines - MOST_LINE
 
 -- of a run of so many slots by a plan, from a slot on, where the instructions of each node are of these lines
 abbrev pub issues_of : PlanRec → List (List ℕ) → ℕ → Slot → List ℕ
-issues_of plan lines slots from = lines_text slots (lines_from plan lines from (slots - from))
+issues_of plan lines slots from = lines_text slots (lines_from (slot_lines plan lines) from (slots - from))

@@ -1,4 +1,4 @@
-//! What `issues` of `xs1_look` writes: definitions, and what of an issue is told. See docs/LOOK.md.
+//! What `issues` and `watch` of `xs1_look` write: definitions, and what of an issue is told. See docs/LOOK.md.
 #![tactic(auto)]
 
 use xs_model::Wait;
@@ -9,7 +9,7 @@ pub const REGISTERS: [u8; 24] = [
     0, 1, 2, 3, 4, 5, 6, 7, 8, 9, 10, 11, 12, 13, 14, 15, 16, 17, 18, 19, 20, 21, 22, 23,
 ];
 
-/// How many issues have lines.
+/// How many issues, or stores to words that are watched, have lines.
 pub const MOST_LINES: u64 = 262_144;
 
 /// How an issue ended. See docs/LOOK.md.

@@ -1,2 +1,4 @@
 pub mod Kept
-pub mod Slots
+pub mod NodeSlots
+pub mod Words
+pub mod Changes

@@ -1,7 +1,8 @@
 //! How an issue ended, and where the thread goes on.
 ghost use Rattle.std.specs.Prelude.{◌≡◌, ◌++◌, codes, decimal, OnOk};
 ghost use Rattle.look_model.specs.Resources.{chan_name};
-ghost use Rattle.issue_model.specs.Endings.{ending_of_run, ending_of, is_done, port_text, pause_text, took_text, handler_text, trapped_text, goes_text, ending_text};
+ghost use Rattle.issue_model.specs.Endings.{ending_of_run, ending_of, is_done, ending_text};
+ghost use Rattle.issue_model.specs.Endings.{port_text, pause_text, took_text, handler_text, trapped_text, goes_text};
 
 use crate::phrases::{
     and_goes, and_halts, end_of_output, goes_to, pauses_for, takes_an_event, takes_an_interrupt,

@@ -1,23 +1,20 @@
-//! `Lines`, the lines of issues: the first of them, and how many there were.
+//! `Lines`, the lines of a run: the first of them, and how many there were.
 ghost use Rattle.std.specs.Prelude.{◌≡◌, ◌+◌, ◌-◌, ◌^◌, ◌<◌, ◌≤◌, List, ℕ, [], ◌∷◌, ◌++◌, IfSome, IfOk, OnOk};
 ghost use Rattle.xs_base.specs.declared.numbers.TheConstants.{THREADS};
 ghost use Rattle.trace_model.specs.Trace.{end_line};
-ghost use Rattle.issue_model.specs.Issues.{line_of, lines_by, more_text, lines_text};
-ghost use Rattle.issue_text.specs.Kept.{IsOf};
+ghost use Rattle.issue_model.specs.Issues.{more_text, lines_text};
+ghost use Rattle.issue_text.specs.Kept.{IsOf, Adds};
+ghost use Rattle.issue_text.specs.NodeSlots.{line_in, lines_in};
 
-use crate::endings::ending_of;
 use crate::line::append_line;
-use crate::registers::thread_in;
+use crate::node_slot::NodeSlot;
 use core_step::Told;
 use decimal_text::append_decimal;
 use issue_model::{Ending, MOST_LINES};
 use std::alloc::{AllocError, Global};
-use sys_plan::NodePlan;
 use xs_base::Text;
-use xs_model::Thread;
-use xs_printer::Printer;
 
-/// The lines of issues: the text of the first ones, and how many there were.
+/// The lines of a run: the text of the first ones, and how many there were.
 #[derive(Drop)]
 pub(crate) struct Lines {
     pub(crate) text: Text,
@@ -36,65 +33,34 @@ impl Lines {
         }
     }
 
-    /// Adds the line of a node's issue in a slot, of which this was told, where there was one: its threads were this before the slot and are
-    /// that after it. The error is want of memory.
-    pub(crate) fn add(
-        &mut self,
-        node: &NodePlan,
-        printer: &Printer,
-        lines: &[u32],
-        slot: u32,
-        before: &[Thread; 8],
-        after: &[Thread; 8],
-        told: &Told,
-    ) -> Result<(), AllocError>
-        requires printer { printer.now ≡ node.now.image }
+    /// Adds the line of a node's issue in a slot, of which this was told, where there was one. The error is want of memory.
+    pub(crate) fn add_issue(&mut self, at: &NodeSlot, told: &Told) -> Result<(), AllocError>
+        requires printer { at.now.printer.now ≡ at.now.node.now.image }
         requires thread { IfSome told.now.issue (λ next. next.thread < THREADS) }
         requires count { self.old.count < 2 ^ 64 - 1 }
-        ensures lines { OnOk result ((all : List (List ℕ)) → IsOf self.old all → IsOf self.new (all ++ lines_by node.now lines.now slot before.now after.now told.now.traps told.now.issue)) }
+        ensures lines { OnOk result (Adds self.old self.new (lines_in at.now told.now)) }
         ensures count { OnOk result (self.new.count ≤ self.old.count + 1) }
     {
         let Some(next) = told.issue else {
             return Ok(());
         };
-        let k = next.thread;
-        let ending = ending_of(next.takes, told.traps, thread_in(after, k).run);
-        self.add_line(node, printer, lines, slot, before, after, k, ending)
+        let ending = at.ending(next, told.traps);
+        self.add_line(at, next.thread, ending)
     }
 
-    // Adds the line of an issue by thread k, which ended so.
-    fn add_line(
-        &mut self,
-        node: &NodePlan,
-        printer: &Printer,
-        lines: &[u32],
-        slot: u32,
-        before: &[Thread; 8],
-        after: &[Thread; 8],
-        k: u8,
-        ending: Ending,
-    ) -> Result<(), AllocError>
-        requires printer { printer.now ≡ node.now.image }
+    // Adds the line of an issue by thread k, 0 to 7, which ended so.
+    fn add_line(&mut self, at: &NodeSlot, k: u8, ending: Ending) -> Result<(), AllocError>
+        requires printer { at.now.printer.now ≡ at.now.node.now.image }
         requires thread { k < THREADS }
         requires count { self.old.count < 2 ^ 64 - 1 }
-        ensures lines { OnOk result ((all : List (List ℕ)) → IsOf self.old all → IsOf self.new (all ++ line_of node.now lines.now slot before.now after.now k ending ∷ [])) }
+        ensures lines { OnOk result (Adds self.old self.new (line_in at.now k ending ∷ [])) }
         ensures count { OnOk result (self.new.count ≤ self.old.count + 1) }
     {
         self.count += 1;
         if self.count > MOST_LINES {
             return Ok(());
         }
-        append_line(
-            &mut self.text,
-            node,
-            printer,
-            lines,
-            slot,
-            before,
-            after,
-            k,
-            ending,
-        )?;
+        append_line(&mut self.text, at, k, ending)?;
         Ok(())
     }
 

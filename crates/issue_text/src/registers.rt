@@ -1,10 +1,10 @@
 //! The registers of threads, before an issue and after it.
-ghost use Rattle.std.specs.Prelude.{◌≡◌, ◌<◌, ◌++◌, OnOk};
+ghost use Rattle.std.specs.Prelude.{◌≡◌, ◌==◌, ◌&&◌, ◌++◌, OnOk};
 ghost use Rattle.trace_model.specs.Trace.{by_position};
 ghost use Rattle.issue_model.specs.Registers.{name_of, kernel_name, value_in, kernel_register};
-ghost use Rattle.xs_base.specs.declared.numbers.TheConstants.{THREADS};
-ghost use Rattle.issue_model.specs.Issues.{is_told, whose, register_text, set_by, registers_text, pc_text, thread_in, thread_text, threads_text};
+ghost use Rattle.issue_model.specs.Issues.{whose, register_text, set_by, registers_text, pc_text, thread_text, threads_text};
 
+use crate::node_slot::thread_in;
 use crate::sets::sets;
 use issue_model::REGISTERS;
 use line_text::append_hex_word;
@@ -17,95 +17,114 @@ use xs_model::Thread;
 /// What is told of the registers of all threads of a node, where thread k, 0 to 7, issued: they were this before and are that after, and an
 /// instruction was done, or none. The error is want of memory.
 #[tactic(auto, unfolding(trace_model::specs::Trace::by_position))]
-pub(crate) fn append_threads(
+pub(crate) fn append_threads<'a>(
     out: &mut Text,
     k: u8,
     done: Option<Instr>,
-    before: &[Thread; 8],
-    after: &[Thread; 8],
+    before: &'a [Thread; 8],
+    after: &'a [Thread; 8],
 ) -> Result<(), AllocError>
     ensures { OnOk result (out.new ≡ out.old ++ threads_text k done before.now after.now) }
 {
     for j in 0..8u8 {
-        append_thread(out, k, done, j, &before[j as usize], thread_in(after, j))?;
+        let pair = Pair {
+            k,
+            j,
+            before: &before[j as usize],
+            after: thread_in(after, j),
+        };
+        append_thread(out, done, &pair)?;
     }
     Ok(())
 }
 
-/// The thread with a number.
-pub(crate) fn thread_in(threads: &[Thread; 8], k: u8) -> &Thread
-    requires { k < THREADS }
-    ensures { result.now ≡ thread_in threads.now k }
-{
-    &threads[k as usize]
+// Thread j right before an issue by thread k, and after it.
+#[derive(Clone, Copy)]
+struct Pair<'a> {
+    k: u8,
+    j: u8,
+    before: &'a Thread,
+    after: &'a Thread,
+}
+
+// A register before an issue and after it, and whether what was done sets it.
+#[derive(Clone, Copy)]
+struct Register {
+    is_set: bool,
+    name: &'static [u8],
+    before: u32,
+    after: u32,
+}
+
+impl Pair<'_> {
+    // The register with a number, where this was done.
+    fn register(&self, done: Option<Instr>, i: u8) -> Register
+        ensures is_set { result.is_set ≡ ((self.now.j == self.now.k) && set_by done i) }
+        ensures name { result.name.now ≡ name_of i }
+        ensures before { result.before ≡ value_in self.now.before.now i }
+        ensures after { result.after ≡ value_in self.now.after.now i }
+    {
+        Register {
+            is_set: self.j == self.k && is_set_by(done, i),
+            name: name_of(i),
+            before: value_in(self.before, i),
+            after: value_in(self.after, i),
+        }
+    }
 }
 
 // Of thread j.
-fn append_thread(
-    out: &mut Text,
-    k: u8,
-    done: Option<Instr>,
-    j: u8,
-    before: &Thread,
-    after: &Thread,
-) -> Result<(), AllocError>
-    ensures { OnOk result (out.new ≡ out.old ++ thread_text k done j before.now after.now) }
+fn append_thread(out: &mut Text, done: Option<Instr>, pair: &Pair) -> Result<(), AllocError>
+    ensures { OnOk result (out.new ≡ out.old ++ thread_text pair.now.k done pair.now.j pair.now.before.now pair.now.after.now) }
 {
-    append_registers(out, k, done, j, before, after, &REGISTERS)?;
-    append_pc(out, k, j, before.pc, after.pc)?;
+    append_registers(out, done, pair, &REGISTERS)?;
+    append_pc(out, pair)?;
     Ok(())
 }
 
 // Of those of its registers that have these numbers.
 fn append_registers(
     out: &mut Text,
-    k: u8,
     done: Option<Instr>,
-    j: u8,
-    before: &Thread,
-    after: &Thread,
+    pair: &Pair,
     numbers: &[u8],
 ) -> Result<(), AllocError>
-    ensures { OnOk result (out.new ≡ out.old ++ registers_text k done j before.now after.now numbers.now) }
+    ensures { OnOk result (out.new ≡ out.old ++ registers_text pair.now.k done pair.now.j pair.now.before.now pair.now.after.now numbers.now) }
 {
     for i in numbers {
-        let is_set = j == k && is_set_by(done, *i);
-        let (before, after) = (value_in(before, *i), value_in(after, *i));
-        append_register(out, k, j, is_set, name_of(*i), before, after)?;
+        append_register(out, pair.k, pair.j, &pair.register(done, *i))?;
     }
     Ok(())
 }
 
 // Of the pc, where it is another thread than the one that issued.
-fn append_pc(out: &mut Text, k: u8, j: u8, before: u32, after: u32) -> Result<(), AllocError>
-    ensures { OnOk result (out.new ≡ out.old ++ pc_text k j before after) }
+fn append_pc(out: &mut Text, pair: &Pair) -> Result<(), AllocError>
+    ensures { OnOk result (out.new ≡ out.old ++ pc_text pair.now.k pair.now.j pair.now.before.now.pc pair.now.after.now.pc) }
 {
-    if j == k {
+    if pair.j == pair.k {
         return Ok(());
     }
-    append_register(out, k, j, false, b"pc", before, after)
+    let pc = Register {
+        is_set: false,
+        name: b"pc",
+        before: pair.before.pc,
+        after: pair.after.pc,
+    };
+    append_register(out, pair.k, pair.j, &pc)
 }
 
-// `; NAME = VALUE`, where the register is told.
-fn append_register(
-    out: &mut Text,
-    k: u8,
-    j: u8,
-    is_set: bool,
-    name: &[u8],
-    before: u32,
-    after: u32,
-) -> Result<(), AllocError>
-    ensures { OnOk result (out.new ≡ out.old ++ register_text (whose k j) is_set name.now before after) }
+// `; NAME = VALUE`, of thread j where thread k issued, where the register is told.
+fn append_register(out: &mut Text, k: u8, j: u8, register: &Register) -> Result<(), AllocError>
+    ensures { OnOk result (out.new ≡ out.old ++ register_text (whose k j) register.now.is_set register.now.name.now register.now.before register.now.after) }
 {
-    if !is_set && before == after {
+    if !register.is_set && register.before == register.after {
         return Ok(());
     }
     out.append(b"; ")?;
     append_owner(out, k, j)?;
-    out.append(name)?;
+    out.append(register.name)?;
     out.append(b" = ")?;
-    append_hex_word(out, after)
+    append_hex_word(out, register.after)
 }
 
 // `tJ.`, where it is not the thread that issued.

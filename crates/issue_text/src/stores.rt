@@ -13,7 +13,7 @@ use xs_instructions::{FlowIns, Instr, KernelIns, MemIns};
 use xs_model::Thread;
 
 /// `; SIZE ADDRESS = VALUE`, where what a thread did stores something. `th` is the thread before it. The error is want of memory.
-pub(crate) fn append_store(
+pub(crate) fn append_stored(
     out: &mut Text,
     th: &Thread,
     done: Option<Instr>,
@@ -23,11 +23,12 @@ pub(crate) fn append_store(
 {
     match stored_by(th, done) {
         None => Ok(()),
-        Some(store) => append_store_of(out, store),
+        Some(store) => append_store(out, store),
     }
 }
 
-fn append_store_of(out: &mut Text, store: Store) -> Result<(), AllocError>
+/// `; SIZE ADDRESS = VALUE`, of a store. The error is want of memory.
+pub(crate) fn append_store(out: &mut Text, store: Store) -> Result<(), AllocError>
     ensures { OnOk result (out.new ≡ out.old ++ store_text (Some store)) }
 {
     out.append(b"; ")?;
@@ -47,8 +48,8 @@ fn size_name(size: Size) -> &'static [u8]
     }
 }
 
-// What is stored by what was done.
-fn stored_by(th: &Thread, done: Option<Instr>) -> Option<Store>
+/// What is stored by what was done, by the thread before it.
+pub(crate) fn stored_by(th: &Thread, done: Option<Instr>) -> Option<Store>
     requires range { IfSome done InRange }
     ensures { result ≡ stored_by th.now done }
 {
