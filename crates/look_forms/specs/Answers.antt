@@ -1,5 +1,6 @@
 -- What `xs1_look` answers to its words and its input.
 use Rattle.std.specs.Prelude.{ℕ, Option, Some, None, List}
+use Rattle.xs_base.specs.Numbers.{Word}
 use Rattle.answer_model.specs.declared.Answer.{Answer}
 use Rattle.answer_model.specs.declared.Status.TheVariants as status
 use Rattle.answer_model.specs.OnSystem.{on_system}
@@ -7,19 +8,27 @@ use Rattle.sys_plan.specs.Plan.{PlanRec}
 use Rattle.system_model.specs.CodeLines.{code_lines_of_text}
 use Rattle.look_model.specs.States.{states_text}
 use Rattle.issue_model.specs.Issues.{issues_of}
+use Rattle.issue_model.specs.Watch.{watch_of}
+use Rattle.chart_model.specs.Chart.{chart_of}
 use Rattle.look_forms.specs.declared.LookForm.{LookForm}
-use Rattle.look_forms.specs.declared.LookForm.TheVariants.{States, Issues}
+use Rattle.look_forms.specs.declared.LookForm.TheVariants.{States, Issues, Watch, Chart}
 use Rattle.look_forms.specs.Words.{look_form, look_usage}
 
 -- what is told of the issues of the system that a text stands for
 abbrev pub issues_text : List ℕ → ℕ → ℕ → PlanRec → List ℕ
 issues_text text slots from plan = issues_of plan (code_lines_of_text text) slots from
 
+-- what is told of the stores to some words
+abbrev pub watch_text : List ℕ → ℕ → List Word → PlanRec → List ℕ
+watch_text text slots addresses plan = watch_of plan (code_lines_of_text text) slots addresses
+
 -- what a form answers to the bytes of the input: the system that it stands for runs for so many slots, all nodes together, and what it has come
--- to is told, or its issues from a slot on
+-- to is told, or its issues from a slot on, or its stores to some words, or what its threads do from a slot on
 abbrev pub look_by : LookForm → List ℕ → Answer
 look_by (States slots) input = on_system (states_text input slots) input
 look_by (Issues slots from) input = on_system (issues_text input slots from) input
+look_by (Watch slots addresses) input = on_system (watch_text input slots addresses.items) input
+look_by (Chart slots from) input = on_system (λ plan. chart_of plan slots from) input
 
 abbrev pub look_of_form : Option LookForm → List ℕ → Answer
 look_of_form None input = record { text = look_usage; status = status.Usage }

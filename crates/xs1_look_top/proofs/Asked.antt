@@ -1,6 +1,5 @@
 -- What is asked of the program and what it answers go together, whatever the words.
-use Rattle.std.proofs.Common.{◌≡◌, ℕ, ◌+◌, ◌<◌, true, false, min, List, length, take, Option, Some, None, Result, Ok, Err, IfOk, refl, ap, ◌∙◌, arith}
-use Rattle.answer_model.specs.declared.Answer.{Answer}
+use Rattle.std.proofs.Common.{◌≡◌, ℕ, ◌+◌, true, false, min, List, length, take, Option, Some, None, refl, ap, arith}
 use Rattle.answer_model.specs.declared.Status.TheVariants as status
 use Rattle.sys_plan.specs.Plan.{PlanRec}
 use Rattle.answer_model.specs.OnSystem.{answer_to, on_system}
@@ -11,10 +10,11 @@ use Rattle.program_calls.specs.Asked.{IsCoherent, IsFormStatus}
 use Rattle.system_answers.proofs.Statuses.{answer_to-status}
 use Rattle.system_answers.proofs.Taken.{of_taken, system_of-long}
 use Rattle.look_forms.specs.declared.LookForm.{LookForm}
-use Rattle.look_forms.specs.declared.LookForm.TheVariants.{States, Issues}
+use Rattle.look_forms.specs.declared.LookForm.TheVariants.{States, Issues, Watch, Chart}
 use Rattle.look_model.specs.States.{states_text}
 use Rattle.look_forms.specs.Words.{look_form}
-use Rattle.look_forms.specs.Answers.{issues_text, look_by}
+use Rattle.chart_model.specs.Chart.{chart_of}
+use Rattle.look_forms.specs.Answers.{issues_text, watch_text, look_by}
 use Rattle.xs1_look_top.specs.Asked.{asked_by, asked_of}
 
 -- what a form answers to the bytes taken, which reads a system text, is what it answers to the input
@@ -26,10 +26,14 @@ taken text_for input =
 look_by-taken : (form : LookForm) (input : List ℕ) → look_by form (take (min (length input) (longest_input + 1)) input) ≡ look_by form input
 look_by-taken (States slots) input = taken (λ text. states_text text slots) input
 look_by-taken (Issues slots from) input = taken (λ text. issues_text text slots from) input
+look_by-taken (Watch slots addresses) input = taken (λ text. watch_text text slots addresses.items) input
+look_by-taken (Chart slots from) input = taken (λ text plan. chart_of plan slots from) input
 
 look_by-status : (form : LookForm) (input : List ℕ) → IsFormStatus (look_by form input).status
 look_by-status (States slots) input = answer_to-status (states_text input slots) (system_of input)
 look_by-status (Issues slots from) input = answer_to-status (issues_text input slots from) (system_of input)
+look_by-status (Watch slots addresses) input = answer_to-status (watch_text input slots addresses.items) (system_of input)
+look_by-status (Chart slots from) input = answer_to-status (λ plan. chart_of plan slots from) (system_of input)
 
 coherent_by : (form : Option LookForm) → IsCoherent (asked_by form)
 coherent_by None = record {

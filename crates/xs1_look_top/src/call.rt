@@ -7,7 +7,7 @@ ghost use Rattle.xs1_look_top.specs.Asked.{asked_of};
 
 use crate::program::Look;
 use crate::words::{look_form, usage_line};
-use crate::{issues, states};
+use crate::{chart, issues, states, watch};
 use answer_model::{Answer, Status};
 use look_forms::LookForm;
 use program_calls::{refuse, respond};
@@ -19,8 +19,9 @@ const MOST_OF_TEXT: usize = 4_194_305;
 
 /// The whole program: its words choose a form, the input is read to its end, and what the form answers to it is written. `states SLOTS` runs
 /// the system that the input stands for, all nodes together, and answers with what each thread does and waits for, and what the network
-/// holds; `issues SLOTS FROM` answers with a line for each issue from slot FROM on. `words` are the program's, without its name. With words of
-/// no form nothing is read. Of a system text no more than 4,194,305 bytes are read, and one of more than 4,194,304 bytes is refused. Nothing is
+/// holds; `issues SLOTS FROM` answers with a line for each issue from slot FROM on, `watch SLOTS ADDRESS ..` with one for each store to some
+/// words, and `chart SLOTS FROM` with a character for what each thread does in each slot. `words` are the program's, without its name. With
+/// words of no form nothing is read. Of a system text no more than 4,194,305 bytes are read, and one of more than 4,194,304 bytes is refused. Nothing is
 /// written before all is done, and writing takes no memory. It returns. See docs/LOOK.md.
 ///
 /// The statuses, of which `Status::number` gives the number; the fields of `Calls` say when each comes:
@@ -51,16 +52,18 @@ pub fn look<S: Source, K: Sink>(
         sink,
         |input: &[u8]| -> Result<Answer, AllocError>
             ensures { IfOk result (λ answer. answer ≡ look_by form input.now) }
-        { answer(alloc, form, input) },
+        { answer(alloc, &form, input) },
     )
 }
 
 // What a form answers to the bytes of the input: each has its module. The error is want of memory.
-fn answer(alloc: Global, form: LookForm, input: &[u8]) -> Result<Answer, AllocError>
-    ensures { IfOk result (λ answer. answer ≡ look_by form input.now) }
+fn answer(alloc: Global, form: &LookForm, input: &[u8]) -> Result<Answer, AllocError>
+    ensures { IfOk result (λ answer. answer ≡ look_by form.now input.now) }
 {
     match form {
-        LookForm::States(slots) => states::answer(alloc, slots, input),
-        LookForm::Issues(slots, from) => issues::answer(alloc, slots, from, input),
+        LookForm::States(slots) => states::answer(alloc, *slots, input),
+        LookForm::Issues(slots, from) => issues::answer(alloc, *slots, *from, input),
+        LookForm::Watch(slots, addresses) => watch::answer(alloc, *slots, addresses, input),
+        LookForm::Chart(slots, from) => chart::answer(alloc, *slots, *from, input),
     }
 }

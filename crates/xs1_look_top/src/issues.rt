@@ -39,5 +39,6 @@ fn issues_text(
     ensures text { IfOk result (λ issues. issues ≡ issues_text text.now slots from plan.now) }
 {
     let lines = read_code_lines(alloc, text)?;
-    issues(alloc, plan, &lines, slots, from)
+    let text = issues(alloc, plan, &lines, slots, from)?;
+    Ok(text)
 }

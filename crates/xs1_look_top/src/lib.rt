@@ -2,9 +2,11 @@
 #![tactic(auto)]
 
 mod call;
+mod chart;
 mod issues;
 mod program;
 mod states;
+mod watch;
 mod words;
 
 pub use answer_model::Status;
