@@ -1,7 +1,5 @@
 //! The blocks of a chart, and the whole.
 ghost use Rattle.std.specs.Prelude.{◌≡◌, ◌+◌, ◌-◌, ◌≤◌, ◌^◌, ◌<◌, ◌++◌, IfOk, OnOk};
-ghost use Rattle.trace_model.specs.Trace.{end_line};
-ghost use Rattle.issue_model.specs.Issues.{more_text};
 ghost use Rattle.chart_model.specs.Chart.{block_text, blocks_text, block_count, chart_of};
 ghost use Rattle.chart_model.specs.declared.TheConstants.{BLOCK_SLOTS, MOST_CHARTED};
 
@@ -9,7 +7,7 @@ use crate::columns::columns;
 use crate::rows::append_rows;
 use crate::ruler::append_ruler;
 use chart_model::{BLOCK_SLOTS, MOST_CHARTED};
-use decimal_text::append_decimal;
+use look_words::{append_end, append_more};
 use std::alloc::{AllocError, Global};
 use sys_plan::Plan;
 use told_run::ToldRun;
@@ -24,7 +22,7 @@ pub fn chart(alloc: Global, plan: &Plan, slots: u32, from: u32) -> Result<Text, 
     let count = MOST_CHARTED.min(left);
     let mut out = Text::new(alloc);
     append_charted(alloc, &mut out, plan, from, count)?;
-    append_more(&mut out, left.saturating_sub(MOST_CHARTED))?;
+    append_more(&mut out, u64::from(left.saturating_sub(MOST_CHARTED)))?;
     append_end(&mut out, slots)?;
     Ok(out)
 }
@@ -89,26 +87,5 @@ fn append_block(
     let columns = columns(alloc, run, plan, count)?;
     append_ruler(alloc, out, from, count)?;
     append_rows(alloc, out, plan, &columns)?;
-    out.append(b"\n")
-}
-
-// `more C`, where there are more slots.
-fn append_more(out: &mut Text, count: u32) -> Result<(), AllocError>
-    ensures { OnOk result (out.new ≡ out.old ++ more_text count) }
-{
-    if count == 0 {
-        return Ok(());
-    }
-    out.append(b"more ")?;
-    append_decimal(out, u64::from(count))?;
-    out.append(b"\n")
-}
-
-// `end SLOTS`.
-fn append_end(out: &mut Text, slots: u32) -> Result<(), AllocError>
-    ensures { OnOk result (out.new ≡ out.old ++ end_line slots) }
-{
-    out.append(b"end ")?;
-    append_decimal(out, u64::from(slots))?;
     out.append(b"\n")
 }

@@ -3,13 +3,13 @@ ghost use Rattle.std.specs.Prelude.{◌≡◌, ◌+◌, ◌≤◌, ◌^◌, ◌<
 ghost use Rattle.xs_base.specs.declared.numbers.TheConstants.{BUFFER_TOKENS, THREADS};
 ghost use Rattle.xs_model.specs.Record.{NodeRec};
 ghost use Rattle.core_step.specs.Core.{StandsFor};
-ghost use Rattle.chart_model.specs.Columns.{mark_char, thread_chars, count_char, link_char, taken_char, sent_char, token_chars, node_column, column_at, columns_from};
+ghost use Rattle.told_run.specs.Slots.{TellsNode};
+ghost use Rattle.chart_model.specs.Columns.{thread_chars, count_char, link_char, taken_char, sent_char, token_chars, node_column, column_at, columns_from};
 
 use chan_ends::ChanState;
-use chart_model::Mark;
 use core_step::Core;
 use link_ends::EndState;
-use slot_marks::mark_in;
+use slot_marks::{mark_char, mark_in};
 use std::alloc::{AllocError, Global};
 use sys_plan::{NodePlan, Plan};
 use told_run::ToldRun;
@@ -63,10 +63,7 @@ fn append_node(
     n: u8,
     node: &NodePlan,
 ) -> Result<(), AllocError>
-    requires told { run.now.slot ≡ Some slot }
-    requires passed { run.now.now ≡ slot + 1 }
-    requires node { slice_get run.now.plan.nodes n ≡ Some node.now }
-    requires within { n < length run.now.plan.nodes }
+    requires tells { TellsNode run.now slot n node.now }
     ensures { OnOk result (out.new ≡ out.old ++ node_column run.now.plan slot n node.now) }
 {
     append_threads(out, run, slot, n, node)?;
@@ -82,10 +79,7 @@ fn append_threads(
     n: u8,
     node: &NodePlan,
 ) -> Result<(), AllocError>
-    requires told { run.now.slot ≡ Some slot }
-    requires passed { run.now.now ≡ slot + 1 }
-    requires node { slice_get run.now.plan.nodes n ≡ Some node.now }
-    requires within { n < length run.now.plan.nodes }
+    requires tells { TellsNode run.now slot n node.now }
     ensures { OnOk result (out.new ≡ out.old ++ thread_chars run.now.plan slot n node.now THREADS) }
 {
     for k in 0..8u8 {
@@ -138,30 +132,4 @@ fn count_char(count: usize) -> u8
     ensures { result ≡ count_char count }
 {
     if count == 0 { b'.' } else { b'0' + count as u8 }
-}
-
-fn mark_char(mark: Mark) -> u8
-    ensures { result ≡ mark_char mark }
-{
-    match mark {
-        Mark::Done => b'X',
-        Mark::Pauses => b'P',
-        Mark::Traps => b'T',
-        Mark::TakesEvent => b'E',
-        Mark::TakesInterrupt => b'I',
-        Mark::Ready => b'r',
-        Mark::Between => b'.',
-        Mark::Tokens => b'i',
-        Mark::Room => b'o',
-        Mark::Port => b'p',
-        Mark::Timer => b't',
-        Mark::Lock => b'l',
-        Mark::Slaves => b's',
-        Mark::Divider => b'd',
-        Mark::Choice => b'e',
-        Mark::AtSync => b'm',
-        Mark::Unstarted => b'u',
-        Mark::Halted => b'h',
-        Mark::Free => b'-',
-    }
 }

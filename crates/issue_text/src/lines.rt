@@ -1,16 +1,15 @@
 //! `Lines`, the lines of a run: the first of them, and how many there were.
 ghost use Rattle.std.specs.Prelude.{◌≡◌, ◌+◌, ◌-◌, ◌^◌, ◌<◌, ◌≤◌, List, ℕ, [], ◌∷◌, ◌++◌, IfSome, IfOk, OnOk};
 ghost use Rattle.xs_base.specs.declared.numbers.TheConstants.{THREADS};
-ghost use Rattle.trace_model.specs.Trace.{end_line};
-ghost use Rattle.issue_model.specs.Issues.{more_text, lines_text};
+ghost use Rattle.issue_model.specs.Issues.{lines_text};
 ghost use Rattle.issue_text.specs.Kept.{IsOf, Adds};
 ghost use Rattle.issue_text.specs.NodeSlots.{line_in, lines_in};
 
 use crate::line::append_line;
 use crate::node_slot::NodeSlot;
 use core_step::Told;
-use decimal_text::append_decimal;
 use issue_model::{Ending, MOST_LINES};
+use look_words::{append_end, append_more};
 use std::alloc::{AllocError, Global};
 use xs_base::Text;
 
@@ -73,25 +72,4 @@ impl Lines {
         append_end(&mut out, slots)?;
         Ok(out)
     }
-}
-
-// `more C`, where there are more.
-fn append_more(out: &mut Text, count: u64) -> Result<(), AllocError>
-    ensures { OnOk result (out.new ≡ out.old ++ more_text count) }
-{
-    if count == 0 {
-        return Ok(());
-    }
-    out.append(b"more ")?;
-    append_decimal(out, count)?;
-    out.append(b"\n")
-}
-
-// `end SLOTS`.
-fn append_end(out: &mut Text, slots: u32) -> Result<(), AllocError>
-    ensures { OnOk result (out.new ≡ out.old ++ end_line slots) }
-{
-    out.append(b"end ")?;
-    append_decimal(out, u64::from(slots))?;
-    out.append(b"\n")
 }

@@ -8,6 +8,7 @@ ghost use Rattle.xs_model.specs.Picks.{is_rested};
 ghost use Rattle.sys_plan.specs.declared.NodePlan.{NodePlan};
 ghost use Rattle.issue_model.specs.Endings.{ending_of, ending_of_run};
 ghost use Rattle.issue_model.specs.Issues.{thread_in};
+ghost use Rattle.chart_model.specs.Columns.{mark_char};
 ghost use Rattle.chart_model.specs.Marks.{takes_mark, issue_mark, wait_mark, ready_or, run_mark, mark_of, mark_at};
 
 use bit_masks::has_bit;
@@ -29,6 +30,33 @@ pub fn mark_in(run: &ToldRun, slot: u32, n: u8, k: u8) -> Mark
     let may = may_issue(told.able, last_of(before, k), k, slot);
     let is = run.core(n).run_of(k);
     mark_of(k, may, run_before(before, k), is, told.traps, told.issue)
+}
+
+/// The character by which a chart shows a mark. See docs/LOOK.md.
+pub fn mark_char(mark: Mark) -> u8
+    ensures { result ≡ mark_char mark }
+{
+    match mark {
+        Mark::Done => b'X',
+        Mark::Pauses => b'P',
+        Mark::Traps => b'T',
+        Mark::TakesEvent => b'E',
+        Mark::TakesInterrupt => b'I',
+        Mark::Ready => b'r',
+        Mark::Between => b'.',
+        Mark::Tokens => b'i',
+        Mark::Room => b'o',
+        Mark::Port => b'p',
+        Mark::Timer => b't',
+        Mark::Lock => b'l',
+        Mark::Slaves => b's',
+        Mark::Divider => b'd',
+        Mark::Choice => b'e',
+        Mark::AtSync => b'm',
+        Mark::Unstarted => b'u',
+        Mark::Halted => b'h',
+        Mark::Free => b'-',
+    }
 }
 
 // What thread k did before the slot.

@@ -1,17 +1,15 @@
 //! The whole text.
 ghost use Rattle.std.specs.Prelude.{◌≡◌, ◌++◌, [], map, option_map, slice_index_or, IfOk, OnOk};
 ghost use Rattle.snap_parts.specs.Parts.{body_of};
-ghost use Rattle.trace_model.specs.Trace.{end_line};
 ghost use Rattle.look_model.specs.States.{kept_lines, nodes_lines, states_of};
 
 use crate::circle::append_circle;
 use crate::node::append_node;
-use crate::pieces::Piece::{Number, Words};
-use crate::pieces::append_pieces;
 use crate::runs::Seat;
 use crate::seen::kept;
 use crate::wait_graph::wait_graph;
 use circle_search::circle;
+use look_words::append_end;
 use snap_parts::{SnapNode, SnapSystem};
 use std::alloc::{AllocError, Global};
 use sys_plan::{NodePlan, Plan};
@@ -104,14 +102,4 @@ fn append_kept(
         state: &snap.state,
     };
     append_node(alloc, out, plan, n, &seat)
-}
-
-// `end SLOT`.
-fn append_end(out: &mut Text, slot: u32) -> Result<(), AllocError>
-    ensures { OnOk result (out.new ≡ out.old ++ end_line slot) }
-{
-    append_pieces(
-        out,
-        &[Words(b"end "), Number(u64::from(slot)), Words(b"\n")],
-    )
 }

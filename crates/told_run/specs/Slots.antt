@@ -1,5 +1,5 @@
 -- What contracts see of a run of which slots are told, and what is told of a slot.
-use Rattle.std.specs.Prelude.{◌≡◌, ◌<◌, Option, Some, slice_get}
+use Rattle.std.specs.Prelude.{◌≡◌, ◌+◌, ◌<◌, Option, Some, length, slice_get}
 use Rattle.xs_base.specs.Numbers.{Slot, Position, ThreadNumber}
 use Rattle.xs_base.specs.declared.numbers.TheConstants.{THREADS}
 use Rattle.xs_model.specs.Masks.{in_mask}
@@ -16,6 +16,13 @@ pub record ToldRec : Type 0 where
   pub plan : PlanRec
   pub now : Slot
   pub slot : Option Slot
+
+-- the run has passed a slot and tells it, and this is the node of its plan at a position
+pub record TellsNode (run : ToldRec) (slot : Slot) (n : Position) (node : NodePlan) : Type 0 where
+  pub told : run.slot ≡ Some slot
+  pub passed : run.now ≡ slot + 1
+  pub is : slice_get run.plan.nodes n ≡ Some node
+  pub within : n < length run.plan.nodes
 
 -- this is kept of a core
 pub record IsBefore (core : CoreRec) (before : Before) : Type 0 where
