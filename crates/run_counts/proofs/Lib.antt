@@ -1,0 +1,6 @@
+mod Each
+mod EndSlots
+mod More
+mod Start
+mod Sums
+mod Threads
