@@ -1,0 +1,124 @@
+//! Where a section of a system text stands.
+ghost use Rattle.std.specs.Prelude.{◌≡◌, ◌≤◌, ◌<◌, ◌^◌, [], ◌∷◌, length, option_map, IfSome};
+ghost use Rattle.xs_text.specs.Lines.{lines_of};
+ghost use Rattle.xs_text.specs.Words.{words_of_line};
+ghost use Rattle.system_model.specs.declared.frame_line.SectionKind.{SectionKind};
+ghost use Rattle.system_model.specs.declared.frame_line.SectionKind.TheVariants as kinds;
+ghost use Rattle.system_model.specs.FrameLines.{section_line};
+ghost use Rattle.system_model.specs.Frame.{is_same_kind};
+ghost use Rattle.explain_whole.specs.Opened.{opened_in};
+ghost use Rattle.explain_answers.specs.Kept.{IsOpening, opened_of};
+
+use crate::section::{is_end, read_section};
+use system_model::SectionKind;
+use xs_instructions::same_name;
+use xs_text::{Lines, is_plain_number, next_word, number};
+
+/// The lines of a section, and the number of the line that begins it.
+#[derive(Clone, Copy)]
+pub(crate) struct Opened<'a> {
+    pub(crate) opening: u32,
+    pub(crate) text: &'a [u8],
+}
+
+// What a line begins.
+#[derive(Clone, Copy)]
+pub(crate) enum Opening {
+    Nothing,
+    Section(SectionKind),
+    /// The source of a node with a number that no node has.
+    Other,
+}
+
+// By one word: `pins` or `play`.
+#[tactic(auto, unfolding(system_model::specs::FrameLines::section_line))]
+fn opening_of_one(name: &[u8]) -> Opening
+    ensures { IsOpening (section_line (name.now ∷ [])) result }
+{
+    if same_name(b"pins", name) {
+        Opening::Section(SectionKind::Pins)
+    } else if same_name(b"play", name) {
+        Opening::Section(SectionKind::Play)
+    } else {
+        Opening::Nothing
+    }
+}
+
+// By two words: `source N`.
+#[tactic(auto, unfolding(system_model::specs::FrameLines::section_line))]
+fn opening_of_two(name: &[u8], word: &[u8]) -> Opening
+    ensures { IsOpening (section_line (name.now ∷ word.now ∷ [])) result }
+{
+    if !same_name(b"source", name) {
+        return Opening::Nothing;
+    }
+    if !is_plain_number(word) {
+        return Opening::Nothing;
+    }
+    match number(word, 255) {
+        Some(node) => Opening::Section(SectionKind::Source(node as u8)),
+        None => Opening::Other,
+    }
+}
+
+#[tactic(auto, unfolding(system_model::specs::FrameLines::section_line))]
+fn opening_of(line: &[u8]) -> Opening
+    ensures { IsOpening (section_line (words_of_line line.now)) result }
+{
+    let Some((name, rest)) = next_word(line) else {
+        return Opening::Nothing;
+    };
+    let Some((word, rest)) = next_word(rest) else {
+        return opening_of_one(name);
+    };
+    if next_word(rest).is_some() {
+        return Opening::Nothing;
+    }
+    opening_of_two(name, word)
+}
+
+fn is_same_kind(a: SectionKind, b: SectionKind) -> bool
+    ensures { result ≡ is_same_kind a b }
+{
+    match (a, b) {
+        (SectionKind::Source(m), SectionKind::Source(n)) => m == n,
+        (SectionKind::Pins, SectionKind::Pins) => true,
+        (SectionKind::Play, SectionKind::Play) => true,
+        _ => false,
+    }
+}
+
+/// The first section of this kind in a text, None where there is none, or where no line ends it.
+#[tactic(auto, unfolding(explain_whole::specs::Opened::opened_from))]
+pub(crate) fn find_section(text: &[u8], kind: SectionKind) -> Option<Opened<'_>>
+    requires { length text.now < 2 ^ 32 }
+    ensures opened { option_map opened_of result ≡ opened_in kind (lines_of text.now) }
+    ensures from_one { IfSome result (λ o. 1 ≤ o.opening) }
+    ensures opening { IfSome result (λ o. o.opening ≤ length text.now) }
+    ensures part { IfSome result (λ o. length o.text.now ≤ length text.now) }
+{
+    let mut lines = Lines::new(text);
+    let mut inside = false;
+    while let Some(line) = lines.next_line() {
+        let bytes = &text[line.from..line.to];
+        if inside {
+            inside = !is_end(bytes);
+        } else {
+            match opening_of(bytes) {
+                Opening::Nothing => {}
+                Opening::Other => inside = true,
+                Opening::Section(opened) => {
+                    if is_same_kind(opened, kind) {
+                        let section = read_section(text, &mut lines)?;
+                        return Some(Opened {
+                            opening: line.number,
+                            text: section.text,
+                        });
+                    }
+                    inside = true;
+                }
+            }
+        }
+    }
+    None
+}

@@ -1,0 +1,11 @@
+pub mod Placed
+pub mod Wants
+pub mod Forms
+pub mod Values
+pub mod Near
+pub mod Labels
+pub mod Sections
+pub mod Spots
+pub mod Meant
+pub mod Quote
+pub mod Told

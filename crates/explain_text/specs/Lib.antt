@@ -1,0 +1,5 @@
+pub mod Tokens
+pub mod Stops
+pub mod Found
+pub mod Lines
+pub mod Spots
