@@ -8,11 +8,18 @@ use Rattle.word_numbers.specs.Decimal.{decimal_up_to}
 use Rattle.answer_model.specs.Forms.{most_slots, greatest_number}
 use Rattle.look_forms.specs.declared.TheConstants.{MOST_WATCHED}
 use Rattle.look_forms.specs.declared.LookForm.{LookForm}
-use Rattle.look_forms.specs.declared.LookForm.TheVariants.{States, Issues, Watch, Chart}
+use Rattle.look_forms.specs.declared.LookForm.TheVariants.{Explain, States, Issues, Profile, Watch, Chart}
+
+-- the form of one word
+abbrev pub form_of_one : List ℕ → Option LookForm
+form_of_one command = if same_name (codes "explain") command then Some Explain else None
 
 -- the form of two words
 abbrev pub form_of_two : List ℕ → List ℕ → Option LookForm
-form_of_two command word = if same_name (codes "states") command then option_map States (decimal_up_to most_slots word) else None
+form_of_two command word =
+    if same_name (codes "states") command then option_map States (decimal_up_to most_slots word)
+    else (if same_name (codes "profile") command then option_map Profile (decimal_up_to most_slots word)
+    else None)
 
 -- ---- With a slot
 
@@ -65,11 +72,12 @@ abbrev pub form_of_more : List ℕ → List ℕ → List (List ℕ) → Option L
 form_of_more command word others =
     if same_name (codes "watch") command then watch_form word others else form_of_others command word others
 
--- the form of the words, if they have one: `states SLOTS`, `issues SLOTS FROM`, `watch SLOTS ADDRESS ..` or `chart SLOTS FROM`
+-- the form of the words, if they have one: `explain`, `states SLOTS`, `profile SLOTS`, `issues SLOTS FROM`, `watch SLOTS ADDRESS ..` or `chart SLOTS FROM`
 unfoldable pub look_form : List (List ℕ) → Option LookForm
+look_form (command ∷ []) = form_of_one command
 look_form (command ∷ word ∷ []) = form_of_two command word
 look_form (command ∷ word ∷ other ∷ others) = form_of_more command word (other ∷ others)
 look_form _ = None
 
 abbrev pub look_usage : List ℕ
-look_usage = codes "usage: xs1_look states SLOTS | issues SLOTS FROM | watch SLOTS ADDRESS .. | chart SLOTS FROM\n"
+look_usage = codes "usage: xs1_look states SLOTS | issues SLOTS FROM | watch SLOTS ADDRESS .. | chart SLOTS FROM | profile SLOTS | explain\n"

@@ -13,6 +13,10 @@ pub enum LookForm {
     States(u32),
     /// `issues SLOTS FROM`: the issues of a run of so many slots, from a slot on.
     Issues(u32, u32),
+    /// `explain`: why a text is refused.
+    Explain,
+    /// `profile SLOTS`: what is counted in a run of so many slots.
+    Profile(u32),
     /// `watch SLOTS ADDRESS ..`: the stores to some words in a run of so many slots.
     Watch(u32, ArrayVec<u32, 16>),
     /// `chart SLOTS FROM`: what each thread does in each slot of a run of so many slots, from a slot on.

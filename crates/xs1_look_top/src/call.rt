@@ -7,7 +7,7 @@ ghost use Rattle.xs1_look_top.specs.Asked.{asked_of};
 
 use crate::program::Look;
 use crate::words::{look_form, usage_line};
-use crate::{chart, issues, states, watch};
+use crate::{chart, explain, issues, profile, states, watch};
 use answer_model::{Answer, Status};
 use look_forms::LookForm;
 use program_calls::{refuse, respond};
@@ -17,9 +17,11 @@ use xs_edge::{Sink, Source};
 // One byte past the longest system text.
 const MOST_OF_TEXT: usize = 4_194_305;
 
-/// The whole program: its words choose a form, the input is read to its end, and what the form answers to it is written. `states SLOTS` runs
+/// The whole program: its words choose a form, the input is read to its end, and what the form answers to it is written. `explain` answers
+/// with why the input is refused, where it is. `states SLOTS` runs
 /// the system that the input stands for, all nodes together, and answers with what each thread does and waits for, and what the network
-/// holds; `issues SLOTS FROM` answers with a line for each issue from slot FROM on, `watch SLOTS ADDRESS ..` with one for each store to some
+/// holds; `profile SLOTS` answers with how often each instruction was issued and waited at, and in how many slots each thread did what;
+/// `issues SLOTS FROM` with a line for each issue from slot FROM on, `watch SLOTS ADDRESS ..` with one for each store to some
 /// words, and `chart SLOTS FROM` with a character for what each thread does in each slot. `words` are the program's, without its name. With
 /// words of no form nothing is read. Of a system text no more than 4,194,305 bytes are read, and one of more than 4,194,304 bytes is refused. Nothing is
 /// written before all is done, and writing takes no memory. It returns. See docs/LOOK.md.
@@ -61,8 +63,10 @@ fn answer(alloc: Global, form: &LookForm, input: &[u8]) -> Result<Answer, AllocE
     ensures { IfOk result (λ answer. answer ≡ look_by form.now input.now) }
 {
     match form {
+        LookForm::Explain => explain::answer(alloc, input),
         LookForm::States(slots) => states::answer(alloc, *slots, input),
         LookForm::Issues(slots, from) => issues::answer(alloc, *slots, *from, input),
+        LookForm::Profile(slots) => profile::answer(alloc, *slots, input),
         LookForm::Watch(slots, addresses) => watch::answer(alloc, *slots, addresses, input),
         LookForm::Chart(slots, from) => chart::answer(alloc, *slots, *from, input),
     }

@@ -3,7 +3,9 @@
 
 mod call;
 mod chart;
+mod explain;
 mod issues;
+mod profile;
 mod program;
 mod states;
 mod watch;

@@ -1,6 +1,6 @@
 //! The forms of the program's words, and the usage line beside them.
 ghost use Rattle.std.specs.Prelude.{◌≡◌, map, option_map, string_bytes};
-ghost use Rattle.look_forms.specs.Words.{form_of_two, slots_and_from, form_of_three, form_of_more, addresses_of, watch_form, look_form, look_usage};
+ghost use Rattle.look_forms.specs.Words.{form_of_one, form_of_two, slots_and_from, form_of_three, form_of_more, addresses_of, watch_form, look_form, look_usage};
 
 use arrayvec::ArrayVec;
 use look_forms::{LookForm, MOST_WATCHED};
@@ -11,8 +11,8 @@ use xs_text::number;
 // The most slots that a run may have.
 const MOST_SLOTS: u32 = 16_000_000;
 
-/// The form of the program's words, without the program's name: `states SLOTS`, `issues SLOTS FROM`, `watch SLOTS ADDRESS ..` or
-/// `chart SLOTS FROM`, where SLOTS and FROM are one to ten decimal digits with a value of at most 16,000,000, and there are one to sixteen
+/// The form of the program's words, without the program's name: `explain`, `states SLOTS`, `profile SLOTS`, `issues SLOTS FROM`, `watch SLOTS ADDRESS ..`
+/// or `chart SLOTS FROM`, where SLOTS and FROM are one to ten decimal digits with a value of at most 16,000,000, and there are one to sixteen
 /// addresses, each decimal digits, or `0x` and hexadecimal digits, with a value of at most 4,294,967,295. None comes exactly where the words
 /// are of no form. See docs/LOOK.md.
 #[tactic(auto, unfolding(look_forms::specs::Words::look_form))]
@@ -20,6 +20,7 @@ pub fn look_form(words: &[String]) -> Option<LookForm>
     ensures value { result ≡ look_form (map string_bytes words.now) }
 {
     match words {
+        [command] => form_of_one(command),
         [command, word] => form_of_two(command, word),
         [command, word, others @ ..] => form_of_more(command, word, others),
         _ => None,
@@ -30,18 +31,32 @@ pub fn look_form(words: &[String]) -> Option<LookForm>
 pub fn usage_line() -> &'static [u8]
     ensures { result.now ≡ look_usage }
 {
-    b"usage: xs1_look states SLOTS | issues SLOTS FROM | watch SLOTS ADDRESS .. | chart SLOTS FROM\n"
+    b"usage: xs1_look states SLOTS | issues SLOTS FROM | watch SLOTS ADDRESS .. | chart SLOTS FROM | profile SLOTS | explain\n"
+}
+
+// The form of one word.
+fn form_of_one(command: &str) -> Option<LookForm>
+    ensures value { result ≡ form_of_one command.now }
+{
+    if same_name(b"explain", command.as_bytes()) {
+        return Some(LookForm::Explain);
+    }
+    None
 }
 
 // The form of two words.
 fn form_of_two(command: &str, word: &str) -> Option<LookForm>
     ensures value { result ≡ form_of_two command.now word.now }
 {
-    if !same_name(b"states", command.as_bytes()) {
-        return None;
+    if same_name(b"states", command.as_bytes()) {
+        let slots = decimal_up_to(MOST_SLOTS, word.as_bytes())?;
+        return Some(LookForm::States(slots));
     }
-    let slots = decimal_up_to(MOST_SLOTS, word.as_bytes())?;
-    Some(LookForm::States(slots))
+    if same_name(b"profile", command.as_bytes()) {
+        let slots = decimal_up_to(MOST_SLOTS, word.as_bytes())?;
+        return Some(LookForm::Profile(slots));
+    }
+    None
 }
 
 // The form of three words or more.
