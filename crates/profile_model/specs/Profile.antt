@@ -86,7 +86,11 @@ links_text node tokens full (suc e) = links_text node tokens full e ++ link_line
 -- of the node at a position, where its instructions are of these lines
 abbrev pub node_text : PlanRec → List ℕ → ℕ → Position → NodePlan → List ℕ
 node_text plan lines slots n node =
-    places_text node lines (λ place. times_at plan n node ISSUES place slots) (λ place. times_at plan n node PAUSES place slots) (λ place. times_at plan n node WAITS place slots) (length node.image.code + 1)
+    places_text node lines
+    (λ place. times_at plan n node ISSUES place slots)
+    (λ place. times_at plan n node PAUSES place slots)
+    (λ place. times_at plan n node WAITS place slots)
+    (length node.image.code + 1)
     ++ (threads_text node slots (λ k c. slots_shown plan n node k c slots) THREADS
     ++ links_text node (λ e. tokens_sent plan n e slots) (λ e. slots_full plan n e slots) LINK_ENDS)
 
