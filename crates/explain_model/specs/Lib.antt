@@ -9,3 +9,4 @@ pub mod Spots
 pub mod Meant
 pub mod Quote
 pub mod Told
+pub mod Words

@@ -26,7 +26,7 @@ abbrev pub hex_byte : ℕ → List ℕ
 hex_byte b = codes "0x" ++ (hex_digit (b / 16 % 16) ∷ hex_digit (b % 16) ∷ [])
 
 abbrev pub bad_byte_line : ℕ → List ℕ
-bad_byte_line b = codes "byte " ++ (hex_byte b ++ codes " may not stand in a text, in a comment neither\n")
+bad_byte_line b = codes "byte " ++ (hex_byte b ++ codes " may not stand in a text, nor in a comment\n")
 
 -- the name with which a statement begins
 abbrev pub statement_name : List Placed → List ℕ
@@ -75,7 +75,7 @@ twice_line (Some twice) = twice.label.token.bytes ++ (codes " is a label of line
 abbrev pub missing_line : List Symbol → Option Use → List ℕ
 missing_line labels None = []
 missing_line labels (Some found) =
-    found.label.token.bytes ++ (codes " is a label of no line of this source" ++ near_line (near_from found.label.token.bytes [] (names_of labels)))
+    codes "no line of this source has the label " ++ (found.label.token.bytes ++ near_line (near_from found.label.token.bytes [] (names_of labels)))
 
 abbrev pub meant_line : AsmKind → SourceLine → List ℕ
 meant_line BadByte at = bad_byte_line (slice_index (bytes_of_line at) (prefix_len is_allowed (bytes_of_line at)))

@@ -8,6 +8,7 @@ use Rattle.xs_instructions.specs.Image.{Symbol, address_of, is_reserved}
 use Rattle.source_model.specs.declared.AsmKind.{AsmKind}
 use Rattle.source_model.specs.declared.AsmKind.TheVariants.{BadByte, UnknownName, WrongOperands, NumberOutOfRange, LabelTwice, LabelMissing, DirectiveNotAllowed, TooManyInstructions, TooManyBytes}
 use Rattle.source_model.specs.declared.layout.Section.{Section}
+use Rattle.source_model.specs.declared.layout.Width.TheVariants.{Word}
 use Rattle.source_model.specs.Operands.{base_after}
 use Rattle.source_model.specs.Statement.{is_name_kind}
 use Rattle.explain_model.specs.declared.Want.{Want}
@@ -86,7 +87,7 @@ pub record Use : Type 0 where
   pub want : Want
 
 abbrev pub use_want : Bool → Option Section → Want
-use_want true base = want.Address
+use_want true base = want.Value Word
 use_want false None = want.Operand Label
 use_want false (Some base) = want.Offset base
 

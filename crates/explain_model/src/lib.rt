@@ -1,4 +1,5 @@
-//! Why a source is refused, told of its line: definitions, and the plain types that they speak of. See docs/LOOK.md.
+//! Why a line is refused, told of the line: what may stand at a place, in words, and how far a line of a source has a form. Definitions, and the plain
+//! types that they speak of. See docs/LOOK.md.
 #![tactic(auto)]
 
 use source_model::{Section, Width};
@@ -23,8 +24,6 @@ pub enum Want {
     CommaOrEnd,
     /// The end of the line.
     LineEnd,
-    /// A label of the source, for its address.
-    Address,
     /// What may begin a statement in a section.
     Statement(Section),
     /// A name that is no label yet.
@@ -33,6 +32,57 @@ pub enum Want {
     FreeName,
     /// A byte that a text may hold.
     AllowedByte,
+    /// A word, letter by letter.
+    Word(FixedWord),
+    /// `N:E`, a node and one of its link ends.
+    LinkEnd,
+    /// `N:E`, a node and one of its ends, of links or of wires.
+    StepEnd,
+    /// `N:P`, a node by a number of the frame and a port.
+    WirePin,
+    /// `N:P`, a node by any number and a port.
+    ScriptPin,
+}
+
+/// A word that lines of a frame and of a pin script have as it stands.
+#[derive(Clone, Copy)]
+pub enum FixedWord {
+    /// `xs1`
+    Xs1,
+    /// `1`, the edition
+    One,
+    /// `2`, the edition
+    Two,
+    /// `node`
+    Node,
+    /// `id`
+    Id,
+    /// `link`
+    Link,
+    /// `delay`
+    Delay,
+    /// `gap`
+    Gap,
+    /// `net`
+    Net,
+    /// `bit`
+    Bit,
+    /// `wire`
+    Wire,
+    /// `source`
+    Source,
+    /// `pins`
+    Pins,
+    /// `play`
+    Play,
+    /// `take`
+    Take,
+    /// `run`
+    Run,
+    /// `send`
+    Send,
+    /// `end`
+    End,
 }
 
 /// In what a name is near another one.

@@ -3,3 +3,4 @@ pub mod Stops
 pub mod Found
 pub mod Lines
 pub mod Spots
+pub mod Words

@@ -18,18 +18,18 @@ use xs_text::TokKind;
 /// Where a line stops to have a form: the place of the first token that does not fit, or behind the last where all do; and what may stand there,
 /// None where the line has the whole form.
 #[derive(Clone, Copy)]
-pub(crate) struct Stop {
-    pub(crate) at: usize,
-    pub(crate) all_fit: bool,
-    pub(crate) want: Option<Want>,
+pub struct Stop {
+    pub at: usize,
+    pub all_fit: bool,
+    pub want: Option<Want>,
 }
 
 /// The place where the forms of a line stop that go farthest, and all that may stand there.
 #[derive(Drop)]
-pub(crate) struct Spot {
-    pub(crate) at: usize,
-    pub(crate) all_fit: bool,
-    pub(crate) wants: Vec<Want>,
+pub struct Spot {
+    pub at: usize,
+    pub all_fit: bool,
+    pub wants: Vec<Want>,
 }
 
 /// Whether a token may stand at a place of a form.
@@ -161,7 +161,7 @@ pub(crate) fn stop_of_one(want: Option<Want>, line: &[u8], behind: usize) -> Sto
 
 impl Spot {
     /// A place where this may stand, if something may. The error is want of memory, here and below.
-    pub(crate) fn new(alloc: Global, at: usize, want: Option<Want>) -> Result<Spot, AllocError>
+    pub fn new(alloc: Global, at: usize, want: Option<Want>) -> Result<Spot, AllocError>
         ensures { IfOk result (λ spot. spot_of_kept spot ≡ spot_at at (option_to_list want)) }
     {
         let mut wants = Vec::new(alloc);
@@ -176,7 +176,7 @@ impl Spot {
     }
 
     /// The place where one form stops.
-    pub(crate) fn of_stop(alloc: Global, stop: Stop) -> Result<Spot, AllocError>
+    pub fn of_stop(alloc: Global, stop: Stop) -> Result<Spot, AllocError>
         ensures { IfOk result (λ spot. spot_of_kept spot ≡ spot_of_stop (stop_of_kept stop)) }
     {
         let mut wants = Vec::new(alloc);
@@ -189,7 +189,7 @@ impl Spot {
     }
 
     /// Takes one form more into account.
-    pub(crate) fn add_stop(&mut self, stop: Stop) -> Result<(), AllocError>
+    pub fn add_stop(&mut self, stop: Stop) -> Result<(), AllocError>
         ensures spot { OnOk result (spot_of_kept self.new ≡ with_stop (spot_of_kept self.old) (stop_of_kept stop)) }
     {
         if stop.at < self.at {

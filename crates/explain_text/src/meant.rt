@@ -2,7 +2,7 @@
 ghost use Rattle.std.specs.Prelude.{◌≡◌, ◌<◌, ◌++◌, Some, option_map, OnOk};
 ghost use Rattle.source_model.specs.declared.AsmKind.TheVariants as kinds;
 ghost use Rattle.explain_model.specs.Spots.{statement_in};
-ghost use Rattle.explain_model.specs.Meant.{hex_digit, hex_byte, statement_name, unknown_line, home_line, reserved_line, section_text, section_of_label, section_line, range_line, twice_line, missing_line, meant_line};
+ghost use Rattle.explain_model.specs.Meant.{hex_digit, hex_byte, bad_byte_line, statement_name, unknown_line, home_line, reserved_line, section_text, section_of_label, section_line, range_line, twice_line, missing_line, meant_line};
 ghost use Rattle.explain_text.specs.Tokens.{placed_of};
 ghost use Rattle.explain_text.specs.Found.{twice_of_kept, use_of_kept};
 ghost use Rattle.explain_text.specs.Lines.{line_of_kept};
@@ -39,16 +39,23 @@ fn append_hex_byte(out: &mut Text, b: u8) -> Result<(), AllocError>
     out.append(&[hex_digit(b / 16), hex_digit(b % 16)])
 }
 
-fn append_bad_byte(out: &mut Text, at: &SourceLine) -> Result<(), AllocError>
+/// The line on a byte that a text may not hold. The error is want of memory. See docs/LOOK.md.
+pub fn append_bad_byte(out: &mut Text, b: u8) -> Result<(), AllocError>
+    ensures { OnOk result (out.new ≡ out.old ++ bad_byte_line b) }
+{
+    out.append(b"byte ")?;
+    append_hex_byte(out, b)?;
+    out.append(words::may_not_stand())
+}
+
+fn append_bad_byte_of(out: &mut Text, at: &SourceLine) -> Result<(), AllocError>
     ensures { OnOk result (out.new ≡ out.old ++ meant_line kinds.BadByte (line_of_kept at.now)) }
 {
     let b = match at.bytes.get(at.allowed_length()) {
         None => 0,
         Some(b) => *b,
     };
-    out.append(b"byte ")?;
-    append_hex_byte(out, b)?;
-    out.append(words::may_not_stand())
+    append_bad_byte(out, b)
 }
 
 fn statement_name<'a>(at: &SourceLine<'a>) -> &'a [u8]
@@ -189,7 +196,7 @@ fn append_missing(
         return Ok(());
     };
     let name = found.label.bytes;
-    append_named(out, name, words::is_a_label_of_no_line())?;
+    append_named(out, words::no_line_has(), name)?;
     append_near_labels(alloc, out, name, labels)
 }
 
@@ -203,7 +210,7 @@ pub(crate) fn append_meant(
     ensures { OnOk result (out.new ≡ out.old ++ meant_line kind (line_of_kept at.now)) }
 {
     match kind {
-        AsmKind::BadByte => append_bad_byte(out, at),
+        AsmKind::BadByte => append_bad_byte_of(out, at),
         AsmKind::UnknownName => append_unknown(alloc, out, statement_name(at)),
         AsmKind::WrongOperands => append_reserved(out, at.reserved_label()),
         AsmKind::NumberOutOfRange => append_range(alloc, out, at),

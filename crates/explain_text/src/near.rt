@@ -6,11 +6,13 @@ ghost use Rattle.xs_instructions.specs.Rows.{name_of};
 ghost use Rattle.xs_instructions.specs.declared.rows.TheConstants.{ROWS};
 ghost use Rattle.explain_model.specs.Near.{is_swapped, is_edit_here, is_one_edit, begins_name, nearness, is_found, add_near, near_from, nearness_text, near_text, near_line};
 ghost use Rattle.explain_model.specs.Values.{directive_names};
+ghost use Rattle.explain_model.specs.Wants.{word_text};
 ghost use Rattle.explain_model.specs.Labels.{names_of};
 ghost use Rattle.explain_text.specs.Found.{near_of_kept};
 
+use crate::wants::word_text;
 use crate::words;
-use explain_model::{DIRECTIVES, MOST_NEAR, Nearness};
+use explain_model::{DIRECTIVES, FixedWord, MOST_NEAR, Nearness};
 use std::alloc::{AllocError, Global};
 use xs_base::Text;
 use xs_instructions::{ROWS, Row, Symbols, same_name};
@@ -176,6 +178,31 @@ fn add_names(name: &[u8], found: &mut Vec<Near>, names: &[&'static str]) -> Resu
         add_near(name, found, other.as_bytes())?;
     }
     Ok(())
+}
+
+// Adds words of a frame.
+#[tactic(auto, unfolding(explain_model::specs::Near::near_from))]
+fn add_words(name: &[u8], found: &mut Vec<Near>, words: &[FixedWord]) -> Result<(), AllocError>
+    ensures { OnOk result (map near_of_kept found.new.items ≡ near_from name.now (map near_of_kept found.old.items) (map word_text words.now)) }
+{
+    for word in words {
+        add_near(name, found, word_text(*word))?;
+    }
+    Ok(())
+}
+
+/// `; near: ..` of words of a frame, and the end of the line: those of them that are near a name. The error is want of memory. See docs/LOOK.md.
+pub fn append_near_words(
+    alloc: Global,
+    out: &mut Text,
+    name: &[u8],
+    words: &[FixedWord],
+) -> Result<(), AllocError>
+    ensures { OnOk result (out.new ≡ out.old ++ near_line (near_from name.now [] (map word_text words.now))) }
+{
+    let mut found = Vec::new(alloc);
+    add_words(name, &mut found, words)?;
+    append_near_line(out, &found)
 }
 
 /// `; near: ..` of the names of instructions, and the end of the line.

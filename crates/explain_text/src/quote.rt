@@ -54,13 +54,8 @@ pub fn append_line(out: &mut Text, number: u32, line: &[u8]) -> Result<(), Alloc
     out.append(b"\n")
 }
 
-/// The mark in the line below.
-pub(crate) fn append_mark(
-    out: &mut Text,
-    number: u32,
-    line: &[u8],
-    at: usize,
-) -> Result<(), AllocError>
+/// The mark in the line below, at a place that is counted from 0. The error is want of memory, here and below.
+pub fn append_mark(out: &mut Text, number: u32, line: &[u8], at: usize) -> Result<(), AllocError>
     requires { at ≤ length line.now }
     ensures { OnOk result (out.new ≡ out.old ++ mark_shown number line.now at) }
 {
@@ -82,8 +77,8 @@ fn append_others(out: &mut Text, wants: &[Want]) -> Result<(), AllocError>
     Ok(())
 }
 
-/// What is accepted at the mark.
-pub(crate) fn append_accepted(out: &mut Text, wants: &[Want]) -> Result<(), AllocError>
+/// What is accepted at the mark. See docs/LOOK.md.
+pub fn append_accepted(out: &mut Text, wants: &[Want]) -> Result<(), AllocError>
     ensures { OnOk result (out.new ≡ out.old ++ accepted_text wants.now) }
 {
     match wants {

@@ -88,8 +88,8 @@ fn section_after(section: Section, home: Home) -> Section
     }
 }
 
-// The section after a line.
-fn section_after_line(section: Section, line: &[u8]) -> Section
+/// The section after a line of a source, where it stood in one. See docs/LOOK.md.
+pub fn section_after_line(section: Section, line: &[u8]) -> Section
     ensures { result ≡ section_after_line section line.now }
 {
     if !all_allowed(line) {

@@ -2,7 +2,7 @@
 ghost use Rattle.std.specs.Prelude.{◌≡◌, ◌≤◌, ◌<◌, ◌+◌, ◌-◌, ◌^◌, [], length, get_or};
 ghost use Rattle.xs_text.specs.Lines.{lines_of};
 
-use xs_text::Lines;
+use crate::lines::bytes_of_line;
 
 /// A line of a source: the source, the number that its first line has in the whole text, the number of the line in the source, from 1, and its bytes.
 #[derive(Clone, Copy)]
@@ -34,19 +34,4 @@ impl<'a> SourceLine<'a> {
             bytes: bytes_of_line(source, line),
         }
     }
-}
-
-// The bytes of the line with a number, none where there is no such line.
-fn bytes_of_line(source: &[u8], number: u32) -> &[u8]
-    requires from_one { 1 ≤ number }
-    requires small { length source.now < 2 ^ 32 }
-    ensures { result.now ≡ get_or (lines_of source.now) (number - 1) [] }
-{
-    let mut lines = Lines::new(source);
-    while let Some(line) = lines.next_line() {
-        if line.number == number {
-            return &source[line.from..line.to];
-        }
-    }
-    b""
 }

@@ -5,10 +5,10 @@ use xs_text::TokKind;
 
 /// A token, the place of its first byte in its line, and the place behind its last.
 #[derive(Clone, Copy)]
-pub(crate) struct Token<'a> {
-    pub(crate) at: usize,
-    pub(crate) end: usize,
-    pub(crate) kind: TokKind,
-    pub(crate) bytes: &'a [u8],
+pub struct Token<'a> {
+    pub at: usize,
+    pub end: usize,
+    pub kind: TokKind,
+    pub bytes: &'a [u8],
     ghost spans: { end ≡ at + length bytes.now },
 }

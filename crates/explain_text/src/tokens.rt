@@ -7,8 +7,8 @@ ghost use Rattle.explain_text.specs.Tokens.{placed_left, placed_of};
 use crate::token::Token;
 use xs_text::{Line, TokKind, next_tok};
 
-/// The first token of a line from a place on.
-pub(crate) fn next_token(line: &[u8], at: usize) -> Option<Token<'_>>
+/// The first token of a line from a place on. See docs/LOOK.md.
+pub fn next_token(line: &[u8], at: usize) -> Option<Token<'_>>
     requires { at ≤ length line.now }
     ensures token { MatchOption result (placed_left line.now at ≡ []) (λ t. placed_left line.now at ≡ placed_of t ∷ placed_left line.now t.end) }
     ensures within { IfSome result (λ t. t.end ≤ length line.now) }
@@ -31,9 +31,9 @@ pub(crate) fn next_token(line: &[u8], at: usize) -> Option<Token<'_>>
     })
 }
 
-/// The label at a place of a line, a name and a colon, and the place behind it.
+/// The label at a place of a line, a name and a colon, and the place behind it. None where no label stands there. See docs/LOOK.md.
 #[tactic(auto, unfolding(explain_model::specs::Placed::placed_labels, explain_model::specs::Placed::placed_statement))]
-pub(crate) fn next_label(line: &[u8], at: usize) -> Option<(Token<'_>, usize)>
+pub fn next_label(line: &[u8], at: usize) -> Option<(Token<'_>, usize)>
     requires { at ≤ length line.now }
     ensures label { MatchOption result (placed_labels (placed_left line.now at) ≡ []) (λ l. placed_labels (placed_left line.now at) ≡ placed_of l.0 ∷ placed_labels (placed_left line.now l.1)) }
     ensures after { MatchOption result (placed_statement (placed_left line.now at) ≡ placed_left line.now at) (λ l. placed_statement (placed_left line.now at) ≡ placed_statement (placed_left line.now l.1)) }
@@ -54,8 +54,8 @@ pub(crate) fn next_label(line: &[u8], at: usize) -> Option<(Token<'_>, usize)>
     }
 }
 
-/// The place behind the labels of a line.
-pub(crate) fn behind_labels(line: &[u8]) -> usize
+/// The place behind the labels of a line. See docs/LOOK.md.
+pub fn behind_labels(line: &[u8]) -> usize
     ensures statement { placed_left line.now result ≡ placed_statement (placed_tokens line.now) }
     ensures within { result ≤ length line.now }
 {

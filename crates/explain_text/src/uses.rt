@@ -9,7 +9,7 @@ use crate::fits::fits_part;
 use crate::token::Token;
 use crate::tokens::next_token;
 use explain_model::Want;
-use source_model::Section;
+use source_model::{Section, Width};
 use xs_instructions::{Part, Symbols};
 
 /// A name among what comes behind a statement's name, and what may stand there.
@@ -44,7 +44,7 @@ fn use_want(of_directive: bool, base: Option<Section>) -> Want
     ensures { result ≡ use_want of_directive base }
 {
     if of_directive {
-        return Want::Address;
+        return Want::Value(Width::Word);
     }
     match base {
         None => Want::Operand(Part::Label),

@@ -1,16 +1,16 @@
 //! What may stand at a place: lists of it, and in words.
 ghost use Rattle.std.specs.Prelude.{◌≡◌, ◌++◌, decimal, OnOk};
 ghost use Rattle.std.specs.List.{list_any};
-ghost use Rattle.explain_model.specs.Wants.{is_same_part, is_same_want, put_want, add_wants, quoted, part_text, base_text, value_text, statement_text, want_text};
-ghost use Rattle.explain_model.specs.declared.Want.TheVariants.{Offset, Number};
+ghost use Rattle.explain_model.specs.Wants.{is_same_part, is_same_word, is_same_want, put_want, add_wants, quoted, part_text, base_text, value_text, statement_text, word_text, want_text};
+ghost use Rattle.explain_model.specs.declared.Want.TheVariants.{Offset, Number, WirePin, ScriptPin};
 
 use crate::words;
 use decimal_text::append_decimal;
-use explain_model::Want;
+use explain_model::{FixedWord, Want};
 use source_model::{Section, Width};
 use std::alloc::AllocError;
 use xs_base::Text;
-use xs_instructions::Part;
+use xs_instructions::{Part, same_name};
 
 fn is_same_part(a: Part, b: Part) -> bool
     ensures { result ≡ is_same_part a b }
@@ -29,6 +29,12 @@ fn is_same_part(a: Part, b: Part) -> bool
     }
 }
 
+fn is_same_word(a: FixedWord, b: FixedWord) -> bool
+    ensures { result ≡ is_same_word a b }
+{
+    same_name(word_text(a), word_text(b))
+}
+
 fn is_same_want(a: Want, b: Want) -> bool
     ensures { result ≡ is_same_want a b }
 {
@@ -37,6 +43,12 @@ fn is_same_want(a: Want, b: Want) -> bool
         (Want::OtherRegister, Want::OtherRegister) => true,
         (Want::Offset(_), Want::Offset(_)) => true,
         (Want::LineEnd, Want::LineEnd) => true,
+        (Want::Number(a, b), Want::Number(c, d)) => a == c && b == d,
+        (Want::Word(a), Want::Word(b)) => is_same_word(a, b),
+        (Want::LinkEnd, Want::LinkEnd) => true,
+        (Want::StepEnd, Want::StepEnd) => true,
+        (Want::WirePin, Want::WirePin) => true,
+        (Want::ScriptPin, Want::ScriptPin) => true,
         _ => false,
     }
 }
@@ -149,6 +161,46 @@ fn append_range(out: &mut Text, least: u32, most: u32) -> Result<(), AllocError>
     append_decimal(out, u64::from(most))
 }
 
+/// A word of a frame or of a script as it stands. See docs/LOOK.md.
+pub fn word_text(word: FixedWord) -> &'static [u8]
+    ensures { result.now ≡ word_text word }
+{
+    match word {
+        FixedWord::Xs1 => b"xs1",
+        FixedWord::One => b"1",
+        FixedWord::Two => b"2",
+        FixedWord::Node => b"node",
+        FixedWord::Id => b"id",
+        FixedWord::Link => b"link",
+        FixedWord::Delay => b"delay",
+        FixedWord::Gap => b"gap",
+        FixedWord::Net => b"net",
+        FixedWord::Bit => b"bit",
+        FixedWord::Wire => b"wire",
+        FixedWord::Source => b"source",
+        FixedWord::Pins => b"pins",
+        FixedWord::Play => b"play",
+        FixedWord::Take => b"take",
+        FixedWord::Run => b"run",
+        FixedWord::Send => b"send",
+        FixedWord::End => b"end",
+    }
+}
+
+fn append_wire_pin(out: &mut Text) -> Result<(), AllocError>
+    ensures { OnOk result (out.new ≡ out.old ++ want_text WirePin) }
+{
+    out.append(words::wire_pin())?;
+    out.append(words::ports())
+}
+
+fn append_script_pin(out: &mut Text) -> Result<(), AllocError>
+    ensures { OnOk result (out.new ≡ out.old ++ want_text ScriptPin) }
+{
+    out.append(words::script_pin())?;
+    out.append(words::ports())
+}
+
 /// What may stand at a place, in words.
 pub(crate) fn append_want(out: &mut Text, want: Want) -> Result<(), AllocError>
     ensures { OnOk result (out.new ≡ out.old ++ want_text want) }
@@ -162,10 +214,14 @@ pub(crate) fn append_want(out: &mut Text, want: Want) -> Result<(), AllocError>
         Want::Value(width) => out.append(value_text(width)),
         Want::CommaOrEnd => out.append(words::comma_or_end()),
         Want::LineEnd => out.append(words::line_end()),
-        Want::Address => out.append(b"a label"),
         Want::Statement(section) => out.append(statement_text(section)),
         Want::NewLabel => out.append(words::new_label()),
         Want::FreeName => out.append(words::free_name()),
         Want::AllowedByte => out.append(words::allowed_byte()),
+        Want::Word(word) => append_quoted(out, word_text(word)),
+        Want::LinkEnd => out.append(words::link_end()),
+        Want::StepEnd => out.append(words::step_end()),
+        Want::WirePin => append_wire_pin(out),
+        Want::ScriptPin => append_script_pin(out),
     }
 }

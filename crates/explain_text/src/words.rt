@@ -1,6 +1,7 @@
 //! Pieces of what is written: as bytes of texts, which are proved sooner than long literals of bytes.
 ghost use Rattle.std.specs.Prelude.{◌≡◌, ◌<◌, [], codes, get_or};
 ghost use Rattle.xs_instructions.specs.Words.{fixed_text, register_names};
+ghost use Rattle.explain_model.specs.Wants.{ports_text};
 
 pub(crate) fn any_register() -> &'static [u8]
     ensures { result.now ≡ codes "r0 to r11, cp, dp, sp or lr" }
@@ -110,6 +111,36 @@ pub(crate) fn allowed_byte() -> &'static [u8]
     "tab; the characters from space to ~".as_bytes()
 }
 
+pub(crate) fn link_end() -> &'static [u8]
+    ensures { result.now ≡ codes "N:E with N 0 to 99 and E 0 to 7" }
+{
+    "N:E with N 0 to 99 and E 0 to 7".as_bytes()
+}
+
+pub(crate) fn step_end() -> &'static [u8]
+    ensures { result.now ≡ codes "N:E with N 0 to 99 and E a number" }
+{
+    "N:E with N 0 to 99 and E a number".as_bytes()
+}
+
+pub(crate) fn wire_pin() -> &'static [u8]
+    ensures { result.now ≡ codes "N:P with N 0 to 99 and P one of " }
+{
+    "N:P with N 0 to 99 and P one of ".as_bytes()
+}
+
+pub(crate) fn script_pin() -> &'static [u8]
+    ensures { result.now ≡ codes "N:P with N a number and P one of " }
+{
+    "N:P with N a number and P one of ".as_bytes()
+}
+
+pub(crate) fn ports() -> &'static [u8]
+    ensures { result.now ≡ ports_text }
+{
+    "1A to 1P, 4A to 4F, 8A to 8D, 16A, 16B or 32A".as_bytes()
+}
+
 pub(crate) fn accepted_here() -> &'static [u8]
     ensures { result.now ≡ codes "accepted here: " }
 {
@@ -117,9 +148,9 @@ pub(crate) fn accepted_here() -> &'static [u8]
 }
 
 pub(crate) fn may_not_stand() -> &'static [u8]
-    ensures { result.now ≡ codes " may not stand in a text, in a comment neither\n" }
+    ensures { result.now ≡ codes " may not stand in a text, nor in a comment\n" }
 {
-    " may not stand in a text, in a comment neither\n".as_bytes()
+    " may not stand in a text, nor in a comment\n".as_bytes()
 }
 
 pub(crate) fn is_no_instruction() -> &'static [u8]
@@ -182,10 +213,10 @@ pub(crate) fn already() -> &'static [u8]
     " already\n".as_bytes()
 }
 
-pub(crate) fn is_a_label_of_no_line() -> &'static [u8]
-    ensures { result.now ≡ codes " is a label of no line of this source" }
+pub(crate) fn no_line_has() -> &'static [u8]
+    ensures { result.now ≡ codes "no line of this source has the label " }
 {
-    " is a label of no line of this source".as_bytes()
+    "no line of this source has the label ".as_bytes()
 }
 
 pub(crate) fn too_many_instructions() -> &'static [u8]
