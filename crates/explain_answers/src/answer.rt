@@ -5,17 +5,21 @@ ghost use Rattle.system_model.specs.declared.frame_line.SectionKind.TheVariants 
 ghost use Rattle.system_model.specs.System.{system_of};
 ghost use Rattle.answer_model.specs.OnSystem.{answer_to};
 ghost use Rattle.explain_whole.specs.Opened.{opened_in};
-ghost use Rattle.explain_whole.specs.Explained.{frame_told, line_told, told_of_source, told_of_script, explained};
+ghost use Rattle.explain_whole.specs.Explained.{told_of_source, nodes_told, told_of_script, explained};
 
-use crate::lines::{bytes_of_line, count_lines};
+use crate::lines::count_lines;
 use crate::openings::find_section;
 use answer_model::{Answer, Status};
-use explain_text::{append_line, append_told};
+use explain_frame_text::{append_frame_told, append_system_nodes};
+use explain_script_text::append_script_told;
+use explain_text::append_told;
+use pin_scripts::PinKind;
 use source_model::AsmKind;
 use std::alloc::{AllocError, Global};
 use system_answers::{Reading, read};
 use system_model::SectionKind;
 use system_text::{LONGEST_INPUT, SystemError, read_system};
+use warning_text::append_warnings;
 use xs_base::Text;
 
 // The line that refuses a text, nothing where it is accepted. The error is want of memory, here and below.
@@ -28,18 +32,7 @@ fn refusal(alloc: Global, input: &[u8]) -> Result<Text, AllocError>
     }
 }
 
-// What is told of a frame.
-fn append_frame(out: &mut Text, input: &[u8], line: u32) -> Result<(), AllocError>
-    requires { length input.now < 2 ^ 32 }
-    ensures { OnOk result (out.new ≡ out.old ++ frame_told (lines_of input.now) line) }
-{
-    if line < 1 || line > count_lines(input) {
-        return Ok(());
-    }
-    append_line(out, line, bytes_of_line(input, line))
-}
-
-// Of the line of a source.
+// What is told of the line of a source.
 fn append_source(
     alloc: Global,
     out: &mut Text,
@@ -60,10 +53,32 @@ fn append_source(
     append_told(alloc, out, opened.text, opened.opening + 1, line, kind)
 }
 
-// Of the line of the script.
-fn append_script(out: &mut Text, input: &[u8], line: u32) -> Result<(), AllocError>
+// Which nodes there are, where a line of the script names another one.
+fn append_nodes(
+    alloc: Global,
+    out: &mut Text,
+    input: &[u8],
+    kind: PinKind,
+) -> Result<(), AllocError>
     requires { length input.now < 2 ^ 31 }
-    ensures { OnOk result (out.new ≡ out.old ++ told_of_script line (opened_in section.Pins (lines_of input.now))) }
+    ensures { OnOk result (out.new ≡ out.old ++ nodes_told kind (lines_of input.now)) }
+{
+    match kind {
+        PinKind::NoSuchNode => append_system_nodes(alloc, out, input),
+        _ => Ok(()),
+    }
+}
+
+// Of the line of the script.
+fn append_script(
+    alloc: Global,
+    out: &mut Text,
+    input: &[u8],
+    line: u32,
+    kind: PinKind,
+) -> Result<(), AllocError>
+    requires { length input.now < 2 ^ 31 }
+    ensures { OnOk result (out.new ≡ out.old ++ told_of_script kind line (lines_of input.now) (opened_in section.Pins (lines_of input.now))) }
 {
     let Some(opened) = find_section(input, SectionKind::Pins) else {
         return Ok(());
@@ -71,11 +86,12 @@ fn append_script(out: &mut Text, input: &[u8], line: u32) -> Result<(), AllocErr
     if line < 1 || line > count_lines(opened.text) {
         return Ok(());
     }
-    append_line(out, opened.opening + line, bytes_of_line(opened.text, line))
+    append_script_told(alloc, out, opened.text, opened.opening + 1, line, kind)?;
+    append_nodes(alloc, out, input, kind)
 }
 
-/// Answers to the bytes of a system text: where it is refused, with the line that refuses it and what is told of the fault. The error is want of
-/// memory. See docs/LOOK.md.
+/// Answers to the bytes of a system text: where it is refused, with the line that refuses it and what is told of the fault; where it is accepted, with
+/// warnings. The error is want of memory. See docs/LOOK.md.
 pub fn explain(alloc: Global, input: &[u8]) -> Result<Answer, AllocError>
     ensures { IfOk result (λ answer. answer ≡ explained input.now) }
 {
@@ -87,15 +103,16 @@ pub fn explain(alloc: Global, input: &[u8]) -> Result<Answer, AllocError>
         });
     }
     match read_system(alloc, input) {
-        Ok(_) => {
+        Ok(plan) => {
             text.append(b"accepted\n")?;
+            append_warnings(alloc, &mut text, input, &plan)?;
             Ok(Answer {
                 text,
                 status: Status::Done,
             })
         }
-        Err(SystemError::Frame { line, .. }) => {
-            append_frame(&mut text, input, line)?;
+        Err(SystemError::Frame { line, kind }) => {
+            append_frame_told(alloc, &mut text, input, line, kind)?;
             Ok(Answer {
                 text,
                 status: Status::SystemFault,
@@ -108,8 +125,8 @@ pub fn explain(alloc: Global, input: &[u8]) -> Result<Answer, AllocError>
                 status: Status::SourceFault,
             })
         }
-        Err(SystemError::Pins { line, .. }) => {
-            append_script(&mut text, input, line)?;
+        Err(SystemError::Pins { line, kind }) => {
+            append_script(alloc, &mut text, input, line, kind)?;
             Ok(Answer {
                 text,
                 status: Status::ScriptFault,

@@ -1,80 +1,20 @@
 //! Where a section of a system text stands.
-ghost use Rattle.std.specs.Prelude.{◌≡◌, ◌≤◌, ◌<◌, ◌^◌, [], ◌∷◌, length, option_map, IfSome};
+ghost use Rattle.std.specs.Prelude.{◌≡◌, ◌≤◌, ◌<◌, ◌^◌, length, option_map, IfSome};
 ghost use Rattle.xs_text.specs.Lines.{lines_of};
-ghost use Rattle.xs_text.specs.Words.{words_of_line};
-ghost use Rattle.system_model.specs.declared.frame_line.SectionKind.{SectionKind};
-ghost use Rattle.system_model.specs.declared.frame_line.SectionKind.TheVariants as kinds;
-ghost use Rattle.system_model.specs.FrameLines.{section_line};
 ghost use Rattle.system_model.specs.Frame.{is_same_kind};
 ghost use Rattle.explain_whole.specs.Opened.{opened_in};
-ghost use Rattle.explain_answers.specs.Kept.{IsOpening, opened_of};
+ghost use Rattle.explain_answers.specs.Kept.{opened_of};
 
-use crate::section::{is_end, read_section};
+use crate::section::read_section;
+use explain_frame_text::{Opening, is_end, opening_of};
 use system_model::SectionKind;
-use xs_instructions::same_name;
-use xs_text::{Lines, is_plain_number, next_word, number};
+use xs_text::Lines;
 
 /// The lines of a section, and the number of the line that begins it.
 #[derive(Clone, Copy)]
 pub(crate) struct Opened<'a> {
     pub(crate) opening: u32,
     pub(crate) text: &'a [u8],
-}
-
-// What a line begins.
-#[derive(Clone, Copy)]
-pub(crate) enum Opening {
-    Nothing,
-    Section(SectionKind),
-    /// The source of a node with a number that no node has.
-    Other,
-}
-
-// By one word: `pins` or `play`.
-#[tactic(auto, unfolding(system_model::specs::FrameLines::section_line))]
-fn opening_of_one(name: &[u8]) -> Opening
-    ensures { IsOpening (section_line (name.now ∷ [])) result }
-{
-    if same_name(b"pins", name) {
-        Opening::Section(SectionKind::Pins)
-    } else if same_name(b"play", name) {
-        Opening::Section(SectionKind::Play)
-    } else {
-        Opening::Nothing
-    }
-}
-
-// By two words: `source N`.
-#[tactic(auto, unfolding(system_model::specs::FrameLines::section_line))]
-fn opening_of_two(name: &[u8], word: &[u8]) -> Opening
-    ensures { IsOpening (section_line (name.now ∷ word.now ∷ [])) result }
-{
-    if !same_name(b"source", name) {
-        return Opening::Nothing;
-    }
-    if !is_plain_number(word) {
-        return Opening::Nothing;
-    }
-    match number(word, 255) {
-        Some(node) => Opening::Section(SectionKind::Source(node as u8)),
-        None => Opening::Other,
-    }
-}
-
-#[tactic(auto, unfolding(system_model::specs::FrameLines::section_line))]
-fn opening_of(line: &[u8]) -> Opening
-    ensures { IsOpening (section_line (words_of_line line.now)) result }
-{
-    let Some((name, rest)) = next_word(line) else {
-        return Opening::Nothing;
-    };
-    let Some((word, rest)) = next_word(rest) else {
-        return opening_of_one(name);
-    };
-    if next_word(rest).is_some() {
-        return Opening::Nothing;
-    }
-    opening_of_two(name, word)
 }
 
 fn is_same_kind(a: SectionKind, b: SectionKind) -> bool

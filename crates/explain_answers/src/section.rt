@@ -1,28 +1,16 @@
 //! The lines of a section.
 ghost use Rattle.std.specs.Prelude.{◌≡◌, ◌≤◌, ◌+◌, length, option_map, IfSome};
-ghost use Rattle.xs_text.specs.Words.{words_of_line};
 ghost use Rattle.xs_text.specs.Lines.{lines_of, bytes_left, line_bytes};
-ghost use Rattle.system_model.specs.FrameLines.{is_end};
 ghost use Rattle.system_text.specs.Sections.{section_of};
 
-use xs_instructions::same_name;
-use xs_text::{Line, Lines, next_word};
+use explain_frame_text::is_end;
+use xs_text::{Line, Lines};
 
 /// The part of a text that the lines of a section are, and the line that ends it.
 #[derive(Clone, Copy)]
 pub(crate) struct Section<'a> {
     pub(crate) text: &'a [u8],
     pub(crate) end: Line,
-}
-
-/// `end`
-pub(crate) fn is_end(line: &[u8]) -> bool
-    ensures { result ≡ is_end line.now }
-{
-    let Some((name, rest)) = next_word(line) else {
-        return false;
-    };
-    same_name(b"end", name) && next_word(rest).is_none()
 }
 
 /// The section that begins here. The line that ends it is passed over. None where no line ends it.
