@@ -12,6 +12,7 @@ use Rattle.system_answers.proofs.Taken.{of_taken, system_of-long}
 use Rattle.look_forms.specs.declared.LookForm.{LookForm}
 use Rattle.look_forms.specs.declared.LookForm.TheVariants.{Explain, States, Issues, Profile, Watch, Chart}
 use Rattle.xs_text.specs.Lines.{lines_of}
+use Rattle.explain_frame_model.specs.FrameTold.{frame_told}
 use Rattle.explain_whole.specs.Explained.{explained, explained_by}
 use Rattle.look_model.specs.States.{states_text}
 use Rattle.look_forms.specs.Words.{look_form}
@@ -27,6 +28,7 @@ taken text_for input =
 
 -- a text that is too long is refused without a line
 explain-taken : (input : List ℕ) → explained (take (min (length input) (longest_input + 1)) input) ≡ explained input
+unfolding frame_told
 explain-taken input =
     of_taken explained longest_input (record { text = frame_text 0 TooLong ++ []; status = status.SystemFault })
     (λ text h. ap (explained_by (lines_of text)) (system_of-long text h)) input
