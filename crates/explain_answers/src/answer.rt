@@ -10,9 +10,10 @@ ghost use Rattle.explain_whole.specs.Explained.{told_of_source, nodes_told, told
 use crate::lines::count_lines;
 use crate::openings::find_section;
 use answer_model::{Answer, Status};
-use explain_frame_text::{append_frame_told, append_system_nodes};
+use explain_frame_text::append_frame_told;
 use explain_script_text::append_script_told;
 use explain_text::append_told;
+use frame_lines::append_system_nodes;
 use pin_scripts::PinKind;
 use source_model::AsmKind;
 use std::alloc::{AllocError, Global};

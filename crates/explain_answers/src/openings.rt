@@ -6,7 +6,7 @@ ghost use Rattle.explain_whole.specs.Opened.{opened_in};
 ghost use Rattle.explain_answers.specs.Kept.{opened_of};
 
 use crate::section::read_section;
-use explain_frame_text::{Opening, is_end, opening_of};
+use frame_lines::{Opening, is_end, opening_of};
 use system_model::SectionKind;
 use xs_text::Lines;
 

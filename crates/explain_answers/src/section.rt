@@ -3,7 +3,7 @@ ghost use Rattle.std.specs.Prelude.{◌≡◌, ◌≤◌, ◌+◌, length, optio
 ghost use Rattle.xs_text.specs.Lines.{lines_of, bytes_left, line_bytes};
 ghost use Rattle.system_text.specs.Sections.{section_of};
 
-use explain_frame_text::is_end;
+use frame_lines::is_end;
 use xs_text::{Line, Lines};
 
 /// The part of a text that the lines of a section are, and the line that ends it.

@@ -1,5 +1,3 @@
-pub mod Begun
 pub mod Fronts
-pub mod Earlier
 pub mod Widths
 pub mod Marks

@@ -3,8 +3,8 @@ ghost use Rattle.std.specs.Prelude.{◌≡◌};
 ghost use Rattle.xs_text.specs.Lines.{lines_of};
 ghost use Rattle.explain_frame_model.specs.FrameBefore.{frame_lines, inside_of};
 
-use crate::earlier_line::EarlierLine;
 use explain_frame_model::Inside;
+use frame_lines::EarlierLine;
 
 /// A faulty line: its number, from 1, its bytes, the part of the text before it, the lines of the frame there, and what the line is read as.
 #[derive(Drop)]

@@ -1,13 +1,13 @@
 //! How far a line of the frame has a form.
 ghost use Rattle.std.specs.Prelude.{◌≡◌, IfOk};
 ghost use Rattle.explain_model.specs.Words.{placed_words};
-ghost use Rattle.explain_text.specs.Stops.{spot_of_kept};
+ghost use Rattle.marked_lines.specs.Stops.{spot_of_kept};
 ghost use Rattle.explain_frame_model.specs.WordForms.{spot_of_forms};
 ghost use Rattle.explain_frame_model.specs.FrameForms.{header_forms, forms_of_1, forms_of_2, step_forms, frame_forms, forms_in};
 
 use explain_frame_model::Inside;
 use explain_model::{FixedWord, Want};
-use explain_text::Spot;
+use marked_lines::Spot;
 use std::alloc::{AllocError, Global};
 use word_forms::spot_of_forms;
 

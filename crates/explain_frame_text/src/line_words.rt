@@ -4,7 +4,7 @@ ghost use Rattle.explain_model.specs.Words.{placed_words};
 ghost use Rattle.explain_frame_text.specs.LineWords.{word_of};
 ghost use Rattle.explain_frame_model.specs.FrameWords.{no_word, word_at, begins};
 
-use explain_text::next_word_at;
+use placed_tokens::next_word_at;
 use std::alloc::{AllocError, Global};
 use xs_instructions::same_name;
 

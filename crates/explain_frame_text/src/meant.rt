@@ -5,15 +5,12 @@ ghost use Rattle.explain_frame_text.specs.LineWords.{word_of};
 ghost use Rattle.explain_frame_model.specs.FrameWords.{both_line, width_text, widths_line, too_many_line, no_source_line};
 ghost use Rattle.explain_frame_model.specs.FrameTold.{meant_by_words};
 
-use crate::earlier_line::EarlierLine;
-use crate::gifts::giver;
 use crate::line_words::{LineWord, begins, word_at};
-use crate::numbers::append_already;
 use crate::twice::{append_end_again, bit_again, gift_again, id_again, pin_again};
 use crate::unknown::{append_unknown, node_in};
-use crate::values::{back_of, node_of, port_in};
 use crate::words as texts;
 use decimal_text::append_decimal;
+use frame_lines::{EarlierLine, append_already, back_of, giver, node_of, port_in};
 use std::alloc::{AllocError, Global};
 use system_model::SysKind;
 use xs_base::{Text, port_width};

@@ -7,14 +7,15 @@ ghost use Rattle.explain_frame_model.specs.FrameWords.{word_at, bytes_at};
 ghost use Rattle.explain_frame_model.specs.FrameTold.{word_line_at, bad_line, line_told, frame_told};
 ghost use Rattle.explain_frame_text.specs.Kept.{faulty_of_kept, words_told};
 
-use crate::before::read_before;
 use crate::faulty_line::FaultyLine;
 use crate::line_at::line_at;
 use crate::line_words::{LineWord, no_word, words_of};
 use crate::meant::append_meant;
 use crate::spots::faulty_word;
 use crate::word_lines::append_word_line;
-use explain_text::{append_accepted, append_bad_byte, next_word_at};
+use frame_lines::read_before;
+use marked_lines::{append_accepted, append_bad_byte};
+use placed_tokens::next_word_at;
 use std::alloc::{AllocError, Global};
 use system_model::SysKind;
 use xs_base::Text;

@@ -4,13 +4,10 @@ ghost use Rattle.explain_frame_text.specs.LineWords.{word_of};
 ghost use Rattle.explain_frame_model.specs.FrameGifts.{giver};
 ghost use Rattle.explain_frame_model.specs.FrameWords.{gift_again, word_again, id_again, bit_again, pin_again, has_value, first_repeated, link_end, end_again, link_end_again, end_again_line};
 
-use crate::earlier_line::EarlierLine;
-use crate::gifts::giver;
 use crate::line_words::{LineWord, begins, behind_three, no_word, word_at};
-use crate::numbers::append_already;
-use crate::values::{end_of, node_of, port_in, value_of};
 use crate::words as texts;
 use explain_frame_model::Gift;
+use frame_lines::{EarlierLine, append_already, end_of, giver, node_of, port_in, value_of};
 use std::alloc::AllocError;
 use xs_base::Text;
 

@@ -5,14 +5,11 @@ ghost use Rattle.explain_frame_text.specs.LineWords.{word_of};
 ghost use Rattle.explain_frame_model.specs.FrameGifts.{value_of, is_given};
 ghost use Rattle.explain_frame_model.specs.FrameWords.{is_unknown_node, unknown_node, node_in, wires_of, or_no_word, unknown_end, unknown_word, nodes_line, ends_line, unknown_line};
 
-use crate::earlier_line::EarlierLine;
-use crate::gifts::{count_givers, is_given};
 use crate::line_words::{LineWord, begins, behind_three, no_word, word_at};
-use crate::numbers::{append_ends, append_nodes};
-use crate::values::{node_of, value_of};
 use crate::words as texts;
 use decimal_text::append_decimal;
 use explain_frame_model::Gift;
+use frame_lines::{EarlierLine, append_ends, append_nodes, count_givers, is_given, node_of, value_of};
 use std::alloc::{AllocError, Global};
 use xs_base::Text;
 

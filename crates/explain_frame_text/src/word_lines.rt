@@ -6,7 +6,7 @@ ghost use Rattle.explain_frame_model.specs.FrameTold.{is_newer_word, is_1, begin
 use crate::words;
 use explain_frame_model::Inside;
 use explain_model::FixedWord;
-use explain_text::append_near_words;
+use marked_lines::append_near_words;
 use std::alloc::{AllocError, Global};
 use xs_base::Text;
 use xs_instructions::same_name;

@@ -1,11 +1,11 @@
 //! The words of a line of a script.
 ghost use Rattle.std.specs.Prelude.{◌≡◌, ◌≤◌, length};
 ghost use Rattle.explain_model.specs.Words.{placed_words, words_left};
-ghost use Rattle.explain_text.specs.Words.{word_of};
+ghost use Rattle.placed_tokens.specs.Words.{word_of};
 ghost use Rattle.explain_frame_model.specs.Script.{no_word, first_word, second_word, third_word, slot_pin_of};
 
 use explain_frame_model::SlotPin;
-use explain_text::{Word, next_word_at};
+use placed_tokens::{Word, next_word_at};
 use word_forms::script_pin;
 use xs_text::number;
 

@@ -10,7 +10,7 @@ use crate::spots::allowed_length;
 use crate::texts;
 use decimal_text::append_decimal;
 use explain_frame_model::{ScriptPin, SlotLine};
-use explain_text::append_bad_byte;
+use marked_lines::append_bad_byte;
 use pin_scripts::PinKind;
 use std::alloc::AllocError;
 use word_forms::{port_in, script_pin};

@@ -3,7 +3,7 @@ ghost use Rattle.std.specs.Prelude.{◌≡◌, ◌≤◌, ◌<◌, ◌-◌, ◌^
 ghost use Rattle.std.specs.List.{prefix_len};
 ghost use Rattle.xs_base.specs.Ids.{port_width};
 ghost use Rattle.xs_text.specs.Bytes.{is_allowed};
-ghost use Rattle.explain_text.specs.Stops.{spot_of_kept};
+ghost use Rattle.marked_lines.specs.Stops.{spot_of_kept};
 ghost use Rattle.explain_frame_model.specs.Script.{form_spot, slot_wants, value_wants, script_spot};
 ghost use Rattle.explain_script_text.specs.Lines.{line_of_kept};
 
@@ -11,7 +11,7 @@ use crate::line_words::{first_word, second_word, third_word};
 use crate::script_line::ScriptLine;
 use explain_frame_model::{ScriptPin, SlotLine};
 use explain_model::{FixedWord, Want};
-use explain_text::Spot;
+use marked_lines::Spot;
 use pin_scripts::PinKind;
 use std::alloc::{AllocError, Global};
 use word_forms::{script_pin, spot_of_forms};

@@ -6,7 +6,7 @@ ghost use Rattle.explain_script_text.specs.Lines.{line_of_kept};
 
 use crate::meant::append_meant;
 use crate::script_line::ScriptLine;
-use explain_text::{append_accepted, append_line, append_mark};
+use marked_lines::{append_accepted, append_line, append_mark};
 use pin_scripts::PinKind;
 use std::alloc::{AllocError, Global};
 use xs_base::Text;

@@ -1,58 +1,8 @@
--- The first lines of a source, so many.
-use Rattle.std.proofs.Common.{◌≡◌, ℕ, zero, suc, ◌+◌, ◌-◌, ◌≤◌, Bool, true, false, List, [], ◌∷◌, length, take, drop, get_or, Option, Some, refl, ap, sym, ◌∙◌, arith}
-use Rattle.std.specs.Prelude.{if◌then◌else◌, ◌==◌, slice_get, option_map, unwrap_or}
-use Rattle.xs_text.specs.Lines.{lines_of, put_in_front, is_dropped_return}
+-- The labels of the first lines of a source, so many.
+use Rattle.std.proofs.Common.{◌≡◌, ℕ, ◌+◌, ◌-◌, ◌≤◌, List, [], ◌∷◌, take, ap, sym, ◌∙◌, arith}
 use Rattle.xs_instructions.specs.Image.{Symbol}
-use Rattle.source_model.specs.declared.layout.Section.{Section}
-use Rattle.explain_model.specs.Labels.{note_line, note_lines, names_of}
-use Rattle.explain_model.specs.Sections.{section_after_line, section_after_lines}
-
--- ---- How many lines there are
-
-front_length : (b : ℕ) (lines : List (List ℕ)) → length (put_in_front b lines) ≤ 1 + length lines
-front_length b [] = omega arith
-front_length b (line ∷ lines) = omega arith
-
-of_three : (p q : Bool) (b : ℕ) (lines : List (List ℕ)) → length (if p then [] ∷ lines else (if q then lines else put_in_front b lines)) ≤ 1 + length lines
-of_three true q b lines = omega arith
-of_three false true b lines = omega arith
-of_three false false b lines = front_length b lines
-
--- no more than bytes
-pub lines-few : (xs : List ℕ) → length (lines_of xs) ≤ length xs
-unfolding lines_of
-lines-few [] = omega arith
-lines-few (b ∷ rest) = omega (arith, of_three (b == 10) (is_dropped_return b rest) b (lines_of rest), lines-few rest)
-
--- no lines are left where no bytes are
-pub none-left : (xs : List ℕ) → xs ≡ [] → lines_of xs ≡ []
-unfolding lines_of
-none-left xs e = ap lines_of e
-
-pub none-at : (xs : List ℕ) (k : ℕ) → xs ≡ [] → get_or (lines_of xs) k [] ≡ []
-none-at xs k e = ap (λ (ls : List (List ℕ)). get_or ls k []) (none-left xs e)
-
--- the label with a number, and those after it
-pub label-next : (labels : List Symbol) (k : ℕ) (s : Symbol) → slice_get labels k ≡ Some s → names_of (drop k labels) ≡ s.0 ∷ names_of (drop (k + 1) labels)
-label-next [] k s e = absurd cc
-label-next (l ∷ labels) zero s e = let same : Some l ≡ Some s = e in ap (λ (l : Option Symbol). unwrap_or (option_map (λ (l : Symbol). l.0) l) [] ∷ names_of labels) same
-label-next (l ∷ labels) (suc k) s e =
-    let next : suc (k + 1) ≡ suc k + 1 = omega arith in
-    label-next labels k s e ∙ ap (λ n. s.0 ∷ names_of (drop n (l ∷ labels))) next
-
--- ---- One line more
-
-take-next : (count number : ℕ) (ls : List (List ℕ)) (l : List ℕ) (rest : List (List ℕ)) → ls ≡ l ∷ rest → number + 1 ≤ count → take (count - number) ls ≡ l ∷ take (count - (number + 1)) rest
-take-next count number ls l rest e h =
-    let one : count - number ≡ suc (count - (number + 1)) = omega arith in
-    ap (λ (x : List (List ℕ)). take (count - number) x) e ∙ ap (λ n. take n (l ∷ rest)) one
-
-take-none : (count number : ℕ) (ls : List (List ℕ)) → count ≤ number → take (count - number) ls ≡ []
-take-none count number ls h = let none : count - number ≡ 0 = omega arith in ap (λ n. take n ls) none
-
-take-nil : (n : ℕ) (ls : List (List ℕ)) → ls ≡ [] → take n ls ≡ []
-take-nil zero ls e = refl
-take-nil (suc n) ls e = ap (λ (x : List (List ℕ)). take (suc n) x) e
+use Rattle.explain_model.specs.Labels.{note_line, note_lines}
+use Rattle.placed_tokens.proofs.Counting.{take-next, take-none, take-nil}
 
 pub labels-next : (first count number : ℕ) (ls : List (List ℕ)) (l : List ℕ) (rest : List (List ℕ)) (labels after : List Symbol) → ls ≡ l ∷ rest → number + 1 ≤ count → after ≡ note_line (first + number) l labels
     → note_lines (first + (number + 1)) (take (count - (number + 1)) rest) after ≡ note_lines (first + number) (take (count - number) ls) labels
@@ -70,18 +20,3 @@ labels-enough n count number ls labels h = ap (λ (x : List (List ℕ)). note_li
 pub labels-all : (n k : ℕ) (ls : List (List ℕ)) (labels : List Symbol) → ls ≡ [] → note_lines n (take k ls) labels ≡ labels
 unfolding note_lines
 labels-all n k ls labels e = ap (λ (x : List (List ℕ)). note_lines n x labels) (take-nil k ls e)
-
-pub section-next : (count number : ℕ) (ls : List (List ℕ)) (l : List ℕ) (rest : List (List ℕ)) (section after : Section) → ls ≡ l ∷ rest → number + 1 ≤ count → after ≡ section_after_line section l
-    → section_after_lines after (take (count - (number + 1)) rest) ≡ section_after_lines section (take (count - number) ls)
-unfolding section_after_lines
-section-next count number ls l rest section after e h is =
-    ap (λ (x : Section). section_after_lines x (take (count - (number + 1)) rest)) is
-    ∙ sym (ap (λ (x : List (List ℕ)). section_after_lines section x) (take-next count number ls l rest e h))
-
-pub section-enough : (count number : ℕ) (ls : List (List ℕ)) (section : Section) → count ≤ number → section_after_lines section (take (count - number) ls) ≡ section
-unfolding section_after_lines
-section-enough count number ls section h = ap (λ (x : List (List ℕ)). section_after_lines section x) (take-none count number ls h)
-
-pub section-all : (k : ℕ) (ls : List (List ℕ)) (section : Section) → ls ≡ [] → section_after_lines section (take k ls) ≡ section
-unfolding section_after_lines
-section-all k ls section e = ap (λ (x : List (List ℕ)). section_after_lines section x) (take-nil k ls e)

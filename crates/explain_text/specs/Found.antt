@@ -1,14 +1,9 @@
 -- Names that were found, as they are kept.
-use Rattle.explain_model.specs.Near.{Near}
 use Rattle.explain_model.specs.Spots.{Use}
 use Rattle.explain_model.specs.Labels.{Twice}
-use Rattle.explain_text.specs.Tokens.{placed_of}
-use Rattle.explain_text.specs.declared.near.Near as kept_near
+use Rattle.placed_tokens.specs.Tokens.{placed_of}
 use Rattle.explain_text.specs.declared.uses.Use as kept_use
 use Rattle.explain_text.specs.declared.labels.Twice as kept_twice
-
-abbrev pub near_of_kept : kept_near.Near → Near
-near_of_kept near = record { name = near.name.now; how = near.how }
 
 abbrev pub use_of_kept : kept_use.Use → Use
 use_of_kept found = record { label = placed_of found.label; want = found.want }

@@ -1,6 +1,4 @@
-pub mod Tokens
-pub mod Stops
+pub mod Values
 pub mod Found
 pub mod Lines
 pub mod Spots
-pub mod Words

@@ -3,9 +3,9 @@ ghost use Rattle.std.specs.Prelude.{◌≡◌, None};
 ghost use Rattle.source_model.specs.Operands.{name_shape, shape_by_kind};
 ghost use Rattle.xs_instructions.specs.Find.{is_in_range, shape_fits};
 ghost use Rattle.explain_model.specs.Forms.{fits_part, fits_number, is_part_value, number_of};
-ghost use Rattle.explain_text.specs.Tokens.{placed_of};
+ghost use Rattle.placed_tokens.specs.Tokens.{placed_of};
 
-use crate::token::Token;
+use placed_tokens::Token;
 use xs_instructions::{Part, Shape, fixed, is_reserved, register_number};
 use xs_text::{TokKind, source_number};
 

@@ -6,8 +6,7 @@ ghost use Rattle.explain_model.specs.Placed.{placed_tokens, placed_labels};
 ghost use Rattle.explain_model.specs.Labels.{note_label, note_line, labels_of, first_twice};
 ghost use Rattle.explain_text.specs.Found.{twice_of_kept};
 
-use crate::token::Token;
-use crate::tokens::next_label;
+use placed_tokens::{Token, next_label};
 use std::alloc::{AllocError, Global};
 use xs_instructions::{Symbols, is_reserved};
 use xs_text::{Lines, all_allowed};

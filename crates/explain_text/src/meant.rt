@@ -1,53 +1,25 @@
 //! One line more on a faulty line: what is meant, of names above all.
-ghost use Rattle.std.specs.Prelude.{◌≡◌, ◌<◌, ◌++◌, Some, option_map, OnOk};
+ghost use Rattle.std.specs.Prelude.{◌≡◌, ◌++◌, Some, option_map, OnOk};
 ghost use Rattle.source_model.specs.declared.AsmKind.TheVariants as kinds;
 ghost use Rattle.explain_model.specs.Spots.{statement_in};
-ghost use Rattle.explain_model.specs.Meant.{hex_digit, hex_byte, bad_byte_line, statement_name, unknown_line, home_line, reserved_line, section_text, section_of_label, section_line, range_line, twice_line, missing_line, meant_line};
-ghost use Rattle.explain_text.specs.Tokens.{placed_of};
+ghost use Rattle.explain_model.specs.Meant.{statement_name, unknown_line, home_line, reserved_line, section_text, section_of_label, section_line, range_line, twice_line, missing_line, meant_line};
+ghost use Rattle.placed_tokens.specs.Tokens.{placed_of};
 ghost use Rattle.explain_text.specs.Found.{twice_of_kept, use_of_kept};
 ghost use Rattle.explain_text.specs.Lines.{line_of_kept};
 
 use crate::labels::Twice;
-use crate::near::{append_near_directives, append_near_labels, append_near_rows};
-use crate::sections::{home_of, section_of};
 use crate::source_line::SourceLine;
-use crate::token::Token;
 use crate::uses::Use;
 use crate::words;
 use decimal_text::append_decimal;
+use marked_lines::{append_near_directives, append_near_labels, append_near_rows};
+use placed_tokens::{Token, home_of, section_of};
 use source_model::{AsmKind, Home, Section};
 use std::alloc::{AllocError, Global};
 use xs_base::Text;
 use xs_instructions::Symbols;
 
-fn hex_digit(digit: u8) -> u8
-    requires { digit < 16 }
-    ensures { result ≡ hex_digit digit }
-{
-    if digit < 10 {
-        b'0' + digit
-    } else {
-        b'a' - 10 + digit
-    }
-}
-
 // The error is want of memory, here and below.
-fn append_hex_byte(out: &mut Text, b: u8) -> Result<(), AllocError>
-    ensures { OnOk result (out.new ≡ out.old ++ hex_byte b) }
-{
-    out.append(b"0x")?;
-    out.append(&[hex_digit(b / 16), hex_digit(b % 16)])
-}
-
-/// The line on a byte that a text may not hold. The error is want of memory. See docs/LOOK.md.
-pub fn append_bad_byte(out: &mut Text, b: u8) -> Result<(), AllocError>
-    ensures { OnOk result (out.new ≡ out.old ++ bad_byte_line b) }
-{
-    out.append(b"byte ")?;
-    append_hex_byte(out, b)?;
-    out.append(words::may_not_stand())
-}
-
 fn append_bad_byte_of(out: &mut Text, at: &SourceLine) -> Result<(), AllocError>
     ensures { OnOk result (out.new ≡ out.old ++ meant_line kinds.BadByte (line_of_kept at.now)) }
 {

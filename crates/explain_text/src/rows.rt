@@ -4,10 +4,11 @@ ghost use Rattle.xs_instructions.specs.declared.rows.TheConstants.{ROWS};
 ghost use Rattle.xs_instructions.specs.declared.rows.Row.{Row};
 ghost use Rattle.explain_model.specs.Forms.{with_rows};
 ghost use Rattle.explain_model.specs.Spots.{spot_at};
-ghost use Rattle.explain_text.specs.Tokens.{placed_left};
-ghost use Rattle.explain_text.specs.Stops.{spot_of_kept};
+ghost use Rattle.placed_tokens.specs.Tokens.{placed_left};
+ghost use Rattle.marked_lines.specs.Stops.{spot_of_kept};
 
-use crate::forms::{Spot, stop_of_parts};
+use crate::forms::stop_of_parts;
+use marked_lines::Spot;
 use std::alloc::{AllocError, Global};
 use xs_instructions::{Part, ROWS, Row, same_name};
 

@@ -4,8 +4,8 @@ ghost use Rattle.xs_text.specs.Lines.{lines_of};
 ghost use Rattle.explain_model.specs.Told.{source_told};
 
 use crate::meant::append_meant;
-use crate::quote::{append_accepted, append_line, append_mark};
 use crate::source_line::SourceLine;
+use marked_lines::{append_accepted, append_line, append_mark};
 use source_model::AsmKind;
 use std::alloc::{AllocError, Global};
 use xs_base::Text;

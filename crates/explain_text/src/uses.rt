@@ -2,13 +2,12 @@
 ghost use Rattle.std.specs.Prelude.{◌≡◌, ◌≤◌, [], length, option_map, IfSome};
 ghost use Rattle.source_model.specs.Operands.{base_named, base_after};
 ghost use Rattle.explain_model.specs.Spots.{use_want, is_asked, first_use};
-ghost use Rattle.explain_text.specs.Tokens.{placed_left};
+ghost use Rattle.placed_tokens.specs.Tokens.{placed_left};
 ghost use Rattle.explain_text.specs.Found.{use_of_kept};
 
 use crate::fits::fits_part;
-use crate::token::Token;
-use crate::tokens::next_token;
 use explain_model::Want;
+use placed_tokens::{Token, next_token};
 use source_model::{Section, Width};
 use xs_instructions::{Part, Symbols};
 

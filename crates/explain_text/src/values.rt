@@ -2,15 +2,16 @@
 ghost use Rattle.std.specs.Prelude.{◌≡◌, ◌≤◌, length, option_map, true};
 ghost use Rattle.source_model.specs.Values.{ValueNext};
 ghost use Rattle.explain_model.specs.Values.{is_plain_value, next_want, next_after, values_end, values_stop, bytes_form, directive_form, directive_stop};
-ghost use Rattle.explain_text.specs.Tokens.{placed_left, placed_of};
-ghost use Rattle.explain_text.specs.Stops.{stop_of_kept, next_of_kept, form_of_kept};
+ghost use Rattle.placed_tokens.specs.Tokens.{placed_left, placed_of};
+ghost use Rattle.marked_lines.specs.Stops.{stop_of_kept};
+ghost use Rattle.explain_text.specs.Values.{next_of_kept, form_of_kept};
 
 use crate::fits::fits_number;
-use crate::forms::{Stop, stop_of_one};
+use crate::forms::stop_of_one;
 use crate::numbers::{greatest_negative, greatest_value};
-use crate::token::Token;
-use crate::tokens::next_token;
 use explain_model::Want;
+use marked_lines::Stop;
+use placed_tokens::{Token, next_token};
 use source_model::Width;
 use xs_instructions::{is_reserved, same_name};
 use xs_text::TokKind;

@@ -8,7 +8,7 @@ ghost use Rattle.warning_model.specs.Warnings.{site_of_frame, warnings_of_frame}
 use crate::sections::begins_section;
 use crate::warning::{Site, Warnings};
 use crate::ways::add_words;
-use explain_frame_text::is_end;
+use frame_lines::is_end;
 use std::alloc::{AllocError, Global};
 use sys_plan::Plan;
 use xs_text::Lines;

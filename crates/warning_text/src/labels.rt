@@ -6,7 +6,7 @@ ghost use Rattle.warning_text.specs.Kept.{doubt_of, site_of};
 
 use crate::names::is_named;
 use crate::warning::{Doubt, Site, Warnings};
-use explain_text::next_label;
+use placed_tokens::next_label;
 use std::alloc::AllocError;
 use xs_instructions::{Symbols, same_name};
 

@@ -4,11 +4,11 @@ ghost use Rattle.xs_text.specs.Lines.{lines_of};
 ghost use Rattle.xs_text.specs.Tokens.{HasForm};
 ghost use Rattle.warning_model.specs.Named.{naming, name_of_line, operands_of, note_name, note_names, named_in, is_named, last_instruction, has_setd};
 ghost use Rattle.warning_model.specs.Warnings.{lines_to_end};
-ghost use Rattle.explain_text.specs.Tokens.{placed_left, placed_of};
+ghost use Rattle.placed_tokens.specs.Tokens.{placed_left, placed_of};
 
 use crate::source_lines::SourceLines;
 use crate::statement::{is_instruction, statement_of};
-use explain_text::{Token, next_token};
+use placed_tokens::{Token, next_token};
 use std::alloc::{AllocError, Global};
 use xs_instructions::{Symbols, same_name};
 use xs_text::TokKind;

@@ -2,7 +2,7 @@
 ghost use Rattle.std.specs.Prelude.{◌≡◌};
 ghost use Rattle.warning_model.specs.Warnings.{begins_section, begins_source};
 
-use explain_frame_text::{Opening, opening_of};
+use frame_lines::{Opening, opening_of};
 use system_model::SectionKind;
 
 /// Whether a line outside of the sections begins one.

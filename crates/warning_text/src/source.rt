@@ -2,7 +2,7 @@
 ghost use Rattle.std.specs.Prelude.{◌≡◌, ◌≤◌, ◌<◌, ◌+◌, ◌^◌, ◌++◌, length, option_map, OnOk};
 ghost use Rattle.xs_text.specs.Lines.{lines_of};
 ghost use Rattle.source_model.specs.declared.layout.Section.TheVariants.{Text};
-ghost use Rattle.explain_text.specs.Tokens.{placed_left};
+ghost use Rattle.placed_tokens.specs.Tokens.{placed_left};
 ghost use Rattle.warning_model.specs.Named.{name_of_line, operands_of};
 ghost use Rattle.warning_model.specs.Source.{is_behind, doubt_of_end, doubt_of_register, warnings_of_word, warnings_of_statement, warnings_of_line, warnings_of_lines, warnings_of_source};
 ghost use Rattle.warning_model.specs.Warnings.{lines_to_end};
@@ -15,7 +15,7 @@ use crate::source_lines::SourceLines;
 use crate::statement::{Statement, gets, leaves, statement_of};
 use crate::values::add_values;
 use crate::warning::{Doubt, InSource, Site, Warnings};
-use explain_text::{next_token, section_after_line};
+use placed_tokens::{next_token, section_after_line};
 use source_model::Section;
 use std::alloc::{AllocError, Global};
 use sys_plan::NodePlan;

@@ -3,7 +3,7 @@ ghost use Rattle.std.specs.Prelude.{◌≡◌, ◌≤◌, ◌<◌, ◌+◌, ◌^
 ghost use Rattle.xs_text.specs.Lines.{start_of};
 ghost use Rattle.warning_text.specs.Lines.{lines_left};
 
-use explain_frame_text::is_end;
+use frame_lines::is_end;
 use std::marker::Model;
 use xs_text::Lines;
 

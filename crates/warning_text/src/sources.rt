@@ -6,7 +6,7 @@ ghost use Rattle.warning_model.specs.Warnings.{warnings_of_source_of};
 use crate::sections::{begins_section, begins_source};
 use crate::source::add_source;
 use crate::warning::Warnings;
-use explain_frame_text::is_end;
+use frame_lines::is_end;
 use std::alloc::{AllocError, Global};
 use sys_plan::Plan;
 use xs_text::Lines;

@@ -1,9 +1,9 @@
 //! `Statement`, what comes behind the labels of a line.
 ghost use Rattle.std.specs.Prelude.{◌≡◌, ◌≤◌, length};
 ghost use Rattle.warning_model.specs.Named.{name_of_line, operands_of, is_instruction, leaves, gets};
-ghost use Rattle.explain_text.specs.Tokens.{placed_left};
+ghost use Rattle.placed_tokens.specs.Tokens.{placed_left};
 
-use explain_text::{behind_labels, next_token};
+use placed_tokens::{behind_labels, next_token};
 use xs_instructions::same_name;
 
 /// A statement: its name, which is empty where there is none, and the place behind it.

@@ -9,7 +9,7 @@ ghost use Rattle.warning_text.specs.Kept.{doubt_of, place_of, site_of, warning_o
 use crate::warning::{Doubt, InSource, Site, Warning, Warnings};
 use crate::words;
 use decimal_text::append_decimal;
-use explain_text::append_line;
+use marked_lines::append_line;
 use std::alloc::AllocError;
 use warning_model::MOST_WARNINGS;
 use xs_base::Text;

@@ -1,11 +1,11 @@
 //! What may be wrong with the values of a `.word`.
 ghost use Rattle.std.specs.Prelude.{◌≡◌, ◌≤◌, ◌++◌, [], length, option_map, OnOk};
 ghost use Rattle.warning_model.specs.Source.{is_channel_end, has_id, doubt_of_number, doubt_of_value, warnings_of_values};
-ghost use Rattle.explain_text.specs.Tokens.{placed_left, placed_of};
+ghost use Rattle.placed_tokens.specs.Tokens.{placed_left, placed_of};
 ghost use Rattle.warning_text.specs.Kept.{doubt_of, site_of};
 
 use crate::warning::{Doubt, Site, Warnings};
-use explain_text::{Token, next_token};
+use placed_tokens::{Token, next_token};
 use std::alloc::AllocError;
 use sys_plan::NodePlan;
 use xs_instructions::same_name;

@@ -7,7 +7,7 @@ ghost use Rattle.explain_frame_model.specs.WordForms.{fits_word, is_link_end, is
 
 use crate::pins::{node_in, port_in, script_pin};
 use explain_model::Want;
-use explain_text::word_text;
+use marked_lines::word_text;
 use pin_scripts::port_of;
 use xs_instructions::same_name;
 use xs_text::{is_plain_number, number};

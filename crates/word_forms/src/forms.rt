@@ -1,13 +1,14 @@
 //! How far the words of a line have a form.
 ghost use Rattle.std.specs.Prelude.{◌≡◌, ◌≤◌, [], ◌∷◌, Some, length, map, IfOk, OnOk};
 ghost use Rattle.explain_model.specs.Words.{words_left, placed_words};
-ghost use Rattle.explain_text.specs.Words.{word_of};
-ghost use Rattle.explain_text.specs.Stops.{stop_of_kept, spot_of_kept};
+ghost use Rattle.placed_tokens.specs.Words.{word_of};
+ghost use Rattle.marked_lines.specs.Stops.{stop_of_kept, spot_of_kept};
 ghost use Rattle.explain_frame_model.specs.WordForms.{stop_of_words, with_forms, spot_of_forms};
 
 use crate::fits::fits_word;
 use explain_model::Want;
-use explain_text::{Spot, Stop, next_word_at};
+use marked_lines::{Spot, Stop};
+use placed_tokens::next_word_at;
 use std::alloc::{AllocError, Global};
 
 /// Where the words of a line stop to have a form, from a place on. See docs/LOOK.md.

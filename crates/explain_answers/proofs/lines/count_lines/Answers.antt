@@ -1,6 +1,6 @@
 use Rattle.std.proofs.Common.{◌≡◌, ℕ, List, length, refl, ap, arith}
 use Rattle.xs_text.specs.Lines.{lines_of, bytes_left}
-use Rattle.explain_text.proofs.Counting.{lines-few, none-left}
+use Rattle.placed_tokens.proofs.Counting.{lines-few, none-left}
 use Rattle.explain_answers.proofs.lines.count_lines.Goals as goal
 
 counted : (c : goal.In_default) → c.loop-line.count ≡ length (lines_of c.args.text.now)

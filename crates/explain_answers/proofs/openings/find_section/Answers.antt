@@ -1,6 +1,6 @@
 use Rattle.std.proofs.Common.{refl, sym, ◌∙◌}
 use Rattle.xs_text.specs.Lines.{bytes_left}
-use Rattle.explain_text.proofs.Counting.{none-left}
+use Rattle.placed_tokens.proofs.Counting.{none-left}
 use Rattle.explain_answers.proofs.Begun.{none_opened}
 use Rattle.explain_answers.proofs.openings.find_section.Goals as goal
 

@@ -1,7 +1,7 @@
 use Rattle.std.proofs.Common.{◌≡◌, ◌≤◌, ◌-◌, length}
 use Rattle.explain_model.specs.Placed.{placed_labels, placed_tokens}
 use Rattle.explain_model.specs.Labels.{first_twice}
-use Rattle.explain_text.specs.Tokens.{placed_left}
+use Rattle.placed_tokens.specs.Tokens.{placed_left}
 use Rattle.explain_text.proofs.labels.first_twice.Given as goal
 
 abbrev pub invariant-loop-name : goal.invariant-loop-name

@@ -1,7 +1,8 @@
 use Rattle.std.proofs.Common.{◌≡◌, ℕ, ◌+◌, ◌-◌, ◌≤◌, List, length, take, refl, sym, ap, ◌∙◌, subst, arith}
 use Rattle.xs_text.specs.Lines.{lines_of, bytes_left, line_bytes}
 use Rattle.explain_model.specs.Labels.{note_line, note_lines}
-use Rattle.explain_text.proofs.Counting.{labels-next, labels-enough, labels-all, none-left}
+use Rattle.placed_tokens.proofs.Counting.{none-left}
+use Rattle.explain_text.proofs.Counting.{labels-next, labels-enough, labels-all}
 use Rattle.explain_text.proofs.labels.labels_of.Goals as goal
 
 pub overflow_add-first : goal.overflow_add-first

@@ -1,7 +1,7 @@
 use Rattle.std.proofs.Common.{◌≡◌, ◌≤◌, length, drop}
 use Rattle.explain_model.specs.Forms.{with_rows}
-use Rattle.explain_text.specs.Tokens.{placed_left}
-use Rattle.explain_text.specs.Stops.{spot_of_kept}
+use Rattle.placed_tokens.specs.Tokens.{placed_left}
+use Rattle.marked_lines.specs.Stops.{spot_of_kept}
 use Rattle.explain_text.proofs.rows.add_rows.Given as goal
 
 abbrev pub invariant-loop-row : goal.invariant-loop-row

@@ -1,7 +1,7 @@
 use Rattle.std.proofs.Common.{◌≡◌, ◌≤◌, ◌-◌, [], length}
 use Rattle.std.specs.Prelude.{option_map}
 use Rattle.explain_model.specs.Spots.{first_use}
-use Rattle.explain_text.specs.Tokens.{placed_left}
+use Rattle.placed_tokens.specs.Tokens.{placed_left}
 use Rattle.explain_text.proofs.uses.first_use.Given as goal
 
 abbrev pub invariant-loop-token : goal.invariant-loop-token

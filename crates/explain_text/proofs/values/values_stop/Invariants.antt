@@ -1,8 +1,8 @@
 use Rattle.std.proofs.Common.{◌≡◌, ◌≤◌, ◌-◌, length}
 use Rattle.source_model.specs.Values.{ValueNext}
 use Rattle.explain_model.specs.Values.{values_stop}
-use Rattle.explain_text.specs.Tokens.{placed_left}
-use Rattle.explain_text.specs.Stops.{next_of_kept}
+use Rattle.placed_tokens.specs.Tokens.{placed_left}
+use Rattle.explain_text.specs.Values.{next_of_kept}
 use Rattle.explain_text.proofs.values.values_stop.Given as goal
 
 abbrev pub invariant-loop-token : goal.invariant-loop-token

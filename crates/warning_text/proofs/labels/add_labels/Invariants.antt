@@ -1,6 +1,6 @@
 use Rattle.std.proofs.Common.{◌≡◌, ◌≤◌, ◌-◌, ◌++◌, length}
 use Rattle.explain_model.specs.Placed.{placed_labels, placed_tokens}
-use Rattle.explain_text.specs.Tokens.{placed_left}
+use Rattle.placed_tokens.specs.Tokens.{placed_left}
 use Rattle.warning_model.specs.Source.{warnings_of_labels}
 use Rattle.warning_text.specs.Kept.{site_of}
 use Rattle.warning_text.proofs.labels.add_labels.Given as goal

@@ -1,6 +1,6 @@
 use Rattle.std.proofs.Common.{◌≡◌, ◌≤◌, ◌-◌, length}
 use Rattle.warning_model.specs.Named.{note_names}
-use Rattle.explain_text.specs.Tokens.{placed_left}
+use Rattle.placed_tokens.specs.Tokens.{placed_left}
 use Rattle.warning_text.proofs.names.note_names.Given as goal
 
 abbrev pub invariant-loop-token : goal.invariant-loop-token

@@ -1,5 +1,5 @@
 use Rattle.std.proofs.Common.{◌≡◌, ◌≤◌, ◌-◌, ◌++◌, [], length}
-use Rattle.explain_text.specs.Tokens.{placed_left}
+use Rattle.placed_tokens.specs.Tokens.{placed_left}
 use Rattle.warning_model.specs.Source.{warnings_of_values}
 use Rattle.warning_text.specs.Kept.{site_of}
 use Rattle.warning_text.proofs.values.add_values.Given as goal

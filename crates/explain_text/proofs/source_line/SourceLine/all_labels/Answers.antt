@@ -2,7 +2,7 @@ use Rattle.std.proofs.Common.{ℕ, List, ap, ◌∙◌, arith}
 use Rattle.std.proofs.lemmas.List.{take_all}
 use Rattle.xs_text.specs.Lines.{lines_of}
 use Rattle.explain_model.specs.Labels.{labels_of}
-use Rattle.explain_text.proofs.Counting.{lines-few}
+use Rattle.placed_tokens.proofs.Counting.{lines-few}
 use Rattle.explain_text.proofs.source_line.SourceLine.all_labels.Goals as goal
 
 pub returns : goal.returns

@@ -3,7 +3,7 @@ use Rattle.std.specs.Prelude.{find}
 use Rattle.xs_instructions.specs.Image.{is_reserved}
 use Rattle.explain_model.specs.Placed.{Placed, placed_labels, placed_tokens}
 use Rattle.explain_model.specs.Spots.{reserved_label}
-use Rattle.explain_text.specs.Tokens.{placed_left}
+use Rattle.placed_tokens.specs.Tokens.{placed_left}
 use Rattle.explain_text.proofs.source_line.SourceLine.reserved_label.Given as goal
 
 abbrev pub invariant-loop-name : goal.invariant-loop-name

@@ -1,5 +1,0 @@
-use Rattle.explain_frame_text.proofs.Earlier.{no_words-left}
-use Rattle.explain_frame_text.proofs.earlier_line.word_or_none.Goals as goal
-
-pub returns-in-None-clause-others : goal.returns-in-None-clause-others
-returns-in-None-clause-others c = λ i. no_words-left c.args.line.now i c.in-None.ensures

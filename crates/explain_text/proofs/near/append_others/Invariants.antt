@@ -1,8 +1,0 @@
-use Rattle.std.proofs.Common.{◌≡◌, ◌++◌, map, take, codes}
-use Rattle.std.specs.Prelude.{flat_map}
-use Rattle.explain_model.specs.Near.{Near, near_text}
-use Rattle.explain_text.specs.Found.{near_of_kept}
-use Rattle.explain_text.proofs.near.append_others.Given as goal
-
-abbrev pub invariant-loop-near : goal.invariant-loop-near
-invariant-loop-near l = l.out ≡ l.initial.out ++ flat_map (λ (n : Near). codes ", " ++ near_text n) (map near_of_kept (take l.near-index l.found))

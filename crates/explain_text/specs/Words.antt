@@ -1,6 +1,0 @@
--- A word as it is read.
-use Rattle.explain_model.specs.Words.{PlacedWord}
-use Rattle.explain_text.specs.declared.word.Word.{Word}
-
-abbrev pub word_of : Word → PlacedWord
-word_of w = record { at = w.at; bytes = w.bytes.now }
