@@ -6,6 +6,7 @@ ghost use Rattle.marked_lines.specs.Stops.{stop_of_kept};
 
 use crate::fits::{fits_number, fits_part};
 use explain_model::Want;
+use marked_lines::Stop;
 use placed_tokens::{Token, next_token};
 use source_model::Section;
 use xs_instructions::Part;

@@ -12,7 +12,7 @@ use crate::source_line::SourceLine;
 use crate::uses::Use;
 use crate::words;
 use decimal_text::append_decimal;
-use marked_lines::{append_near_directives, append_near_labels, append_near_rows};
+use marked_lines::{append_bad_byte, append_near_directives, append_near_labels, append_near_rows};
 use placed_tokens::{Token, home_of, section_of};
 use source_model::{AsmKind, Home, Section};
 use std::alloc::{AllocError, Global};

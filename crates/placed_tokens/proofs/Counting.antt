@@ -33,16 +33,16 @@ none-at xs k e = ap (λ (ls : List (List ℕ)). get_or ls k []) (none-left xs e)
 -- ---- One line more
 
 pub take-next : (count number : ℕ) (ls : List (List ℕ)) (l : List ℕ) (rest : List (List ℕ)) → ls ≡ l ∷ rest → number + 1 ≤ count → take (count - number) ls ≡ l ∷ take (count - (number + 1)) rest
-pub take-next count number ls l rest e h =
+take-next count number ls l rest e h =
     let one : count - number ≡ suc (count - (number + 1)) = omega arith in
     ap (λ (x : List (List ℕ)). take (count - number) x) e ∙ ap (λ n. take n (l ∷ rest)) one
 
 pub take-none : (count number : ℕ) (ls : List (List ℕ)) → count ≤ number → take (count - number) ls ≡ []
-pub take-none count number ls h = let none : count - number ≡ 0 = omega arith in ap (λ n. take n ls) none
+take-none count number ls h = let none : count - number ≡ 0 = omega arith in ap (λ n. take n ls) none
 
 pub take-nil : (n : ℕ) (ls : List (List ℕ)) → ls ≡ [] → take n ls ≡ []
-pub take-nil zero ls e = refl
-pub take-nil (suc n) ls e = ap (λ (x : List (List ℕ)). take (suc n) x) e
+take-nil zero ls e = refl
+take-nil (suc n) ls e = ap (λ (x : List (List ℕ)). take (suc n) x) e
 
 pub section-next : (count number : ℕ) (ls : List (List ℕ)) (l : List ℕ) (rest : List (List ℕ)) (section after : Section) → ls ≡ l ∷ rest → number + 1 ≤ count → after ≡ section_after_line section l
     → section_after_lines after (take (count - (number + 1)) rest) ≡ section_after_lines section (take (count - number) ls)
