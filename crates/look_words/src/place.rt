@@ -1,8 +1,9 @@
 //! Where a thread is.
-ghost use Rattle.std.specs.Prelude.{◌≡◌, ◌≤◌, ◌<◌, ◌++◌, Some, codes, length, option_map, IfSome, OnOk};
+ghost use Rattle.std.specs.Prelude.{◌≡◌, ◌≤◌, ◌<◌, ◌++◌, Some, true, false, codes, length, take, drop, option_map, OnOk};
+ghost use Rattle.std.specs.List.{AllByRecursion};
 ghost use Rattle.xs_instructions.specs.Code.{code_at};
-ghost use Rattle.xs_instructions.specs.Image.{symbol_of_pair, symbol_at};
-ghost use Rattle.look_model.specs.Places.{later_label, last_label, label_text, distance_text, line_at, standing_text, place_text};
+ghost use Rattle.xs_instructions.specs.Image.{Symbol, AreInOrder, symbol_of_pair, symbol_at};
+ghost use Rattle.look_model.specs.Places.{is_up_to, last_label, label_text, distance_text, line_at, standing_text, place_text};
 
 use decimal_text::append_decimal;
 use line_text::append_hex_word;
@@ -80,16 +81,44 @@ fn append_last_label(out: &mut Text, image: &Image, pc: u32) -> Result<(), Alloc
     }
 }
 
-// The last label of the code up to an address.
+// The last label of the code up to an address. Labels stand in the order of their addresses, those of the code first, so it is searched for.
 fn last_label(image: &Image, pc: u32) -> Option<(&str, u32)>
-    ensures value { option_map symbol_of_pair result ≡ last_label pc image.now.symbols }
-    ensures before { IfSome result (λ label. label.1 ≤ pc) }
+    ensures { option_map symbol_of_pair result ≡ last_label pc image.now.symbols }
 {
-    let mut best: Option<(&str, u32)> = None;
-    for k in 0..image.symbol_count() {
-        best = later_label(pc, best, label(image, k));
+    let count = count_up_to(image, pc);
+    if count == 0 {
+        return None;
     }
-    best
+    let (_, at) = label(image, count - 1);
+    // (of labels at one address the first)
+    image.symbol(count_up_to(image, at.saturating_sub(1)))
+}
+
+// How many labels stand in the code up to an address: the first ones, so many.
+fn count_up_to(image: &Image, pc: u32) -> usize
+    ensures within { result ≤ length image.now.symbols }
+    ensures order { AreInOrder image.now.symbols }
+    ensures front { AllByRecursion (λ (s : Symbol). is_up_to pc s ≡ true) (take result image.now.symbols) }
+    ensures rest { AllByRecursion (λ (s : Symbol). is_up_to pc s ≡ false) (drop result image.now.symbols) }
+{
+    let mut low = 0;
+    let mut high = image.symbol_count();
+    while low < high {
+        let middle = low + (high - low) / 2;
+        if is_up_to(pc, label(image, middle)) {
+            low = middle + 1;
+        } else {
+            high = middle;
+        }
+    }
+    low
+}
+
+fn is_up_to(pc: u32, label: (&str, u32)) -> bool
+    ensures { result ≡ is_up_to pc (symbol_of_pair label.entry) }
+{
+    let (_, at) = label;
+    CODE_START <= at && at <= pc
 }
 
 // The label with a number.
@@ -100,34 +129,13 @@ fn label(image: &Image, k: usize) -> (&str, u32)
     image.symbol(k).unwrap()
 }
 
-// Of a label and a later one the later, if it stands in the code up to an address, and of two at one address the first.
-fn later_label<'a>(
-    pc: u32,
-    best: Option<(&'a str, u32)>,
-    label: (&'a str, u32),
-) -> Option<(&'a str, u32)>
-    requires before { IfSome best (λ b. b.1 ≤ pc) }
-    ensures value { option_map symbol_of_pair result ≡ later_label pc (option_map symbol_of_pair best.entry) (symbol_of_pair label.entry) }
-    ensures before { IfSome result (λ b. b.1 ≤ pc) }
-{
-    let (name, at) = label;
-    if at < CODE_START || at > pc {
-        return best;
-    }
-    match best {
-        Some((_, before)) if at <= before => best,
-        _ => Some((name, at)),
-    }
-}
-
 // ` LABEL+D`.
 fn append_label(out: &mut Text, pc: u32, name: &str, at: u32) -> Result<(), AllocError>
-    requires before { at ≤ pc }
     ensures { OnOk result (out.new ≡ out.old ++ label_text pc (Some (name.now, at))) }
 {
     out.append(b" ")?;
     out.append(name.as_bytes())?;
-    append_distance(out, pc - at)
+    append_distance(out, pc.saturating_sub(at))
 }
 
 // `+D`.

@@ -1,25 +1,26 @@
-use Rattle.std.proofs.Common.{◌≡◌, ◌+◌, ◌∷◌, List, drop, sym, ◌∙◌, ap}
-use Rattle.std.specs.Prelude.{Option, option_map}
-use Rattle.std.proofs.lemmas.List.{drop_more}
-use Rattle.std.proofs.lemmas.Option.{get_or_from_slice_get, slice_get_within}
+use Rattle.std.proofs.Common.{◌≡◌, suc, ◌-◌, true, false, take, drop, sym, ◌∙◌, subst, arith}
+use Rattle.std.specs.List.{AllByRecursion}
 use Rattle.xs_instructions.specs.Image.{Symbol, symbol_of_pair}
-use Rattle.look_model.specs.Places.{last_label_from}
+use Rattle.look_model.specs.Places.{is_up_to}
+use Rattle.look_words.proofs.LastLabel.{none-up, last-up}
 use Rattle.look_words.proofs.place.last_label.Goals as goal
 
-pub loop-k-preserved : goal.loop-k-preserved
-loop-k-preserved c =
+pub returns-then-count-eq0 : goal.returns-then-count-eq0
+returns-then-count-eq0 c =
     let symbols = c.args.image.now.symbols in
-    let k = c.loop-k.k in
-    let pc = c.args.pc in
-    let next = symbol_of_pair c.label.result in
-    let best = option_map symbol_of_pair c.loop-k.best in
-    let here : drop k symbols ≡ next ∷ drop (k + 1) symbols =
-    drop_more symbols k next (slice_get_within symbols k next c.label.ensures)
-    ∙ ap (λ (s : Symbol). s ∷ drop (k + 1) symbols) (get_or_from_slice_get symbols k next next c.label.ensures) in
-    record {
-      value =
-          ap (λ (b : Option Symbol). last_label_from b pc (drop (k + 1) symbols)) c.later_label-best.ensures.value
-          ∙ sym (ap (λ (rest : List Symbol). last_label_from best pc rest) here)
-          ∙ c.loop-k.invariant.value;
-      before = c.later_label-best.ensures.before;
-    }
+    let none : c.count_up_to-count.result ≡ 0 = omega (arith, c.if-count-eq0.true) in
+    sym (none-up c.args.pc symbols (subst (λ n. AllByRecursion (λ (s : Symbol). is_up_to c.args.pc s ≡ false) (drop n symbols)) none c.count_up_to-count.ensures.rest))
+
+pub returns : goal.returns
+returns c =
+    let symbols = c.args.image.now.symbols in
+    let count = c.count_up_to-count.result in
+    let some : count ≡ suc (count - 1) = omega (arith, c.if-count-eq0.false) in
+    let first = c.count_up_to.result in
+    let before : c.saturating_sub.result ≡ (symbol_of_pair c.label-at.result).1 - 1 = c.saturating_sub.ensures in
+    c.symbol.ensures.value
+    ∙ last-up c.args.pc (count - 1) first (symbol_of_pair c.label-at.result) symbols c.count_up_to.ensures.order c.label-at.ensures
+        (subst (λ n. AllByRecursion (λ (s : Symbol). is_up_to c.args.pc s ≡ true) (take n symbols)) some c.count_up_to-count.ensures.front)
+        (subst (λ n. AllByRecursion (λ (s : Symbol). is_up_to c.args.pc s ≡ false) (drop n symbols)) some c.count_up_to-count.ensures.rest)
+        (subst (λ n. AllByRecursion (λ (s : Symbol). is_up_to n s ≡ true) (take first symbols)) before c.count_up_to.ensures.front)
+        (subst (λ n. AllByRecursion (λ (s : Symbol). is_up_to n s ≡ false) (drop first symbols)) before c.count_up_to.ensures.rest)
