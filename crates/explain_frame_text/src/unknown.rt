@@ -9,7 +9,9 @@ use crate::line_words::{LineWord, begins, behind_three, no_word, word_at};
 use crate::words as texts;
 use decimal_text::append_decimal;
 use explain_frame_model::Gift;
-use frame_lines::{EarlierLine, append_ends, append_nodes, count_givers, is_given, node_of, value_of};
+use frame_lines::{
+    EarlierLine, append_ends, append_nodes, count_givers, is_given, node_of, value_of,
+};
 use std::alloc::{AllocError, Global};
 use xs_base::Text;
 

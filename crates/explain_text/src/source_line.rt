@@ -4,7 +4,6 @@ ghost use Rattle.xs_text.specs.Lines.{lines_of};
 
 use placed_tokens::bytes_of_line;
 
-
 /// A line of a source: the source, the number that its first line has in the whole text, the number of the line in the source, from 1, and its bytes.
 #[derive(Clone, Copy)]
 pub(crate) struct SourceLine<'a> {

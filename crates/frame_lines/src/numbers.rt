@@ -69,11 +69,7 @@ fn given_ends(
 }
 
 /// Writes the numbers of the nodes that lines give, ascending, or `none`. The error is want of memory. See docs/LOOK.md.
-pub fn append_nodes(
-    alloc: Global,
-    out: &mut Text,
-    lines: &[EarlierLine],
-) -> Result<(), AllocError>
+pub fn append_nodes(alloc: Global, out: &mut Text, lines: &[EarlierLine]) -> Result<(), AllocError>
     ensures { OnOk result (out.new ≡ out.old ++ nodes_text lines.now) }
 {
     let numbers = given_nodes(alloc, lines)?;

@@ -147,8 +147,8 @@ last-up pc n m l symbols order is up past before after =
     let same : s.1 ≡ l.1 = grind (arith, nat_tests) in
     let less = all-so (λ t. is_up_to (l.1 - 1) t ≡ true) (λ t. t.1 < s.1) (λ t e. grind (arith, nat_tests)) (take m symbols) before in
     let none = all-joined (λ t. (is_up_to pc t && nat_lt s.1 t.1) ≡ false) (suc n) symbols
-        (all-so (λ t. is_up_to l.1 t ≡ true) (λ t. (is_up_to pc t && nat_lt s.1 t.1) ≡ false) (λ t e. grind (arith, nat_tests)) (take (suc n) symbols) up_to_last)
-        (all-so (λ t. is_up_to pc t ≡ false) (λ t. (is_up_to pc t && nat_lt s.1 t.1) ≡ false) (λ t e. grind (arith, nat_tests)) (drop (suc n) symbols) past) in
+    (all-so (λ t. is_up_to l.1 t ≡ true) (λ t. (is_up_to pc t && nat_lt s.1 t.1) ≡ false) (λ t e. grind (arith, nat_tests)) (take (suc n) symbols) up_to_last)
+    (all-so (λ t. is_up_to pc t ≡ false) (λ t. (is_up_to pc t && nat_lt s.1 t.1) ≡ false) (λ t e. grind (arith, nat_tests)) (drop (suc n) symbols) past) in
     first-found pc m s symbols first.1 less here none
   where
     no_more : is_up_to (l.1 - 1) l ≡ false → m ≤ n

@@ -215,11 +215,7 @@ pub fn append_near_rows(alloc: Global, out: &mut Text, name: &[u8]) -> Result<()
 }
 
 /// The same of the names of directives. See docs/LOOK.md.
-pub fn append_near_directives(
-    alloc: Global,
-    out: &mut Text,
-    name: &[u8],
-) -> Result<(), AllocError>
+pub fn append_near_directives(alloc: Global, out: &mut Text, name: &[u8]) -> Result<(), AllocError>
     ensures { OnOk result (out.new ≡ out.old ++ near_line (near_from name.now [] directive_names)) }
 {
     let mut found = Vec::new(alloc);

@@ -20,7 +20,7 @@ returns c =
     let before : c.saturating_sub.result ≡ (symbol_of_pair c.label-at.result).1 - 1 = c.saturating_sub.ensures in
     c.symbol.ensures.value
     ∙ last-up c.args.pc (count - 1) first (symbol_of_pair c.label-at.result) symbols c.count_up_to.ensures.order c.label-at.ensures
-        (subst (λ n. AllByRecursion (λ (s : Symbol). is_up_to c.args.pc s ≡ true) (take n symbols)) some c.count_up_to-count.ensures.front)
-        (subst (λ n. AllByRecursion (λ (s : Symbol). is_up_to c.args.pc s ≡ false) (drop n symbols)) some c.count_up_to-count.ensures.rest)
-        (subst (λ n. AllByRecursion (λ (s : Symbol). is_up_to n s ≡ true) (take first symbols)) before c.count_up_to.ensures.front)
-        (subst (λ n. AllByRecursion (λ (s : Symbol). is_up_to n s ≡ false) (drop first symbols)) before c.count_up_to.ensures.rest)
+    (subst (λ n. AllByRecursion (λ (s : Symbol). is_up_to c.args.pc s ≡ true) (take n symbols)) some c.count_up_to-count.ensures.front)
+    (subst (λ n. AllByRecursion (λ (s : Symbol). is_up_to c.args.pc s ≡ false) (drop n symbols)) some c.count_up_to-count.ensures.rest)
+    (subst (λ n. AllByRecursion (λ (s : Symbol). is_up_to n s ≡ true) (take first symbols)) before c.count_up_to.ensures.front)
+    (subst (λ n. AllByRecursion (λ (s : Symbol). is_up_to n s ≡ false) (drop first symbols)) before c.count_up_to.ensures.rest)
